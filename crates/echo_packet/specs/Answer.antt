@@ -1,0 +1,33 @@
+-- What reading a packet from a front of the bytes is to answer.
+use Rattle.std.specs.Prelude.{◌≡◌, ℕ, ◌≤◌, ◌⊎◌, List, length, take, Result, Ok, Err, Vec}
+use Rattle.std.specs.declared.alloc.Global.{Global}
+use Rattle.echo_packet.specs.declared.header.Header.{Header}
+use Rattle.echo_packet.specs.declared.limits.Limits.{Limits}
+use Rattle.echo_packet.specs.declared.fault.PacketFault.{PacketFault}
+use Rattle.echo_packet.specs.declared.fault.PacketFault.TheVariants as fault
+use Rattle.echo_packet.specs.Message.{Message}
+use Rattle.echo_packet.specs.Packet.{PacketOf}
+use Rattle.echo_packet.specs.Fault.{FaultOf}
+
+-- a header, the messages, and how many bytes the packet has
+abbrev pub Found : Type 0
+Found = Header × List Message × ℕ
+
+-- a packet of these bytes, or a fault of them
+abbrev pub Answer : Type 0
+Answer = Result Found PacketFault
+
+-- what a call answered, its vector as a list
+abbrev pub given : Result (Header × Vec Message Global × ℕ) PacketFault → Answer
+given (Ok r) = Ok (r.0, r.1.items, r.2)
+given (Err f) = Err f
+
+-- the first bytes are the packet, or the bytes have the fault after some messages
+abbrev pub Describes : Limits → List ℕ → Answer → Type 0
+Describes limits bs (Ok found) = (found.2 ≤ length bs) × PacketOf limits found.0 found.1 (take found.2 bs)
+Describes limits bs (Err f) = (ms : List Message) × FaultOf bs limits ms f
+
+-- the call answered just this, unless memory ran out
+abbrev pub Answers : Answer → Answer → Type 0
+Answers given (Ok found) = (given ≡ Err fault.Memory) ⊎ (given ≡ Ok found)
+Answers given (Err f) = (given ≡ Err fault.Memory) ⊎ (given ≡ Err f)

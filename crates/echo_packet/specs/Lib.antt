@@ -1,0 +1,6 @@
+pub mod Header
+pub mod Message
+pub mod Packet
+pub mod Fault
+pub mod Answer
+pub mod Outcome

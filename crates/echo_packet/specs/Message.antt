@@ -1,0 +1,94 @@
+-- The bytes of one packed message.
+use Rattle.std.specs.Prelude.{◌≡◌, ◌≢◌, ℕ, ◌^◌, ◌<◌, ◌≤◌, List, [], ◌∷◌, ◌++◌, length, slice_index, EachIndex}
+use Rattle.std.specs.List.{AllByRecursion}
+use Rattle.echo_packet.specs.declared.limits.Limits.{Limits}
+use Rattle.echo_packet.specs.Header.{AreBytes, word}
+
+-- a packed message, its strings as lists of bytes without their 00
+pub record Message : Type 0 where
+  pub orig_node : ℕ
+  pub dest_node : ℕ
+  pub orig_net : ℕ
+  pub dest_net : ℕ
+  pub attribute : ℕ
+  pub cost : ℕ
+  pub date : List ℕ
+  pub to_name : List ℕ
+  pub from_name : List ℕ
+  pub subject : List ℕ
+  pub text : List ℕ
+
+-- no byte is 00
+abbrev pub HasNoZero : List ℕ → Type 0
+HasNoZero bs = EachIndex bs (λ i. slice_index bs i ≢ 0)
+
+-- a string of bytes that a 00 may end, of at most so many bytes
+pub record IsString (most : ℕ) (s : List ℕ) : Type 0 where
+  pub bytes : AreBytes s
+  pub no_zero : HasNoZero s
+  pub room : length s ≤ most
+
+-- a string and the 00 that ends it
+abbrev pub ended : List ℕ → List ℕ
+ended s = s ++ 0 ∷ []
+
+-- the fields of a packed message, in order
+pub data Part : Type 0 where
+  Number : Part
+  Numbers : Part
+  DateTime : Part
+  ToName : Part
+  FromName : Part
+  Subject : Part
+  Text : Part
+
+-- the six numbers after the number 2
+unfoldable pub numbers : Message → List ℕ
+numbers m = word m.orig_node ++ (word m.dest_node ++ (word m.orig_net ++ (word m.dest_net
+    ++ (word m.attribute ++ word m.cost))))
+
+-- the bytes of a message that stand before a field
+abbrev pub before : Part → Message → List ℕ
+before Number m = []
+before Numbers m = word 2
+before DateTime m = word 2 ++ numbers m
+before ToName m = (word 2 ++ numbers m) ++ m.date
+before FromName m = ((word 2 ++ numbers m) ++ m.date) ++ ended m.to_name
+before Subject m = (((word 2 ++ numbers m) ++ m.date) ++ ended m.to_name) ++ ended m.from_name
+before Text m = ((((word 2 ++ numbers m) ++ m.date) ++ ended m.to_name) ++ ended m.from_name) ++ ended m.subject
+
+-- the bytes of a message: the number 2 and its fields in order, each string with its 00
+abbrev pub message_bytes : Message → List ℕ
+message_bytes m = before Text m ++ ended m.text
+
+-- the bytes of the messages, one after the other
+abbrev pub messages_bytes : List Message → List ℕ
+messages_bytes [] = []
+messages_bytes (m ∷ ms) = message_bytes m ++ messages_bytes ms
+
+-- how many bytes a string field may have before its 00
+abbrev pub most_of : ℕ → Part → ℕ
+most_of text ToName = 35
+most_of text FromName = 35
+most_of text Subject = 71
+most_of text _ = text
+
+-- the fields of a message are of their sizes, its text of at most so many bytes
+pub record IsMessage (most : ℕ) (m : Message) : Type 0 where
+  pub orig_node : m.orig_node < 2 ^ 16
+  pub dest_node : m.dest_node < 2 ^ 16
+  pub orig_net : m.orig_net < 2 ^ 16
+  pub dest_net : m.dest_net < 2 ^ 16
+  pub attribute : m.attribute < 2 ^ 16
+  pub cost : m.cost < 2 ^ 16
+  pub date_len : length m.date ≡ 20
+  pub date : AreBytes m.date
+  pub to_name : IsString 35 m.to_name
+  pub from_name : IsString 35 m.from_name
+  pub subject : IsString 71 m.subject
+  pub text : IsString most m.text
+
+-- messages that keep the limits
+pub record AreMessages (limits : Limits) (ms : List Message) : Type 0 where
+  pub each : AllByRecursion (IsMessage limits.text) ms
+  pub room : length ms ≤ limits.messages

@@ -1,0 +1,16 @@
+-- What a packet is (FTS-0001).
+use Rattle.std.specs.Prelude.{◌≡◌, ℕ, List, [], ◌∷◌, ◌++◌}
+use Rattle.echo_packet.specs.declared.header.Header.{Header}
+use Rattle.echo_packet.specs.declared.limits.Limits.{Limits}
+use Rattle.echo_packet.specs.Header.{header_bytes, IsHeader, word}
+use Rattle.echo_packet.specs.Message.{Message, messages_bytes, AreMessages}
+
+-- a header's bytes, the bytes of the messages in order, and 00 00
+abbrev pub packet_bytes : Header → List Message → List ℕ
+packet_bytes h ms = header_bytes h ++ (messages_bytes ms ++ word 0)
+
+-- the bytes are a packet of this header and these messages, within the limits
+pub record PacketOf (limits : Limits) (h : Header) (ms : List Message) (bs : List ℕ) : Type 0 where
+  pub header : IsHeader h
+  pub messages : AreMessages limits ms
+  pub bytes : bs ≡ packet_bytes h ms

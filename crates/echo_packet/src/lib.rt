@@ -1,0 +1,25 @@
+//! FidoNet packets of type 2 (FTS-0001).
+//!
+//! The contract for the layer above: `read_packet` accepts exactly the packets and answers how many
+//! bytes theirs are; else it answers the one fault that the input has, with its place.
+//!
+//! Modules in reading order: `header` (the 58 bytes in front), `packed` (one message), `limits`,
+//! `fault` (what may be wrong, and where), `reading`, and `laws` (what holds of the definitions).
+#![tactic(auto)]
+
+mod fault;
+mod header;
+mod laws;
+mod limits;
+mod packed;
+mod reading;
+
+pub use fault::{Field, PacketFault};
+pub use header::Header;
+pub use laws::{header_laws, one_answer};
+pub use limits::Limits;
+pub use packed::Packed;
+pub use reading::read_packet;
+
+//#[cfg(test)]
+//mod tests;
