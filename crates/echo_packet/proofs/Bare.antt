@@ -1,5 +1,6 @@
 -- Where no message is allowed, the bytes are a packet or have one fault, and only one of these holds.
-use Rattle.std.proofs.Common.{◌≡◌, ℕ, zero, suc, replicate, ◌+◌, ◌*◌, ◌/◌, ◌%◌, ◌^◌, ◌<◌, ◌≤◌, ◌≢◌, ◌==◌, nat_lt, List, [], ◌∷◌, ◌++◌, length, get_or, take, drop, refl, sym, ap, ◌∙◌, subst, inl, inr, ◌⊎◌, arith, cond, Ok, Err}
+use Rattle.std.proofs.Common.{◌≡◌, ℕ, zero, suc, replicate, ◌+◌, ◌*◌, ◌/◌, ◌%◌, ◌^◌, ◌<◌, ◌≤◌, ◌≢◌, ◌==◌, nat_lt, List, [], ◌∷◌, ◌++◌, length, get_or, take, drop, refl, sym, ap, ◌∙◌, subst, inl, inr, ◌⊎◌, arith, cond, Result, Ok, Err}
+use Rattle.std.specs.Prelude.{IfOk}
 use Rattle.std.proofs.lemmas.List.{take_at, drop_at, length-append, length-take, length-drop, take-append-drop, append_assoc, append-nil, nil_from_length, get_or-drop}
 use Rattle.std.proofs.Math.Seq.{take-add}
 use Rattle.std.proofs.lemmas.Bool.{cases_lt, cases_eq, lt-ltb, le-ltb, eq-eqb, ne_eqb, cond-true, cond-false}
@@ -12,7 +13,7 @@ use Rattle.echo_packet.specs.Message.{Message, Part, IsString, IsMessage, Number
 use Rattle.echo_packet.specs.Packet.{packet_bytes, PacketOf}
 use Rattle.echo_packet.specs.Fault.{FaultOf, AtField, IsCut, IsOtherNumber, IsOneTooMany, place_of, IsLongField, IsLongText}
 use Rattle.echo_packet.specs.Answer.{Answer, Answers, Describes}
-use Rattle.echo_packet.specs.Outcome.{bare_outcome, end_outcome}
+use Rattle.echo_packet.specs.Outcome.{header_outcome, bare_outcome, end_outcome}
 use Rattle.echo_packet.proofs.Headers.{word-number, header_of-header_bytes, header_bytes-header_of, length-header_bytes, number_at-header_bytes, IsHeader-header_of, drop_past, get_or_past_string}
 
 -- bytes that begin with those of a header
@@ -301,3 +302,25 @@ pub answers_outcome : (limits : Limits) (bs : List ℕ) (given other : Answer) �
     → Describes limits bs other → Answers given other
 answers_outcome limits bs given (Ok found) none is d = inr (is ∙ sym (only_one limits bs (Ok found) none d))
 answers_outcome limits bs given (Err f) none is d = inr (is ∙ sym (only_one limits bs (Err f) none d))
+
+-- what a header that was read says of the bytes
+abbrev pub IsFront : List ℕ → Header → Type 0
+IsFront bs h = (58 ≤ length bs) × (header_bytes h ≡ take 58 bs) × IsHeader h
+
+pub header_found : (bs : List ℕ) (r : Result Header PacketFault) → AreBytes bs → r ≡ header_outcome bs → IfOk r (IsFront bs)
+header_found bs r bytes is = elim (cases_lt (length bs) 58) [
+  | inl short ↦
+      let cut : r ≡ Err (fault.Truncated 0) = is ∙ cond-true (nat_lt (length bs) 58) _ _ (lt-ltb _ _ short) in
+      subst (λ x. IfOk x (IsFront bs)) (sym cut) tt
+  | inr long ↦
+      let begins = is ∙ cond-false (nat_lt (length bs) 58) _ _ (le-ltb _ _ long) in
+      elim (cases_eq (number_at 18 bs) 2) [
+        | inl type ↦
+            let found : r ≡ Ok (header_of bs) = begins ∙ cond-true (number_at 18 bs == 2) _ _ (eq-eqb _ _ type) in
+            subst (λ x. IfOk x (IsFront bs)) (sym found)
+            (long, header_bytes-header_of bs bytes long type, IsHeader-header_of bs bytes long)
+        | inr other ↦
+            let refused : r ≡ Err (fault.NotType2 18) = begins ∙ cond-false (number_at 18 bs == 2) _ _ (ne_eqb _ _ other) in
+            subst (λ x. IfOk x (IsFront bs)) (sym refused) tt
+      ]
+]

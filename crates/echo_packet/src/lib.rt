@@ -19,7 +19,7 @@ pub use header::Header;
 pub use laws::{header_laws, one_answer};
 pub use limits::Limits;
 pub use packed::Packed;
-pub use reading::read_packet;
+pub use reading::{read_header, read_packet};
 
 //#[cfg(test)]
 //mod tests;

@@ -1,7 +1,8 @@
-ghost use Rattle.std.specs.Prelude.{◌≡◌, ◌⊎◌, ◌≤◌, length, Ok, Err};
+ghost use Rattle.std.specs.Prelude.{◌≡◌, ◌≢◌, ◌↔◌, ◌⊎◌, ◌<◌, ◌≤◌, length, take, Ok, Err, IfOk, IfErr};
+ghost use Rattle.echo_packet.specs.Header.{IsHeader, header_bytes, number_at};
 ghost use Rattle.echo_packet.specs.Answer.{Answer, Answers, Describes, given};
-ghost use Rattle.echo_packet.specs.Outcome.{bare_outcome};
-ghost use Rattle.echo_packet.specs.declared.fault.PacketFault.TheVariants.{Memory};
+ghost use Rattle.echo_packet.specs.Outcome.{bare_outcome, header_outcome};
+ghost use Rattle.echo_packet.specs.declared.fault.PacketFault.TheVariants.{Memory, NotType2, Truncated};
 
 use crate::fault::PacketFault;
 use crate::header::{HEADER_BYTES, Header, header_of};
@@ -29,9 +30,19 @@ pub fn read_packet(
     bare_packet(alloc, bytes)
 }
 
-// The same, read from left to right.
-fn bare_packet(alloc: Global, bytes: &[u8]) -> Result<(Header, Vec<Packed>, usize), PacketFault>
-    ensures { given result ≡ bare_outcome bytes.now }
+/// The header at the front of the bytes. It is `Truncated` at 0 where they are fewer than 58, and
+/// `NotType2` where they hold another packet type.
+pub fn read_header(bytes: &[u8]) -> Result<Header, PacketFault>
+    ensures found { IfOk result (λ h. (58 ≤ length bytes.now) × (header_bytes h ≡ take 58 bytes.now) × IsHeader h) }
+    ensures cut { (result ≡ Err (Truncated 0)) ↔ (length bytes.now < 58) }
+    ensures other_type { (result ≡ Err (NotType2 18)) ↔ ((58 ≤ length bytes.now) × (number_at 18 bytes.now ≢ 2)) }
+    ensures only_these { IfErr result (λ fault. (fault ≡ Truncated 0) ⊎ (fault ≡ NotType2 18)) }
+{
+    header_at_front(bytes)
+}
+
+fn header_at_front(bytes: &[u8]) -> Result<Header, PacketFault>
+    ensures { result ≡ header_outcome bytes.now }
 {
     if bytes.len() < HEADER_BYTES {
         return Err(PacketFault::Truncated { at: 0 });
@@ -39,11 +50,19 @@ fn bare_packet(alloc: Global, bytes: &[u8]) -> Result<(Header, Vec<Packed>, usiz
     if LittleEndian::read_u16(&bytes[18..]) != 2 {
         return Err(PacketFault::NotType2 { at: 18 });
     }
+    Ok(header_of(bytes))
+}
+
+// The same, read from left to right.
+fn bare_packet(alloc: Global, bytes: &[u8]) -> Result<(Header, Vec<Packed>, usize), PacketFault>
+    ensures { given result ≡ bare_outcome bytes.now }
+{
+    let header = header_at_front(bytes)?;
     if bytes.len() < HEADER_BYTES + 2 {
         return Err(PacketFault::Truncated { at: 58 });
     }
     match LittleEndian::read_u16(&bytes[HEADER_BYTES..]) {
-        0 => Ok((header_of(bytes), Vec::new(alloc), HEADER_BYTES + 2)),
+        0 => Ok((header, Vec::new(alloc), HEADER_BYTES + 2)),
         2 => Err(PacketFault::TooManyMessages { at: 58 }),
         _ => Err(PacketFault::NotMessage { at: 58 }),
     }

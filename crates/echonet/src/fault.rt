@@ -1,0 +1,56 @@
+ghost use Rattle.std.specs.Prelude.{◌≡◌, ◌≢◌};
+ghost use Rattle.echonet.specs.declared.fault.Fault.TheVariants.{OutOfMemory};
+
+use crate::status::Status;
+use echo_packet::PacketFault;
+use std::alloc::{AllocError, AllocFailed};
+use std::io::Write;
+use thiserror::Error;
+
+/// Why a command stopped. The text is that of the line on standard error, after `echonet: `.
+#[derive(Clone, Copy, Debug, Drop, Error)]
+pub enum Fault<'a> {
+    #[error("{0}")]
+    Packet(PacketFault),
+    #[error("bad hex")]
+    BadHex,
+    #[error("file too large {0}")]
+    TooLarge(&'a str),
+    #[error("cannot use {0}")]
+    CannotUse(&'a str),
+    #[error("out of memory")]
+    OutOfMemory,
+}
+
+impl From<AllocError> for Fault<'_> {
+    ghost from_gives = { λ _ e. e ≡ OutOfMemory };
+
+    fn from(_e: AllocError) -> Self {
+        Fault::OutOfMemory
+    }
+}
+
+impl Fault<'_> {
+    /// A fault of a device or of memory is `Device`, every other one `Refused`.
+    pub fn status(&self) -> Status
+        ensures { result ≢ Status.Good }
+    {
+        match self {
+            Fault::Packet(
+                PacketFault::Read { .. } | PacketFault::Memory | PacketFault::Write { .. },
+            )
+            | Fault::CannotUse(_)
+            | Fault::OutOfMemory => Status::Device,
+            Fault::Packet(_) | Fault::BadHex | Fault::TooLarge(_) => Status::Refused,
+        }
+    }
+
+    /// Writes the fault's line, and answers the status. Where the line can't be written, the status
+    /// still tells of the fault.
+    pub fn report<E: Write>(&self, errors: &mut E) -> Status
+        ensures { result ≢ Status.Good }
+    {
+        let _ = writeln!(errors, "echonet: {self}");
+        self.status()
+    }
+}

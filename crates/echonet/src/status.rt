@@ -1,0 +1,23 @@
+/// How a command ended, and the status with which the program exits.
+#[derive(Clone, Copy, Debug, PartialEq, Eq)]
+pub enum Status {
+    /// 0.
+    Good,
+    /// 2: an input was refused.
+    Refused,
+    /// 3: a device failed, or memory was wanting.
+    Device,
+    /// 4: the command line was refused.
+    CommandLine,
+}
+
+impl Status {
+    pub fn code(self) -> u8 {
+        match self {
+            Status::Good => 0,
+            Status::Refused => 2,
+            Status::Device => 3,
+            Status::CommandLine => 4,
+        }
+    }
+}
