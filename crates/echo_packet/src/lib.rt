@@ -21,5 +21,5 @@ pub use limits::Limits;
 pub use packed::Packed;
 pub use reading::{read_header, read_packet};
 
-//#[cfg(test)]
-//mod tests;
+#[cfg(test)]
+mod tests;

@@ -35,7 +35,12 @@ pub fn show<W: Write, E: Write>(
     }
 }
 
-fn show_input<'a, W: Write>(alloc: Global, hex: bool, input: &[u8], out: &mut W) -> Result<(), Fault<'a>>
+fn show_input<'a, W: Write>(
+    alloc: Global,
+    hex: bool,
+    input: &[u8],
+    out: &mut W,
+) -> Result<(), Fault<'a>>
     ensures { OnOk result (IsShown hex input.now (W.contents out.old) (W.contents out.new)) }
 {
     if hex {
@@ -66,9 +71,7 @@ fn show_bytes<'a, W: Write>(alloc: Global, bytes: &[u8], out: &mut W) -> Result<
     ensures { OnOk result (IsPrinted bytes.now (W.contents out.old) (W.contents out.new)) }
 {
     match read_packet(alloc, bytes, LIMITS) {
-        Ok((header, messages, size)) => {
-            print_packet(alloc, &header, messages.len(), size, out)
-        }
+        Ok((header, messages, size)) => { print_packet(alloc, &header, messages.len(), size, out) }
         Err(fault) => {
             if let Ok(header) = read_header(bytes) {
                 print_header(alloc, &header, out)?;

@@ -1,3 +1,5 @@
+ghost use Rattle.std.specs.Prelude.{◌≡◌};
+
 /// How a command ended, and the status with which the program exits.
 #[derive(Clone, Copy, Debug, PartialEq, Eq)]
 pub enum Status {
@@ -12,7 +14,11 @@ pub enum Status {
 }
 
 impl Status {
-    pub fn code(self) -> u8 {
+    ghost use Rattle.echonet.specs.Status.{code_of};
+
+    pub fn code(self) -> u8
+        ensures { result ≡ code_of self }
+    {
         match self {
             Status::Good => 0,
             Status::Refused => 2,

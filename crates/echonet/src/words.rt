@@ -1,0 +1,46 @@
+use clap::{Arg, ArgAction, ArgMatches, Command, Error};
+use std::alloc::{AllocError, Global};
+
+/// What the command line asks for. Paths are as given, `-` among them.
+#[derive(Clone, Copy, Debug, PartialEq, Eq)]
+pub enum Words<'a> {
+    Show { hex: bool, packet: &'a str },
+}
+
+fn show_command<'a>(alloc: Global) -> Result<Command<'a>, AllocError> {
+    let hex = Arg::new(alloc, "hex")
+        .long("hex")
+        .action(ArgAction::SetTrue)
+        .help("The packet is written in hexadecimal digits");
+    let packet = Arg::new(alloc, "PACKET")
+        .required(true)
+        .help("The packet's file, or - for standard input");
+    Command::new(alloc, "show")
+        .about("Prints a packet")
+        .arg(hex)?
+        .arg(packet)
+}
+
+fn command<'a>(alloc: Global) -> Result<Command<'a>, AllocError> {
+    Command::new(alloc, "echonet")
+        .about("An echomail tosser and topology checker for FidoNet")
+        .subcommand_required(true)
+        .subcommand(show_command(alloc)?)
+}
+
+fn words_of<'a>(matches: &ArgMatches<'a>) -> Option<Words<'a>> {
+    match matches.subcommand()? {
+        ("show", show) => Some(Words::Show {
+            hex: show.get_flag("hex"),
+            packet: show.get_str("PACKET")?,
+        }),
+        _ => None,
+    }
+}
+
+/// What the words ask for, or why they were refused; help that was asked for is such an error too.
+/// `None` is a command that the program does not have.
+pub fn parse<'a>(alloc: Global, words: &'a [String]) -> Result<Option<Words<'a>>, Error> {
+    let matches = command(alloc)?.try_get_matches_from(words)?;
+    Ok(words_of(&matches))
+}
