@@ -1,3 +1,6 @@
 pub mod Members
 pub mod Walks
+pub mod Steps
+pub mod Around
+pub mod Cuts
 pub mod Cycles

@@ -1,5 +1,5 @@
 -- Who is among the members of a list, and lists in which none stands twice.
-use Rattle.std.proofs.Common.{◌≡◌, ◌≢◌, ◌⊎◌, inl, inr, sym, ℕ, List, [], ◌∷◌, ◌++◌}
+use Rattle.std.proofs.Common.{◌≡◌, ◌≢◌, ◌⊎◌, inl, inr, sym, subst, ℕ, List, [], ◌∷◌, ◌++◌}
 use Rattle.std.proofs.lemmas.Bool.{cases_eq}
 use Rattle.echo_graph.specs.Walk.{Among, Different}
 
@@ -20,6 +20,10 @@ Among-cases can x (y ∷ ys) =
         | inr none ↦ inr (λ h. elim h [ inl e ↦ ne e | inr t ↦ none t ])
       ]
     ]
+
+-- x is there if y is, and they are one
+pub Among-at : {A : Type 0} (x y : A) (xs : List A) → x ≡ y → Among y xs → Among x xs
+Among-at {A} x y xs e h = let P : A → Type 0 = λ m. Among m xs in subst P (sym e) h
 
 pub Among-append_left : {A : Type 0} (x : A) (xs ys : List A) → Among x xs → Among x (xs ++ ys)
 Among-append_left x [] ys h = absurd h

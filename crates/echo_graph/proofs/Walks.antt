@@ -3,7 +3,7 @@ use Rattle.std.proofs.Common.{◌≡◌, ◌≢◌, ◌⊎◌, inl, inr, refl, s
 use Rattle.std.proofs.lemmas.Bool.{cases_Bool}
 use Rattle.echo_graph.specs.Walk.{Simple, Among, Different, Walk}
 use Rattle.echo_graph.specs.Beyond.{FirstStep}
-use Rattle.echo_graph.proofs.Members.{CanTell, Among-cases, Among-append_cases}
+use Rattle.echo_graph.proofs.Members.{CanTell, Among-at, Among-cases, Among-append_cases}
 
 -- a link from a is one from b, if they are one
 pub link_from : {A : Type 0} (linked : A → A → Bool) (a b c : A) → a ≡ b → IsTrue (linked a c) → IsTrue (linked b c)
@@ -85,6 +85,14 @@ part_from can linked u a (c ∷ rest) b w h =
         },
       )
     ]
+
+-- a walk that passes u behind its first member has a part from u on there
+pub part_behind : {A : Type 0} → CanTell A → (linked : A → A → Bool) (u a : A) (rest : List A) (b : A) → Walk linked a rest b → Among u rest →
+    (part : List A) × Walk linked u part b × ((x : A) → Among x (u ∷ part) → Among x rest)
+part_behind can linked u a [] b w h = absurd h
+part_behind can linked u a (c ∷ rest) b w h =
+    let (part, p) = part_from can linked u c rest b w.1 h in
+    (part, p.walk, λ x t. elim t [ inl e ↦ Among-at x u (c ∷ rest) e h | inr i ↦ inr (p.within x i) ])
 
 -- a walk can be cut to one without repeats
 pub walk_without_repeats : {A : Type 0} → CanTell A → (linked : A → A → Bool) (a : A) (rest : List A) (b : A) → Walk linked a rest b →
