@@ -1,9 +1,9 @@
 -- Walks around a member.
-use Rattle.std.proofs.Common.{◌≡◌, ◌≢◌, ◌⊎◌, inl, inr, refl, sym, Bool, IsTrue, List, [], ◌∷◌, ◌++◌}
+use Rattle.std.proofs.Common.{◌≢◌, inl, inr, refl, Bool, IsTrue, List, [], ◌∷◌, ◌++◌}
 use Rattle.echo_graph.specs.Walk.{Simple, Among, Different, Walk}
 use Rattle.echo_graph.specs.Beyond.{Around, Beyond}
 use Rattle.echo_graph.proofs.Members.{CanTell, Among-cases, Among-append_cases}
-use Rattle.echo_graph.proofs.Walks.{walk_append, walk_back, part_from, walk_without_repeats}
+use Rattle.echo_graph.proofs.Walks.{walk_append, walk_back, walk_without_repeats}
 
 -- a member other than x is reached around x from itself
 pub Around-itself : {A : Type 0} (linked : A → A → Bool) (x a : A) → x ≢ a → Around linked x a a

@@ -1,9 +1,9 @@
 -- What lies beyond a member: the way to another member, and what lies beyond it in turn.
-use Rattle.std.proofs.Common.{◌≡◌, ◌≢◌, ◌⊎◌, inl, inr, refl, sym, subst, ℕ, ◌<◌, Bool, true, false, IsTrue, List, [], ◌∷◌, length}
+use Rattle.std.proofs.Common.{◌≡◌, ◌≢◌, ◌⊎◌, ◌↔◌, inl, inr, refl, sym, subst, ℕ, zero, suc, ◌≤◌, arith, Bool, IsTrue, List, [], ◌∷◌, length}
 use Rattle.std.proofs.lemmas.Bool.{cases_Bool, both_ways}
 use Rattle.echo_graph.specs.Walk.{Simple, Among, Walk, Reaches}
-use Rattle.echo_graph.specs.Beyond.{Around, Beyond, Parted, IsWay, FirstStep}
-use Rattle.echo_graph.proofs.Members.{CanTell, Among-at, Among-cases}
+use Rattle.echo_graph.specs.Beyond.{Around, Beyond, Parted, IsWay, HasOneWay, FirstStep}
+use Rattle.echo_graph.proofs.Members.{CanTell, Among-at}
 use Rattle.echo_graph.proofs.Walks.{link_to, walk_ends, part_from, part_behind}
 use Rattle.echo_graph.proofs.Steps.{first_step}
 use Rattle.echo_graph.proofs.Around.{Around-step, Around-trans, Around-sym, Beyond-from_no_around, no_around-from_Beyond}
@@ -68,6 +68,13 @@ way can linked simple parted f y other reaches =
     let (step, part, first, _) = first_step linked simple y f other reaches.0 reaches.1 in
     (step, record { link = first.link; passed = step_beyond can linked simple parted f y step part first })
 
+-- the only one
+pub has_one_way : {A : Type 0} → CanTell A → (linked : A → A → Bool) → Simple linked → Parted linked → (f y : A) → y ≢ f → Reaches linked y f →
+    HasOneWay linked f y
+has_one_way can linked simple parted f y other reaches =
+    let (u, to_u) = way can linked simple parted f y other reaches in
+    (u, to_u, λ v to_v. one_way can linked simple f y v u reaches to_v to_u)
+
 -- where all links are parted, each other link is a link of the way, or lies beyond
 pub link_cases : {A : Type 0} → CanTell A → (linked : A → A → Bool) → Simple linked → Parted linked → (f y u c : A) → Reaches linked y f →
     IsWay linked f y u → IsTrue (linked y c) → c ≢ u → IsTrue (linked u c) ⊎ Beyond linked y f c
@@ -86,6 +93,14 @@ pub link_of_way-not_beyond : {A : Type 0} → CanTell A → (linked : A → A �
 link_of_way-not_beyond can linked simple f y u c reaches to_u link joined beyond =
     no_around-from_Beyond linked y f c beyond
     (Around-step linked y c u f (linked_differ linked simple y c link) (simple.both_ways u c joined) (Around-from_IsWay can linked simple f y u reaches to_u))
+
+-- so, of the other links, those lie beyond that are no links of the way
+pub beyond_or_link : {A : Type 0} → CanTell A → (linked : A → A → Bool) → Simple linked → Parted linked → (f y u c : A) → Reaches linked y f →
+    IsWay linked f y u → IsTrue (linked y c) → c ≢ u → Beyond linked y f c ↔ (¬ IsTrue (linked u c))
+beyond_or_link can linked simple parted f y u c reaches to_u link other = (
+  λ beyond joined. link_of_way-not_beyond can linked simple f y u c reaches to_u link joined beyond,
+  λ none. elim (link_cases can linked simple parted f y u c reaches to_u link other) [ inl joined ↦ absurd (none joined) | inr beyond ↦ beyond ],
+)
 
 -- nor does the way lie beyond
 pub way-not_beyond : {A : Type 0} → CanTell A → (linked : A → A → Bool) → Simple linked → (f y u : A) → Reaches linked y f →
@@ -108,3 +123,19 @@ further {A} can linked simple f y c d reaches link beyond_y beyond_c other =
       λ joined. no_around-from_Beyond linked c f d beyond_c
           (Around-step linked c d y f (λ e. other (sym e)) (simple.both_ways y d joined) round),
     )
+
+-- what holds of f, and of each member whose way it holds of, holds of all that reach f
+pub along_ways : {A : Type 0} → CanTell A → (linked : A → A → Bool) → Simple linked → Parted linked → (f : A) (P : A → Type 0) → P f →
+    ((y u : A) → y ≢ f → Reaches linked y f → IsWay linked f y u → P u → P y) → (y : A) → Reaches linked y f → P y
+along_ways {A} can linked simple parted f P start next y reaches = within (length reaches.0) y reaches.0 (omega arith) reaches.1
+  where
+    within : (n : ℕ) (y : A) (rest : List A) → length rest ≤ n → Walk linked y rest f → P y
+    within n y [] h w = subst P (sym w) start
+    within zero y (c ∷ rest) h w = absurd (omega arith)
+    within (suc n) y (c ∷ rest) h w =
+        elim (can y f) [
+          | inl e ↦ subst P (sym e) start
+          | inr other ↦ (let (step, part, first, shorter) = first_step linked simple y f other (c ∷ rest) w in
+              let to_step : IsWay linked f y step = record { link = first.link; passed = step_beyond can linked simple parted f y step part first } in
+              next y step other (c ∷ rest, w) to_step (within n step part (omega arith) first.walk))
+        ]

@@ -1,9 +1,9 @@
 -- Cycles: each is a full polygon exactly where links that are not linked are parted.
-use Rattle.std.proofs.Common.{◌≡◌, ◌≢◌, ◌⊎◌, inl, inr, refl, sym, ◌∙◌, ℕ, ◌≤◌, ◌+◌, arith, Bool, true, false, IsTrue, List, [], ◌∷◌, ◌++◌, length, length-append}
+use Rattle.std.proofs.Common.{◌≡◌, ◌≢◌, inl, inr, refl, sym, ◌∙◌, arith, Bool, IsTrue, List, [], ◌∷◌, ◌++◌, length-append}
 use Rattle.std.proofs.lemmas.Bool.{cases_Bool, both_ways}
 use Rattle.echo_graph.specs.Walk.{Simple, Among, Different, Walk}
 use Rattle.echo_graph.specs.Cycle.{Cycle, NoCycle, Polygons}
-use Rattle.echo_graph.specs.Beyond.{Around, Beyond, Parted}
+use Rattle.echo_graph.specs.Beyond.{Around, Parted}
 use Rattle.echo_graph.proofs.Members.{CanTell, Among-append_left, Among-append_cases, Different-push}
 use Rattle.echo_graph.proofs.Walks.{link_to, link_from, walk_append, walk_ends}
 use Rattle.echo_graph.proofs.Around.{Around-without_repeats, Around-sym, Beyond-from_no_around, no_around-from_Beyond}

@@ -1,8 +1,6 @@
 -- Walks joined, turned round, and cut.
-use Rattle.std.proofs.Common.{◌≡◌, ◌≢◌, ◌⊎◌, inl, inr, refl, sym, subst, ◌∙◌, ℕ, ◌<◌, ◌≤◌, arith, Bool, true, false, IsTrue, List, [], ◌∷◌, ◌++◌, length}
-use Rattle.std.proofs.lemmas.Bool.{cases_Bool}
-use Rattle.echo_graph.specs.Walk.{Simple, Among, Different, Walk}
-use Rattle.echo_graph.specs.Beyond.{FirstStep}
+use Rattle.std.proofs.Common.{◌≡◌, inl, inr, refl, sym, subst, ◌∙◌, ◌≤◌, arith, Bool, IsTrue, List, [], ◌∷◌, ◌++◌, length}
+use Rattle.echo_graph.specs.Walk.{Simple, Among, Different, Walk, Reaches, Connected}
 use Rattle.echo_graph.proofs.Members.{CanTell, Among-at, Among-cases, Among-append_cases}
 
 -- a link from a is one from b, if they are one
@@ -110,3 +108,15 @@ walk_without_repeats can linked a (c ∷ rest) b w =
         λ x h. elim h [ inl e ↦ inl e | inr t ↦ inr (within x t) ],
       )
     ]
+
+pub Reaches-trans : {A : Type 0} (linked : A → A → Bool) (a b c : A) → Reaches linked a b → Reaches linked b c → Reaches linked a c
+Reaches-trans linked a b c first second = (first.0 ++ second.0, walk_append linked a first.0 b second.0 c first.1 second.1)
+
+pub Reaches-sym : {A : Type 0} (linked : A → A → Bool) → Simple linked → (a b : A) → Reaches linked a b → Reaches linked b a
+Reaches-sym linked simple a b reaches = let (back, w, _) = walk_back linked simple a reaches.0 b reaches.1 in (back, w)
+
+-- all members are connected, if one reaches all
+pub Connected-from_root : {A : Type 0} (IsMember : A → Type 0) (linked : A → A → Bool) → Simple linked → (root : A) →
+    ((a : A) → IsMember a → Reaches linked root a) → Connected IsMember linked
+Connected-from_root IsMember linked simple root all a b at_a at_b =
+    Reaches-trans linked a root b (Reaches-sym linked simple root a (all a at_a)) (all b at_b)

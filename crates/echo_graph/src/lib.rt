@@ -7,4 +7,4 @@
 
 mod laws;
 
-pub use laws::no_cycle;
+pub use laws::{along_ways, first_step, further_out, one_way, polygons_where_parted};
