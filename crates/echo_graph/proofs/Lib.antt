@@ -4,3 +4,5 @@ pub mod Steps
 pub mod Around
 pub mod Cuts
 pub mod Cycles
+pub mod Family
+pub mod Descent

@@ -1,3 +1,4 @@
 pub mod Walk
 pub mod Cycle
 pub mod Beyond
+pub mod Family
