@@ -1,5 +1,5 @@
 -- Walks around a member.
-use Rattle.std.proofs.Common.{◌≢◌, inl, inr, refl, Bool, IsTrue, List, [], ◌∷◌, ◌++◌}
+use Rattle.std.proofs.Common.{◌≢◌, inl, inr, refl, subst, Bool, IsTrue, List, [], ◌∷◌, ◌++◌}
 use Rattle.echo_graph.specs.Walk.{Simple, Among, Different, Walk}
 use Rattle.echo_graph.specs.Beyond.{Around, Beyond}
 use Rattle.echo_graph.proofs.Members.{CanTell, Among-cases, Among-append_cases}
@@ -45,3 +45,13 @@ Beyond-from_no_around can linked x f c none rest w =
 
 pub no_around-from_Beyond : {A : Type 0} (linked : A → A → Bool) (x f c : A) → Beyond linked x f c → ¬ Around linked x c f
 no_around-from_Beyond linked x f c beyond around = around.2 (beyond around.0 around.1)
+
+-- what links around b keep, walks around b keep
+pub Around-keeps : {A : Type 0} (linked : A → A → Bool) (b : A) (P : A → Type 0) →
+    ((x y : A) → P x → IsTrue (linked x y) → b ≢ x → b ≢ y → P y) → (a c : A) → Around linked b a c → P a → P c
+Around-keeps {A} linked b P next a c around = along a around.0 around.1 around.2
+  where
+    along : (a : A) (rest : List A) → Walk linked a rest c → ¬ Among b (a ∷ rest) → P a → P c
+    along a [] w avoids at_a = subst P w at_a
+    along a (d ∷ rest) w avoids at_a =
+        along d rest w.1 (λ h. avoids (inr h)) (next a d at_a w.0 (λ e. avoids (inl e)) (λ e. avoids (inr (inl e))))
