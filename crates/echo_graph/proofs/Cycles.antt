@@ -1,9 +1,9 @@
 -- Cycles: each is a full polygon exactly where links that are not linked are parted.
-use Rattle.std.proofs.Common.{◌≡◌, ◌≢◌, inl, inr, refl, sym, ◌∙◌, arith, Bool, IsTrue, List, [], ◌∷◌, ◌++◌, length-append}
+use Rattle.std.proofs.Common.{◌≡◌, ◌≢◌, inl, inr, refl, sym, subst, ◌∙◌, arith, Bool, IsTrue, List, [], ◌∷◌, ◌++◌, length-append}
 use Rattle.std.proofs.lemmas.Bool.{cases_Bool, both_ways}
 use Rattle.echo_graph.specs.Walk.{Simple, Among, Different, Walk}
 use Rattle.echo_graph.specs.Cycle.{Cycle, NoCycle, Polygons}
-use Rattle.echo_graph.specs.Beyond.{Around, Parted}
+use Rattle.echo_graph.specs.Beyond.{Around, Parted, AllParted}
 use Rattle.echo_graph.proofs.Members.{CanTell, Among-append_left, Among-append_cases, Different-push}
 use Rattle.echo_graph.proofs.Walks.{link_to, link_from, walk_append, walk_ends}
 use Rattle.echo_graph.proofs.Around.{Around-without_repeats, Around-sym, Beyond-from_no_around, no_around-from_Beyond}
@@ -147,3 +147,30 @@ Polygons-from_Parted can linked simple parted first rest cycle x y at_x at_y oth
         | inr t ↦ others_linked can linked simple parted first rest cycle x y s t other
       ]
     ]
+
+-- without a cycle, all links are parted
+pub AllParted-from_NoCycle : {A : Type 0} → CanTell A → (linked : A → A → Bool) → Simple linked → NoCycle linked → AllParted linked
+AllParted-from_NoCycle {A} can linked simple none b a c to_a to_c other =
+    Beyond-from_no_around can linked b c a (λ around.
+    let (rest, w, avoids, different) = Around-without_repeats can linked b a c around in
+    closes rest w avoids different)
+  where
+    closes : (rest : List A) → Walk linked a rest c → ¬ Among b (a ∷ rest) → Different (a ∷ rest) → ⊥
+    closes [] w avoids different = other w
+    closes (d ∷ rest) w avoids different =
+        none b (a ∷ d ∷ rest) (record {
+          long = omega arith;
+          different = (avoids, different);
+          closed = (c, (to_a, w), simple.both_ways b c to_c);
+        })
+
+-- where all links are parted, there is no cycle
+pub NoCycle-from_AllParted : {A : Type 0} (linked : A → A → Bool) → Simple linked → AllParted linked → NoCycle linked
+NoCycle-from_AllParted linked simple parted first [] cycle = omega (arith, cycle.long)
+NoCycle-from_AllParted linked simple parted first (second ∷ []) cycle = omega (arith, cycle.long)
+NoCycle-from_AllParted {A} linked simple parted first (second ∷ third ∷ rest) cycle =
+    let (last, w, closes) = cycle.closed in
+    let at_last = walk_ends linked third rest last w.1.1 in
+    let P : A → Type 0 = λ m. Among m (third ∷ rest) in
+    let other : second ≢ last = λ e. cycle.different.1.0 (subst P (sym e) at_last) in
+    cycle.different.0 (parted first second last w.0 (simple.both_ways last first closes) other (third ∷ rest) w.1)

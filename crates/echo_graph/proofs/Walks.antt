@@ -120,3 +120,12 @@ pub Connected-from_root : {A : Type 0} (IsMember : A → Type 0) (linked : A →
     ((a : A) → IsMember a → Reaches linked root a) → Connected IsMember linked
 Connected-from_root IsMember linked simple root all a b at_a at_b =
     Reaches-trans linked a root b (Reaches-sym linked simple root a (all a at_a)) (all b at_b)
+
+-- what links keep, walks keep
+pub Reaches-keeps : {A : Type 0} (linked : A → A → Bool) (P : A → Type 0) → ((x y : A) → P x → IsTrue (linked x y) → P y) →
+    (a c : A) → Reaches linked a c → P a → P c
+Reaches-keeps {A} linked P next a c reaches = along a reaches.0 reaches.1
+  where
+    along : (a : A) (rest : List A) → Walk linked a rest c → P a → P c
+    along a [] w at_a = subst P w at_a
+    along a (d ∷ rest) w at_a = along d rest w.1 (next a d at_a w.0)

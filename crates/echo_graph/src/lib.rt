@@ -7,4 +7,6 @@
 
 mod laws;
 
-pub use laws::{along_ways, first_step, further_out, one_way, polygons_where_parted};
+pub use laws::{
+    along_ways, family_of_levels, first_step, further_out, one_way, polygons_where_parted,
+};
