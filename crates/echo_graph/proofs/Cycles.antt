@@ -12,7 +12,7 @@ pub Polygons-from_no_cycle : {A : Type 0} (linked : A → A → Bool) → NoCycl
 Polygons-from_no_cycle linked none first rest cycle = absurd (none first rest cycle)
 
 -- two links of b that are not linked, with a walk from one to the other around b, make a cycle
-cycle_around : {A : Type 0} (linked : A → A → Bool) → Simple linked → (b a c : A) → IsTrue (linked b a) → IsTrue (linked b c) →
+pub cycle_around : {A : Type 0} (linked : A → A → Bool) → Simple linked → (b a c : A) → IsTrue (linked b a) → IsTrue (linked b c) →
     a ≢ c → ¬ IsTrue (linked a c) → (rest : List A) → Walk linked a rest c → ¬ Among b (a ∷ rest) → Different (a ∷ rest) →
     Cycle linked b (a ∷ rest)
 cycle_around linked simple b a c to_a to_c other none [] w avoids different = absurd (other w)
@@ -31,7 +31,7 @@ Parted-from_Polygons can linked simple polygons b a c to_a to_c other none =
     none (polygons b (a ∷ rest) cycle a c (inr (inl refl)) (inr (walk_ends linked a rest c w)) other))
 
 -- a cycle from its second member on
-cycle_turned : {A : Type 0} (linked : A → A → Bool) (first second : A) (rest : List A) → Cycle linked first (second ∷ rest) →
+pub cycle_turned : {A : Type 0} (linked : A → A → Bool) (first second : A) (rest : List A) → Cycle linked first (second ∷ rest) →
     Cycle linked second (rest ++ first ∷ [])
 cycle_turned linked first second rest cycle =
     let (last, w, closes) = cycle.closed in

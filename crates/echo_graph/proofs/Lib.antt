@@ -6,3 +6,4 @@ pub mod Cuts
 pub mod Cycles
 pub mod Family
 pub mod Descent
+pub mod Turns
