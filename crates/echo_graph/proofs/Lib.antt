@@ -7,3 +7,4 @@ pub mod Cycles
 pub mod Family
 pub mod Descent
 pub mod Turns
+pub mod Renaming

@@ -2,3 +2,4 @@ pub mod Walk
 pub mod Cycle
 pub mod Beyond
 pub mod Family
+pub mod Renaming

@@ -1,8 +1,9 @@
 //! What holds of the definitions. Each law is the contract of a function that does nothing.
 
-ghost use Rattle.std.specs.Prelude.{◌≡◌, ◌≢◌, ◌↔◌, ℕ, ◌<◌, Bool, IsTrue, List, length};
+ghost use Rattle.std.specs.Prelude.{◌≡◌, ◌≢◌, ◌↔◌, ℕ, ◌<◌, Bool, IsTrue, List, ◌++◌, length, map, reverse};
 ghost use Rattle.echo_graph.specs.Walk.{Simple, Walk, Reaches};
-ghost use Rattle.echo_graph.specs.Cycle.{NoCycle, Polygons};
+ghost use Rattle.echo_graph.specs.Cycle.{Cycle, IsCycle, NoCycle, Polygons};
+ghost use Rattle.echo_graph.specs.Renaming.{IsRenaming};
 ghost use Rattle.echo_graph.specs.Family.{IsFamily, KeepsToFamily};
 ghost use Rattle.echo_graph.specs.Beyond.{AllParted, Beyond, Parted, IsWay, HasOneWay, FirstStep};
 
@@ -53,4 +54,18 @@ pub fn along_ways()
 pub fn family_of_levels()
     ensures { (linked : ℕ → ℕ → Bool) (level parent : ℕ → ℕ) → Simple linked → IsFamily linked level parent →
         (Parted linked ↔ KeepsToFamily linked level parent) }
+{}
+
+/// A cycle may be written from any of its members on, and the other way round.
+pub fn cycle_written_anew()
+    ensures turned { (linked : ℕ → ℕ → Bool) (front back : List ℕ) → IsCycle linked (front ++ back) → IsCycle linked (back ++ front) }
+    ensures reversed { (linked : ℕ → ℕ → Bool) → Simple linked → (first : ℕ) (rest : List ℕ) → Cycle linked first rest → Cycle linked first (reverse rest) }
+{}
+
+/// Whether cycles are fully linked, and which members form one, does not hang on the members' names.
+pub fn other_names()
+    ensures polygons { (linked joined : ℕ → ℕ → Bool) (name back : ℕ → ℕ) → IsRenaming linked joined name back → Simple joined →
+        Polygons linked → Polygons joined }
+    ensures cycles { (linked joined : ℕ → ℕ → Bool) (name back : ℕ → ℕ) → IsRenaming linked joined name back → Simple linked →
+        (first : ℕ) (rest : List ℕ) → Cycle linked first rest → Cycle joined (name first) (map name rest) }
 {}

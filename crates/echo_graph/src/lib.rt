@@ -8,5 +8,6 @@
 mod laws;
 
 pub use laws::{
-    along_ways, family_of_levels, first_step, further_out, one_way, polygons_where_parted,
+    along_ways, cycle_written_anew, family_of_levels, first_step, further_out, one_way,
+    other_names, polygons_where_parted,
 };
