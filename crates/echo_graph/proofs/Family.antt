@@ -5,9 +5,8 @@ use Rattle.echo_graph.specs.Walk.{Simple, Reaches}
 use Rattle.echo_graph.specs.Beyond.{Around, Parted}
 use Rattle.echo_graph.specs.Family.{IsFamily, IsParent, AreSiblings, KeepsToFamily}
 use Rattle.echo_graph.proofs.Members.{CanTell}
-use Rattle.echo_graph.proofs.Walks.{link_to, Reaches-trans, Reaches-sym}
+use Rattle.echo_graph.proofs.Walks.{link_to, linked_differ, Reaches-trans, Reaches-sym}
 use Rattle.echo_graph.proofs.Around.{Around-itself, Around-step, Around-trans, Around-sym, no_around-from_Beyond}
-use Rattle.echo_graph.proofs.Cuts.{linked_differ}
 
 -- members of different levels are two
 pub levels_differ : {A : Type 0} (level : A → ℕ) (a b : A) → level a < level b → a ≢ b

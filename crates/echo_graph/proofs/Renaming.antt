@@ -3,7 +3,7 @@ use Rattle.std.proofs.Common.{◌≡◌, ◌≢◌, ◌⊎◌, inl, inr, refl, s
 use Rattle.echo_graph.specs.Walk.{Simple, Among, Different, Walk, Reaches}
 use Rattle.echo_graph.specs.Cycle.{Cycle, Polygons}
 use Rattle.echo_graph.specs.Renaming.{IsRenaming}
-use Rattle.echo_graph.proofs.Walks.{link_to, link_from}
+use Rattle.echo_graph.proofs.Walks.{link_to, link_from, walk_links}
 
 -- the two graphs change places
 pub IsRenaming-swap : {A B : Type 0} (linked : A → A → Bool) (joined : B → B → Bool) (name : A → B) (back : B → A) →
@@ -40,16 +40,6 @@ Different-map name back (x ∷ xs) owns h = (
 length-mapped : {A B : Type 0} (name : A → B) (xs : List A) → length (map name xs) ≡ length xs
 length-mapped name [] = refl
 length-mapped name (x ∷ xs) = omega (arith, length-mapped name xs)
-
--- behind the first member of a walk each has a link
-pub walk_links : {A : Type 0} (linked : A → A → Bool) → Simple linked → (a : A) (rest : List A) (b : A) → Walk linked a rest b →
-    (x : A) → Among x rest → (y : A) × IsTrue (linked x y)
-walk_links linked simple a [] b w x h = absurd h
-walk_links linked simple a (d ∷ rest) b w x h =
-    elim h [
-      | inl e ↦ (a, link_from linked d x a (sym e) (simple.both_ways a d w.0))
-      | inr t ↦ walk_links linked simple d rest b w.1 x t
-    ]
 
 module _ {A B : Type 0} (linked : A → A → Bool) (joined : B → B → Bool) (name : A → B) (back : B → A) (renaming : IsRenaming linked joined name back) where
   pub Walk-renamed : (a : A) (rest : List A) (b : A) → Walk linked a rest b → Walk joined (name a) (map name rest) (name b)

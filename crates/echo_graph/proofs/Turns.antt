@@ -71,17 +71,3 @@ Cycle-reversed linked simple first (second ∷ rest) cycle =
         simple.both_ways first second w.0,
       );
     }
-
--- of the walks from a to b around x those with the fewest members have no repeats
-pub fewest-different : {A : Type 0} → CanTell A → (linked : A → A → Bool) (x a : A) (rest : List A) (b : A) → Walk linked a rest b → ¬ Among x (a ∷ rest) →
-    ((other : List A) → Walk linked a other b → ¬ Among x (a ∷ other) → length rest ≤ length other) → Different (a ∷ rest)
-fewest-different can linked x a [] b w avoids fewest = (λ h. h, tt)
-fewest-different can linked x a (c ∷ rest) b w avoids fewest =
-    let later = fewest-different can linked x c rest b w.1 (λ h. avoids (inr h))
-    (λ other v avoids_other. let longer : suc (length rest) ≤ suc (length other) =
-    fewest (c ∷ other) (w.0, v) (λ h. elim h [ inl e ↦ avoids (inl e) | inr t ↦ avoids_other t ]) in omega arith) in (
-      λ again. (let (part, p) = part_from can linked a c rest b w.1 again in
-          let least : suc (length rest) ≤ length part = fewest part p.walk (λ h. elim h [ inl e ↦ avoids (inl e) | inr t ↦ avoids (inr (inr (p.within x t))) ]) in
-          omega (arith, p.shorter)),
-      later,
-    )
