@@ -8,3 +8,4 @@ pub mod Family
 pub mod Descent
 pub mod Turns
 pub mod Renaming
+pub mod Siblings
