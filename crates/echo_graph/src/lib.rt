@@ -3,6 +3,10 @@
 //! The contract for the layer above is in `laws`: every cycle is fully linked exactly where any two
 //! links of a member that are not linked with each other are parted by it, and in such a graph each
 //! member has one way to any other.
+//!
+//! The definitions stand in specs/: `Walk` (walks, and what a graph is), `Cycle`, `Beyond` (what stands
+//! on every walk), `Family` (what a search by levels gives) and `Renaming`. The lemmas in proofs/ hold of
+//! members of any type whose equality can be told.
 #![tactic(auto)]
 
 mod laws;
