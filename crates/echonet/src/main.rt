@@ -1,27 +1,13 @@
-//! The command `echonet`: its words, its files, and one function for each command, over bytes in and
-//! two writers out.
-//!
-//! Modules in reading order: `words` (the command line), `input` (files and standard input), `show`
-//! with `show_text` (what it prints), `fault` and `status` (how a command ends).
+//! The program `echonet`: it reads the command line (`words`) and the files, and calls the commands.
 #![tactic(auto)]
 
-mod fault;
-mod input;
-mod show;
-mod show_text;
-mod status;
 #[cfg(test)]
 mod tests;
 mod words;
 
 use clap::error::ErrorKind;
-use fault::Fault;
-use input::{InputFault, read_whole};
-use show::show;
-use status::Status;
-use std::alloc::Global;
-use std::fs::File;
-use std::io::{Read, Stderr, Stdout, Write};
+use echo_commands::{Fault, InputFault, Status, read_whole, show};
+use std::io::{Stderr, Stdout};
 use std::process::ExitCode;
 use std::{env, fs};
 use words::{Words, parse};

@@ -1,7 +1,7 @@
 ghost use Rattle.std.specs.Prelude.{◌≡◌, ◌++◌, OnOk, IfOk, Ok};
 ghost use Rattle.std.specs.Io.KnownBytes.{Appends};
 ghost use Rattle.hex.specs.Hex.{decode_of};
-ghost use Rattle.echonet.specs.Shown.{IsPrinted, IsShown, end_line, header_lines, hex_text};
+ghost use Rattle.echo_commands.specs.Shown.{IsPrinted, IsShown, end_line, header_lines, hex_text};
 
 use crate::fault::Fault;
 use crate::show_text::{end_text, header_text};

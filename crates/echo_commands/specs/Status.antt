@@ -1,7 +1,7 @@
 -- The statuses with which the program exits.
 use Rattle.std.specs.Prelude.{ℕ}
-use Rattle.echonet.specs.declared.status.Status.{Status}
-use Rattle.echonet.specs.declared.status.Status.TheVariants.{Good, Refused, Device, CommandLine}
+use Rattle.echo_commands.specs.declared.status.Status.{Status}
+use Rattle.echo_commands.specs.declared.status.Status.TheVariants.{Good, Refused, Device, CommandLine}
 
 -- 0 good, 2 refused input, 3 device or memory, 4 command line
 abbrev pub code_of : Status → ℕ

@@ -14,7 +14,7 @@ pub enum Status {
 }
 
 impl Status {
-    ghost use Rattle.echonet.specs.Status.{code_of};
+    ghost use Rattle.echo_commands.specs.Status.{code_of};
 
     pub fn code(self) -> u8
         ensures { result ≡ code_of self }

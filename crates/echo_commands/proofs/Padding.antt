@@ -4,7 +4,7 @@ use Rattle.std.proofs.Math.Nat.{sub-zero}
 use Rattle.std.proofs.lemmas.List.{append-nil}
 use Rattle.std.specs.Fmt.{padded_integral, format_spec, char_count}
 use Rattle.std.specs.Prelude.{false}
-use Rattle.echonet.specs.Shown.{zero_padded}
+use Rattle.echo_commands.specs.Shown.{zero_padded}
 
 -- what `{:02}` writes
 pub two_padded : (n : ℕ) → padded_integral (format_spec 32 0 4 2 (2 ^ 64 - 1)) false [] (decimal n) ≡ zero_padded 2 n

@@ -1,6 +1,6 @@
 use Rattle.std.proofs.Common.{◌≡◌, arith}
-use Rattle.echonet.proofs.Pieces.{whole}
-use Rattle.echonet.proofs.input.read_whole.Goals as goal
+use Rattle.echo_commands.proofs.Pieces.{whole}
+use Rattle.echo_commands.proofs.input.read_whole.Goals as goal
 
 pub returns-then-n-eq0-clause-all : goal.returns-then-n-eq0-clause-all
 returns-then-n-eq0-clause-all g c =

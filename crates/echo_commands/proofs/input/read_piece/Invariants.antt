@@ -1,5 +1,5 @@
 use Rattle.std.specs.Io.KnownBytes.{Keeps}
-use Rattle.echonet.proofs.input.read_piece.Given as goal
+use Rattle.echo_commands.proofs.input.read_piece.Given as goal
 
 abbrev pub invariant-tries : goal.invariant-tries
 invariant-tries g l = Keeps (g.R.Read.remaining l.initial.reader) (g.R.Read.remaining l.reader)

@@ -1,5 +1,5 @@
 ghost use Rattle.std.specs.Prelude.{◌≡◌, ◌≢◌};
-ghost use Rattle.echonet.specs.declared.fault.Fault.TheVariants.{OutOfMemory};
+ghost use Rattle.echo_commands.specs.declared.fault.Fault.TheVariants.{OutOfMemory};
 
 use crate::status::Status;
 use echo_packet::PacketFault;

@@ -1,6 +1,6 @@
 ghost use Rattle.std.specs.Prelude.{◌≡◌, ◌≤◌, ◌<◌, IfOk, IfErr, IfSome, IsErrOf, MatchResult, length, vec_len};
 ghost use Rattle.std.specs.Io.KnownBytes.{Consumes, ReadConsumes};
-ghost use Rattle.echonet.specs.declared.input.InputFault.TheVariants.{Device, Memory, TooLarge};
+ghost use Rattle.echo_commands.specs.declared.input.InputFault.TheVariants.{Device, Memory, TooLarge};
 
 use std::alloc::{AllocError, Global};
 use std::io::{ErrorKind, Read};

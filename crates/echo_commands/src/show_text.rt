@@ -1,5 +1,5 @@
 ghost use Rattle.std.specs.Prelude.{◌≡◌, IfOk, string_bytes};
-ghost use Rattle.echonet.specs.Shown.{address, end_line, date, header_lines, packet_line, systems, time, zero_padded};
+ghost use Rattle.echo_commands.specs.Shown.{address, end_line, date, header_lines, packet_line, systems, time, zero_padded};
 
 use echo_packet::Header;
 use std::alloc::{AllocError, Global};

@@ -1,6 +1,6 @@
 use Rattle.std.proofs.Common.{rules}
-use Rattle.echonet.proofs.Printed.{printed, on_ok, described}
-use Rattle.echonet.proofs.show.show_bytes.Goals as goal
+use Rattle.echo_commands.proofs.Printed.{printed, on_ok, described}
+use Rattle.echo_commands.proofs.showing.show_bytes.Goals as goal
 
 pub returns-in-Ok : goal.returns-in-Ok
 returns-in-Ok g c =

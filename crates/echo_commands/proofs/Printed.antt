@@ -9,7 +9,7 @@ use Rattle.echo_packet.specs.declared.header.Header.{Header}
 use Rattle.echo_packet.specs.declared.limits.Limits.{Limits}
 use Rattle.echo_packet.specs.Message.{Message}
 use Rattle.echo_packet.specs.Packet.{PacketOf}
-use Rattle.echonet.specs.Shown.{IsPrinted, header_lines, end_line}
+use Rattle.echo_commands.specs.Shown.{IsPrinted, header_lines, end_line}
 
 pub printed : (limits : Limits) (bytes : List ℕ) (h : Header) (ms : List Message) (n count : ℕ) (a b : Option (List ℕ))
     → (n ≤ length bytes) × PacketOf limits h ms (take n bytes) → count ≡ length ms

@@ -1,0 +1,174 @@
+use super::*;
+use std::alloc::Global;
+use std::io::Read;
+use std::test::Fail;
+
+/// A packet of 60 bytes without messages, from 1:10/1 to 1:10/2, in hexadecimal digits.
+const SIXTY: &str =
+    "01000200ea07060003000c002200380000000200\n0a000a000000\n0000000000000000\n01000100\n0000000000000000000000000000000000000000\n0000\n";
+
+const HEADER: &str =
+    "packet 1:10/1 to 1:10/2 at 2026-07-03 12:34:56 product 0 serial 0\npassword 0000000000000000\nfill 0000000000000000000000000000000000000000\n";
+
+fn shown(alloc: Global, hex: bool, input: &[u8]) -> (Status, Vec<u8>, Vec<u8>) {
+    let mut out = Vec::new(alloc);
+    let mut errors = Vec::new(alloc);
+    let status = show(alloc, hex, input, &mut out, &mut errors);
+    (status, out, errors)
+}
+
+fn is_text(bytes: &Vec<u8>, text: &str) -> bool {
+    bytes.as_slice() == text.as_bytes()
+}
+
+#[test]
+fn shows_hex_and_bytes(rt: HostRuntime) -> Result<(), Fail> {
+    let alloc = rt.alloc();
+    let text = format!(in alloc; "{HEADER}end 0 messages, 60 bytes\n")?;
+    let with_rest = format!(in alloc; "{SIXTY}68 65\t6c\r\n6c6F")?;
+    let (status, out, errors) = shown(alloc, true, with_rest.as_bytes());
+    assert_eq!(rt; status, Status::Good);
+    assert!(rt; is_text(&out, text.as_str()) && errors.is_empty());
+    let digits = SIXTY.replace(alloc, "\n", "")?;
+    let bytes = hex::decode(alloc, digits.as_str())?;
+    let (status, out, _) = shown(alloc, false, &bytes);
+    assert_eq!(rt; status, Status::Good);
+    assert!(rt; is_text(&out, text.as_str()));
+    Ok(())
+}
+
+#[test]
+fn shows_what_came_before_a_fault(rt: HostRuntime) -> Result<(), Fail> {
+    let alloc = rt.alloc();
+    let digits = SIXTY.replace(alloc, "\n", "")?;
+    let bytes = hex::decode(alloc, digits.as_str())?;
+    assert_eq!(rt; bytes.len(), 60);
+    for (count, printed, line) in [
+        (59, HEADER, "echonet: P1 Truncated at 58\n"),
+        (58, HEADER, "echonet: P1 Truncated at 58\n"),
+        (57, "", "echonet: P1 Truncated at 0\n"),
+        (0, "", "echonet: P1 Truncated at 0\n"),
+    ] {
+        let (status, out, errors) = shown(alloc, false, &bytes[..count]);
+        assert_eq!(rt; status, Status::Refused);
+        assert!(rt; is_text(&out, printed), "printed at {count}");
+        assert!(rt; is_text(&errors, line), "fault at {count}");
+    }
+    Ok(())
+}
+
+#[test]
+fn refuses_wrong_numbers(rt: HostRuntime) -> Result<(), Fail> {
+    let alloc = rt.alloc();
+    for (from, to, printed, line) in [
+        (
+            "00000200\n",
+            "00000300\n",
+            "",
+            "echonet: P2 NotType2 at 18\n",
+        ),
+        (
+            "\n0000\n",
+            "\n0300\n",
+            HEADER,
+            "echonet: P3 NotMessage at 58\n",
+        ),
+        (
+            "\n0000\n",
+            "\n0200\n",
+            HEADER,
+            "echonet: P10 TooManyMessages at 58\n",
+        ),
+        ("01000200", "0100020", "", "echonet: bad hex\n"),
+        ("01000200", "0100020g", "", "echonet: bad hex\n"),
+    ] {
+        let digits = SIXTY.replace(alloc, from, to)?;
+        let (status, out, errors) = shown(alloc, true, digits.as_bytes());
+        assert_eq!(rt; status, Status::Refused, "{line}");
+        assert!(rt; is_text(&out, printed), "printed before {line}");
+        assert!(rt; is_text(&errors, line), "{line}");
+    }
+    Ok(())
+}
+
+#[test]
+fn shows_password_and_fill(rt: HostRuntime) -> Result<(), Fail> {
+    let alloc = rt.alloc();
+    let with_password = SIXTY.replace(alloc, "\n0000000000000000\n", "\n7061737300000000\n")?;
+    let fill = "0102030405060708090a0b0c0d0e0f1011121314";
+    let input = with_password.replace(alloc, "0000000000000000000000000000000000000000", fill)?;
+    let (status, out, _) = shown(alloc, true, input.as_bytes());
+    assert_eq!(rt; status, Status::Good);
+    assert!(rt;
+        is_text(
+            &out,
+            "packet 1:10/1 to 1:10/2 at 2026-07-03 12:34:56 product 0 serial 0\npassword 7061737300000000\nfill 0102030405060708090a0b0c0d0e0f1011121314\nend 0 messages, 60 bytes\n"
+        )
+    );
+    Ok(())
+}
+
+#[test]
+fn reads_whole_inputs(rt: HostRuntime) -> Result<(), Fail> {
+    let alloc = rt.alloc();
+    let mut five: &[u8] = b"hello";
+    let read = read_whole(alloc, &mut five, 5)
+        .ok()
+        .ok_or("five bytes are allowed")?;
+    assert!(rt; is_text(&read, "hello"));
+    let mut six: &[u8] = b"hello!";
+    assert_eq!(rt;
+        read_whole(alloc, &mut six, 5).err(),
+        Some(InputFault::TooLarge)
+    );
+    Ok(())
+}
+
+/// A reader that is interrupted some times before each read.
+#[derive(Drop)]
+struct Interrupted<'a> {
+    bytes: &'a [u8],
+    again: usize,
+    left: usize,
+}
+
+impl Read for Interrupted<'_> {
+    fn read(&mut self, buf: &mut [u8]) -> std::io::Result<usize> {
+        if self.left > 0 {
+            self.left -= 1;
+            return Err(std::io::Error::from(std::io::ErrorKind::Interrupted));
+        }
+        self.left = self.again;
+        self.bytes.read(buf)
+    }
+}
+
+#[test]
+fn sixteen_interruptions_are_a_failure(rt: HostRuntime) -> Result<(), Fail> {
+    let alloc = rt.alloc();
+    for (again, read) in [(15, Ok(5)), (16, Err(InputFault::Device))] {
+        let mut reader = Interrupted {
+            bytes: b"hello",
+            again,
+            left: again,
+        };
+        let got = read_whole(alloc, &mut reader, 100).map(|bytes| bytes.len());
+        assert_eq!(rt; got, read, "after {again}");
+    }
+    Ok(())
+}
+
+#[test]
+fn statuses(rt: HostRuntime) {
+    for (status, code) in [
+        (Status::Good, 0),
+        (Status::Refused, 2),
+        (Status::Device, 3),
+        (Status::CommandLine, 4),
+    ] {
+        assert_eq!(rt; status.code(), code);
+    }
+    assert_eq!(rt; Fault::CannotUse("x").status(), Status::Device);
+    assert_eq!(rt; Fault::OutOfMemory.status(), Status::Device);
+    assert_eq!(rt; Fault::TooLarge("x").status(), Status::Refused);
+}
