@@ -1,0 +1,16 @@
+//! Devices that count their failures, and the one small type for lists.
+//!
+//! Modules in reading order: `items` (a list that no later call grows), `failure`, `source` and
+//! `sink` (readers and writers that tell how often they failed), `watched` (makes one of any reader
+//! or writer), `buffered` (a buffer in front of a source) and `trial` (a device for tests).
+#![tactic(auto)]
+
+mod failure;
+mod items;
+mod sink;
+mod source;
+
+pub use failure::Failure;
+pub use items::Items;
+pub use sink::{Sink, send};
+pub use source::{Source, fill};
