@@ -48,11 +48,11 @@ pub fn send<S: Sink>(sink: &mut S, bytes: &[u8], sent: &mut u64) -> Result<(), F
     ensures ok { OnOk result (S.failures sink.new ≡ S.failures sink.old) }
     ensures err { OnErr result (Failed (S.failures sink.old) (S.failures sink.new)) }
 {
+    let before = *sent;
     let mut done = 0;
     'writes: while done < bytes.len() {
-        let count = sink.write_some(&bytes[done..])?;
-        done += count;
-        *sent = sent.saturating_add(count as u64);
+        done += sink.write_some(&bytes[done..])?;
+        *sent = before.saturating_add(done as u64);
     }
     Ok(())
 }

@@ -1,5 +1,5 @@
 //! Readers that tell how often they failed.
-ghost use Rattle.std.specs.Prelude.{◌≡◌, ℕ, ◌≤◌, List, length, take, drop, IfSome, OnOk, OnErr};
+ghost use Rattle.std.specs.Prelude.{◌≡◌, ℕ, ◌+◌, ◌<◌, ◌≤◌, List, length, take, drop, IfSome, IfOk, OnOk, OnErr};
 ghost use Rattle.std.specs.Io.{ReadsAtMost, StartsWith};
 ghost use Rattle.std.specs.Io.KnownBytes.{Consumes, ReadConsumes};
 ghost use Rattle.echo_addr.specs.Device.{Failed, Fills};
@@ -80,6 +80,18 @@ impl<S: Source> Source for &mut S {
     }
 }
 
+// One read into `buf` from `at` on.
+fn read_at<S: Source>(source: &mut S, buf: &mut [u8], at: usize) -> Result<usize, Failure>
+    requires { at < length buf.old }
+    ensures front { take at buf.new ≡ take at buf.old }
+    ensures within { IfOk result (λ count. at + count ≤ length buf.new) }
+    ensures bytes { ReadConsumes (S.remaining source.old) (S.remaining source.new) result (drop at buf.new) }
+    ensures ok { OnOk result (S.failures source.new ≡ S.failures source.old) }
+    ensures err { OnErr result (Failed (S.failures source.old) (S.failures source.new)) }
+{
+    source.read_some(&mut buf[at..])
+}
+
 /// Reads until `buf` is full or nothing is left, and answers how many bytes came.
 pub fn fill<S: Source>(source: &mut S, buf: &mut [u8]) -> Result<usize, Failure>
     ensures bound { ReadsAtMost result buf.new }
@@ -89,7 +101,7 @@ pub fn fill<S: Source>(source: &mut S, buf: &mut [u8]) -> Result<usize, Failure>
 {
     let mut filled = 0;
     'reads: while filled < buf.len() {
-        let came = source.read_some(&mut buf[filled..])?;
+        let came = read_at(source, buf, filled)?;
         if came == 0 {
             break;
         }
