@@ -13,8 +13,8 @@ writes-preserved g c =
     let rest = take_rest c.args.bytes.now c.writes.done in
     let more_bytes = more.bytes in
     record {
-  within = omega (arith, more.bound, ap length rest, length-drop c.writes.done c.args.bytes.now, c.writes-test.true);
-  gave = Appends-more_of _ _ _ c.args.bytes.now c.writes.done c.in_ok-done.field-0 c.writes.invariant.gave (rw rest at more_bytes);
-  count = c.saturating_add.ensures;
-  failed = more.ok ∙ c.writes.invariant.failed;
-}
+      within = omega (arith, more.bound, ap length rest, length-drop c.writes.done c.args.bytes.now, c.writes-test.true);
+      gave = Appends-more_of _ _ _ c.args.bytes.now c.writes.done c.in_ok-done.field-0 c.writes.invariant.gave (rw rest at more_bytes);
+      count = c.saturating_add.ensures;
+      failed = more.ok ∙ c.writes.invariant.failed;
+    }

@@ -6,7 +6,7 @@ pub reads-preserved : goal.reads-preserved
 reads-preserved g c =
     let more = c.in_ok-came.ensures in
     record {
-  within = more.within;
-  took = Consumes-more_of _ _ _ c.reads.buf c.read_at.new.buf c.reads.filled c.in_ok-came.came more.front c.reads.invariant.took more.bytes.0;
-  failed = more.ok ∙ c.reads.invariant.failed;
-}
+      within = more.within;
+      took = Consumes-more_of _ _ _ c.reads.buf c.read_at.new.buf c.reads.filled c.in_ok-came.came more.front c.reads.invariant.took more.bytes.0;
+      failed = more.ok ∙ c.reads.invariant.failed;
+    }
