@@ -9,8 +9,10 @@ mod failure;
 mod items;
 mod sink;
 mod source;
+mod watched;
 
 pub use failure::Failure;
 pub use items::Items;
 pub use sink::{Sink, send};
 pub use source::{Source, fill};
+pub use watched::Watched;
