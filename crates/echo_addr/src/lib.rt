@@ -5,12 +5,15 @@
 //! or writer), `buffered` (a buffer in front of a source) and `trial` (a device for tests).
 #![tactic(auto)]
 
+mod ahead;
+mod buffered;
 mod failure;
 mod items;
 mod sink;
 mod source;
 mod watched;
 
+pub use buffered::Buffered;
 pub use failure::Failure;
 pub use items::Items;
 pub use sink::{Sink, send};
