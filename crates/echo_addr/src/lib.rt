@@ -11,6 +11,7 @@ mod failure;
 mod items;
 mod sink;
 mod source;
+mod trial;
 mod watched;
 
 pub use buffered::Buffered;
@@ -18,4 +19,5 @@ pub use failure::Failure;
 pub use items::Items;
 pub use sink::{Sink, send};
 pub use source::{Source, fill};
+pub use trial::Trial;
 pub use watched::Watched;
