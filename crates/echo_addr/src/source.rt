@@ -46,10 +46,10 @@ impl Source for &[u8] {
 
     fn read_some(&mut self, buf: &mut [u8]) -> Result<usize, Failure> {
         let all: &[u8] = *self;
-        let count = all.len().min(buf.len());
-        buf[..count].copy_from_slice(&all[..count]);
-        *self = &all[count..];
-        Ok(count)
+        let came = all.len().min(buf.len());
+        buf[..came].copy_from_slice(&all[..came]);
+        *self = &all[came..];
+        Ok(came)
     }
 
     fn held(&self) -> &[u8] {

@@ -52,6 +52,17 @@ impl<D> Watched<D> {
     }
 }
 
+// Counts one failure where there is an error.
+fn count_error<T>(failures: &mut u64, answer: &io::Result<T>)
+    ensures ok { OnOk answer.now (failures.new ≡ failures.old) }
+    ensures once { OnErr answer.now (failures.new ≡ counted (failures.old + 1)) }
+    ensures err { OnErr answer.now (Failed failures.old failures.new) }
+{
+    if answer.is_err() {
+        *failures = failures.saturating_add(1);
+    }
+}
+
 // What sixteen interruptions in a row are.
 fn interrupted_too_often() -> io::Error
     ensures { error_kind result ≡ ErrorKind.TimedOut }
@@ -135,9 +146,7 @@ impl<D: Read> Read for Watched<D> {
         ensures kind { IfErr result (λ error. error_kind error ≢ ErrorKind.Interrupted) }
     {
         let result = read_retrying(&mut self.device, buf);
-        if result.is_err() {
-            self.failures = self.failures.saturating_add(1);
-        }
+        count_error(&mut self.failures, &result);
         result
     }
 }
@@ -155,9 +164,7 @@ impl<D: Write> Write for Watched<D> {
         ensures kind { IfErr result (λ error. error_kind error ≢ ErrorKind.Interrupted) }
     {
         let result = write_retrying(&mut self.device, buf);
-        if result.is_err() {
-            self.failures = self.failures.saturating_add(1);
-        }
+        count_error(&mut self.failures, &result);
         result
     }
 
@@ -169,9 +176,7 @@ impl<D: Write> Write for Watched<D> {
         ensures kind { IfErr result (λ error. error_kind error ≢ ErrorKind.Interrupted) }
     {
         let result = flush_retrying(&mut self.device);
-        if result.is_err() {
-            self.failures = self.failures.saturating_add(1);
-        }
+        count_error(&mut self.failures, &result);
         result
     }
 }
