@@ -1,2 +1,3 @@
 mod Moving
+pub mod Devices
 mod Buffers

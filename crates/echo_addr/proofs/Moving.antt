@@ -3,7 +3,7 @@ use Rattle.std.proofs.Common.{◌≡◌, ℕ, ◌+◌, ◌-◌, ◌^◌, ◌<◌
 use Rattle.std.proofs.Math.Seq.{take-add}
 use Rattle.std.specs.Io.KnownBytes.{Appends, Consumes, Keeps}
 use Rattle.std.proofs.KnownBytes.{Appends-trans, Consumes-trans, Consumes-nil, Appends-nil, Consumes-kept, Appends-kept}
-use Rattle.echo_addr.specs.Device.{counted, Gets, LosesFront}
+use Rattle.echo_addr.specs.Device.{counted}
 
 -- the first n bytes of buf came from the source, which did not fail
 pub record HasFilled (before after : Option (List ℕ)) (buf : List ℕ) (n failures_before failures_after : ℕ) : Type 0 where
