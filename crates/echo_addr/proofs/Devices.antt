@@ -15,6 +15,11 @@ pub Failed-le : (before after : ℕ) → Failed before after → before ≤ afte
 Failed-le before after (inl rose) = omega arith
 Failed-le before after (inr (full, same)) = omega arith
 
+-- a device whose count is always 0, as a slice, never fails
+pub Failed-never : Failed 0 0 → ⊥
+Failed-never (inl rose) = omega arith
+Failed-never (inr (full, same)) = omega arith
+
 -- the buffer was filled
 pub FillsTo-whole : (a b : Option (List ℕ)) (buf : List ℕ) (n : ℕ) → FillsTo a b buf n → length buf ≤ n → Consumes a b buf
 FillsTo-whole a b buf n filled full = subst (Consumes a b) (take_all n buf full) filled.0

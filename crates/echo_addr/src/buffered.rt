@@ -43,11 +43,16 @@ impl<S> Buffered<S> {
 impl<S: Source> Buffered<S> {
     /// Reads once where the buffer is empty: then it holds some bytes, or nothing is left.
     pub fn read_ahead(&mut self) -> Result<(), Failure>
-        ensures bytes { Keeps (buffered_remaining S.remaining self.old) (buffered_remaining S.remaining self.new) }
-        ensures held { 0 < length (buffered_held self.old) → buffered_held self.new ≡ buffered_held self.old }
-        ensures end { OnOk result (buffered_held self.new ≡ [] → IsAtEnd (buffered_remaining S.remaining self.new)) }
-        ensures ok { OnOk result (S.failures (buffered_source self.new) ≡ S.failures (buffered_source self.old)) }
-        ensures err { OnErr result (Failed (S.failures (buffered_source self.old)) (S.failures (buffered_source self.new))) }
+        ensures bytes { Keeps (buffered_remaining S.remaining self.old)
+            (buffered_remaining S.remaining self.new) }
+        ensures held { 0 < length (buffered_held self.old)
+            → buffered_held self.new ≡ buffered_held self.old }
+        ensures end { OnOk result (buffered_held self.new ≡ []
+            → IsAtEnd (buffered_remaining S.remaining self.new)) }
+        ensures ok { OnOk result (S.failures (buffered_source self.new)
+            ≡ S.failures (buffered_source self.old)) }
+        ensures err { OnErr result (Failed (S.failures (buffered_source self.old))
+            (S.failures (buffered_source self.new))) }
     {
         if self.ahead.is_empty() {
             self.ahead.refill(&mut self.source)?;
@@ -61,9 +66,12 @@ impl<S: Source> Read for Buffered<S> {
 
     fn read(&mut self, buf: &mut [u8]) -> io::Result<usize>
         ensures bound { ReadsAtMost result buf.new }
-        ensures bytes { ReadConsumes (buffered_remaining S.remaining self.old) (buffered_remaining S.remaining self.new) result buf.new }
-        ensures ok { OnOk result (S.failures (buffered_source self.new) ≡ S.failures (buffered_source self.old)) }
-        ensures err { OnErr result (Failed (S.failures (buffered_source self.old)) (S.failures (buffered_source self.new))) }
+        ensures bytes { ReadConsumes (buffered_remaining S.remaining self.old)
+            (buffered_remaining S.remaining self.new) result buf.new }
+        ensures ok { OnOk result (S.failures (buffered_source self.new)
+            ≡ S.failures (buffered_source self.old)) }
+        ensures err { OnErr result (Failed (S.failures (buffered_source self.old))
+            (S.failures (buffered_source self.new))) }
     {
         Source::read_some(self, buf).map_err(|_| io::Error::from(ErrorKind::Other))
     }

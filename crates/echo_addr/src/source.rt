@@ -34,7 +34,8 @@ pub trait Source: Read {
     /// Drops the first `count` of the bytes that are already there.
     fn skip(&mut self, count: usize)
         requires { count ≤ length (held self.old) }
-        ensures bytes { Consumes (Self.remaining self.old) (Self.remaining self.new) (take count (held self.old)) }
+        ensures bytes { Consumes (Self.remaining self.old) (Self.remaining self.new)
+            (take count (held self.old)) }
         ensures held { held self.new ≡ drop count (held self.old) }
         ensures failures { failures self.new ≡ failures self.old };
 }

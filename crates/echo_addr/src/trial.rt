@@ -51,8 +51,10 @@ impl<D> Trial<D> {
         ensures device { trial_device self.new ≡ trial_device self.old }
         ensures left { trial_left self.new ≡ trial_left self.old }
         ensures rules { KeepsRules self.old self.new }
-        ensures fits { IfOk result (λ count. (count ≤ room) × (count ≤ trial_piece self.old) × (count ≤ trial_left self.old)) }
-        ensures waits { IfOk result (λ count. 0 < count → (trial_again self.old ≤ trial_interrupted self.old) × (trial_interrupted self.new ≡ 0)) }
+        ensures fits { IfOk result (λ count. (count ≤ room)
+            × (count ≤ trial_piece self.old) × (count ≤ trial_left self.old)) }
+        ensures waits { IfOk result (λ count. 0 < count
+            → (trial_again self.old ≤ trial_interrupted self.old) × (trial_interrupted self.new ≡ 0)) }
         ensures spent { trial_left self.old ≡ 0 → IsErr result }
     {
         if self.left == 0 {
@@ -76,7 +78,8 @@ impl<D: Read> Read for Trial<D> {
 
     fn read(&mut self, buf: &mut [u8]) -> io::Result<usize>
         ensures bound { ReadsAtMost result buf.new }
-        ensures bytes { ReadConsumes (D.remaining (trial_device self.old)) (D.remaining (trial_device self.new)) result buf.new }
+        ensures bytes { ReadConsumes (D.remaining (trial_device self.old))
+            (D.remaining (trial_device self.new)) result buf.new }
         ensures piece { MovesPiece self.old self.new result }
         ensures rules { KeepsRules self.old self.new }
         ensures spent { trial_left self.old ≡ 0 → IsErr result }
@@ -96,7 +99,8 @@ impl<D: Write> Write for Trial<D> {
 
     fn write(&mut self, buf: &[u8]) -> io::Result<usize>
         ensures bound { WritesAtMost result buf.now }
-        ensures bytes { WriteAppends (D.contents (trial_device self.old)) (D.contents (trial_device self.new)) result buf.now }
+        ensures bytes { WriteAppends (D.contents (trial_device self.old))
+            (D.contents (trial_device self.new)) result buf.now }
         ensures piece { MovesPiece self.old self.new result }
         ensures rules { KeepsRules self.old self.new }
         ensures spent { trial_left self.old ≡ 0 → IsErr result }

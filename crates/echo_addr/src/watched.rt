@@ -139,7 +139,8 @@ impl<D: Read> Read for Watched<D> {
 
     fn read(&mut self, buf: &mut [u8]) -> io::Result<usize>
         ensures bound { ReadsAtMost result buf.new }
-        ensures bytes { ReadConsumes (D.remaining (watched_device self.old)) (D.remaining (watched_device self.new)) result buf.new }
+        ensures bytes { ReadConsumes (D.remaining (watched_device self.old))
+            (D.remaining (watched_device self.new)) result buf.new }
         ensures ok { OnOk result (watched_failures self.new ≡ watched_failures self.old) }
         ensures once { OnErr result (watched_failures self.new ≡ counted (watched_failures self.old + 1)) }
         ensures err { OnErr result (Failed (watched_failures self.old) (watched_failures self.new)) }
@@ -156,7 +157,8 @@ impl<D: Write> Write for Watched<D> {
 
     fn write(&mut self, buf: &[u8]) -> io::Result<usize>
         ensures bound { WritesAtMost result buf.now }
-        ensures bytes { WriteAppends (D.contents (watched_device self.old)) (D.contents (watched_device self.new)) result buf.now }
+        ensures bytes { WriteAppends (D.contents (watched_device self.old))
+            (D.contents (watched_device self.new)) result buf.now }
         ensures some { 0 < length buf.now → IfOk result (λ count. 0 < count) }
         ensures ok { OnOk result (watched_failures self.new ≡ watched_failures self.old) }
         ensures once { OnErr result (watched_failures self.new ≡ counted (watched_failures self.old + 1)) }
