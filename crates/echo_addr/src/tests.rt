@@ -2,7 +2,8 @@
 use crate::{Buffered, Items, Sink, Source, Trial, Watched, fill, send};
 use std::alloc::{AllocError, Global};
 use std::hash::{DefaultHasher, Hash, Hasher};
-use std::io::{Read, Write};
+use std::io;
+use std::io::{ErrorKind, Read, Write};
 use std::test::Fail;
 
 const TEXT: &[u8] = b"packet 1:10/1 to 1:2";
@@ -36,7 +37,7 @@ fn read_text<S: Source>(source: &mut S, buf: &mut [u8]) -> bool {
 
 fn write_text<S: Sink>(sink: &mut S, sent: &mut u64) -> bool {
     let mut by_reference = sink;
-    send(&mut by_reference, TEXT, sent).is_ok() && by_reference.flush_all().is_ok()
+    send(&mut by_reference, TEXT, sent).is_ok() && Sink::flush_all(&mut by_reference).is_ok()
 }
 
 // How many bytes stand in front as in the text.
@@ -147,6 +148,48 @@ fn shows_what_it_holds(rt: HostRuntime) {
         assert_eq!(rt; Read::read(&mut source, &mut rest).ok(), Some(2));
         assert_eq!(rt; fill(&mut source, &mut rest), Ok(12));
         assert!(rt; rest.starts_with(b":10/1 to 1:2"));
+    }
+}
+
+// A writer that is interrupted before a flush, and counts the flushes.
+#[derive(Drop)]
+struct Flushed {
+    interruptions: u32,
+    flushes: u32,
+}
+
+impl Write for Flushed {
+    fn write(&mut self, buf: &[u8]) -> io::Result<usize> {
+        Ok(buf.len())
+    }
+
+    fn flush(&mut self) -> io::Result<()> {
+        if self.interruptions > 0 {
+            self.interruptions -= 1;
+            return Err(io::Error::from(ErrorKind::Interrupted));
+        }
+        self.flushes = self.flushes.saturating_add(1);
+        Ok(())
+    }
+}
+
+// A flush through the bound.
+fn flush_case<S: Sink>(sink: &mut S) -> bool {
+    let mut by_reference = sink;
+    Sink::flush_all(&mut by_reference).is_ok()
+}
+
+#[test]
+fn passes_flushes_on(rt: HostRuntime) {
+    for (interruptions, flushes, failures) in [(0, 1, 0), (15, 1, 0), (16, 0, 1)] {
+        let device = Flushed {
+            interruptions,
+            flushes: 0,
+        };
+        let mut sink = Watched::new(Trial::new(device, 1, 0, ALL));
+        assert_eq!(rt; flush_case(&mut sink), failures == 0);
+        assert_eq!(rt; sink.failures(), failures);
+        assert_eq!(rt; sink.into_inner().into_inner().flushes, flushes);
     }
 }
 
