@@ -1,10 +1,10 @@
 -- What several reads or writes did, one after another.
-use Rattle.std.proofs.Common.{◌≡◌, ℕ, ◌+◌, ◌<◌, ◌≤◌, ◌⊎◌, inl, inr, List, [], ◌++◌, Option, None, Some, length, take, sym, ap, ◌∙◌, subst, arith, append-nil, length-append, take_all}
+use Rattle.std.proofs.Common.{◌≡◌, ℕ, ◌+◌, ◌<◌, ◌≤◌, inl, inr, List, ◌++◌, Option, None, Some, length, take, sym, ap, ◌∙◌, subst, arith, append-nil, length-append, take_all}
 use Rattle.std.proofs.lemmas.List.{take-append-le}
 use Rattle.std.proofs.Math.Seq.{take-append-add}
-use Rattle.std.specs.Io.KnownBytes.{Appends, Consumes, IsAtEnd}
+use Rattle.std.specs.Io.KnownBytes.{Appends, Consumes}
 use Rattle.std.proofs.KnownBytes.{Appends-trans}
-use Rattle.echo_addr.specs.Device.{counted, Failed, FillsTo, SendsAll, SendsFront}
+use Rattle.echo_addr.specs.Device.{Failed, FillsTo, SendsAll, SendsFront}
 
 -- the failure came after calls that did not fail
 pub Failed-after : (before between after : ℕ) → between ≡ before → Failed between after → Failed before after

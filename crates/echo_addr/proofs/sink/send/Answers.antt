@@ -1,4 +1,4 @@
-use Rattle.std.proofs.Common.{◌∙◌, refl, subst, ap, take, length, zero-le, arith, length-drop}
+use Rattle.std.proofs.Common.{◌∙◌, refl, ap, length, arith, length-drop}
 use Rattle.std.proofs.lemmas.List.{take_rest}
 use Rattle.std.proofs.KnownBytes.{Appends-nil}
 use Rattle.echo_addr.proofs.Moving.{Appends-more_of}

@@ -1,4 +1,4 @@
-use Rattle.std.proofs.Common.{◌∙◌, arith}
+use Rattle.std.proofs.Common.{◌∙◌}
 use Rattle.echo_addr.proofs.Moving.{Consumes-more_of}
 use Rattle.echo_addr.proofs.source.fill.Goals as goal
 
