@@ -1,0 +1,4 @@
+pub mod Digits
+pub mod Address
+pub mod Entries
+pub mod ShortLines

@@ -1,0 +1,25 @@
+//! Addresses of FidoNet systems, and the shortened lists of SEEN-BY and PATH lines (FTS-0004).
+//!
+//! The contract for the layers above: `read_list` of a written line gives its entries, none dropped
+//! (`written_lines_read_back`).
+//!
+//! Modules in reading order: `fault` (why bytes are no address), `digits` (decimal numbers),
+//! `address`, `listing` (reading lists), `shortening` (writing them), and `laws` (what holds of the
+//! definitions).
+#![tactic(auto)]
+
+mod address;
+mod digits;
+mod fault;
+mod laws;
+mod listing;
+mod shortening;
+
+pub use address::{Address, NetNode};
+pub use fault::AddrFault;
+pub use laws::{address_read_back, one_spelling, written_lines_read_back};
+pub use listing::read_list;
+pub use shortening::{write_path, write_seen};
+
+#[cfg(test)]
+mod tests;
