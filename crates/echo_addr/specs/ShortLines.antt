@@ -20,10 +20,14 @@ abbrev pub shows_net : Option ℕ → ℕ → Bool
 shows_net None net = true
 shows_net (Some before) net = not (before == net)
 
--- an entry after a blank, where the net of the entry before it is given
+-- an entry as it is written, where the net of the entry before it is given
+abbrev pub entry_token : Option ℕ → NetNode → List ℕ
+entry_token before e =
+    if shows_net before e.net then decimal e.net ++ (codes "/" ++ decimal e.node) else decimal e.node
+
+-- the same after a blank
 abbrev pub entry_text : Option ℕ → NetNode → List ℕ
-entry_text before e =
-    32 ∷ (if shows_net before e.net then decimal e.net ++ (codes "/" ++ decimal e.node) else decimal e.node)
+entry_text before e = 32 ∷ entry_token before e
 
 -- entries one after the other, where the net of the entry before the first is given
 abbrev pub entries_text : Option ℕ → List NetNode → List ℕ
