@@ -1,3 +1,5 @@
 pub mod Decimals
 pub mod Tokens
 pub mod ReadBack
+pub mod Runs
+pub mod Writing

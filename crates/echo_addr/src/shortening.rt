@@ -35,9 +35,7 @@ fn write_lines(alloc: Global, prefix: &str, entries: &[NetNode]) -> Result<Strin
     let mut rest = entries;
     'runs: while !rest.is_empty() {
         let (run, after) = rest.split_at(run_len(LINE_ROOM - prefix.len(), rest));
-        lines.push_str(prefix)?;
-        push_run(&mut lines, run)?;
-        lines.push('\r')?;
+        push_line(&mut lines, prefix, run)?;
         rest = after;
     }
     Ok(lines)
@@ -45,7 +43,9 @@ fn write_lines(alloc: Global, prefix: &str, entries: &[NetNode]) -> Result<Strin
 
 /// How many entries from the front have room together.
 fn run_len(room: usize, entries: &[NetNode]) -> usize
-    requires { room < 100 }
+    requires low { 12 ≤ room }
+    requires high { room < 100 }
+    ensures some { 0 < length entries.now → 0 < result }
     ensures within { result ≤ length entries.now }
     ensures room { length (entries_text None (take result entries.now)) ≤ room }
     ensures full { result < length entries.now → room < length (entries_text None (take (result + 1) entries.now)) }
@@ -93,6 +93,15 @@ fn decimal_len(n: u16) -> usize
         1000..=9999 => 4,
         _ => 5,
     }
+}
+
+/// Writes a line with its 0D.
+fn push_line(lines: &mut String, prefix: &str, run: &[NetNode]) -> Result<(), AllocError>
+    ensures { OnOk result (string_bytes lines.new ≡ string_bytes lines.old ++ line_of prefix.now (entries_text None run.now)) }
+{
+    lines.push_str(prefix)?;
+    push_run(lines, run)?;
+    lines.push_str("\r")
 }
 
 /// Writes the entries of a line.
