@@ -3,3 +3,4 @@ pub mod Tokens
 pub mod ReadBack
 pub mod Runs
 pub mod Writing
+pub mod Numbers
