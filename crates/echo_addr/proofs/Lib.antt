@@ -4,3 +4,7 @@ pub mod ReadBack
 pub mod Runs
 pub mod Writing
 pub mod Numbers
+pub mod Positions
+pub mod Cutting
+pub mod Shapes
+pub mod Carrying

@@ -79,7 +79,7 @@ pair_of-shown e h =
     ∙ ap (λ o. entry_from o (part_of (decimal e.node))) (part_of-decimal e.net h.net)
     ∙ ap (λ o. entry_from (Some e.net) o) (part_of-decimal e.node h.node)
 
-entry_from_none : (net : Option ℕ) → entry_from net None ≡ None
+pub entry_from_none : (net : Option ℕ) → entry_from net None ≡ None
 entry_from_none None = refl
 entry_from_none (Some net) = refl
 

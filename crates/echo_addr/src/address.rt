@@ -1,9 +1,10 @@
-ghost use Rattle.std.specs.Prelude.{◌≡◌, ◌↔◌, ◌==◌, false, position, count_by, IsNone, IfSome};
+ghost use Rattle.std.specs.Prelude.{◌≡◌, ◌↔◌, false, IsNone, IfSome};
 ghost use Rattle.echo_addr.specs.Address.{AddressOf, address_text, address_within, has_shape, net_node_of, net_part, node_part, refusal, zone_part};
 ghost use Rattle.echo_addr.specs.declared.fault.AddrFault.{AddrFault};
 
 use crate::digits::number;
 use crate::fault::AddrFault;
+use crate::places::{count, place};
 use std::fmt;
 
 /// The greatest part of an address.
@@ -68,20 +69,6 @@ impl Address {
     }
 }
 
-/// How many bytes are this one.
-fn count(bytes: &[u8], wanted: u8) -> usize
-    ensures { result ≡ count_by (λ b. b == wanted) bytes.now }
-{
-    bytes.iter().filter(|b| **b == wanted).count()
-}
-
-/// Where this byte stands first.
-fn place(bytes: &[u8], wanted: u8) -> Option<usize>
-    ensures { result ≡ position (λ b. b == wanted) bytes.now }
-{
-    bytes.iter().position(|b| *b == wanted)
-}
-
 /// What stands before the colon, between colon and slash, and after the slash.
 fn parts_of(bytes: &[u8]) -> Option<(&[u8], &[u8], &[u8])>
     ensures none { IsNone result ↔ (has_shape bytes.now ≡ false) }
@@ -94,7 +81,7 @@ fn parts_of(bytes: &[u8]) -> Option<(&[u8], &[u8], &[u8])>
     }
     let colon = place(bytes, b':')?;
     let slash = place(bytes, b'/')?;
-    if slash < colon {
+    if slash <= colon {
         return None;
     }
     Some((

@@ -3,8 +3,8 @@
 //! The contract for the layers above: `read_list` of a written line gives its entries, none dropped
 //! (`written_lines_read_back`).
 //!
-//! Modules in reading order: `fault` (why bytes are no address), `digits` (decimal numbers),
-//! `address`, `listing` (reading lists), `shortening` (writing them), and `laws` (what holds of the
+//! Modules in reading order: `fault` (why bytes are no address), `digits` (decimal numbers), `places`
+//! (where a byte stands), `address`, `listing` (reading lists), `shortening` (writing them), and `laws` (what holds of the
 //! definitions).
 #![tactic(auto)]
 
@@ -13,6 +13,7 @@ mod digits;
 mod fault;
 mod laws;
 mod listing;
+mod places;
 mod shortening;
 
 pub use address::{Address, NetNode};

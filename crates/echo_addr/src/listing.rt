@@ -1,9 +1,10 @@
-ghost use Rattle.std.specs.Prelude.{◌≡◌, ◌+◌, ◌<◌, ◌≤◌, ◌==◌, [], ◌∷◌, length, position, MatchOption, IfOk, IfSome, IsTrue};
+ghost use Rattle.std.specs.Prelude.{◌≡◌, ◌+◌, ◌<◌, ◌≤◌, ◌==◌, [], ◌∷◌, length, not, position, MatchOption, IfOk, IfSome, IsTrue};
 ghost use Rattle.std.specs.Option.{option_or};
 ghost use Rattle.echo_addr.specs.Entries.{dropped, entries, entry_from, is_blank, pair_of, part_of, tokens};
 
 use crate::address::NetNode;
 use crate::digits::number;
+use crate::places::place;
 use std::alloc::{AllocError, Global};
 
 /// The entries of what follows the colon of a SEEN-BY or PATH line (FTS-0004), in order, and how
@@ -42,13 +43,23 @@ fn next_token(bytes: &[u8]) -> Option<(&[u8], &[u8])>
     ensures token { MatchOption result (tokens bytes.now ≡ []) (λ r. tokens bytes.now ≡ r.0.now ∷ tokens r.1.now) }
     ensures shorter { IfSome result (λ r. length r.1.now < length bytes.now) }
 {
-    let start = bytes.iter().position(|b| !is_blank(*b))?;
-    let begun = &bytes[start..];
-    let end = begun
-        .iter()
-        .position(|b| is_blank(*b))
-        .unwrap_or(begun.len());
-    Some((&begun[..end], &begun[end..]))
+    let begun = &bytes[first_other(bytes)?..];
+    let end = first_blank(begun).unwrap_or(begun.len());
+    Some(begun.split_at(end))
+}
+
+/// Where the first blank stands.
+fn first_blank(bytes: &[u8]) -> Option<usize>
+    ensures { result ≡ position is_blank bytes.now }
+{
+    bytes.iter().position(|b| is_blank(*b))
+}
+
+/// Where the first byte stands that is no blank.
+fn first_other(bytes: &[u8]) -> Option<usize>
+    ensures { result ≡ position (λ b. not (is_blank b)) bytes.now }
+{
+    bytes.iter().position(|b| !is_blank(*b))
 }
 
 /// The entry of the token, where `net` is that of the nearest `net/node` before it.
@@ -62,7 +73,7 @@ fn entry(net: Option<u16>, token: &[u8]) -> Option<NetNode>
 fn pair(token: &[u8]) -> Option<NetNode>
     ensures { result ≡ pair_of token.now }
 {
-    let slash = token.iter().position(|b| *b == b'/')?;
+    let slash = place(token, b'/')?;
     let net = part(&token[..slash])?;
     let node = part(&token[slash + 1..])?;
     Some(NetNode { net, node })

@@ -1,24 +1,13 @@
-use Rattle.std.proofs.Common.{rules, ◌≡◌, ◌↔◌, ◌==◌, false, position, count_by, IsNone, IfSome, ℕ, ◌+◌, ◌-◌, ◌*◌, ◌<◌, ◌≤◌, length, ◌/◌, ◌%◌, Bool, true, nat_eq, nat_lt, List, [], ◌∷◌, ◌++◌, slice_index_or, slice_set, bit_and, bit_or, Fits, w8, w32, w64, Bor, MutBor}
-use Rattle.echo_addr.specs.Address.{AddressOf, address_text, address_within, has_shape, net_node_of, net_part, node_part, refusal, zone_part}
-use Rattle.echo_addr.specs.declared.fault.AddrFault.{AddrFault}
+use Rattle.std.proofs.Common.{sym, ◌∙◌, refl}
+use Rattle.echo_addr.proofs.Shapes.{no_colon, no_slash}
 use Rattle.echo_addr.proofs.address.parts_of.Goals as goal
 
--- src/address.rt:95:17
 pub returns-in_err-colon-clause-none : goal.returns-in_err-colon-clause-none
-returns-in_err-colon-clause-none c = ?
+returns-in_err-colon-clause-none c =
+    let shape = no_colon c.args.bytes.now (sym c.place.ensures ∙ c.in_err-colon.was) in
+    (λ n. shape, λ f. rw c.from_residual.ensures refl)
 
--- src/address.rt:96:17
 pub returns-in_err-slash-clause-none : goal.returns-in_err-slash-clause-none
-returns-in_err-slash-clause-none c = ?
-
--- src/address.rt:102:9
-pub slice_bounds-result-count : goal.slice_bounds-result-count
-slice_bounds-result-count c = ?
-
--- src/address.rt:102:9
-pub slice_bounds-result-start : goal.slice_bounds-result-start
-slice_bounds-result-start c = ?
-
--- src/address.rt:86:1
-pub returns-clause-none : goal.returns-clause-none
-returns-clause-none c = ?
+returns-in_err-slash-clause-none c =
+    let shape = no_slash c.args.bytes.now (sym c.place-2.ensures ∙ c.in_err-slash.was) in
+    (λ n. shape, λ f. rw c.from_residual-in_err-slash.ensures refl)

@@ -1,16 +1,13 @@
-use Rattle.std.proofs.Common.{rules, ◌≡◌, ◌+◌, ◌<◌, ◌≤◌, ◌==◌, [], ◌∷◌, length, position, MatchOption, IfOk, IfSome, IsTrue, ℕ, ◌-◌, ◌*◌, ◌/◌, ◌%◌, Bool, true, false, nat_eq, nat_lt, List, ◌++◌, slice_index_or, slice_set, bit_and, bit_or, Fits, w8, w32, w64, Bor, MutBor}
-use Rattle.std.specs.Option.{option_or}
-use Rattle.echo_addr.specs.Entries.{dropped, entries, entry_from, is_blank, pair_of, part_of, tokens}
+use Rattle.std.proofs.Common.{sym, ◌∙◌, refl}
+use Rattle.echo_addr.proofs.Cutting.{next_none, next_some}
 use Rattle.echo_addr.proofs.listing.next_token.Goals as goal
 
--- src/listing.rt:45:17
-pub returns-in_err-start-clause-token : goal.returns-in_err-start-clause-token
-returns-in_err-start-clause-token c = ?
+pub returns-in_err-begun-clause-token : goal.returns-in_err-begun-clause-token
+returns-in_err-begun-clause-token c =
+    let none = next_none c.args.bytes.now (sym c.first_other.ensures ∙ c.in_err-begun.was) in
+    rw c.from_residual.ensures none
 
--- src/listing.rt:41:1
 pub returns-clause-token : goal.returns-clause-token
-returns-clause-token c = ?
-
--- src/listing.rt:41:1
-pub returns-clause-shorter : goal.returns-clause-shorter
-returns-clause-shorter c = ?
+returns-clause-token c =
+    next_some c.args.bytes.now _ c.split_at.result.0.now c.split_at.result.1.now c.first_blank.result c.in_ok-begun.field-0 c.unwrap_or-end.result
+    (sym c.first_other.ensures ∙ c.in_ok-begun.was) refl c.first_blank.ensures c.unwrap_or-end.ensures c.split_at.ensures.front c.split_at.ensures.back

@@ -1,20 +1,21 @@
-use Rattle.std.proofs.Common.{rules, ◌≡◌, ◌+◌, ◌<◌, ◌≤◌, ◌==◌, [], ◌∷◌, length, position, MatchOption, IfOk, IfSome, IsTrue, ℕ, ◌-◌, ◌*◌, ◌/◌, ◌%◌, Bool, true, false, nat_eq, nat_lt, List, ◌++◌, slice_index_or, slice_set, bit_and, bit_or, Fits, w8, w32, w64, Bor, MutBor}
-use Rattle.std.specs.Option.{option_or}
-use Rattle.echo_addr.specs.Entries.{dropped, entries, entry_from, is_blank, pair_of, part_of, tokens}
+use Rattle.std.proofs.Common.{sym, ◌∙◌}
+use Rattle.echo_addr.proofs.Cutting.{pair_none, pair_no_net, pair_no_node, pair_both}
 use Rattle.echo_addr.proofs.listing.pair.Goals as goal
 
--- src/listing.rt:65:17
 pub returns-in_err-slash : goal.returns-in_err-slash
-returns-in_err-slash c = ?
+returns-in_err-slash c = c.from_residual.ensures ∙ sym (pair_none c.args.token.now (sym c.place.ensures ∙ c.in_err-slash.was))
 
--- src/listing.rt:66:15
 pub returns-in_err-net : goal.returns-in_err-net
-returns-in_err-net c = ?
+returns-in_err-net c =
+    c.from_residual-in_err-net.ensures
+    ∙ sym (pair_no_net c.args.token.now c.in_ok-slash.slash (sym c.place.ensures ∙ c.in_ok-slash.was) (sym c.part.ensures ∙ c.in_err-net.was))
 
--- src/listing.rt:67:16
 pub returns-in_err-node : goal.returns-in_err-node
-returns-in_err-node c = ?
+returns-in_err-node c =
+    c.from_residual-in_err-node.ensures
+    ∙ sym (pair_no_node c.args.token.now c.in_ok-slash.slash (sym c.place.ensures ∙ c.in_ok-slash.was) (sym c.part-2.ensures ∙ c.in_err-node.was))
 
--- src/listing.rt:62:1
 pub returns : goal.returns
-returns c = ?
+returns c =
+    sym (pair_both c.args.token.now c.in_ok-slash.slash c.in_ok-net.net c.in_ok-node.node (sym c.place.ensures ∙ c.in_ok-slash.was)
+    (sym c.part.ensures ∙ c.in_ok-net.was) (sym c.part-2.ensures ∙ c.in_ok-node.was))
