@@ -1,3 +1,4 @@
+pub mod Each
 pub mod Decimals
 pub mod Tokens
 pub mod ReadBack
@@ -8,3 +9,4 @@ pub mod Positions
 pub mod Cutting
 pub mod Shapes
 pub mod Carrying
+pub mod Outcomes

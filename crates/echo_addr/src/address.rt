@@ -1,5 +1,7 @@
-ghost use Rattle.std.specs.Prelude.{◌≡◌, ◌↔◌, false, IsNone, IfSome};
-ghost use Rattle.echo_addr.specs.Address.{AddressOf, address_text, address_within, has_shape, net_node_of, net_part, node_part, refusal, zone_part};
+ghost use Rattle.std.specs.Prelude.{◌≡◌, ◌↔◌, ◌&&◌, false, min, IsNone, IfSome};
+ghost use Rattle.std.specs.Str.Parse.{digits_value};
+ghost use Rattle.echo_addr.specs.Digits.{is_number};
+ghost use Rattle.echo_addr.specs.Address.{AddressOf, address_text, address_within, has_shape, net_node_of, net_part, node_part, outcome, refusal, zone_part};
 ghost use Rattle.echo_addr.specs.declared.fault.AddrFault.{AddrFault};
 
 use crate::digits::number;
@@ -46,16 +48,7 @@ impl Address {
         ensures ok { (a : Address) → (result ≡ Ok a) ↔ AddressOf bytes.now a }
         ensures err { (f : AddrFault) → (result ≡ Err f) ↔ (refusal bytes.now ≡ Some f) }
     {
-        if bytes.is_empty() {
-            return Err(AddrFault::Empty);
-        }
-        let Some((zone, net, node)) = parts_of(bytes) else {
-            return Err(AddrFault::Shape);
-        };
-        match (number(zone), number(net), number(node)) {
-            (Some(zone), Some(net), Some(node)) => in_range(zone, net, node),
-            _ => Err(AddrFault::NotDigits),
-        }
+        judged(bytes)
     }
 
     /// The net and the node, without the zone.
@@ -67,6 +60,32 @@ impl Address {
             node: self.node,
         }
     }
+}
+
+/// The first refusal that applies, or else the address.
+fn judged(bytes: &[u8]) -> Result<Address, AddrFault>
+    ensures { result ≡ outcome bytes.now }
+{
+    if bytes.is_empty() {
+        return Err(AddrFault::Empty);
+    }
+    let Some((zone, net, node)) = parts_of(bytes) else {
+        return Err(AddrFault::Shape);
+    };
+    let Some((zone, net, node)) = numbers(zone, net, node) else {
+        return Err(AddrFault::NotDigits);
+    };
+    in_range(zone, net, node)
+}
+
+/// The numbers of three parts, as `number` gives them.
+fn numbers(zone: &[u8], net: &[u8], node: &[u8]) -> Option<(u32, u32, u32)>
+    ensures none { IsNone result ↔ ((is_number zone.now && is_number net.now && is_number node.now) ≡ false) }
+    ensures zone { IfSome result (λ p. p.0 ≡ min (digits_value 10 zone.now) 65536) }
+    ensures net { IfSome result (λ p. p.1 ≡ min (digits_value 10 net.now) 65536) }
+    ensures node { IfSome result (λ p. p.2 ≡ min (digits_value 10 node.now) 65536) }
+{
+    Some((number(zone)?, number(net)?, number(node)?))
 }
 
 /// What stands before the colon, between colon and slash, and after the slash.
