@@ -109,6 +109,7 @@ fn full_lines_end(rt: HostRuntime) {
     assert_eq!(rt; lines.len(), 96);
     assert!(rt; lines[75..] == b" 116\rSEEN-BY: 10/117\r".as_slice()[..]);
     let lines = path(alloc, many.as_slice());
+    assert_eq!(rt; lines.len(), 92);
     assert!(rt; lines[73..] == b" 116\r\x01PATH: 10/117\r".as_slice()[..]);
 }
 
