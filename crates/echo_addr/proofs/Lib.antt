@@ -10,3 +10,4 @@ pub mod Cutting
 pub mod Shapes
 pub mod Carrying
 pub mod Outcomes
+pub mod Spellings
