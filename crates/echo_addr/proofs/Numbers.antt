@@ -1,16 +1,15 @@
 -- Steps of reading a number digit by digit, where values from 65,536 on count as that.
-use Rattle.std.proofs.Common.{◌≡◌, ℕ, ◌+◌, ◌-◌, ◌*◌, ◌<◌, ◌≤◌, ◌&&◌, ◌↔◌, nat_lt, nat_le, Bool, true, false, List, [], length, get_or, take, min, refl, sym, ap, ◌∙◌, arith, Option, Some, None, subst, below_more}
-use Rattle.std.specs.Int.{IsInRange, is_in_range}
-use Rattle.std.specs.Char.{digit_value, is_ascii_digit}
+use Rattle.std.proofs.Common.{◌≡◌, ℕ, ◌+◌, ◌-◌, ◌*◌, ◌<◌, nat_lt, true, false, List, length, get_or, take, min, refl, ap, ◌∙◌, arith, below_more}
+use Rattle.std.specs.Char.{is_ascii_digit}
 use Rattle.std.specs.Str.{all_ascii_digits}
-use Rattle.std.specs.Str.Parse.{digits_value, IsNumeral}
+use Rattle.std.specs.Str.Parse.{digits_value}
 use Rattle.std.proofs.lemmas.Int.Digits.{digits_value_more}
 use Rattle.std.proofs.lemmas.Str.{digit_value_digit}
 use Rattle.std.proofs.lemmas.List.{take_all}
 use Rattle.std.proofs.lemmas.List.Recursion.{and_fails_at, and_from_places}
-use Rattle.std.proofs.lemmas.Bool.{and_parts, and_from, and_left, and_right, leb-true, le-ltb, lt-ltb, ltb-true, both_ways}
-use Rattle.echo_addr.specs.Digits.{Writes, is_number, number_within}
-use Rattle.echo_addr.proofs.Decimals.{IsDigit, own}
+use Rattle.std.proofs.lemmas.Bool.{and_parts, and_from, and_left, and_right, leb-true, le-ltb, lt-ltb}
+use Rattle.echo_addr.specs.Digits.{is_number}
+use Rattle.echo_addr.proofs.Decimals.{IsDigit}
 
 -- the most that a value grows to
 abbrev pub cap : ℕ

@@ -1,7 +1,7 @@
 -- Where a byte stands first.
-use Rattle.std.proofs.Common.{◌≡◌, ℕ, suc, ◌+◌, ◌<◌, ◌≤◌, not, nat_lt, cond, Bool, true, false, List, [], ◌∷◌, length, refl, sym, ap, ◌∙◌, arith, Option, Some, None, inl, inr}
+use Rattle.std.proofs.Common.{◌≡◌, ℕ, ◌+◌, ◌<◌, ◌≤◌, not, nat_lt, cond, Bool, List, [], ◌∷◌, length, refl, ap, ◌∙◌, arith, Some, None, inl, inr}
 use Rattle.std.specs.Option.{unwrap_or}
-use Rattle.std.specs.List.{position, position_or_len, prefix_len, count_by}
+use Rattle.std.specs.List.{position, position_or_len, count_by}
 use Rattle.std.proofs.lemmas.List.Sums.{prefix_len-le-length, sum_by-cons}
 use Rattle.std.proofs.lemmas.Bool.{cases_Bool, cond-true, cond-false, ltb-true, ltb-false}
 

@@ -1,17 +1,17 @@
 -- What is written of a list, read again, is the list.
-use Rattle.std.proofs.Common.{◌≡◌, ℕ, ◌+◌, ◌^◌, ◌<◌, ◌≤◌, ◌==◌, ◌||◌, not, cond, Bool, true, false, List, [], ◌∷◌, ◌++◌, length, map, refl, sym, ap, zero-add, ◌∙◌, arith, Some, None, Option, inl, inr, ◌⊎◌, subst}
+use Rattle.std.proofs.Common.{◌≡◌, ℕ, ◌^◌, ◌<◌, ◌≤◌, cond, true, false, List, [], ◌∷◌, ◌++◌, length, map, refl, sym, ap, zero-add, ◌∙◌, arith, Some, None, Option, inl, inr, subst}
 use Rattle.std.specs.Fmt.{decimal}
 use Rattle.std.specs.Option.{option_or, option_map, is_none}
 use Rattle.std.specs.List.{All, AllByRecursion, flat_map, filter_map, count_by, before_first, after_first}
-use Rattle.std.proofs.lemmas.List.{append_assoc, append-nil, length-append}
-use Rattle.std.proofs.lemmas.List.Elements.{recursion_from_All, All-from_recursion, All-append}
+use Rattle.std.proofs.lemmas.List.{length-append}
+use Rattle.std.proofs.lemmas.List.Elements.{recursion_from_All}
 use Rattle.std.proofs.lemmas.List.Sums.{sum_by-cons}
 use Rattle.std.proofs.lemmas.Fmt.{decimal_nonempty}
 use Rattle.std.proofs.lemmas.Bool.{ne_eqb, eqb-true, cases_Bool, or_from, cond-true, cond-false, not-false}
 use Rattle.echo_addr.specs.declared.address.NetNode.{NetNode}
 use Rattle.echo_addr.specs.Address.{is_slash}
 use Rattle.echo_addr.specs.Entries.{is_blank, tokens, part_of, entry_from, pair_of, nearest_net, entry_of, judged, entries, dropped}
-use Rattle.echo_addr.specs.ShortLines.{shows_net, entry_token, entry_text, entries_text, line_of, IsNetNode, IsEntryByte, ShortLines, ReadBack}
+use Rattle.echo_addr.specs.ShortLines.{shows_net, entry_token, entries_text, line_of, IsNetNode, IsEntryByte, ShortLines, ReadBack}
 use Rattle.echo_addr.proofs.Decimals.{IsDigit, digits_of_decimal, part_of-decimal}
 use Rattle.echo_addr.proofs.Each.{weaker, joined, apart}
 use Rattle.echo_addr.proofs.Tokens.{IsInk, IsEnded, tokens_cons, tokens_nil, before_slash, after_slash, after_no_slash}

@@ -1,11 +1,11 @@
 -- Cutting bytes at blanks, and a token at its slash.
-use Rattle.std.proofs.Common.{◌≡◌, ℕ, suc, zero, ◌+◌, ◌<◌, ◌≤◌, ◌==◌, ◌||◌, nat_lt, not, cond, Bool, true, false, List, [], ◌∷◌, ◌++◌, length, take, drop, refl, sym, ap, ◌∙◌, arith, Some, None, Option, inl, inr, ◌⊎◌, subst}
-use Rattle.std.specs.List.{filter, slice_split, All, AllByRecursion, position_or_len, before_first, after_first, prefix_len}
+use Rattle.std.proofs.Common.{◌≡◌, ℕ, ◌+◌, ◌<◌, nat_lt, not, cond, true, false, List, [], ◌∷◌, ◌++◌, length, take, drop, refl, sym, ap, ◌∙◌, arith}
+use Rattle.std.specs.List.{filter, slice_split, AllByRecursion, position_or_len, before_first, after_first}
 use Rattle.std.proofs.Math.Seq.{drop-append-add}
-use Rattle.std.proofs.lemmas.List.{append-nil, take_at, drop_at, drop_all, take_all}
+use Rattle.std.proofs.lemmas.List.{append-nil, take_at, drop_all}
 use Rattle.std.proofs.lemmas.List.Elements.{All-from_recursion}
 use Rattle.std.proofs.lemmas.List.Splits.{slice_split_none, slice_split_at}
-use Rattle.std.proofs.lemmas.Bool.{lt-ltb, ne_eqb, or_from, cond-true, cond-false}
+use Rattle.std.proofs.lemmas.Bool.{lt-ltb, cond-true}
 use Rattle.echo_addr.specs.Address.{is_slash}
 use Rattle.echo_addr.specs.Entries.{is_blank, tokens}
 

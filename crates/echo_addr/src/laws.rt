@@ -4,7 +4,7 @@ ghost use Rattle.std.specs.Prelude.{◌≡◌, ◌≤◌, ◌↔◌, ℕ, List, 
 ghost use Rattle.echo_addr.specs.declared.address.Address.{Address};
 ghost use Rattle.echo_addr.specs.declared.address.NetNode.{NetNode};
 ghost use Rattle.echo_addr.specs.Address.{AddressOf, IsAddress, address_text};
-ghost use Rattle.echo_addr.specs.ShortLines.{IsNetNode, ReadBack, ShortLines, path_prefix, seen_prefix};
+ghost use Rattle.echo_addr.specs.ShortLines.{IsNetNode, ReadBack, ShortLines};
 
 /// What is written of an address in range writes that address.
 pub fn address_read_back()

@@ -1,7 +1,7 @@
 use Rattle.std.proofs.Common.{sym, subst, arith, List, None}
 use Rattle.echo_addr.specs.declared.address.NetNode.{NetNode}
 use Rattle.echo_addr.specs.Entries.{tokens}
-use Rattle.echo_addr.proofs.Carrying.{Read, Read-none, Read-entry, Read-dropped, Read-all}
+use Rattle.echo_addr.proofs.Carrying.{Read, Read-none}
 use Rattle.echo_addr.proofs.listing.read_list.Goals as goal
 
 pub tokens-init : goal.tokens-init
