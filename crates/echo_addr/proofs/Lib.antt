@@ -1,3 +1,16 @@
+pub mod Each
+pub mod Decimals
+pub mod Tokens
+pub mod ReadBack
+pub mod Runs
+pub mod Writing
+pub mod Numbers
+pub mod Positions
+pub mod Cutting
+pub mod Shapes
+pub mod Carrying
+pub mod Outcomes
+pub mod Spellings
 mod Moving
 pub mod Devices
 mod Buffers
