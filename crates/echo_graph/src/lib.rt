@@ -5,6 +5,10 @@
 //! member has one way to any other.
 #![tactic(auto)]
 
+mod graph;
 mod laws;
+mod levels;
 
+pub use graph::{Graph, Links};
 pub use laws::no_cycle;
+pub use levels::levels_around;
