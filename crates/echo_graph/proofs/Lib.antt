@@ -1,5 +1,12 @@
+pub mod Members
+pub mod Walks
+pub mod Steps
+pub mod Around
+pub mod Cuts
 pub mod Cycles
 pub mod Floods
+pub mod PinchSearch
 pub mod Reached
 pub mod Rows
 pub mod Visits
+pub mod FromFirst

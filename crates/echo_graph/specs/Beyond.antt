@@ -1,5 +1,5 @@
 -- Members that stand on every walk.
-use Rattle.std.specs.Prelude.{◌≢◌, Bool, IsTrue, List, ◌∷◌}
+use Rattle.std.specs.Prelude.{◌≡◌, ◌≢◌, Bool, IsTrue, List, ◌∷◌}
 use Rattle.echo_graph.specs.Walk.{Among, Walk}
 
 -- c lies beyond x, seen from f: every walk from c to f passes x
@@ -19,6 +19,10 @@ Parted {A} linked =
 pub record IsWay {A : Type 0} (linked : A → A → Bool) (f y u : A) : Type 0 where
   pub link : IsTrue (linked y u)
   pub passed : Beyond linked u f y
+
+-- y has a way to f, and only one
+abbrev pub HasOneWay : {A : Type 0} → (A → A → Bool) → A → A → Type 0
+HasOneWay {A} linked f y = (u : A) × IsWay linked f y u × ((v : A) → IsWay linked f y v → v ≡ u)
 
 -- from x one may step to a link of it and walk on to f, past no other link of x and never past x
 pub record FirstStep {A : Type 0} (linked : A → A → Bool) (f x step : A) (rest : List A) : Type 0 where

@@ -1,5 +1,5 @@
 -- Cycles of links, and the graphs in which each cycle is a full polygon.
-use Rattle.std.specs.Prelude.{◌≢◌, ℕ, ◌≤◌, Bool, IsTrue, List, ◌∷◌, length}
+use Rattle.std.specs.Prelude.{◌≢◌, ◌≤◌, Bool, IsTrue, List, ◌∷◌, length}
 use Rattle.echo_graph.specs.Walk.{Among, Different, Walk}
 
 -- three or more members, all different, each linked with the next and the last with the first

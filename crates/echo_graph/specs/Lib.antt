@@ -5,3 +5,5 @@ pub mod Rows
 pub mod Levels
 pub mod Visits
 pub mod Floods
+pub mod Reach
+pub mod Pinches
