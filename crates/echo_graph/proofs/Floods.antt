@@ -1,14 +1,13 @@
 -- A search by levels keeps its queue in order, and ends with all links settled.
-use Rattle.std.proofs.Common.{◌≡◌, ◌≢◌, ◌==◌, ◌+◌, ◌<◌, ◌≤◌, ◌++◌, ◌⊎◌, ℕ, zero, suc, Bool, true, false, IsTrue, Option, Some, None, List, [], ◌∷◌, length, get_or, set, refl, sym, ap, ◌∙◌, subst, arith, inl, inr}
-use Rattle.std.specs.List.{list_any}
+use Rattle.std.proofs.Common.{◌≡◌, ◌≢◌, ◌+◌, ◌<◌, ◌≤◌, ◌⊎◌, ℕ, suc, Bool, IsTrue, Option, Some, None, List, [], ◌∷◌, length, get_or, set, sym, ap, ◌∙◌, subst, arith, inl, inr}
 use Rattle.std.proofs.lemmas.Bool.{cases_eq, cases_lt}
 use Rattle.std.proofs.lemmas.List.{get_or-set_same, get_or-set_other, length-set}
 use Rattle.std.proofs.lemmas.Option.{none-some, same_Some}
 use Rattle.echo_graph.specs.Rows.{links_of, linked, IsGraph}
 use Rattle.echo_graph.specs.Levels.{level_of}
 use Rattle.echo_graph.specs.Visits.{Visited}
-use Rattle.echo_graph.specs.Floods.{Flooding, Flooded, Settled, Stepped}
-use Rattle.echo_graph.proofs.Rows.{holds_at, place_of}
+use Rattle.echo_graph.specs.Floods.{Flooding, Flooded, Settled}
+use Rattle.echo_graph.proofs.Rows.{place_of}
 use Rattle.echo_graph.proofs.Visits.{level_cases}
 
 -- two levels of one member are one

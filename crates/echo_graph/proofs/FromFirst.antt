@@ -1,6 +1,5 @@
 -- What the levels from member 0 say of the walks in the whole graph.
-use Rattle.std.proofs.Common.{◌≡◌, ◌≢◌, ◌+◌, ◌<◌, ◌≤◌, ℕ, Bool, IsTrue, Option, Some, None, MatchOption, List, [], ◌∷◌, length, get_or, refl, sym, ap, ◌∙◌, subst, arith, inl, inr}
-use Rattle.std.proofs.lemmas.Bool.{cases_eq, cases_lt}
+use Rattle.std.proofs.Common.{◌≡◌, ◌≢◌, ◌<◌, ℕ, Option, Some, None, MatchOption, List, [], ◌∷◌, length, arith, inl, inr}
 use Rattle.echo_graph.specs.Walk.{Among, Walk, Reaches, Connected}
 use Rattle.echo_graph.specs.Beyond.{Around}
 use Rattle.echo_graph.specs.Rows.{linked, IsGraph}
@@ -8,7 +7,6 @@ use Rattle.echo_graph.specs.Levels.{level_of, AreLevels}
 use Rattle.echo_graph.specs.Reach.{FirstUnreached}
 use Rattle.echo_graph.proofs.Walks.{Connected-from_root}
 use Rattle.echo_graph.proofs.PinchSearch.{Simple-from_graph, around_from_level, level_from_around}
-use Rattle.echo_graph.proofs.Visits.{level_cases}
 
 -- no walk passes what is no member
 pub not_past_members : (rows : List (List ℕ)) → IsGraph rows → (rest : List ℕ) (a b : ℕ) → a < length rows → Walk (linked rows) a rest b → ¬ Among (length rows) (a ∷ rest)

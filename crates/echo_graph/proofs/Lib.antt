@@ -10,3 +10,5 @@ pub mod Reached
 pub mod Rows
 pub mod Visits
 pub mod FromFirst
+pub mod Descending
+pub mod Rings

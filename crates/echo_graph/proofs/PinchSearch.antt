@@ -1,12 +1,12 @@
 -- Pinches found link by link.
-use Rattle.std.proofs.Common.{◌≡◌, ◌≢◌, ◌+◌, ◌<◌, ◌≤◌, ◌⊎◌, ◌↔◌, ℕ, Bool, IsTrue, Option, Some, None, MatchOption, List, length, get_or, refl, sym, ap, ◌∙◌, subst, arith, inl, inr}
+use Rattle.std.proofs.Common.{◌≡◌, ◌≢◌, ◌<◌, ℕ, Bool, IsTrue, Option, None, List, length, get_or, sym, ap, ◌∙◌, subst, arith, inl, inr}
 use Rattle.std.proofs.lemmas.Bool.{cases_eq, cases_lt}
 use Rattle.std.proofs.lemmas.Option.{MatchOption-at_some, MatchOption-at_none}
 use Rattle.echo_graph.specs.Walk.{Simple}
 use Rattle.echo_graph.specs.Beyond.{Around, Parted}
-use Rattle.echo_graph.specs.Rows.{links_of, linked, IsGraph, IsAscending}
+use Rattle.echo_graph.specs.Rows.{links_of, linked, IsGraph}
 use Rattle.echo_graph.specs.Levels.{level_of, Distance, AreLevels}
-use Rattle.echo_graph.specs.Pinches.{IsPinch, FirstOther, FirstHere, FirstPinch}
+use Rattle.echo_graph.specs.Pinches.{IsPinch, FirstOther, FirstHere}
 use Rattle.echo_graph.proofs.Members.{ℕ-can_tell}
 use Rattle.echo_graph.proofs.Around.{Around-sym, Beyond-from_no_around, no_around-from_Beyond}
 use Rattle.echo_graph.proofs.Rows.{holds_at, place_of}

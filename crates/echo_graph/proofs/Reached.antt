@@ -1,11 +1,11 @@
 -- The levels of one search are the distances from its root.
-use Rattle.std.proofs.Common.{◌≡◌, ◌≢◌, ◌+◌, ◌<◌, ◌≤◌, ◌++◌, ◌⊎◌, ℕ, zero, suc, Bool, true, false, IsTrue, Option, Some, None, MatchOption, List, [], ◌∷◌, length, get_or, refl, sym, ap, ◌∙◌, subst, arith, inl, inr}
+use Rattle.std.proofs.Common.{◌≡◌, ◌≢◌, ◌+◌, ◌≤◌, ◌++◌, ◌⊎◌, ℕ, zero, suc, Bool, IsTrue, Option, Some, None, MatchOption, List, [], ◌∷◌, length, refl, sym, ap, ◌∙◌, subst, arith, inl, inr}
 use Rattle.std.proofs.lemmas.List.{length_push}
 use Rattle.std.proofs.lemmas.Option.{none-some}
 use Rattle.echo_graph.specs.Walk.{Among, Walk}
 use Rattle.echo_graph.specs.Beyond.{Around}
 use Rattle.echo_graph.specs.Levels.{level_of, Distance, AreLevels}
-use Rattle.echo_graph.specs.Floods.{Flooded, Settled, Stepped}
+use Rattle.echo_graph.specs.Floods.{Flooded, Searched, Settled}
 use Rattle.echo_graph.proofs.Floods.{one_level}
 
 -- a walk and one link more
@@ -66,6 +66,17 @@ levels_along links without levels s (c ∷ rest) a b m e walk clear =
     let next = s a c m e walk.0 (λ (bad : c ≡ without). clear (inl (sym bad))) in
     let last = levels_along links without levels s rest c b next.0 next.1 walk.1 (λ h. clear (inr h)) in
     (last.0, last.1, omega (arith, next.2, last.2))
+
+pub Searched-from_flooded : (links : ℕ → ℕ → Bool) (without root : ℕ) (old levels : List (Option ℕ)) → ((i : ℕ) → level_of old i ≡ None) → Flooded links without root old levels → Searched links without root levels
+Searched-from_flooded links without root old levels fresh f = record {
+  rooted = f.rooted;
+  stepped = λ i m e.
+      elim (f.made i m e) [
+        | inl oldest ↦ absurd (none-some m (sym (fresh i) ∙ oldest))
+        | inr s ↦ s
+      ];
+  settled = f.settled;
+}
 
 pub MatchOption-from : {X : Type 0} (o : Option X) (P : Type 0) (Q : X → Type 0) → (o ≡ None → P) → ((x : X) → o ≡ Some x → Q x) → MatchOption o P Q
 MatchOption-from None P Q none some = none refl

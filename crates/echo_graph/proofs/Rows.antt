@@ -1,9 +1,9 @@
 -- Links as rows, and members as places in a row.
-use Rattle.std.proofs.Common.{◌≡◌, ◌≢◌, ◌==◌, ◌+◌, ◌<◌, ◌≤◌, ◌||◌, ℕ, zero, suc, Bool, true, false, IsTrue, List, [], ◌∷◌, length, get_or, take, drop, refl, sym, ap, ◌∙◌, subst, arith, inl, inr}
+use Rattle.std.proofs.Common.{◌≡◌, ◌==◌, ◌<◌, ℕ, zero, suc, true, IsTrue, List, [], ◌∷◌, length, get_or, subst, arith, inl, inr}
 use Rattle.std.specs.List.{list_any}
-use Rattle.std.proofs.lemmas.Bool.{eq-eqb, eqb-true, or_cases, or_left, or_right, false≢true, cases_Bool, cases_lt}
+use Rattle.std.proofs.lemmas.Bool.{eq-eqb, eqb-true, or_cases, or_left, or_right, false≢true, cases_lt}
 use Rattle.std.proofs.lemmas.List.{get_or_past}
-use Rattle.echo_graph.specs.Rows.{links_of, linked, IsGraph, IsAscending}
+use Rattle.echo_graph.specs.Rows.{linked}
 
 -- a number at a place of the row is among its links
 pub holds_at : (row : List ℕ) (x k : ℕ) → k < length row → get_or row k 0 ≡ x → IsTrue (list_any (λ link. link == x) row)

@@ -31,3 +31,9 @@ pub record Flooded (linked : ℕ → ℕ → Bool) (without root : ℕ) (old lev
   pub kept : (i m : ℕ) → level_of old i ≡ Some m → level_of levels i ≡ Some m
   pub made : (i m : ℕ) → level_of levels i ≡ Some m → (level_of old i ≡ Some m) ⊎ Stepped linked without root levels i m
   pub settled : Settled linked without levels
+
+-- the levels of one search alone
+pub record Searched (linked : ℕ → ℕ → Bool) (without root : ℕ) (levels : List (Option ℕ)) : Type 0 where
+  pub rooted : level_of levels root ≡ Some 0
+  pub stepped : (i m : ℕ) → level_of levels i ≡ Some m → Stepped linked without root levels i m
+  pub settled : Settled linked without levels

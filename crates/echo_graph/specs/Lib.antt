@@ -7,3 +7,5 @@ pub mod Visits
 pub mod Floods
 pub mod Reach
 pub mod Pinches
+pub mod Loops
+pub mod Descents

@@ -1,5 +1,5 @@
 -- Members that no walk from the first one reaches.
-use Rattle.std.specs.Prelude.{◌≡◌, ◌<◌, ℕ, Bool}
+use Rattle.std.specs.Prelude.{◌<◌, ℕ, Bool}
 use Rattle.echo_graph.specs.Walk.{Reaches}
 
 -- u is the first member that no walk from member 0 reaches

@@ -1,5 +1,5 @@
 -- A graph of members 0, 1, 2 and so on, as a row of links for each.
-use Rattle.std.specs.Prelude.{◌≡◌, ◌==◌, ◌<◌, ℕ, Bool, IsTrue, List, [], length, slice_index, slice_index_or}
+use Rattle.std.specs.Prelude.{◌==◌, ◌<◌, ℕ, Bool, IsTrue, List, [], length, slice_index, slice_index_or}
 use Rattle.std.specs.List.{list_any}
 
 -- the links of a member; past the last member there are none

@@ -4,7 +4,7 @@ ghost use Rattle.std.specs.Prelude.{◌≡◌, ◌<◌, ◌≢◌, ℕ, IfOk, No
 ghost use Rattle.echo_graph.specs.Rows.{links_of, linked, IsGraph};
 ghost use Rattle.echo_graph.specs.Levels.{level_of, AreLevels};
 ghost use Rattle.echo_graph.specs.Visits.{Visited};
-ghost use Rattle.echo_graph.specs.Floods.{Flooded, Settled};
+ghost use Rattle.echo_graph.specs.Floods.{Flooded, Searched, Settled};
 
 use crate::graph::Graph;
 use std::alloc::{AllocError, Global};
@@ -20,6 +20,7 @@ pub fn levels_around(
     requires inside { root < length graph.now }
     requires apart { root ≢ without }
     ensures lengths { IfOk result (λ levels. vec_len levels ≡ length graph.now) }
+    ensures searched { IfOk result (λ levels. Searched (linked graph.now) without root levels.items) }
     ensures levels { IfOk result (λ levels. AreLevels (linked graph.now) without root levels.items) }
 {
     let mut levels = vec![in alloc; None; graph.len()]?;

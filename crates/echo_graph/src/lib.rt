@@ -9,10 +9,12 @@ mod graph;
 mod laws;
 mod levels;
 mod pinching;
+mod polygons;
 mod reach;
+mod ring;
+mod writing;
 
 pub use graph::{Graph, Links};
 pub use laws::{along_ways, first_step, further_out, one_way, polygons_where_parted};
-pub use levels::levels_around;
 pub use pinching::{Pinch, first_pinch};
 pub use reach::unreached;

@@ -1,7 +1,7 @@
 //! Members two of whose links are joined around them though not linked.
 
 ghost use Rattle.std.specs.Prelude.{◌≡◌, ◌≢◌, ◌<◌, ◌↔◌, ℕ, IsTrue, IfOk, MatchOption, None, length};
-ghost use Rattle.echo_graph.specs.Rows.{linked};
+ghost use Rattle.echo_graph.specs.Rows.{linked, IsGraph};
 ghost use Rattle.echo_graph.specs.Levels.{level_of, AreLevels};
 ghost use Rattle.echo_graph.specs.Pinches.{IsPinch, FirstPinch, FirstOther, FirstHere};
 
@@ -25,7 +25,8 @@ pub struct Pinch {
 ///
 /// One search is made for each end of each link, so this takes about the square of the links.
 pub fn first_pinch(alloc: Global, graph: &Graph) -> Result<Option<Pinch>, AllocError>
-    ensures { IfOk result (λ found. MatchOption found ((b a c : ℕ) → ¬ IsPinch (linked graph.now) b a c) (λ pinch. FirstPinch (linked graph.now) pinch.at pinch.one pinch.other)) }
+    ensures sound { IsGraph graph.now }
+    ensures first { IfOk result (λ found. MatchOption found ((b a c : ℕ) → ¬ IsPinch (linked graph.now) b a c) (λ pinch. FirstPinch (linked graph.now) pinch.at pinch.one pinch.other)) }
 {
     'members: for at in 0..graph.len() {
         if let Some(pinch) = first_pinch_at(alloc, graph, at)? {

@@ -1,11 +1,11 @@
-use Rattle.std.proofs.Common.{◌≡◌, ◌<◌, ◌≤◌, ◌+◌, ℕ, Bool, Option, Some, None, List, length, get_or, vec_len, sym, ◌∙◌, ap, subst, refl, arith, Fits, w64}
+use Rattle.std.proofs.Common.{◌≡◌, ◌<◌, ◌≤◌, ℕ, Bool, Option, Some, None, List, length, get_or, sym, ◌∙◌, ap, arith}
 use Rattle.std.proofs.lemmas.List.{get_or_read}
 use Rattle.std.proofs.lemmas.Option.{same_Some}
 use Rattle.echo_graph.specs.Rows.{linked}
 use Rattle.echo_graph.specs.Levels.{level_of}
 use Rattle.echo_graph.specs.Floods.{Flooding}
 use Rattle.echo_graph.proofs.Visits.{level_within}
-use Rattle.echo_graph.proofs.Floods.{Flooding-start, Flooding-step, Flooded-end, one_level}
+use Rattle.echo_graph.proofs.Floods.{Flooding-step}
 use Rattle.echo_graph.proofs.levels.flood.Goals as goal
 
 -- the member at the head has a level, at most its place in the queue

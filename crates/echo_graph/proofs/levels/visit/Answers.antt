@@ -1,10 +1,10 @@
-use Rattle.std.proofs.Common.{rules, ◌≡◌, ◌≢◌, ◌<◌, ℕ, OnOk, length, vec_len, ◌+◌, ◌≤◌, Bool, true, false, List, Option, None, Some, get_or, not, set, is_some, sym, ◌∙◌, ap, subst, refl, arith}
+use Rattle.std.proofs.Common.{◌≡◌, ◌<◌, ℕ, length, ◌+◌, false, List, Option, None, Some, get_or, not, set, is_some, sym, ◌∙◌, ap, subst, refl, arith}
 use Rattle.std.proofs.lemmas.List.{get_or_read}
-use Rattle.echo_graph.specs.Rows.{links_of, IsGraph, linked}
+use Rattle.echo_graph.specs.Rows.{links_of, IsGraph}
 use Rattle.echo_graph.specs.Levels.{level_of}
 use Rattle.echo_graph.specs.Visits.{Visited}
 use Rattle.echo_graph.proofs.Rows.{holds_at}
-use Rattle.echo_graph.proofs.Visits.{none_from, some_from, Visited-passed, Visited-made, Visited-start}
+use Rattle.echo_graph.proofs.Visits.{none_from, some_from, Visited-passed, Visited-made}
 use Rattle.echo_graph.proofs.levels.visit.Goals as goal
 use Rattle.echo_graph.proofs.levels.visit.Goals.{then-other-without+then-is_none+in_ok-push, else-other-without, else-other-without-via-then-other-without+else-is_none, else-other-without-via-else-other-without}
 

@@ -1,5 +1,3 @@
-use Rattle.std.proofs.Common.{ℕ}
-use Rattle.echo_graph.specs.Rows.{links_of}
 use Rattle.echo_graph.specs.Visits.{Visited}
 use Rattle.echo_graph.proofs.levels.visit.Given as goal
 

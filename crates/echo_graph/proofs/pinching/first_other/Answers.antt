@@ -1,7 +1,5 @@
-use Rattle.std.proofs.Common.{◌≡◌, ◌≢◌, ◌<◌, ℕ, None, List, length, get_or, sym, ◌∙◌, ap, subst, arith, below_more}
+use Rattle.std.proofs.Common.{ℕ, List, get_or, arith, below_more}
 use Rattle.std.proofs.lemmas.Bool.{both_ways}
-use Rattle.echo_graph.specs.Rows.{linked}
-use Rattle.echo_graph.specs.Pinches.{IsPinch}
 use Rattle.echo_graph.proofs.PinchSearch.{FirstOther-here, not_pinch_here, no_pinch_in_row, row_link}
 use Rattle.echo_graph.proofs.pinching.first_other.Goals as goal
 

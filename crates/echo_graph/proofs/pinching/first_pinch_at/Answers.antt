@@ -1,4 +1,4 @@
-use Rattle.std.proofs.Common.{◌≡◌, ◌≢◌, ◌<◌, ◌+◌, ℕ, IsTrue, List, length, get_or, refl, sym, ◌∙◌, ap, subst, arith, below_more}
+use Rattle.std.proofs.Common.{◌<◌, ◌+◌, ℕ, IsTrue, List, get_or, refl, subst, arith, below_more}
 use Rattle.echo_graph.specs.Rows.{linked}
 use Rattle.echo_graph.specs.Pinches.{IsPinch}
 use Rattle.echo_graph.proofs.PinchSearch.{FirstHere-here, no_pinch_at, row_link}

@@ -1,4 +1,4 @@
-use Rattle.std.proofs.Common.{◌≡◌, ◌≢◌, ◌<◌, ℕ, Option, List, length, sym, ◌∙◌, ap, subst, arith, MatchOption, None}
+use Rattle.std.proofs.Common.{◌≡◌, ◌≢◌, ◌<◌, ℕ, Option, List, length, subst, arith, MatchOption, None}
 use Rattle.echo_graph.specs.Rows.{linked}
 use Rattle.echo_graph.specs.Levels.{level_of, AreLevels}
 use Rattle.echo_graph.proofs.FromFirst.{answered}
