@@ -12,3 +12,7 @@ pub mod Visits
 pub mod FromFirst
 pub mod Descending
 pub mod Rings
+pub mod Family
+pub mod Descent
+pub mod Turns
+pub mod Renaming

@@ -1,5 +1,5 @@
 -- Who is among the members of a list, and lists in which none stands twice.
-use Rattle.std.proofs.Common.{◌≡◌, ◌≢◌, ◌⊎◌, inl, inr, sym, subst, ℕ, List, [], ◌∷◌, ◌++◌}
+use Rattle.std.proofs.Common.{◌≡◌, ◌≢◌, ◌⊎◌, inl, inr, refl, sym, subst, ℕ, zero, suc, ◌<◌, arith, length, get_or, Contains, List, [], ◌∷◌, ◌++◌}
 use Rattle.std.proofs.lemmas.Bool.{cases_eq}
 use Rattle.echo_graph.specs.Walk.{Among, Different}
 
@@ -51,3 +51,27 @@ Different-push (x ∷ xs) y h none = (
   ],
   Different-push xs y h.1 (λ t. none (inr t)),
 )
+
+pub Different-tail_of_append : {A : Type 0} (xs ys : List A) → Different (xs ++ ys) → Different ys
+Different-tail_of_append [] ys h = h
+Different-tail_of_append (x ∷ xs) ys h = Different-tail_of_append xs ys h.1
+
+-- a member stands at some index, and what stands at an index is a member
+pub Among-index : {A : Type 0} (x d : A) (xs : List A) → Among x xs → (k : ℕ) × (k < length xs) × (get_or xs k d ≡ x)
+Among-index x d [] h = absurd h
+Among-index x d (y ∷ ys) h =
+    elim h [
+      | inl e ↦ (0, omega arith, sym e)
+      | inr t ↦ (let (k, lt, e) = Among-index x d ys t in (suc k, omega arith, e))
+    ]
+
+pub Among-get_or : {A : Type 0} (d : A) (xs : List A) (k : ℕ) → k < length xs → Among (get_or xs k d) xs
+Among-get_or d [] k lt = absurd (omega arith)
+Among-get_or d (y ∷ ys) zero lt = inl refl
+Among-get_or d (y ∷ ys) (suc k) lt = inr (Among-get_or d ys k (omega arith))
+
+pub Contains-from_Among : {A : Type 0} (x : A) (xs : List A) → Among x xs → Contains xs x
+Contains-from_Among x xs h = Among-index x x xs h
+
+pub Among-from_Contains : {A : Type 0} (x : A) (xs : List A) → Contains xs x → Among x xs
+Among-from_Contains x xs h = Among-at x (get_or xs h.0 x) xs (sym h.2) (Among-get_or x xs h.0 h.1)

@@ -3,12 +3,12 @@ use Rattle.std.proofs.Common.{◌≡◌, ◌+◌, ◌-◌, ◌<◌, ◌≤◌, �
 use Rattle.std.proofs.lemmas.Bool.{cases_lt}
 use Rattle.std.proofs.lemmas.List.{append-nil, reverse-append, length-append, length-reverse, get_or-reverse, take_more, drop_more, take-append-drop, take_all, drop_all}
 use Rattle.echo_graph.specs.Walk.{Among, Different, Walk, Simple}
-use Rattle.echo_graph.specs.Cycle.{Cycle}
+use Rattle.echo_graph.specs.Cycle.{Cycle, IsCycle}
 use Rattle.echo_graph.specs.Pinches.{IsPinch, FirstPinch}
-use Rattle.echo_graph.specs.Loops.{FirstWalk, turned, IsWritten, IsCycle, NamedLoop}
-use Rattle.echo_graph.proofs.Members.{Among-append_left, Among-append_right, Among-append_cases, Different-push}
+use Rattle.echo_graph.specs.Loops.{FirstWalk, turned, IsWritten, NamedLoop}
+use Rattle.echo_graph.proofs.Members.{Among-index, Among-get_or, Among-append_left, Among-append_right, Among-append_cases, Different-push}
 use Rattle.echo_graph.proofs.Walks.{walk_ends}
-use Rattle.echo_graph.proofs.Reached.{Walk-push}
+use Rattle.echo_graph.proofs.Turns.{IsCycle-rotated, IsCycle-turned, Cycle-reversed}
 
 -- the pinch and the walk around it make a cycle
 pub Cycle-from_pinch : (links : ℕ → ℕ → Bool) → Simple links → (b a c : ℕ) (rest : List ℕ) → IsPinch links b a c → FirstWalk links b a c rest → Cycle links b (a ∷ rest)
@@ -19,50 +19,19 @@ Cycle-from_pinch links simple b a c (d ∷ rest) pinch first = record {
   closed = (c, (pinch.one, first.walk), simple.both_ways b c pinch.other);
 }
 
--- the next member may stand first
-pub Cycle-next : (links : ℕ → ℕ → Bool) (first second : ℕ) (rest : List ℕ) → Cycle links first (second ∷ rest) → Cycle links second (rest ++ first ∷ [])
-Cycle-next links first second rest cycle =
-    let long : 2 ≤ length (second ∷ rest) = cycle.long in
-    let closed = cycle.closed in
-    record {
-      long = omega (arith, length-append rest (first ∷ []));
-      different = Different-push (second ∷ rest) first cycle.different.1 cycle.different.0;
-      closed = (first, Walk-push links second closed.0 first rest closed.1.1 closed.2, closed.1.0);
-    }
-
 pub turned_next : (ring : List ℕ) (k : ℕ) → k < length ring → (turned k ring ≡ get_or ring k 0 ∷ (drop (k + 1) ring ++ take k ring)) × (turned (k + 1) ring ≡ (drop (k + 1) ring ++ take k ring) ++ get_or ring k 0 ∷ [])
 turned_next ring k lt = (
   ap (λ (xs : List ℕ). xs ++ take k ring) (drop_more ring k 0 lt),
   ap (λ (xs : List ℕ). drop (k + 1) ring ++ xs) (take_more ring k 0 lt) ∙ sym (append_assoc (drop (k + 1) ring) (take k ring) (get_or ring k 0 ∷ [])),
 )
 
-IsCycle-own : (links : ℕ → ℕ → Bool) (m : ℕ) (rest : List ℕ) → IsCycle links (m ∷ rest) → Cycle links m rest
-IsCycle-own links m rest (first, others, same, cycle) =
-    let head : first ≡ m = cc in
-    let tail : others ≡ rest = cc in
-    subst (λ x. Cycle links x rest) head (subst (λ (xs : List ℕ). Cycle links first xs) tail cycle)
-
-IsCycle-next : (links : ℕ → ℕ → Bool) (m : ℕ) (rest : List ℕ) → IsCycle links (m ∷ rest) → IsCycle links (rest ++ m ∷ [])
-IsCycle-next links m [] cycle = let long : 2 ≤ 0 = (IsCycle-own links m [] cycle).long in absurd (omega arith)
-IsCycle-next links m (second ∷ rest) cycle =
-    (second, rest ++ m ∷ [], refl, Cycle-next links m second rest (IsCycle-own links m (second ∷ rest) cycle))
-
 turned_past : (ring : List ℕ) (k : ℕ) → length ring ≤ k → turned k ring ≡ ring
 turned_past ring k past = ap (λ (xs : List ℕ). xs ++ take k ring) (drop_all k ring past) ∙ take_all k ring past
 
 -- a cycle begun at another place
-pub IsCycle-turned : (links : ℕ → ℕ → Bool) (ring : List ℕ) → IsCycle links ring → (k : ℕ) → IsCycle links (turned k ring)
-IsCycle-turned links ring cycle zero = subst (IsCycle links) (sym (append-nil ring)) cycle
-IsCycle-turned links ring cycle (suc k) =
-    elim (cases_lt k (length ring)) [
-      | inl lt ↦
-          let next = turned_next ring k lt in
-          let one_on : k + 1 ≡ suc k = omega arith in
-          let before = subst (IsCycle links) next.0 (IsCycle-turned links ring cycle k) in
-          subst (λ j. IsCycle links (turned j ring)) one_on
-          (subst (IsCycle links) (sym next.1) (IsCycle-next links (get_or ring k 0) (drop (k + 1) ring ++ take k ring) before))
-      | inr past ↦ subst (IsCycle links) (sym (turned_past ring (suc k) (omega arith))) cycle
-    ]
+pub IsCycle-begun_at : (links : ℕ → ℕ → Bool) (ring : List ℕ) → IsCycle links ring → (k : ℕ) → IsCycle links (turned k ring)
+IsCycle-begun_at links ring cycle k =
+    IsCycle-rotated links (take k ring) (drop k ring) (subst (IsCycle links) (sym (take-append-drop k ring)) cycle)
 
 reverse_cons : (x : ℕ) (xs : List ℕ) → reverse (x ∷ xs) ≡ reverse xs ++ x ∷ []
 reverse_cons x xs = reverse-append (x ∷ []) xs
@@ -76,46 +45,12 @@ Among-reverse x (y ∷ ys) among =
       | inr later ↦ Among-append_left x (reverse ys) (y ∷ []) (Among-reverse x ys later)
     ])
 
-Among-from_reverse : (x : ℕ) (xs : List ℕ) → Among x (reverse xs) → Among x xs
-Among-from_reverse x [] among = among
-Among-from_reverse x (y ∷ ys) among =
-    elim (Among-append_cases x (reverse ys) (y ∷ []) (subst (Among x) (reverse_cons y ys) among)) [
-      | inl before ↦ inr (Among-from_reverse x ys before)
-      | inr last ↦ elim last [ inl is ↦ inl is | inr none ↦ absurd none ]
-    ]
-
-Different-reverse : (xs : List ℕ) → Different xs → Different (reverse xs)
-Different-reverse [] different = different
-Different-reverse (x ∷ xs) different =
-    subst Different (sym (reverse_cons x xs))
-    (Different-push (reverse xs) x (Different-reverse xs different.1) (λ again. different.0 (Among-from_reverse x xs again)))
-
--- the walk back, member by member
-walk_reversed : (links : ℕ → ℕ → Bool) → Simple links → (rest : List ℕ) (a b : ℕ) → Walk links a rest b → (back : List ℕ) × (reverse (a ∷ rest) ≡ b ∷ back) × Walk links b back a × (length back ≡ length rest)
-walk_reversed links simple [] a b same = ([], ap (λ (x : ℕ). x ∷ []) same, sym same, refl)
-walk_reversed links simple (c ∷ rest) a b walk =
-    let before = walk_reversed links simple rest c b walk.1 in (
-      before.0 ++ a ∷ [],
-      reverse_cons a (c ∷ rest) ∙ ap (λ (xs : List ℕ). xs ++ a ∷ []) before.1,
-      Walk-push links b c a before.0 before.2 (simple.both_ways a c walk.0),
-      omega (arith, length-append before.0 (a ∷ []), before.3),
-    )
-
 -- a cycle gone round the other way
 pub IsCycle-reversed : (links : ℕ → ℕ → Bool) → Simple links → (ring : List ℕ) → IsCycle links ring → IsCycle links (reverse ring)
-IsCycle-reversed links simple ring (first, rest, same, cycle) =
-    let closed = cycle.closed in
-    let back = walk_reversed links simple rest first closed.0 closed.1 in
-    let reversed : reverse ring ≡ closed.0 ∷ back.0 = ap reverse same ∙ back.1 in (
-      closed.0,
-      back.0,
-      reversed,
-      record {
-        long = (let long = cycle.long in omega (arith, back.3));
-        different = subst Different back.1 (Different-reverse (first ∷ rest) cycle.different);
-        closed = (first, back.2, simple.both_ways closed.0 first closed.2);
-      },
-    )
+IsCycle-reversed links simple [] cycle = cycle
+IsCycle-reversed links simple (first ∷ rest) cycle =
+    subst (IsCycle links) (sym (reverse_cons first rest))
+    (IsCycle-turned links first (reverse rest) (Cycle-reversed links simple first rest cycle))
 
 Among-turned : (x k : ℕ) (ring : List ℕ) → Among x ring → Among x (turned k ring)
 Among-turned x k ring among =
@@ -127,7 +62,7 @@ Among-turned x k ring among =
 -- what is written of a cycle is the cycle, with the same members
 pub IsCycle-written : (links : ℕ → ℕ → Bool) → Simple links → (ring loop : List ℕ) → IsWritten ring loop → IsCycle links ring → IsCycle links loop
 IsCycle-written links simple ring loop written cycle =
-    let round = IsCycle-turned links ring cycle written.goes_round.0 in
+    let round = IsCycle-begun_at links ring cycle written.goes_round.0 in
     elim written.goes_round.1 [
       | inl same ↦ subst (IsCycle links) (sym same) round
       | inr same ↦ subst (IsCycle links) (sym same) (IsCycle-reversed links simple (turned written.goes_round.0 ring) round)
@@ -147,7 +82,7 @@ NamedLoop-written links simple b a c rest ring loop first walk is written =
     let pinch = first.pinch in
     let order = pinch.in_order in
     record {
-      cycle = IsCycle-written links simple ring loop written (b, a ∷ rest, is, Cycle-from_pinch links simple b a c rest pinch walk);
+      cycle = IsCycle-written links simple ring loop written (subst (IsCycle links) (sym is) (Cycle-from_pinch links simple b a c rest pinch walk));
       unlinked = (
         a,
         c,
@@ -159,17 +94,6 @@ NamedLoop-written links simple b a c rest ring loop first walk is written =
       named = (ring, (b, a, c, rest, first, walk, is), written);
     }
 
--- each member has a place
-place_among : (x : ℕ) (xs : List ℕ) → Among x xs → (k : ℕ) × (k < length xs) × (get_or xs k 0 ≡ x)
-place_among x [] among = absurd among
-place_among x (y ∷ ys) (inl is) = (0, omega arith, sym is)
-place_among x (y ∷ ys) (inr later) = let p = place_among x ys later in (suc p.0, omega (arith, p.1), p.2)
-
-among_place : (xs : List ℕ) (k : ℕ) → k < length xs → Among (get_or xs k 0) xs
-among_place [] k lt = absurd (omega arith)
-among_place (y ∷ ys) zero lt = inl refl
-among_place (y ∷ ys) (suc k) lt = inr (among_place ys k (omega arith))
-
 -- of two different ends of a list, the greater is second, or else first when it is reversed
 reversed_smaller : (x : ℕ) (xs : List ℕ) → Different (x ∷ xs) → 0 < length xs → get_or (x ∷ xs) (length xs) 0 ≤ x → get_or (reverse (x ∷ xs)) 0 0 < get_or (reverse (x ∷ xs)) (length xs) 0
 reversed_smaller x [] different long le = absurd (omega arith)
@@ -179,7 +103,7 @@ reversed_smaller x (y ∷ ys) different long le =
     let first : length xs - 1 - length (y ∷ ys) ≡ 0 = omega arith in
     let at_first : get_or (reverse xs) 0 0 ≡ get_or xs (length (y ∷ ys)) 0 = get_or-reverse xs 0 0 (omega arith) ∙ ap (λ k. get_or xs k 0) last in
     let at_last : get_or (reverse xs) (length (y ∷ ys)) 0 ≡ x = get_or-reverse xs (length (y ∷ ys)) 0 (omega arith) ∙ ap (λ k. get_or xs k 0) first in
-    let differ : get_or (y ∷ ys) (length ys) 0 ≡ x → ⊥ = λ same. different.0 (subst (λ m. Among m (y ∷ ys)) same (among_place (y ∷ ys) (length ys) (omega arith))) in
+    let differ : get_or (y ∷ ys) (length ys) 0 ≡ x → ⊥ = λ same. different.0 (subst (λ m. Among m (y ∷ ys)) same (Among-get_or 0 (y ∷ ys) (length ys) (omega arith))) in
     omega (arith, at_first, at_last)
 
 Different-turned : (ring : List ℕ) → Different ring → (k : ℕ) → Different (turned k ring)
@@ -200,7 +124,7 @@ length-turned ring k =
     length-append (drop k ring) (take k ring) ∙ (omega (arith, length-append (take k ring) (drop k ring), ap length (take-append-drop k ring)))
 
 smallest_first : (ring : List ℕ) (k m : ℕ) → get_or ring k 0 ≡ m → ((j : ℕ) → j < length ring → get_or ring k 0 ≤ get_or ring j 0) → (x : ℕ) → Among x ring → m ≤ x
-smallest_first ring k m is least x among = let p = place_among x ring among in omega (arith, least p.0 p.1, p.2)
+smallest_first ring k m is least x among = let p = Among-index x 0 ring among in omega (arith, least p.0 p.1, p.2)
 
 pub IsWritten-forth : (ring loop : List ℕ) (k : ℕ) → k < length ring → ((j : ℕ) → j < length ring → get_or ring k 0 ≤ get_or ring j 0) → loop ≡ turned k ring → get_or loop 1 0 < get_or loop (length ring - 1) 0 → IsWritten ring loop
 IsWritten-forth ring loop k lt least is smaller =

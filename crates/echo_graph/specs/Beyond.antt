@@ -15,6 +15,10 @@ abbrev pub Parted : {A : Type 0} → (A → A → Bool) → Type 0
 Parted {A} linked =
     (b a c : A) → IsTrue (linked b a) → IsTrue (linked b c) → a ≢ c → ¬ IsTrue (linked a c) → Beyond linked b c a
 
+-- any two links of b are parted by b
+abbrev pub AllParted : {A : Type 0} → (A → A → Bool) → Type 0
+AllParted {A} linked = (b a c : A) → IsTrue (linked b a) → IsTrue (linked b c) → a ≢ c → Beyond linked b c a
+
 -- u is a link of y that every walk from y to f passes
 pub record IsWay {A : Type 0} (linked : A → A → Bool) (f y u : A) : Type 0 where
   pub link : IsTrue (linked y u)

@@ -1,7 +1,7 @@
 -- The cycle that shows that not all are fully linked, and how it is written.
 use Rattle.std.specs.Prelude.{◌≡◌, ◌≢◌, ◌++◌, ◌-◌, ◌<◌, ◌≤◌, ◌⊎◌, ℕ, Bool, IsTrue, List, [], ◌∷◌, length, take, drop, reverse, slice_index}
 use Rattle.echo_graph.specs.Walk.{Among, Different, Walk}
-use Rattle.echo_graph.specs.Cycle.{Cycle}
+use Rattle.echo_graph.specs.Cycle.{IsCycle}
 use Rattle.echo_graph.specs.Pinches.{FirstPinch}
 
 -- the first list has the smaller number where the two first differ, or ends there
@@ -27,10 +27,6 @@ pub record IsWritten (ring loop : List ℕ) : Type 0 where
   pub goes_round : (k : ℕ) × ((loop ≡ turned k ring) ⊎ (loop ≡ reverse (turned k ring)))
   pub smallest : (x : ℕ) → Among x ring → slice_index loop 0 ≤ x
   pub smaller_side : slice_index loop 1 < slice_index loop (length loop - 1)
-
--- the members of a cycle, in its order
-abbrev pub IsCycle : (ℕ → ℕ → Bool) → List ℕ → Type 0
-IsCycle linked loop = (first : ℕ) × (rest : List ℕ) × (loop ≡ first ∷ rest) × Cycle linked first rest
 
 -- two of these members are not linked
 abbrev pub HasUnlinked : (ℕ → ℕ → Bool) → List ℕ → Type 0

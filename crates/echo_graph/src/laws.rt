@@ -1,15 +1,18 @@
 //! What holds of the definitions. Each law is the contract of a function that does nothing.
 
-ghost use Rattle.std.specs.Prelude.{◌≡◌, ◌≢◌, ◌↔◌, ℕ, ◌<◌, Bool, IsTrue, List, length};
+ghost use Rattle.std.specs.Prelude.{◌≡◌, ◌≢◌, ◌↔◌, ℕ, ◌<◌, Bool, IsTrue, List, ◌++◌, length, map, reverse};
 ghost use Rattle.echo_graph.specs.Walk.{Simple, Walk, Reaches};
-ghost use Rattle.echo_graph.specs.Cycle.{NoCycle, Polygons};
-ghost use Rattle.echo_graph.specs.Beyond.{Beyond, Parted, IsWay, HasOneWay, FirstStep};
+ghost use Rattle.echo_graph.specs.Cycle.{Cycle, IsCycle, NoCycle, Polygons};
+ghost use Rattle.echo_graph.specs.Renaming.{IsRenaming};
+ghost use Rattle.echo_graph.specs.Family.{IsFamily, KeepsToFamily};
+ghost use Rattle.echo_graph.specs.Beyond.{AllParted, Beyond, Parted, IsWay, HasOneWay, FirstStep};
 
 /// Every cycle is fully linked exactly where each member parts those of its links that are not linked.
-/// A tree, having no cycle, is a special case.
+/// Trees are a special case: there is no cycle exactly where each member parts all its links.
 pub fn polygons_where_parted()
     ensures same { (linked : ℕ → ℕ → Bool) → Simple linked → (Polygons linked ↔ Parted linked) }
     ensures trees { (linked : ℕ → ℕ → Bool) → NoCycle linked → Polygons linked }
+    ensures forest { (linked : ℕ → ℕ → Bool) → Simple linked → (NoCycle linked ↔ AllParted linked) }
 {}
 
 /// On a walk from x to another member there are a link of x and a shorter walk from it, past no
@@ -43,4 +46,26 @@ pub fn along_ways()
     ensures { (linked : ℕ → ℕ → Bool) → Simple linked → Parted linked → (f : ℕ) (test : ℕ → Bool) → IsTrue (test f) →
         ((y u : ℕ) → y ≢ f → Reaches linked y f → IsWay linked f y u → IsTrue (test u) → IsTrue (test y)) →
         (y : ℕ) → Reaches linked y f → IsTrue (test y) }
+{}
+
+/// Where a search by levels gave each member a parent, links are parted exactly where each joins a
+/// member with its parent or with a child of the same parent, and of the children of one parent
+/// those linked with one are linked with each other.
+pub fn family_of_levels()
+    ensures { (linked : ℕ → ℕ → Bool) (level parent : ℕ → ℕ) → Simple linked → IsFamily linked level parent →
+        (Parted linked ↔ KeepsToFamily linked level parent) }
+{}
+
+/// A cycle may be written from any of its members on, and the other way round.
+pub fn cycle_written_anew()
+    ensures turned { (linked : ℕ → ℕ → Bool) (front back : List ℕ) → IsCycle linked (front ++ back) → IsCycle linked (back ++ front) }
+    ensures reversed { (linked : ℕ → ℕ → Bool) → Simple linked → (first : ℕ) (rest : List ℕ) → Cycle linked first rest → Cycle linked first (reverse rest) }
+{}
+
+/// Whether cycles are fully linked, and which members form one, does not hang on the members' names.
+pub fn other_names()
+    ensures polygons { (linked joined : ℕ → ℕ → Bool) (name back : ℕ → ℕ) → IsRenaming linked joined name back → Simple joined →
+        Polygons linked → Polygons joined }
+    ensures cycles { (linked joined : ℕ → ℕ → Bool) (name back : ℕ → ℕ) → IsRenaming linked joined name back → Simple linked →
+        (first : ℕ) (rest : List ℕ) → Cycle linked first rest → Cycle joined (name first) (map name rest) }
 {}

@@ -15,6 +15,9 @@ mod ring;
 mod writing;
 
 pub use graph::{Graph, Links};
-pub use laws::{along_ways, first_step, further_out, one_way, polygons_where_parted};
-pub use pinching::{Pinch, first_pinch};
+pub use laws::{
+    along_ways, cycle_written_anew, family_of_levels, first_step, further_out, one_way,
+    other_names, polygons_where_parted,
+};
+pub use polygons::loop_of;
 pub use reach::unreached;
