@@ -16,3 +16,6 @@ pub mod Family
 pub mod Descent
 pub mod Turns
 pub mod Renaming
+pub mod Kinship
+pub mod ForestGrowth
+pub mod Parents

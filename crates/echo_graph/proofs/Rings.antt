@@ -2,7 +2,7 @@
 use Rattle.std.proofs.Common.{◌≡◌, ◌+◌, ◌-◌, ◌<◌, ◌≤◌, ◌++◌, ℕ, zero, suc, Bool, List, [], ◌∷◌, length, get_or, take, drop, reverse, refl, sym, ap, ◌∙◌, subst, append_assoc, arith, inl, inr}
 use Rattle.std.proofs.lemmas.Bool.{cases_lt}
 use Rattle.std.proofs.lemmas.List.{append-nil, reverse-append, length-append, length-reverse, get_or-reverse, take_more, drop_more, take-append-drop, take_all, drop_all}
-use Rattle.echo_graph.specs.Walk.{Among, Different, Walk, Simple}
+use Rattle.echo_graph.specs.Walk.{Among, Different, Simple}
 use Rattle.echo_graph.specs.Cycle.{Cycle, IsCycle}
 use Rattle.echo_graph.specs.Pinches.{IsPinch, FirstPinch}
 use Rattle.echo_graph.specs.Loops.{FirstWalk, turned, IsWritten, NamedLoop}

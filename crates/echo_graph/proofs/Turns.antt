@@ -1,10 +1,10 @@
 -- A cycle written from another member, or the other way round; and shortest walks.
-use Rattle.std.proofs.Common.{◌≡◌, ◌≢◌, ◌⊎◌, inl, inr, refl, sym, subst, ◌∙◌, ℕ, suc, ◌+◌, ◌<◌, ◌≤◌, arith, Bool, IsTrue, List, [], ◌∷◌, ◌++◌, length, reverse, append_assoc, append-nil, length-append}
+use Rattle.std.proofs.Common.{◌≡◌, inl, inr, refl, sym, subst, arith, Bool, IsTrue, List, [], ◌∷◌, ◌++◌, length, reverse, append_assoc, append-nil, length-append}
 use Rattle.std.proofs.lemmas.List.{reverse-append}
 use Rattle.echo_graph.specs.Walk.{Simple, Among, Different, Walk}
 use Rattle.echo_graph.specs.Cycle.{Cycle, IsCycle}
-use Rattle.echo_graph.proofs.Members.{CanTell, Among-cases, Among-append_cases, Different-push}
-use Rattle.echo_graph.proofs.Walks.{link_to, walk_append, part_from}
+use Rattle.echo_graph.proofs.Members.{Among-append_cases, Different-push}
+use Rattle.echo_graph.proofs.Walks.{link_to, walk_append}
 use Rattle.echo_graph.proofs.Cycles.{cycle_turned}
 
 -- a cycle from its second member on

@@ -11,3 +11,4 @@ pub mod Loops
 pub mod Descents
 pub mod Family
 pub mod Renaming
+pub mod Forest

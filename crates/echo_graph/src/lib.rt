@@ -5,7 +5,9 @@
 //! member has one way to any other.
 #![tactic(auto)]
 
+mod forest;
 mod graph;
+mod kin;
 mod laws;
 mod levels;
 mod pinching;

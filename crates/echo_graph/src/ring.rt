@@ -34,7 +34,7 @@ pub fn ring_of(alloc: Global, graph: &Graph, pinch: Pinch) -> Result<Vec<usize>,
 }
 
 /// The smallest link of the member that has this level.
-fn smallest_at(graph: &Graph, levels: &[Option<usize>], member: usize, level: usize) -> usize
+pub fn smallest_at(graph: &Graph, levels: &[Option<usize>], member: usize, level: usize) -> usize
     requires inside { member < length graph.now }
     requires lengths { length levels.now ≡ length graph.now }
     requires there { (d : ℕ) × IsTrue (linked graph.now member d) × (level_of levels.now d ≡ Some level) }
