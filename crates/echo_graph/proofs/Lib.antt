@@ -19,3 +19,4 @@ pub mod Renaming
 pub mod Kinship
 pub mod ForestGrowth
 pub mod Parents
+pub mod GraphTests

@@ -86,7 +86,7 @@ impl Graph {
 }
 
 /// Is `member` among these links, which ascend?
-fn has_link(links: &[usize], member: usize) -> bool
+pub fn has_link(links: &[usize], member: usize) -> bool
     requires { IsAscending links.now }
     ensures { result ≡ list_any (λ link. link == member) links.now }
 {

@@ -1,7 +1,7 @@
 //! The quick test: do all links keep to the family that a search by levels gives?
 
 ghost use Rattle.std.specs.Prelude.{◌≡◌, ◌≢◌, ◌<◌, ◌↔◌, ◌⊎◌, ℕ, IsTrue, IfOk, IfSome, Some, MatchOption, length};
-ghost use Rattle.echo_graph.specs.Rows.{linked};
+ghost use Rattle.echo_graph.specs.Rows.{linked, IsGraph};
 ghost use Rattle.echo_graph.specs.Beyond.{Parted};
 ghost use Rattle.echo_graph.specs.Forest.{parent_of, Siblings, LinkedSiblings, IsKin, FirstSibling, Covers, AgreesWithFirst, KeepsHere};
 
@@ -12,7 +12,8 @@ use std::alloc::{AllocError, Global};
 /// Are any two links of a member that are not linked parted by it? Takes about the time of one search
 /// where they are.
 pub fn is_parted(alloc: Global, graph: &Graph) -> Result<bool, AllocError>
-    ensures { IfOk result (λ parted. IsTrue parted ↔ Parted (linked graph.now)) }
+    ensures sound { IsGraph graph.now }
+    ensures parted { IfOk result (λ parted. IsTrue parted ↔ Parted (linked graph.now)) }
 {
     let levels = forest(alloc, graph)?;
     let parents = parents(alloc, graph, &levels)?;

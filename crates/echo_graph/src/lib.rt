@@ -14,6 +14,7 @@ mod pinching;
 mod polygons;
 mod reach;
 mod ring;
+mod sound;
 mod writing;
 
 pub use graph::{Graph, Links};
@@ -23,3 +24,4 @@ pub use laws::{
 };
 pub use polygons::loop_of;
 pub use reach::unreached;
+pub use sound::is_graph;

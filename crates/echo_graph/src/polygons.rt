@@ -6,13 +6,15 @@ ghost use Rattle.echo_graph.specs.Rows.{linked};
 ghost use Rattle.echo_graph.specs.Loops.{NamedLoop};
 
 use crate::graph::Graph;
+use crate::kin::is_parted;
 use crate::pinching::first_pinch;
 use crate::ring::ring_of;
 use crate::writing::written;
 use std::alloc::{AllocError, Global};
 
 /// `None` exactly where any two members of a cycle are linked; else a cycle with two members that
-/// are not linked. Fails only by want of memory.
+/// are not linked. Fails only by want of memory. `None` takes about the time of one search; the cycle
+/// takes a search for each end of each link.
 ///
 /// Of all members b with links a < c that are not linked, though a walk from a to c does not pass b,
 /// it takes the smallest b, then the smallest a, then the smallest c; of those walks it takes one with
@@ -21,12 +23,12 @@ use std::alloc::{AllocError, Global};
 pub fn loop_of(alloc: Global, graph: &Graph) -> Result<Option<Vec<usize>>, AllocError>
     ensures { IfOk result (λ found. MatchOption found (Polygons (linked graph.now)) (λ round. NamedLoop (linked graph.now) round.items)) }
 {
-    match first_pinch(alloc, graph)? {
-        None => Ok(None),
-        Some(pinch) => {
-            let ring = ring_of(alloc, graph, pinch)?;
-            let round = written(alloc, &ring)?;
-            Ok(Some(round))
-        }
+    let parted = is_parted(alloc, graph)?;
+    if parted {
+        return Ok(None);
     }
+    let pinch = first_pinch(alloc, graph)?.unwrap();
+    let ring = ring_of(alloc, graph, pinch)?;
+    let round = written(alloc, &ring)?;
+    Ok(Some(round))
 }

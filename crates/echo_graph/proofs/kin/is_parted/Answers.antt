@@ -8,8 +8,8 @@ use Rattle.echo_graph.proofs.PinchSearch.{Simple-from_graph}
 use Rattle.echo_graph.proofs.Parents.{height, parent_or_self, IsFamily-from_forest, KeepsToFamily-from_here, KeepsHere-from_family}
 use Rattle.echo_graph.proofs.kin.is_parted.Goals as goal
 
-pub returns : goal.returns
-returns c =
+pub returns-clause-parted : goal.returns-clause-parted
+returns-clause-parted c =
     let rows : List (List ℕ) = c.args.graph.now in
     let levels : List (Option ℕ) = c.in_ok-levels.levels.items in
     let found : List (Option ℕ) = c.in_ok-parents.parents.items in

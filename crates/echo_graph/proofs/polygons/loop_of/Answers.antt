@@ -1,6 +1,8 @@
-use Rattle.std.proofs.Common.{◌≡◌, ◌≤◌, ◌∷◌, ℕ, Bool, List, length, Option, Some, MatchOption, sym, ◌∙◌, ap, subst, arith}
-use Rattle.std.proofs.lemmas.Option.{MatchOption-at_some, MatchOption-at_none}
+use Rattle.std.proofs.Common.{◌≡◌, ◌≤◌, ◌↔◌, ℕ, Bool, false, IsTrue, List, ◌∷◌, length, Option, Some, None, IsSome, MatchOption, refl, sym, ◌∙◌, ap, subst, arith}
+use Rattle.std.proofs.lemmas.Option.{MatchOption-at_some}
 use Rattle.echo_graph.specs.declared.pinching.Pinch.{Pinch}
+use Rattle.std.proofs.lemmas.Bool.{both_ways}
+use Rattle.echo_graph.specs.Beyond.{Parted}
 use Rattle.echo_graph.specs.Walk.{Different, Simple}
 use Rattle.echo_graph.specs.Rows.{linked}
 use Rattle.echo_graph.specs.Pinches.{IsPinch, FirstPinch}
@@ -20,38 +22,50 @@ ring_is_cycle links b a c rest ring simple pinch walk is =
     let long : 2 ≤ length (a ∷ rest) = cycle.long in
     (omega (arith, ap length is), subst Different (sym is) cycle.different)
 
-pub returns-in-None : goal.returns-in-None
-returns-in-None c =
+-- where links are not parted there is a pinch
+pinched : (links : ℕ → ℕ → Bool) (parted : Bool) (found : Option Pinch) → Simple links → (IsTrue parted ↔ Parted links) → parted ≡ false → MatchOption found ((b a c : ℕ) → ¬ IsPinch links b a c) (λ (pinch : Pinch). FirstPinch links pinch.at pinch.one pinch.other) → IsSome found
+pinched links parted None simple told apart none = absurd (both_ways parted apart (told.1 (Parted-from_no_pinch links simple none)))
+pinched links parted (Some pinch) simple told apart first = refl
+
+pub returns-then-parted : goal.returns-then-parted
+returns-then-parted c =
     let links = linked c.args.graph.now in
-    let simple = Simple-from_graph c.args.graph.now c.in_ok-first_pinch.ensures.sound in
-    let none : (b a c : ℕ) → ¬ IsPinch links b a c =
-    MatchOption-at_none ((b a c : ℕ) → ¬ IsPinch links b a c) (λ (pinch : Pinch). FirstPinch links pinch.at pinch.one pinch.other) c.in-None.is c.in_ok-first_pinch.ensures.first in
-    Polygons-from_Parted ℕ-can_tell links simple (Parted-from_no_pinch links simple none)
+    let simple = Simple-from_graph c.args.graph.now c.in_ok-parted.ensures.sound in
+    Polygons-from_Parted ℕ-can_tell links simple (c.in_ok-parted.ensures.parted.0 c.if-parted.true)
+
+pub unwrap-pinch-requires : goal.unwrap-pinch-requires
+unwrap-pinch-requires c =
+    let links = linked c.args.graph.now in
+    let simple = Simple-from_graph c.args.graph.now c.in_ok-parted.ensures.sound in
+    pinched links c.in_ok-parted.parted c.in_ok-first_pinch.field-0 simple c.in_ok-parted.ensures.parted c.if-parted.false c.in_ok-first_pinch.ensures.first
 
 pub ring_of-requires-clause-pinch : goal.ring_of-requires-clause-pinch
 ring_of-requires-clause-pinch c =
-    (first_of (linked c.args.graph.now) c.in_ok-first_pinch.field-0 c.in-Some.pinch c.in-Some.is c.in_ok-first_pinch.ensures.first).pinch
+    (first_of (linked c.args.graph.now) c.in_ok-first_pinch.field-0 c.unwrap-pinch.result c.unwrap-pinch.ensures c.in_ok-first_pinch.ensures.first).pinch
 
 pub written-requires-clause-long : goal.written-requires-clause-long
 written-requires-clause-long c =
     let links = linked c.args.graph.now in
-    let simple = Simple-from_graph c.args.graph.now c.in_ok-first_pinch.ensures.sound in
-    let first = first_of links c.in_ok-first_pinch.field-0 c.in-Some.pinch c.in-Some.is c.in_ok-first_pinch.ensures.first in
-    let made = c.in_ok-ring-in-Some.ensures in
-    (ring_is_cycle links c.in-Some.pinch.at c.in-Some.pinch.one c.in-Some.pinch.other made.0 c.deref.result.now simple first.pinch made.2 (c.deref.ensures.value ∙ made.1)).0
+    let simple = Simple-from_graph c.args.graph.now c.in_ok-parted.ensures.sound in
+    let pinch : Pinch = c.unwrap-pinch.result in
+    let first = first_of links c.in_ok-first_pinch.field-0 pinch c.unwrap-pinch.ensures c.in_ok-first_pinch.ensures.first in
+    let made = c.in_ok-ring.ensures in
+    (ring_is_cycle links pinch.at pinch.one pinch.other made.0 c.deref.result.now simple first.pinch made.2 (c.deref.ensures.value ∙ made.1)).0
 
 pub written-requires-clause-different : goal.written-requires-clause-different
 written-requires-clause-different c =
     let links = linked c.args.graph.now in
-    let simple = Simple-from_graph c.args.graph.now c.in_ok-first_pinch.ensures.sound in
-    let first = first_of links c.in_ok-first_pinch.field-0 c.in-Some.pinch c.in-Some.is c.in_ok-first_pinch.ensures.first in
-    let made = c.in_ok-ring-in-Some.ensures in
-    (ring_is_cycle links c.in-Some.pinch.at c.in-Some.pinch.one c.in-Some.pinch.other made.0 c.deref.result.now simple first.pinch made.2 (c.deref.ensures.value ∙ made.1)).1
+    let simple = Simple-from_graph c.args.graph.now c.in_ok-parted.ensures.sound in
+    let pinch : Pinch = c.unwrap-pinch.result in
+    let first = first_of links c.in_ok-first_pinch.field-0 pinch c.unwrap-pinch.ensures c.in_ok-first_pinch.ensures.first in
+    let made = c.in_ok-ring.ensures in
+    (ring_is_cycle links pinch.at pinch.one pinch.other made.0 c.deref.result.now simple first.pinch made.2 (c.deref.ensures.value ∙ made.1)).1
 
-pub returns-in_ok-round-in-Some : goal.returns-in_ok-round-in-Some
-returns-in_ok-round-in-Some c =
+pub returns : goal.returns
+returns c =
     let links = linked c.args.graph.now in
-    let simple = Simple-from_graph c.args.graph.now c.in_ok-first_pinch.ensures.sound in
-    let first = first_of links c.in_ok-first_pinch.field-0 c.in-Some.pinch c.in-Some.is c.in_ok-first_pinch.ensures.first in
-    let made = c.in_ok-ring-in-Some.ensures in
-    NamedLoop-written links simple c.in-Some.pinch.at c.in-Some.pinch.one c.in-Some.pinch.other made.0 c.deref.result.now c.in_ok-round-in-Some.round.items first made.2 (c.deref.ensures.value ∙ made.1) c.in_ok-round-in-Some.ensures
+    let simple = Simple-from_graph c.args.graph.now c.in_ok-parted.ensures.sound in
+    let pinch : Pinch = c.unwrap-pinch.result in
+    let first = first_of links c.in_ok-first_pinch.field-0 pinch c.unwrap-pinch.ensures c.in_ok-first_pinch.ensures.first in
+    let made = c.in_ok-ring.ensures in
+    NamedLoop-written links simple pinch.at pinch.one pinch.other made.0 c.deref.result.now c.in_ok-round.round.items first made.2 (c.deref.ensures.value ∙ made.1) c.in_ok-round.ensures
