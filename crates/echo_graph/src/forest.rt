@@ -35,7 +35,8 @@ pub fn parents(
     requires lengths { length levels.now ≡ length graph.now }
     requires forest { IsForest (linked graph.now) (length graph.now) (length graph.now) levels.now }
     ensures lengths { IfOk result (λ parents. vec_len parents ≡ length graph.now) }
-    ensures parents { IfOk result (λ parents. (a : ℕ) → a < length graph.now → IsParentAt (linked graph.now) levels.now a (parent_of parents.items a)) }
+    ensures parents { IfOk result (λ parents. (a : ℕ) → a < length graph.now →
+        IsParentAt (linked graph.now) levels.now a (parent_of parents.items a)) }
 {
     let mut parents = Vec::new(alloc);
     'members: for member in 0..graph.len() {

@@ -77,7 +77,9 @@ fn first_sibling(graph: &Graph, parents: &[Option<usize>], member: usize) -> Opt
     requires inside { member < length graph.now }
     requires lengths { length parents.now ≡ length graph.now }
     ensures within { IfSome result (λ first. first < length graph.now) }
-    ensures first { MatchOption result ((b : ℕ) → ¬ LinkedSiblings (linked graph.now) parents.now member b) (FirstSibling (linked graph.now) parents.now member) }
+    ensures first { MatchOption result
+        ((b : ℕ) → ¬ LinkedSiblings (linked graph.now) parents.now member b)
+        (FirstSibling (linked graph.now) parents.now member) }
 {
     'links: for other in graph.links(member) {
         if are_siblings(parents, member, *other) {

@@ -68,7 +68,8 @@ fn visit(
     requires inside { member < length graph.now }
     requires same_length { vec_len levels.old ≡ length graph.now }
     ensures sound { IsGraph graph.now }
-    ensures visited { OnOk result (Visited (links_of graph.now member) (length (links_of graph.now member)) without level levels.old.items levels.new.items queue.old.items queue.new.items) }
+    ensures visited { let links = links_of graph.now member in
+        OnOk result (Visited links (length links) without level levels.old.items levels.new.items queue.old.items queue.new.items) }
 {
     'visiting: for other in graph.links(member) {
         if *other != without && levels[*other].is_none() {

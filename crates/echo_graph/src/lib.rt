@@ -2,7 +2,14 @@
 //!
 //! The contract for the layer above is in `laws`: every cycle is fully linked exactly where any two
 //! links of a member that are not linked with each other are parted by it, and in such a graph each
-//! member has one way to any other.
+//! member has one way to any other. And it is in two questions about a graph of members 0, 1, 2 and so
+//! on: `unreached` answers the first member that no walk reaches, or that a walk joins any two;
+//! `loop_of` answers a cycle with two members that are not linked, or that there is none.
+//!
+//! Modules in reading order: `laws`, `graph` (members and their rows of links), `sound` (what rows must
+//! be), `levels` (a search by levels), `reach`, `polygons` (the answer), `forest` and `kin` (the quick
+//! test whether links are parted), `pinching` (the slow search for where they are not), `ring` and
+//! `writing` (the cycle of such a place, and how it is written).
 #![tactic(auto)]
 
 mod forest;

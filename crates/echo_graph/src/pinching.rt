@@ -26,7 +26,9 @@ pub struct Pinch {
 /// One search is made for each end of each link, so this takes about the square of the links.
 pub fn first_pinch(alloc: Global, graph: &Graph) -> Result<Option<Pinch>, AllocError>
     ensures sound { IsGraph graph.now }
-    ensures first { IfOk result (λ found. MatchOption found ((b a c : ℕ) → ¬ IsPinch (linked graph.now) b a c) (λ pinch. FirstPinch (linked graph.now) pinch.at pinch.one pinch.other)) }
+    ensures first { IfOk result (λ found. MatchOption found
+        ((b a c : ℕ) → ¬ IsPinch (linked graph.now) b a c)
+        (λ pinch. FirstPinch (linked graph.now) pinch.at pinch.one pinch.other)) }
 {
     'members: for at in 0..graph.len() {
         if let Some(pinch) = first_pinch_at(alloc, graph, at)? {
@@ -39,7 +41,9 @@ pub fn first_pinch(alloc: Global, graph: &Graph) -> Result<Option<Pinch>, AllocE
 /// The first pinch at this member.
 fn first_pinch_at(alloc: Global, graph: &Graph, at: usize) -> Result<Option<Pinch>, AllocError>
     requires { at < length graph.now }
-    ensures { IfOk result (λ found. MatchOption found ((a c : ℕ) → ¬ IsPinch (linked graph.now) at a c) (λ pinch. (pinch.at ≡ at) × FirstHere (linked graph.now) at pinch.one pinch.other)) }
+    ensures { IfOk result (λ found. MatchOption found
+        ((a c : ℕ) → ¬ IsPinch (linked graph.now) at a c)
+        (λ pinch. (pinch.at ≡ at) × FirstHere (linked graph.now) at pinch.one pinch.other)) }
 {
     'links: for one in graph.links(at) {
         let levels = levels_around(alloc, graph, at, *one)?;

@@ -21,7 +21,9 @@ use std::alloc::{AllocError, Global};
 /// the fewest members, and of these the least, compared member by member. The cycle is b and this
 /// walk, written from its smallest member, first to the smaller of that member's two neighbours.
 pub fn loop_of(alloc: Global, graph: &Graph) -> Result<Option<Vec<usize>>, AllocError>
-    ensures { IfOk result (λ found. MatchOption found (Polygons (linked graph.now)) (λ round. NamedLoop (linked graph.now) round.items)) }
+    ensures { IfOk result (λ found. MatchOption found
+        (Polygons (linked graph.now))
+        (λ round. NamedLoop (linked graph.now) round.items)) }
 {
     let parted = is_parted(alloc, graph)?;
     if parted {

@@ -17,7 +17,8 @@ use std::alloc::{AllocError, Global};
 pub fn ring_of(alloc: Global, graph: &Graph, pinch: Pinch) -> Result<Vec<usize>, AllocError>
     requires sound { IsGraph graph.now }
     requires pinch { IsPinch (linked graph.now) pinch.at pinch.one pinch.other }
-    ensures { IfOk result (λ ring. (rest : List ℕ) × (ring.items ≡ pinch.at ∷ pinch.one ∷ rest) × FirstWalk (linked graph.now) pinch.at pinch.one pinch.other rest) }
+    ensures { IfOk result (λ ring. (rest : List ℕ) × (ring.items ≡ pinch.at ∷ pinch.one ∷ rest) ×
+        FirstWalk (linked graph.now) pinch.at pinch.one pinch.other rest) }
 {
     let levels = levels_around(alloc, graph, pinch.at, pinch.other)?;
     let mut ring = Vec::new(alloc);
