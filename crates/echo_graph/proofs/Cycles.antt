@@ -131,7 +131,8 @@ module _ {A : Type 0} (can : CanTell A) (linked : A → A → Bool) (simple : Si
         ]
 
     -- the second is linked with all after it
-    second_linked : (first second : A) (rest : List A) → Cycle linked first (second ∷ rest) → (x y : A) → x ≡ second → Among y rest → IsTrue (linked x y)
+    second_linked : (first second : A) (rest : List A) → Cycle linked first (second ∷ rest) → (x y : A) → x ≡ second → Among y rest →
+        IsTrue (linked x y)
     second_linked first second rest cycle x y e h =
         let turned = cycle_turned linked first second rest cycle in
         link_from linked second x y (sym e) (first_linked second (rest ++ first ∷ []) turned y (Among-append_left y rest (first ∷ []) h))

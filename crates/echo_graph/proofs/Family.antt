@@ -13,15 +13,16 @@ pub levels_differ : {A : Type 0} (level : A → ℕ) (a b : A) → level a < lev
 levels_differ level a b lt e = let same = ap level e in absurd (omega arith)
 
 -- what is linked with no walk around b parted is linked
-pub linked_if_joined : {A : Type 0} (linked : A → A → Bool) → Parted linked → (b a c : A) → IsTrue (linked b a) → IsTrue (linked b c) → a ≢ c →
-    Around linked b a c → IsTrue (linked a c)
+pub linked_if_joined : {A : Type 0} (linked : A → A → Bool) → Parted linked → (b a c : A) → IsTrue (linked b a) → IsTrue (linked b c) →
+    a ≢ c → Around linked b a c → IsTrue (linked a c)
 linked_if_joined linked parted b a c to_a to_c other around =
     elim (cases_Bool (linked a c)) [
       | inl joined ↦ joined
       | inr none ↦ absurd (no_around-from_Beyond linked b c a (parted b a c to_a to_c other (λ joined. both_ways (linked a c) none joined)) around)
     ]
 
-module _ {A : Type 0} (can : CanTell A) (linked : A → A → Bool) (simple : Simple linked) (level : A → ℕ) (parent : A → A) (family : IsFamily linked level parent) where
+module _ {A : Type 0} (can : CanTell A) (linked : A → A → Bool) (simple : Simple linked) (level : A → ℕ) (parent : A → A)
+    (family : IsFamily linked level parent) where
   -- a member not above b reaches a root around b
   climb : (b : A) (n : ℕ) (x : A) → level x ≡ n → n ≤ level b → b ≢ x → (r : A) × (level r ≡ 0) × Around linked b x r
   climb b zero x e low other = (x, e, Around-itself linked b x other)
@@ -44,7 +45,8 @@ module _ {A : Type 0} (can : CanTell A) (linked : A → A → Bool) (simple : Si
 
   module _ (parted : Parted linked) where
     -- two links of b that are not above b are linked
-    low_links : (b p q : A) → IsTrue (linked b p) → IsTrue (linked b q) → p ≢ q → level p ≤ level b → level q ≤ level b → IsTrue (linked p q)
+    low_links : (b p q : A) → IsTrue (linked b p) → IsTrue (linked b q) → p ≢ q → level p ≤ level b → level q ≤ level b →
+        IsTrue (linked p q)
     low_links b p q to_p to_q other low_p low_q =
         let reaches : Reaches linked p q = (b ∷ q ∷ [], (simple.both_ways b p to_p, (to_q, refl))) in
         linked_if_joined linked parted b p q to_p to_q other
@@ -81,7 +83,8 @@ module _ {A : Type 0} (can : CanTell A) (linked : A → A → Bool) (simple : Si
         let b_to_q = family.to_parent b (omega arith) in
         let level_p = family.level_below a (omega arith) in
         let level_q = family.level_below b (omega arith) in
-        let a_to_q = low_links b a q (simple.both_ways a b link) b_to_q (λ e. levels_differ level q a (omega arith) (sym e)) (omega arith) (omega arith) in
+        let other : a ≢ q = λ e. levels_differ level q a (omega arith) (sym e) in
+        let a_to_q = low_links b a q (simple.both_ways a b link) b_to_q other (omega arith) (omega arith) in
         (omega arith, one_below n (level_alike n) a p q a_to_p a_to_q at_a (omega arith) (omega arith))
 
     -- a link to the level below leads to the parent
@@ -89,9 +92,11 @@ module _ {A : Type 0} (can : CanTell A) (linked : A → A → Bool) (simple : Si
     below_parent a b link at_b =
         let above : 0 < level b = omega arith in
         let level_p = family.level_below b above in
-        (above, one_below (level a) (level_alike (level a)) b (parent b) a (family.to_parent b above) (simple.both_ways a b link) at_b (omega arith) refl)
+        let b_to_p = family.to_parent b above in
+        (above, one_below (level a) (level_alike (level a)) b (parent b) a b_to_p (simple.both_ways a b link) at_b (omega arith) refl)
 
-    links_keep : (a b : A) → IsTrue (linked a b) → IsParent level parent a b ⊎ (IsParent level parent b a ⊎ AreSiblings level parent a b)
+    links_keep : (a b : A) → IsTrue (linked a b) →
+        IsParent level parent a b ⊎ (IsParent level parent b a ⊎ AreSiblings level parent a b)
     links_keep a b link =
         let near_a = family.near a b link in
         let near_b = family.near b a (simple.both_ways a b link) in
@@ -103,8 +108,8 @@ module _ {A : Type 0} (can : CanTell A) (linked : A → A → Bool) (simple : Si
           ]
         ]
 
-    siblings_keep : (a b c : A) → AreSiblings level parent a b → AreSiblings level parent b c → IsTrue (linked a b) → IsTrue (linked b c) → a ≢ c →
-        IsTrue (linked a c)
+    siblings_keep : (a b c : A) → AreSiblings level parent a b → AreSiblings level parent b c →
+        IsTrue (linked a b) → IsTrue (linked b c) → a ≢ c → IsTrue (linked a c)
     siblings_keep a b c one two a_to_b b_to_c other =
         let p = parent b in
         let a_to_p = link_to linked a (parent a) p one.2 (family.to_parent a one.0) in

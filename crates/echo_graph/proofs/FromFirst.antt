@@ -25,7 +25,7 @@ level_of_reached rows levels graph are b some =
 
 pub Connected-from_levels : (rows : List (List ℕ)) (levels : List (Option ℕ)) → IsGraph rows → AreLevels (linked rows) (length rows) 0 levels → ((k : ℕ) → k < length rows → level_of levels k ≢ None) → Connected (λ member. member < length rows) (linked rows)
 Connected-from_levels rows levels graph are all =
-    Connected-from_root (linked rows) (Simple-from_graph rows graph) (λ member. member < length rows) 0 (λ a lt. level_of_reached rows levels graph are a (all a lt))
+    Connected-from_root (λ member. member < length rows) (linked rows) (Simple-from_graph rows graph) 0 (λ a lt. level_of_reached rows levels graph are a (all a lt))
 
 pub FirstUnreached-from_levels : (rows : List (List ℕ)) (levels : List (Option ℕ)) → IsGraph rows → AreLevels (linked rows) (length rows) 0 levels → 0 < length rows → (u : ℕ) → (u < length rows) × (level_of levels u ≡ None) × ((k : ℕ) → k < u → level_of levels k ≢ None) → FirstUnreached (linked rows) (length rows) u
 FirstUnreached-from_levels rows levels graph are some u h = record {

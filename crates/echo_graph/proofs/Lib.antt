@@ -20,3 +20,4 @@ pub mod Kinship
 pub mod ForestGrowth
 pub mod Parents
 pub mod GraphTests
+pub mod Siblings

@@ -41,7 +41,8 @@ length-mapped : {A B : Type 0} (name : A → B) (xs : List A) → length (map na
 length-mapped name [] = refl
 length-mapped name (x ∷ xs) = omega (arith, length-mapped name xs)
 
-module _ {A B : Type 0} (linked : A → A → Bool) (joined : B → B → Bool) (name : A → B) (back : B → A) (renaming : IsRenaming linked joined name back) where
+module _ {A B : Type 0} (linked : A → A → Bool) (joined : B → B → Bool) (name : A → B) (back : B → A)
+    (renaming : IsRenaming linked joined name back) where
   pub Walk-renamed : (a : A) (rest : List A) (b : A) → Walk linked a rest b → Walk joined (name a) (map name rest) (name b)
   Walk-renamed a [] b w = ap name w
   Walk-renamed a (c ∷ rest) b w = (renaming.links a c w.0, Walk-renamed c rest b w.1)
@@ -50,7 +51,8 @@ module _ {A B : Type 0} (linked : A → A → Bool) (joined : B → B → Bool) 
   Reaches-renamed a b reaches = (map name reaches.0, Walk-renamed a reaches.0 b reaches.1)
 
   -- each member of a cycle has a link
-  cycle_owns : Simple linked → (first : A) (rest : List A) → Cycle linked first rest → (x : A) → Among x (first ∷ rest) → back (name x) ≡ x
+  cycle_owns : Simple linked → (first : A) (rest : List A) → Cycle linked first rest → (x : A) → Among x (first ∷ rest) →
+      back (name x) ≡ x
   cycle_owns simple first rest cycle x h =
       let (last, w, closes) = cycle.closed in
       elim h [
@@ -74,7 +76,8 @@ module _ {A B : Type 0} (linked : A → A → Bool) (joined : B → B → Bool) 
       let own_y = cycle_owns simple first rest cycle y at_y in
       let named = polygons (name first) (map name rest) (Cycle-renamed simple first rest cycle) (name x) (name y)
       (Among-map name x (first ∷ rest) at_x) (Among-map name y (first ∷ rest) at_y) (λ e. other (sym own_x ∙ (ap back e ∙ own_y))) in
-      link_from linked (back (name x)) x y own_x (link_to linked (back (name x)) (back (name y)) y own_y (renaming.links_back (name x) (name y) named))
+      let link = renaming.links_back (name x) (name y) named in
+      link_from linked (back (name x)) x y own_x (link_to linked (back (name x)) (back (name y)) y own_y link)
 
 -- the members' names do not matter
 pub Polygons-renamed : {A B : Type 0} (linked : A → A → Bool) (joined : B → B → Bool) (name : A → B) (back : B → A) →

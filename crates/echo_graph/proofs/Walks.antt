@@ -64,10 +64,6 @@ module _ {A : Type 0} (linked : A → A → Bool) (simple : Simple linked) where
   pub Reaches-link : (y c f : A) → IsTrue (linked y c) → Reaches linked y f → Reaches linked c f
   Reaches-link y c f link reaches = (y ∷ reaches.0, (simple.both_ways y c link, reaches.1))
 
-  -- all members are connected, if one reaches all
-  pub Connected-from_root : (IsMember : A → Type 0) (root : A) → ((a : A) → IsMember a → Reaches linked root a) → Connected IsMember linked
-  Connected-from_root IsMember root all a b at_a at_b = Reaches-trans linked a root b (Reaches-sym root a (all a at_a)) (all b at_b)
-
   -- behind the first member of a walk each has a link
   pub walk_links : (a : A) (rest : List A) (b : A) → Walk linked a rest b → (x : A) → Among x rest → (y : A) × IsTrue (linked x y)
   walk_links a [] b w x h = absurd h
@@ -76,6 +72,12 @@ module _ {A : Type 0} (linked : A → A → Bool) (simple : Simple linked) where
         | inl e ↦ (a, link_from linked d x a (sym e) (simple.both_ways a d w.0))
         | inr t ↦ walk_links d rest b w.1 x t
       ]
+
+-- all members are connected, if one reaches all
+pub Connected-from_root : {A : Type 0} (IsMember : A → Type 0) (linked : A → A → Bool) → Simple linked → (root : A) →
+    ((a : A) → IsMember a → Reaches linked root a) → Connected IsMember linked
+Connected-from_root IsMember linked simple root all a b at_a at_b =
+    Reaches-trans linked a root b (Reaches-sym linked simple root a (all a at_a)) (all b at_b)
 
 -- the part of a walk from u on, from the last place of u
 pub record PartFrom {A : Type 0} (linked : A → A → Bool) (u b : A) (rest part : List A) : Type 0 where

@@ -10,6 +10,11 @@
 //! be), `levels` (a search by levels), `reach`, `polygons` (the answer), `forest` and `kin` (the quick
 //! test whether links are parted), `pinching` (the slow search for where they are not), `ring` and
 //! `writing` (the cycle of such a place, and how it is written).
+//!
+//! The definitions stand in specs/: `Walk` (walks, and what a graph is), `Cycle`, `Beyond` (what stands
+//! on every walk), `Family` (what a search by levels gives) and `Renaming`; `Rows` (a graph as rows of
+//! links), `Reach` and `Loops` (the two answers), and what single functions promise. The lemmas in
+//! proofs/ on walks, cycles and families hold of members of any type whose equality can be told.
 #![tactic(auto)]
 
 mod forest;
