@@ -3,7 +3,7 @@ use Rattle.std.proofs.Common.{◌≡◌, ◌≢◌, inl, inr, refl, sym, subst, 
 use Rattle.std.proofs.lemmas.Bool.{cases_Bool, both_ways}
 use Rattle.echo_graph.specs.Walk.{Simple, Among, Different, Walk}
 use Rattle.echo_graph.specs.Cycle.{Cycle, NoCycle, Polygons}
-use Rattle.echo_graph.specs.Beyond.{Around, Beyond, Parted, AllParted}
+use Rattle.echo_graph.specs.Beyond.{Around, Parted, AllParted}
 use Rattle.echo_graph.proofs.Members.{CanTell, Among-append_left, Among-append_cases, Different-push}
 use Rattle.echo_graph.proofs.Walks.{link_to, link_from, walk_append, walk_ends}
 use Rattle.echo_graph.proofs.Around.{Around-without_repeats, Around-sym, Beyond-from_no_around, no_around-from_Beyond}

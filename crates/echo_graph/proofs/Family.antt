@@ -1,5 +1,5 @@
 -- Where links are parted, they keep to the family that a search by levels gives.
-use Rattle.std.proofs.Common.{◌≡◌, ◌≢◌, ◌⊎◌, inl, inr, refl, sym, subst, ap, ◌∙◌, ℕ, zero, suc, ◌<◌, ◌≤◌, arith, Bool, IsTrue, List, [], ◌∷◌}
+use Rattle.std.proofs.Common.{◌≡◌, ◌≢◌, ◌⊎◌, inl, inr, refl, sym, subst, ap, ℕ, zero, suc, ◌<◌, ◌≤◌, arith, Bool, IsTrue, [], ◌∷◌}
 use Rattle.std.proofs.lemmas.Bool.{cases_Bool, cases_order, both_ways}
 use Rattle.echo_graph.specs.Walk.{Simple, Reaches}
 use Rattle.echo_graph.specs.Beyond.{Around, Parted}

@@ -1,5 +1,5 @@
 -- What a graph keeps when its members get other names.
-use Rattle.std.proofs.Common.{◌≡◌, ◌≢◌, ◌⊎◌, inl, inr, refl, sym, subst, ap, ◌∙◌, ℕ, ◌≤◌, arith, Bool, IsTrue, List, [], ◌∷◌, length, map}
+use Rattle.std.proofs.Common.{◌≡◌, inl, inr, refl, sym, ap, ◌∙◌, arith, Bool, List, [], ◌∷◌, length, map}
 use Rattle.echo_graph.specs.Walk.{Simple, Among, Different, Walk, Reaches}
 use Rattle.echo_graph.specs.Cycle.{Cycle, Polygons}
 use Rattle.echo_graph.specs.Renaming.{IsRenaming}

@@ -1,5 +1,5 @@
 -- The first step of a walk that is cut at the last link of its first member.
-use Rattle.std.proofs.Common.{◌≡◌, ◌≢◌, ◌⊎◌, inl, inr, refl, sym, subst, ◌∙◌, ◌<◌, ◌≤◌, arith, Bool, IsTrue, List, [], ◌∷◌, length}
+use Rattle.std.proofs.Common.{◌≢◌, ◌⊎◌, inl, inr, refl, sym, subst, ◌∙◌, ◌<◌, ◌≤◌, arith, Bool, IsTrue, List, [], ◌∷◌, length}
 use Rattle.std.proofs.lemmas.Bool.{cases_Bool, both_ways}
 use Rattle.echo_graph.specs.Walk.{Simple, Among, Walk}
 use Rattle.echo_graph.specs.Beyond.{FirstStep}

@@ -1,5 +1,14 @@
 pub mod Walk
 pub mod Cycle
 pub mod Beyond
+pub mod Rows
+pub mod Levels
+pub mod Visits
+pub mod Floods
+pub mod Reach
+pub mod Pinches
+pub mod Loops
+pub mod Descents
 pub mod Family
 pub mod Renaming
+pub mod Forest

@@ -1,0 +1,84 @@
+//! Members two of whose links are joined around them though not linked.
+
+ghost use Rattle.std.specs.Prelude.{◌≡◌, ◌≢◌, ◌<◌, ◌↔◌, ℕ, IsTrue, IfOk, MatchOption, None, length};
+ghost use Rattle.echo_graph.specs.Rows.{linked, IsGraph};
+ghost use Rattle.echo_graph.specs.Levels.{level_of, AreLevels};
+ghost use Rattle.echo_graph.specs.Pinches.{IsPinch, FirstPinch, FirstOther, FirstHere};
+
+use crate::graph::Graph;
+use crate::levels::levels_around;
+use std::alloc::{AllocError, Global};
+
+/// Two links of a member that are not linked, though a walk joins them that does not pass it.
+#[derive(Clone, Copy, PartialEq, Eq, Debug)]
+pub struct Pinch {
+    /// The member.
+    pub at: usize,
+    /// The smaller of its two links.
+    pub one: usize,
+    /// The greater of its two links.
+    pub other: usize,
+}
+
+/// The first pinch of the graph: the smallest member, and of its pinches the one with the smallest
+/// links. `None` exactly where the graph has none. Fails only by want of memory.
+///
+/// One search is made for each end of each link, so this takes about the square of the links.
+pub fn first_pinch(alloc: Global, graph: &Graph) -> Result<Option<Pinch>, AllocError>
+    ensures sound { IsGraph graph.now }
+    ensures first { IfOk result (λ found. MatchOption found
+        ((b a c : ℕ) → ¬ IsPinch (linked graph.now) b a c)
+        (λ pinch. FirstPinch (linked graph.now) pinch.at pinch.one pinch.other)) }
+{
+    'members: for at in 0..graph.len() {
+        if let Some(pinch) = first_pinch_at(alloc, graph, at)? {
+            return Ok(Some(pinch));
+        }
+    }
+    Ok(None)
+}
+
+/// The first pinch at this member.
+fn first_pinch_at(alloc: Global, graph: &Graph, at: usize) -> Result<Option<Pinch>, AllocError>
+    requires { at < length graph.now }
+    ensures { IfOk result (λ found. MatchOption found
+        ((a c : ℕ) → ¬ IsPinch (linked graph.now) at a c)
+        (λ pinch. (pinch.at ≡ at) × FirstHere (linked graph.now) at pinch.one pinch.other)) }
+{
+    'links: for one in graph.links(at) {
+        let levels = levels_around(alloc, graph, at, *one)?;
+        if let Some(other) = first_other(graph, at, *one, &levels) {
+            return Ok(Some(Pinch {
+                at,
+                one: *one,
+                other,
+            }));
+        }
+    }
+    Ok(None)
+}
+
+/// The first link of `at` after `one` that is joined with it around `at`, though not linked with it.
+fn first_other(graph: &Graph, at: usize, one: usize, levels: &[Option<usize>]) -> Option<usize>
+    requires inside { at < length graph.now }
+    requires link { IsTrue (linked graph.now at one) }
+    requires lengths { length levels.now ≡ length graph.now }
+    requires levels { AreLevels (linked graph.now) at one levels.now }
+    ensures { MatchOption result ((c : ℕ) → ¬ IsPinch (linked graph.now) at one c) (FirstOther (linked graph.now) at one) }
+{
+    'others: for other in graph.links(at) {
+        if is_other(graph, one, *other, levels) {
+            return Some(*other);
+        }
+    }
+    None
+}
+
+/// Does `other` come after `one`, have a level, and no link with `one`?
+fn is_other(graph: &Graph, one: usize, other: usize, levels: &[Option<usize>]) -> bool
+    requires inside { one < length graph.now }
+    requires within { other < length levels.now }
+    ensures { IsTrue result ↔ ((one < other) × (level_of levels.now other ≢ None) × ¬ IsTrue (linked graph.now one other)) }
+{
+    one < other && levels[other].is_some() && !graph.is_linked(one, other)
+}
