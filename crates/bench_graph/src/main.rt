@@ -124,7 +124,10 @@ fn run(rt: &impl Print, alloc: Global, words: &[String]) -> Result<()> {
     };
     let graph = graph_of(alloc, rows_of(alloc, kind, size)?)?;
     let (missed, sum) = judge(alloc, &graph, rounds)?;
-    println!(rt; "{kind}: {} members, missed {missed:?}, loops {sum}", graph.len())?;
+    println!(rt;
+        "{kind}: {} members, missed {missed:?}, loops {sum}",
+        graph.len()
+    )?;
     Ok(())
 }
 
