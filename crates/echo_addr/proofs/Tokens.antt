@@ -1,0 +1,77 @@
+-- Cutting bytes at blanks, and a token at its slash.
+use Rattle.std.proofs.Common.{◌≡◌, ℕ, suc, zero, ◌+◌, ◌<◌, ◌≤◌, ◌==◌, ◌||◌, nat_lt, not, cond, Bool, true, false, List, [], ◌∷◌, ◌++◌, length, take, drop, refl, sym, ap, ◌∙◌, arith, Some, None, Option, inl, inr, ◌⊎◌, subst}
+use Rattle.std.specs.List.{filter, slice_split, All, AllByRecursion, position_or_len, before_first, after_first, prefix_len}
+use Rattle.std.proofs.Math.Seq.{drop-append-add}
+use Rattle.std.proofs.lemmas.List.{append-nil, take_at, drop_at, drop_all, take_all}
+use Rattle.std.proofs.lemmas.List.Elements.{All-from_recursion}
+use Rattle.std.proofs.lemmas.List.Splits.{slice_split_none, slice_split_at}
+use Rattle.std.proofs.lemmas.Bool.{lt-ltb, ne_eqb, or_from, cond-true, cond-false}
+use Rattle.echo_addr.specs.Address.{is_slash}
+use Rattle.echo_addr.specs.Entries.{is_blank, tokens}
+
+-- a byte where no list is cut
+abbrev pub IsInk : ℕ → Type 0
+IsInk b = is_blank b ≡ false
+
+-- bytes that end, or go on with a blank 20
+abbrev pub IsEnded : List ℕ → Type 0
+IsEnded [] = Unit {0}
+IsEnded (b ∷ bs) = b ≡ 32
+
+kept : (t : List ℕ) (ts : List (List ℕ)) → 0 < length t
+    → filter (λ u. nat_lt 0 (length u)) (t ∷ ts) ≡ t ∷ filter (λ u. nat_lt 0 (length u)) ts
+kept t ts some = cond-true (nat_lt 0 (length t)) _ _ (lt-ltb 0 (length t) some)
+
+-- a blank in front makes no token
+pub tokens_blank : (b : ℕ) (s : List ℕ) → is_blank b ≡ true → tokens (b ∷ s) ≡ tokens s
+unfolding tokens
+tokens_blank b s blank =
+    ap (filter (λ u. nat_lt 0 (length u))) (cond-true (is_blank b) ([] ∷ slice_split is_blank s) _ blank)
+
+-- one token alone
+pub tokens_one : (t : List ℕ) → 0 < length t → AllByRecursion IsInk t → tokens t ≡ t ∷ []
+unfolding tokens
+tokens_one t some ink =
+    ap (filter (λ u. nat_lt 0 (length u))) (slice_split_none is_blank t (All-from_recursion IsInk t ink)) ∙ kept t [] some
+
+-- a token, and what stands after the blank behind it
+pub tokens_more : (t : List ℕ) (b : ℕ) (s : List ℕ) → 0 < length t → AllByRecursion IsInk t → is_blank b ≡ true
+    → tokens (t ++ b ∷ s) ≡ t ∷ tokens (b ∷ s)
+unfolding tokens
+tokens_more t b s some ink blank =
+    ap (filter (λ u. nat_lt 0 (length u))) (slice_split_at is_blank t b s (All-from_recursion IsInk t ink) blank)
+    ∙ kept t (slice_split is_blank s) some
+    ∙ ap (λ ts. t ∷ ts) (sym (tokens_blank b s blank))
+
+pub tokens_nil : [] ≡ tokens []
+unfolding tokens
+tokens_nil = refl
+
+-- a blank, a token, and what follows it
+pub tokens_cons : (t s : List ℕ) → 0 < length t → AllByRecursion IsInk t → IsEnded s → tokens (32 ∷ (t ++ s)) ≡ t ∷ tokens s
+tokens_cons t [] some ink end =
+    tokens_blank 32 (t ++ []) refl ∙ ap tokens (append-nil t) ∙ tokens_one t some ink ∙ ap (λ ts. t ∷ ts) tokens_nil
+tokens_cons t (b ∷ s) some ink end =
+    tokens_blank 32 (t ++ b ∷ s) refl ∙ tokens_more t b s some ink (ap is_blank end)
+
+-- the first slash stands after bytes without one
+pub slash_at : (s r : List ℕ) → AllByRecursion (λ b. is_slash b ≡ false) s → position_or_len is_slash (s ++ 47 ∷ r) ≡ length s
+slash_at [] r none = refl
+slash_at (b ∷ s) r none =
+    ap (λ t. cond (not t) (1 + position_or_len is_slash (s ++ 47 ∷ r)) 0) none.0 ∙ ap (λ n. 1 + n) (slash_at s r none.1) ∙ (omega arith)
+
+pub no_slash : (s : List ℕ) → AllByRecursion (λ b. is_slash b ≡ false) s → position_or_len is_slash s ≡ length s
+no_slash [] none = refl
+no_slash (b ∷ s) none =
+    ap (λ t. cond (not t) (1 + position_or_len is_slash s) 0) none.0 ∙ ap (λ n. 1 + n) (no_slash s none.1) ∙ (omega arith)
+
+pub before_slash : (s r : List ℕ) → AllByRecursion (λ b. is_slash b ≡ false) s → before_first is_slash (s ++ 47 ∷ r) ≡ s
+before_slash s r none = ap (λ n. take n (s ++ 47 ∷ r)) (slash_at s r none) ∙ take_at s (47 ∷ r) (length s) refl
+
+pub after_slash : (s r : List ℕ) → AllByRecursion (λ b. is_slash b ≡ false) s → after_first is_slash (s ++ 47 ∷ r) ≡ r
+after_slash s r none =
+    ap (λ n. drop (n + 1) (s ++ 47 ∷ r)) (slash_at s r none)
+    ∙ (rw drop-append-add refl)
+
+pub after_no_slash : (s : List ℕ) → AllByRecursion (λ b. is_slash b ≡ false) s → after_first is_slash s ≡ []
+after_no_slash s none = drop_all _ s (omega (arith, no_slash s none))

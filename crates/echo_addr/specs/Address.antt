@@ -1,0 +1,84 @@
+-- What writes an address, and why other bytes do not.
+use Rattle.std.specs.Prelude.{◌≡◌, ℕ, ◌+◌, ◌==◌, ◌&&◌, not, nat_lt, Bool, List, ◌∷◌, ◌++◌, length, decimal, codes, Option, Some, None, if◌then◌else◌, Result, Ok, Err}
+use Rattle.std.specs.List.{count_by, position_or_len, before_first, after_first, slice_range}
+use Rattle.std.specs.Int.{IsInRange, is_in_range}
+use Rattle.std.specs.Str.Parse.{digits_value}
+use Rattle.echo_addr.specs.declared.address.Address.{Address}
+use Rattle.echo_addr.specs.declared.address.NetNode.{NetNode}
+use Rattle.echo_addr.specs.declared.fault.AddrFault.{AddrFault}
+use Rattle.echo_addr.specs.declared.fault.AddrFault.TheVariants.{Empty, Shape, NotDigits, OutOfRange}
+use Rattle.echo_addr.specs.Digits.{Writes, is_number}
+
+-- the parts of an address are in range
+pub record IsAddress (a : Address) : Type 0 where
+  pub zone : IsInRange 1 32767 a.zone
+  pub net : IsInRange 1 32767 a.net
+  pub node : IsInRange 0 32767 a.node
+
+-- the bytes are `zone:net/node` of an address in range
+pub record AddressOf (b : List ℕ) (a : Address) : Type 0 where
+  pub zone_digits : List ℕ
+  pub net_digits : List ℕ
+  pub node_digits : List ℕ
+  pub bytes : b ≡ zone_digits ++ 58 ∷ (net_digits ++ 47 ∷ node_digits)
+  pub zone : Writes zone_digits a.zone
+  pub net : Writes net_digits a.net
+  pub node : Writes node_digits a.node
+  pub in_range : IsAddress a
+
+-- `zone:net/node` without leading zeros
+abbrev pub address_text : Address → List ℕ
+address_text a = decimal a.zone ++ (codes ":" ++ (decimal a.net ++ (codes "/" ++ decimal a.node)))
+
+-- the net and the node of an address
+abbrev pub net_node_of : Address → NetNode
+net_node_of a = record { net = a.net; node = a.node }
+
+-- `:` and `/`
+abbrev pub is_colon : ℕ → Bool
+is_colon b = b == 58
+
+abbrev pub is_slash : ℕ → Bool
+is_slash b = b == 47
+
+-- one colon and one slash, the colon first
+abbrev pub has_shape : List ℕ → Bool
+has_shape b =
+    (count_by is_colon b == 1) && (count_by is_slash b == 1)
+    && nat_lt (position_or_len is_colon b) (position_or_len is_slash b)
+
+-- what stands before the colon, between colon and slash, and after the slash
+abbrev pub zone_part : List ℕ → List ℕ
+zone_part b = before_first is_colon b
+
+abbrev pub net_part : List ℕ → List ℕ
+net_part b = slice_range b (position_or_len is_colon b + 1) (position_or_len is_slash b)
+
+abbrev pub node_part : List ℕ → List ℕ
+node_part b = after_first is_slash b
+
+-- each part is digits
+abbrev pub has_digits : List ℕ → Bool
+has_digits b = is_number (zone_part b) && is_number (net_part b) && is_number (node_part b)
+
+-- each part writes a number in its range
+abbrev pub is_in_bounds : List ℕ → Bool
+is_in_bounds b =
+    is_in_range 1 32767 (digits_value 10 (zone_part b)) && is_in_range 1 32767 (digits_value 10 (net_part b))
+    && is_in_range 0 32767 (digits_value 10 (node_part b))
+
+-- the address of three numbers, where each is in its range
+abbrev pub address_within : ℕ → ℕ → ℕ → Result Address AddrFault
+address_within zone net node =
+    if is_in_range 1 32767 zone && is_in_range 1 32767 net && is_in_range 0 32767 node
+    then Ok (record { zone = zone; net = net; node = node })
+    else Err OutOfRange
+
+-- the first refusal that applies
+unfoldable pub refusal : List ℕ → Option AddrFault
+refusal b =
+    if length b == 0 then Some Empty
+    else if not (has_shape b) then Some Shape
+    else if not (has_digits b) then Some NotDigits
+    else if not (is_in_bounds b) then Some OutOfRange
+    else None
