@@ -14,13 +14,10 @@
 mod address;
 mod ahead;
 mod buffered;
-mod digits;
 mod failure;
 mod fault;
 mod items;
 mod laws;
-mod listing;
-mod shortening;
 mod sink;
 mod source;
 mod trial;
@@ -31,13 +28,9 @@ pub use buffered::Buffered;
 pub use failure::Failure;
 pub use fault::AddrFault;
 pub use items::Items;
-pub use laws::{address_read_back, one_spelling, written_lines_read_back};
-pub use listing::read_list;
-pub use shortening::{write_path, write_seen};
+pub use laws::written_lines_read_back;
 pub use sink::{Sink, send};
 pub use source::{Source, fill};
 pub use trial::Trial;
 pub use watched::Watched;
 
-#[cfg(test)]
-mod tests;
