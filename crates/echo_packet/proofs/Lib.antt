@@ -1,2 +1,4 @@
 pub mod Headers
+pub mod Words
+pub mod Sending
 pub mod Bare

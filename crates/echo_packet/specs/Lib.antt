@@ -5,3 +5,4 @@ pub mod Packet
 pub mod Fault
 pub mod Answer
 pub mod Outcome
+pub mod Writer

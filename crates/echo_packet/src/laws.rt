@@ -1,9 +1,11 @@
 //! What holds of the definitions. Each law is the contract of a function that does nothing.
 
-ghost use Rattle.std.specs.Prelude.{◌≡◌, ℕ, ◌≤◌, List, ◌++◌, length, take};
+ghost use Rattle.std.specs.Prelude.{◌≡◌, ℕ, ◌≤◌, List, ◌++◌, length, take, Ok};
 ghost use Rattle.echo_packet.specs.declared.header.Header.{Header};
 ghost use Rattle.echo_packet.specs.Header.{AreBytes, IsHeader, header_bytes, header_of, number_at};
 ghost use Rattle.echo_packet.specs.Answer.{Answer, Describes};
+ghost use Rattle.echo_packet.specs.Message.{Message, AreMessages};
+ghost use Rattle.echo_packet.specs.Packet.{packet_bytes};
 ghost use Rattle.echo_packet.specs.declared.limits.Limits.{Limits};
 
 /// A header is undone by its bytes, and its bytes by the header that they give.
@@ -16,4 +18,11 @@ pub fn header_laws()
 pub fn one_answer()
     ensures { (limits : Limits) (bs : List ℕ) → limits.messages ≡ 0 → AreBytes bs →
         (answer : Answer) × Describes limits bs answer × ((other : Answer) → Describes limits bs other → other ≡ answer) }
+{}
+
+/// A written packet is read back, whatever follows it: its bytes are described by its header, its
+/// messages and their length, where these keep the limits.
+pub fn written_packet_reads_back()
+    ensures { (limits : Limits) (h : Header) (ms : List Message) (rest : List ℕ) → IsHeader h → AreMessages limits ms →
+        Describes limits (packet_bytes h ms ++ rest) (Ok (h, ms, length (packet_bytes h ms))) }
 {}

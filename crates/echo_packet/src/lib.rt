@@ -7,19 +7,22 @@
 //! `fault` (what may be wrong, and where), `reading`, and `laws` (what holds of the definitions).
 #![tactic(auto)]
 
+mod encoding;
 mod fault;
 mod header;
 mod laws;
 mod limits;
 mod packed;
 mod reading;
+mod writer;
 
 pub use fault::{Field, PacketFault};
 pub use header::Header;
-pub use laws::{header_laws, one_answer};
+pub use laws::{header_laws, one_answer, written_packet_reads_back};
 pub use limits::Limits;
 pub use packed::Packed;
 pub use reading::{read_header, read_packet};
+pub use writer::PacketWriter;
 
 #[cfg(test)]
 mod tests;
