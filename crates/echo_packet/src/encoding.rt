@@ -1,7 +1,7 @@
 //! The parts of a packet that have a fixed size, as bytes.
 ghost use Rattle.std.specs.Prelude.{◌≡◌, ◌*◌, ◌++◌, length};
 ghost use Rattle.std.specs.List.{flat_map};
-ghost use Rattle.echo_packet.specs.Header.{header_bytes, word};
+ghost use Rattle.echo_packet.specs.Header.{IsHeader, header_bytes, word};
 ghost use Rattle.echo_packet.specs.Message.{numbers};
 
 use crate::header::{HEADER_BYTES, Header};
@@ -19,10 +19,12 @@ fn write_numbers(numbers: &[u16], out: &mut [u8])
     LittleEndian::write_u16_into(numbers, out)
 }
 
-/// The bytes of the header (FTS-0001), with the packet type 2.
+/// Writes the bytes of the header (FTS-0001), with the packet type 2.
 #[tactic(auto, unfolding(crate::specs::Header::header_bytes))]
-pub(crate) fn header_bytes(header: &Header) -> [u8; HEADER_BYTES]
-    ensures { result ≡ header_bytes header.now }
+pub(crate) fn write_header(header: &Header, out: &mut [u8])
+    requires { length out.old ≡ 58 }
+    ensures bytes { out.new ≡ header_bytes header.now }
+    ensures header { IsHeader header.now }
 {
     let mut bytes = [0u8; HEADER_BYTES];
     let numbers = [
@@ -45,7 +47,7 @@ pub(crate) fn header_bytes(header: &Header) -> [u8; HEADER_BYTES]
     bytes[25] = header.serial_no;
     bytes[24] = header.prod_code;
     write_numbers(&numbers, &mut bytes[..24]);
-    bytes
+    out.copy_from_slice(&bytes);
 }
 
 /// The bytes of a message that stand before its strings: the number 2, the six numbers, DateTime.

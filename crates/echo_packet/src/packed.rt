@@ -203,7 +203,8 @@ impl Packed {
 
     /// The text, without its 00.
     pub fn text(&self) -> &[u8]
-        ensures { result.now ≡ self.now.text }
+        ensures text { result.now ≡ self.now.text }
+        ensures message { IsMessage (length self.now.text) self.now }
     {
         &self.text
     }

@@ -1,3 +1,5 @@
+mod writing;
+
 use super::*;
 use std::test::Fail;
 

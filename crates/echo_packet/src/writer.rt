@@ -6,9 +6,9 @@ ghost use Rattle.echo_packet.specs.Header.{IsHeader, header_bytes, word};
 ghost use Rattle.echo_packet.specs.Message.{IsMessage, ended, message_bytes};
 ghost use Rattle.echo_packet.specs.Writer.{IsLost, bytes_sent, has_stopped, writer_below};
 
-use crate::encoding::{fixed_bytes, header_bytes};
+use crate::encoding::{fixed_bytes, write_header};
 use crate::fault::PacketFault;
-use crate::header::Header;
+use crate::header::{HEADER_BYTES, Header};
 use crate::packed::Packed;
 use echo_addr::{Failure, Sink, send};
 
@@ -32,14 +32,11 @@ fn send_string<W: Sink>(writer: &mut W, string: &[u8], sent: &mut u64) -> Result
 }
 
 // The bytes of a message.
-fn send_message<W: Sink>(
-    writer: &mut W,
-    message: &Packed,
-    sent: &mut u64,
-) -> Result<(), Failure>
+fn send_message<W: Sink>(writer: &mut W, message: &Packed, sent: &mut u64) -> Result<(), Failure>
     ensures bytes { Sends (W.contents writer.old) (W.contents writer.new) result (message_bytes message.now) sent.old sent.new }
     ensures ok { OnOk result (W.failures writer.new ≡ W.failures writer.old) }
     ensures err { OnErr result (Failed (W.failures writer.old) (W.failures writer.new)) }
+    ensures message { OnOk result (IsMessage (length message.now.text) message.now) }
 {
     send(writer, &fixed_bytes(message), sent)?;
     send_string(writer, message.to_name(), sent)?;
@@ -56,10 +53,13 @@ impl<W: Sink + Drop> PacketWriter<W> {
         ensures ready { IfOk result (λ packet. has_stopped packet ≡ false) }
         ensures same { IfOk result (λ packet. W.failures (writer_below packet) ≡ W.failures writer) }
         ensures fault { IfErr result (IsLost W.contents W.failures writer (header_bytes header.now) 0) }
+        ensures header { IsHeader header.now }
     {
         let mut writer = writer;
         let mut sent = 0;
-        match send(&mut writer, &header_bytes(header), &mut sent) {
+        let mut bytes = [0u8; HEADER_BYTES];
+        write_header(header, &mut bytes);
+        match send(&mut writer, &bytes, &mut sent) {
             Ok(()) => Ok(PacketWriter {
                 writer,
                 sent,
@@ -78,6 +78,7 @@ impl<W: Sink + Drop> PacketWriter<W> {
         ensures fault { has_stopped self.old ≡ false → IfErr result (λ fault. fault ≡ Write (bytes_sent self.new)) }
         ensures failed { has_stopped self.old ≡ false → OnErr result (Failed (W.failures (writer_below self.old)) (W.failures (writer_below self.new))) }
         ensures stops { OnErr result (has_stopped self.new ≡ true) }
+        ensures message { OnOk result (IsMessage (length message.now.text) message.now) }
         ensures stopped { has_stopped self.old ≡ true → (result ≡ Err Stopped) × (self.new ≡ self.old) }
     {
         if self.stopped {

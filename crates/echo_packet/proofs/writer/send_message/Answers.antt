@@ -39,4 +39,4 @@ returns-clause-bytes g c =
     let to = string_sent _ _ _ (before ToName m) c.to_name.result.now m.to_name _ _ _ fixed c.to_name.ensures c.in_ok-send_string.ensures.bytes in
     let from = string_sent _ _ _ (before FromName m) c.from_name.result.now m.from_name _ _ _ to c.from_name.ensures c.in_ok-send_string-2.ensures.bytes in
     let subject = string_sent _ _ _ (before Subject m) c.subject.result.now m.subject _ _ _ from c.subject.ensures c.in_ok-send_string-3.ensures.bytes in
-    text_sent _ _ _ c.send_string-4.result m c.text.result.now _ _ _ subject c.text.ensures c.send_string-4.ensures.bytes
+    text_sent _ _ _ c.send_string-4.result m c.text.result.now _ _ _ subject c.text.ensures.text c.send_string-4.ensures.bytes
