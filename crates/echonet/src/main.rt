@@ -5,6 +5,7 @@
 //! with `show_text` (what it prints), `fault` and `status` (how a command ends).
 #![tactic(auto)]
 
+mod escape;
 mod fault;
 mod input;
 mod show;

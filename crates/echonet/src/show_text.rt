@@ -1,7 +1,7 @@
 ghost use Rattle.std.specs.Prelude.{◌≡◌, IfOk, string_bytes};
-ghost use Rattle.echonet.specs.Shown.{address, end_line, date, header_lines, packet_line, systems, time, zero_padded};
+ghost use Rattle.echonet.specs.Shown.{address, end_line, date, header_lines, message_line, net_node, packet_line, systems, text_line, time, zero_padded};
 
-use echo_packet::Header;
+use echo_packet::{Header, Packed};
 use std::alloc::{AllocError, Global};
 
 fn two_digits(alloc: Global, n: u32) -> Result<String, AllocError>
@@ -67,6 +67,35 @@ pub fn header_text(alloc: Global, h: &Header) -> Result<String, AllocError>
     let password = hex::encode(alloc, h.password.as_slice())?;
     let fill = hex::encode(alloc, h.fill.as_slice())?;
     format!(in alloc; "{packet}password {password}\nfill {fill}\n")
+}
+
+fn net_node_text(alloc: Global, net: u16, node: u16) -> Result<String, AllocError>
+    ensures { IfOk result (λ text. string_bytes text ≡ net_node net node) }
+{
+    format!(in alloc; "{net}/{node}")
+}
+
+/// The first line of a message, its number counted from 1, its place from the start of the packet.
+pub fn message_text(
+    alloc: Global,
+    number: u64,
+    place: u64,
+    m: &Packed,
+) -> Result<String, AllocError>
+    ensures { IfOk result (λ text. string_bytes text ≡ message_line number place m.now) }
+{
+    let from = net_node_text(alloc, m.orig_net(), m.orig_node())?;
+    let to = net_node_text(alloc, m.dest_net(), m.dest_node())?;
+    let attribute = m.attribute();
+    let cost = m.cost();
+    format!(in alloc; "message {number} at {place}: {from} to {to} attribute {attribute} cost {cost}\n")
+}
+
+/// The line of a text of so many bytes.
+pub fn text_text(alloc: Global, bytes: usize) -> Result<String, AllocError>
+    ensures { IfOk result (λ text. string_bytes text ≡ text_line bytes) }
+{
+    format!(in alloc; "text {bytes} bytes\n")
 }
 
 /// The line after the last message.
