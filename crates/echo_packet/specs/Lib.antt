@@ -2,5 +2,6 @@ pub mod Header
 pub mod Message
 pub mod Packet
 pub mod Fault
+pub mod Next
 pub mod Answer
 pub mod Outcome
