@@ -1,5 +1,6 @@
 pub mod Header
 pub mod Message
+pub mod Packed
 pub mod Packet
 pub mod Fault
 pub mod Next
