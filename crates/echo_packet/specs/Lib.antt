@@ -3,6 +3,7 @@ pub mod Message
 pub mod Packed
 pub mod Packet
 pub mod Fault
+pub mod Field
 pub mod Next
 pub mod Answer
 pub mod Outcome

@@ -8,6 +8,7 @@
 #![tactic(auto)]
 
 mod fault;
+mod field;
 mod header;
 mod laws;
 mod limits;
