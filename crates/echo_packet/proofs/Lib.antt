@@ -1,3 +1,4 @@
 pub mod Headers
 pub mod Strings
+pub mod Fields
 pub mod Bare

@@ -9,8 +9,9 @@ use Rattle.echo_packet.specs.declared.field.Piece.{Piece}
 use Rattle.echo_packet.specs.declared.field.Piece.TheVariants as piece
 use Rattle.echo_packet.specs.declared.fault.PacketFault.{PacketFault}
 use Rattle.echo_packet.specs.declared.fault.PacketFault.TheVariants as fault
-use Rattle.echo_packet.specs.Message.{HasNoZero, ended}
-use Rattle.echo_packet.specs.Fault.{IsTooLong}
+use Rattle.echo_packet.specs.Header.{word}
+use Rattle.echo_packet.specs.Message.{Message, HasNoZero, IsMessage, ended, message_bytes}
+use Rattle.echo_packet.specs.Fault.{IsTooLong, place_of}
 
 -- these bytes came from the source
 abbrev pub Came : Option (List ℕ) → Option (List ℕ) → (List ℕ → Type 0) → Type 0
@@ -99,3 +100,11 @@ text_fault_at at broken.Cut = fault.Truncated at
 text_fault_at at broken.TooLong = fault.TextTooLong at
 text_fault_at at broken.Device = fault.Read at
 text_fault_at at broken.Memory = fault.Memory
+
+-- behind its number 2 a whole message came from the source, up to the place
+pub record TakesMessage (most start : ℕ) (old new : Option (List ℕ)) (m : Message) (at : ℕ) : Type 0 where
+  pub came : List ℕ
+  pub is : message_bytes m ≡ word 2 ++ came
+  pub fits : IsMessage most m
+  pub took : Consumes old new came
+  pub place : at ≡ place_of (start + length (message_bytes m))

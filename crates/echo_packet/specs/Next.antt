@@ -36,10 +36,14 @@ NextFault limits given start bs (fault.Read at) = AtPart limits given start bs a
 NextFault limits given start bs fault.Memory = Unit {0}
 NextFault limits given start bs _ = ⊥
 
--- the source lost just the bytes of the message, or 00 00 where there is none
+-- the bytes of the message, or 00 00 where there is none
+abbrev pub next_bytes : Option Message → List ℕ
+next_bytes (Some m) = message_bytes m
+next_bytes None = word 0
+
+-- the source lost just the bytes of what is given
 abbrev pub TakesNext : Option (List ℕ) → Option (List ℕ) → Result (Option Message) PacketFault → Type 0
-TakesNext old new (Ok (Some m)) = Consumes old new (message_bytes m)
-TakesNext old new (Ok None) = Consumes old new (word 0)
+TakesNext old new (Ok next) = Consumes old new (next_bytes next)
 TakesNext old new (Err f) = Unit {0}
 
 -- a message is within the limits, and fewer than allowed were given before it

@@ -153,7 +153,7 @@ fn take_piece<R: Source>(reader: &mut R, string: &mut Vec<u8>, room: usize) -> R
 }
 
 // Does nothing. Its contract says of bytes that each is below 256.
-fn are_bytes(bytes: &[u8])
+pub(crate) fn are_bytes(bytes: &[u8])
     ensures { AreBytes bytes.now }
 {}
 

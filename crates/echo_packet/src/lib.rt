@@ -12,6 +12,7 @@ mod field;
 mod header;
 mod laws;
 mod limits;
+mod message;
 mod packed;
 mod reading;
 
