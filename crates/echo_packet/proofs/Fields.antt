@@ -180,6 +180,12 @@ Consumes-known None b t P Q p k h = tt
 Consumes-known (Some x) None t P Q p k h = absurd p
 Consumes-known (Some x) (Some y) t P Q p k h = h x y p k
 
+-- what is so of the bytes that came, whatever is left, is so of those that were there
+pub Consumes-front : (a b : Option (List ℕ)) (t : List ℕ) (Q : List ℕ → Type 0) → Consumes a b t → ((r : List ℕ) → Q (t ++ r)) → IfSome a Q
+Consumes-front None b t Q p h = tt
+Consumes-front (Some x) None t Q p h = absurd p
+Consumes-front (Some x) (Some y) t Q p h = subst Q (sym p) (h y)
+
 -- what was read of a field that is wrong, as the definition of faults has it
 pub record Tells (limits : Limits) (field : Part) (Cut Long LongText : List ℕ → Type 0) : Type 0 where
   pub cut : (r : List ℕ) → Cut r → IsCut limits field r

@@ -1,4 +1,5 @@
 pub mod Headers
 pub mod Strings
 pub mod Fields
+pub mod Numbers
 pub mod Bare

@@ -1,5 +1,5 @@
 //! One message, or the terminator, taken from a source field by field.
-ghost use Rattle.std.specs.Prelude.{◌≡◌, ℕ, ◌+◌, ◌<◌, List, ◌++◌, length, IfOk, IfErr, IfSome, OnOk};
+ghost use Rattle.std.specs.Prelude.{◌≡◌, ℕ, ◌+◌, ◌<◌, ◌≤◌, List, ◌++◌, length, IfOk, IfErr, IfSome, OnOk};
 ghost use Rattle.std.specs.Io.KnownBytes.{Consumes};
 ghost use Rattle.echo_packet.specs.Header.{AreBytes, word};
 ghost use Rattle.echo_packet.specs.Message.{IsString, ended};
@@ -156,6 +156,7 @@ pub(crate) fn read_next<R: Source>(
     given: u64,
     place: &mut u64,
 ) -> Result<Option<Packed>, PacketFault>
+    requires { given ≤ limits.messages }
     ensures within { IfOk result (IsWithin limits given) }
     ensures taken { TakesNext (R.remaining reader.old) (R.remaining reader.new) result }
     ensures place { IfOk result (λ next. place.new ≡ place_of (place.old + length (next_bytes next))) }
@@ -163,17 +164,18 @@ pub(crate) fn read_next<R: Source>(
     ensures device { CountsFailures result (R.failures reader.old) (R.failures reader.new) }
 {
     let start = *place;
-    let mut number = [0u8; 2];
-    fixed_at(reader, &mut number, place)?;
-    match number_at(&number, 0) {
-        0 => Ok(None),
-        2 => {
-            if given >= limits.messages {
-                return Err(PacketFault::TooManyMessages { at: start });
-            }
-            let message = read_fields(alloc, reader, limits, place)?;
-            Ok(Some(message))
-        }
-        _ => Err(PacketFault::NotMessage { at: start }),
+    let mut bytes = [0u8; 2];
+    fixed_at(reader, &mut bytes, place)?;
+    let number = number_at(&bytes, 0);
+    if number == 0 {
+        return Ok(None);
     }
+    if number != 2 {
+        return Err(PacketFault::NotMessage { at: start });
+    }
+    if given >= limits.messages {
+        return Err(PacketFault::TooManyMessages { at: start });
+    }
+    let message = read_fields(alloc, reader, limits, place)?;
+    Ok(Some(message))
 }
