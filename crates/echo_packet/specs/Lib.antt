@@ -5,5 +5,6 @@ pub mod Packet
 pub mod Fault
 pub mod Field
 pub mod Next
+pub mod Reader
 pub mod Answer
 pub mod Outcome

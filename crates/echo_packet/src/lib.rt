@@ -14,6 +14,7 @@ mod laws;
 mod limits;
 mod message;
 mod packed;
+mod reader;
 mod reading;
 
 pub use fault::{Field, PacketFault};
@@ -21,6 +22,7 @@ pub use header::Header;
 pub use laws::{header_laws, one_answer};
 pub use limits::Limits;
 pub use packed::Packed;
+pub use reader::PacketReader;
 pub use reading::{read_header, read_packet};
 
 #[cfg(test)]

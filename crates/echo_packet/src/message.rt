@@ -47,7 +47,7 @@ fn past_string(place: u64, string: &[u8]) -> u64
 }
 
 // Fills a field that begins at the place, which moves past it.
-fn fixed_at<R: Source>(
+pub(crate) fn fixed_at<R: Source>(
     reader: &mut R,
     field: &mut [u8],
     place: &mut u64,
