@@ -41,7 +41,7 @@ pub drop_past : (n k : ℕ) (s rest : List ℕ) → length s ≡ n → drop (n +
 drop_past n k s rest e = let P : ℕ → Type 0 = λ m. drop (m + k) (s ++ rest) ≡ drop k rest in subst P e (drop-append-add s rest k)
 
 -- a number and what follows it, written again
-word_then : (i n : ℕ) (bs t : List ℕ) → AreBytes bs → i + 2 ≤ length bs → take n (drop (i + 2) bs) ≡ t
+pub word_then : (i n : ℕ) (bs t : List ℕ) → AreBytes bs → i + 2 ≤ length bs → take n (drop (i + 2) bs) ≡ t
     → take (2 + n) (drop i bs) ≡ word (number_at i bs) ++ t
 word_then i n bs t bytes room e =
     take_field i 2 n bs ∙ ap (λ f. f ++ take n (drop (i + 2) bs)) (word-number i bs bytes room) ∙ ap (λ r. word (number_at i bs) ++ r) e

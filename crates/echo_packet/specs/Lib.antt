@@ -3,6 +3,9 @@ pub mod Message
 pub mod Packed
 pub mod Packet
 pub mod Fault
+pub mod Field
+pub mod Next
+pub mod Reader
 pub mod Answer
 pub mod Outcome
 pub mod Writer

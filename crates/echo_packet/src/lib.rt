@@ -9,10 +9,13 @@
 
 mod encoding;
 mod fault;
+mod field;
 mod header;
 mod laws;
 mod limits;
+mod message;
 mod packed;
+mod reader;
 mod reading;
 mod writer;
 
@@ -21,6 +24,7 @@ pub use header::Header;
 pub use laws::{header_laws, one_answer, written_packet_reads_back};
 pub use limits::Limits;
 pub use packed::Packed;
+pub use reader::PacketReader;
 pub use reading::{read_header, read_packet};
 pub use writer::PacketWriter;
 
