@@ -1,12 +1,13 @@
 -- What `show` prints of a packet.
 use Rattle.std.specs.Prelude.{◌≡◌, ℕ, ◌+◌, ◌-◌, ◌/◌, ◌%◌, List, [], ◌∷◌, ◌++◌, length, replicate, codes, decimal, filter, ◌≤◌, nat_le, take, slice_index, not, Bool, true, false, ◌||◌, ◌&&◌, ◌==◌, if◌then◌else◌, Option, Ok}
-use Rattle.std.specs.List.{flat_map}
+use Rattle.std.specs.List.{AllByRecursion, flat_map}
 use Rattle.std.specs.Io.KnownBytes.{Appends}
 use Rattle.echo_packet.specs.declared.limits.Limits.{Limits}
 use Rattle.echo_packet.specs.Packet.{PacketOf}
 use Rattle.hex.specs.Hex.{lower_digits, encode_lower, decode_of}
 use Rattle.echo_packet.specs.declared.header.Header.{Header}
-use Rattle.echo_packet.specs.Message.{Message, message_bytes}
+use Rattle.echo_packet.specs.Header.{word}
+use Rattle.echo_packet.specs.Message.{Message, IsMessage, message_bytes, messages_bytes}
 
 -- a number in decimal, with leading zeros where it has fewer digits than asked for
 unfoldable pub zero_padded : ℕ → ℕ → List ℕ
@@ -63,12 +64,15 @@ escaped_line word bytes = word ++ (codes " " ++ (escaped bytes ++ codes "\n"))
 abbrev pub net_node : ℕ → ℕ → List ℕ
 net_node net node = decimal net ++ (codes "/" ++ decimal node)
 
+-- from which system to which a message goes
+abbrev pub route : Message → List ℕ
+route m = net_node m.orig_net m.orig_node ++ (codes " to " ++ net_node m.dest_net m.dest_node)
+
 -- the line of a message's number, the place where it begins, its systems and numbers
 abbrev pub message_line : ℕ → ℕ → Message → List ℕ
 message_line number place m =
-    codes "message " ++ (decimal number ++ (codes " at " ++ (decimal place ++ (codes ": " ++ (net_node m.orig_net m.orig_node
-    ++ (codes " to " ++ (net_node m.dest_net m.dest_node ++ (codes " attribute " ++ (decimal m.attribute
-    ++ (codes " cost " ++ (decimal m.cost ++ codes "\n")))))))))))
+    codes "message " ++ (decimal number ++ (codes " at " ++ (decimal place ++ (codes ": " ++ (route m
+    ++ (codes " attribute " ++ (decimal m.attribute ++ (codes " cost " ++ (decimal m.cost ++ codes "\n")))))))))
 
 -- the line of the length of a text
 abbrev pub text_line : ℕ → List ℕ
@@ -107,14 +111,26 @@ abbrev pub Stands : Bool → List ℕ → List ℕ → Type 0
 Stands false input bytes = bytes ≡ input
 Stands true input bytes = decode_of (hex_text input) ≡ Ok bytes
 
+-- what `show` takes: texts of 16 MiB and any number of messages
+abbrev pub show_limits : Limits
+show_limits = record { text = 16777216; messages = 18446744073709551615 }
+
+-- the messages that stand behind a header were taken and printed, so many, and 00 00 after them; they end at this place
+pub record PrintsMessages (bytes rest : List ℕ) (old new : Option (List ℕ)) (count place : ℕ) : Type 0 where
+  pub messages : List Message
+  pub each : AllByRecursion (IsMessage show_limits.text) messages
+  pub number : count ≡ length messages
+  pub taken : bytes ≡ messages_bytes messages ++ (word 0 ++ rest)
+  pub ends : place ≡ 58 + length (messages_bytes messages) + 2
+  pub printed : Appends old new (messages_lines 1 58 messages)
+
 -- the packet at the front of the bytes was printed, and nothing else
 pub record IsPrinted (bytes : List ℕ) (old new : Option (List ℕ)) : Type 0 where
-  pub limits : Limits
   pub header : Header
   pub messages : List Message
   pub size : ℕ
   pub room : size ≤ length bytes
-  pub packet : PacketOf limits header messages (take size bytes)
+  pub packet : PacketOf show_limits header messages (take size bytes)
   pub printed : Appends old new (shown header messages size)
 
 -- the same of the bytes that the input stands for

@@ -1,5 +1,5 @@
 ghost use Rattle.std.specs.Prelude.{◌≡◌, IfOk, string_bytes};
-ghost use Rattle.echonet.specs.Shown.{address, end_line, date, header_lines, message_line, net_node, packet_line, systems, text_line, time, zero_padded};
+ghost use Rattle.echonet.specs.Shown.{address, end_line, date, header_lines, message_line, net_node, packet_line, route, systems, text_line, time, zero_padded};
 
 use echo_packet::{Header, Packed};
 use std::alloc::{AllocError, Global};
@@ -75,6 +75,14 @@ fn net_node_text(alloc: Global, net: u16, node: u16) -> Result<String, AllocErro
     format!(in alloc; "{net}/{node}")
 }
 
+fn route_text(alloc: Global, m: &Packed) -> Result<String, AllocError>
+    ensures { IfOk result (λ text. string_bytes text ≡ route m.now) }
+{
+    let from = net_node_text(alloc, m.orig_net(), m.orig_node())?;
+    let to = net_node_text(alloc, m.dest_net(), m.dest_node())?;
+    format!(in alloc; "{from} to {to}")
+}
+
 /// The first line of a message, its number counted from 1, its place from the start of the packet.
 pub fn message_text(
     alloc: Global,
@@ -84,11 +92,10 @@ pub fn message_text(
 ) -> Result<String, AllocError>
     ensures { IfOk result (λ text. string_bytes text ≡ message_line number place m.now) }
 {
-    let from = net_node_text(alloc, m.orig_net(), m.orig_node())?;
-    let to = net_node_text(alloc, m.dest_net(), m.dest_node())?;
+    let route = route_text(alloc, m)?;
     let attribute = m.attribute();
     let cost = m.cost();
-    format!(in alloc; "message {number} at {place}: {from} to {to} attribute {attribute} cost {cost}\n")
+    format!(in alloc; "message {number} at {place}: {route} attribute {attribute} cost {cost}\n")
 }
 
 /// The line of a text of so many bytes.
@@ -99,7 +106,7 @@ pub fn text_text(alloc: Global, bytes: usize) -> Result<String, AllocError>
 }
 
 /// The line after the last message.
-pub fn end_text(alloc: Global, messages: usize, bytes: usize) -> Result<String, AllocError>
+pub fn end_text(alloc: Global, messages: u64, bytes: u64) -> Result<String, AllocError>
     ensures { IfOk result (λ text. string_bytes text ≡ end_line messages bytes) }
 {
     format!(in alloc; "end {messages} messages, {bytes} bytes\n")
