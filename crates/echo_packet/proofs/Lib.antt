@@ -2,6 +2,9 @@ pub mod Headers
 pub mod Strings
 pub mod Fields
 pub mod Numbers
+pub mod Fronts
+pub mod Slices
+pub mod Runs
 pub mod Words
 pub mod Sending
 pub mod Bare

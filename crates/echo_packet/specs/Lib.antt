@@ -6,6 +6,7 @@ pub mod Fault
 pub mod Field
 pub mod Next
 pub mod Reader
+pub mod Run
 pub mod Answer
 pub mod Outcome
 pub mod Writer

@@ -19,7 +19,7 @@ use std::alloc::Global;
 const NAME: usize = 35;
 const SUBJECT: usize = 71;
 
-fn name_fault(broken: Broken, at: u64) -> PacketFault
+pub(crate) fn name_fault(broken: Broken, at: u64) -> PacketFault
     ensures { result ≡ name_fault_at at broken }
 {
     match broken {
@@ -47,7 +47,7 @@ fn past_string(place: u64, string: &[u8]) -> u64
 }
 
 // Fills a field that begins at the place, which moves past it.
-pub(crate) fn fixed_at<R: Source>(
+fn fixed_at<R: Source>(
     reader: &mut R,
     field: &mut [u8],
     place: &mut u64,

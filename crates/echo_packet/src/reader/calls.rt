@@ -8,9 +8,10 @@ ghost use Rattle.echo_packet.specs.Next.{CountsFailures, IsWithin, NextFault, Ta
 ghost use Rattle.echo_packet.specs.Reader.{FailedOnce, FrontFault, GoesOn, IsEnded, IsReading, IsStopped, KeepsFront, reader_given, reader_header, reader_limits, reader_place, reader_source};
 
 use crate::fault::PacketFault;
+use crate::field::{are_bytes, read_fixed};
 use crate::header::{HEADER_BYTES, Header, header_of, number_at};
 use crate::limits::Limits;
-use crate::message::{fixed_at, read_next};
+use crate::message::{name_fault, read_next};
 use crate::packed::Packed;
 use crate::reader::{PacketReader, Stage};
 use echo_addr::Source;
@@ -24,8 +25,11 @@ fn read_front<R: Source>(source: &mut R) -> Result<Header, PacketFault>
     ensures device { CountsFailures result (R.failures source.old) (R.failures source.new) }
 {
     let mut bytes = [0u8; HEADER_BYTES];
-    let mut place = 0;
-    fixed_at(source, &mut bytes, &mut place)?;
+    let read = read_fixed(source, &mut bytes);
+    are_bytes(&bytes);
+    if let Err(broken) = read {
+        return Err(name_fault(broken, 0));
+    }
     let kind = number_at(&bytes, 18);
     if kind != 2 {
         return Err(PacketFault::NotType2 { at: 18 });
