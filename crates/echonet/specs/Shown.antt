@@ -1,13 +1,12 @@
 -- What `show` prints of a packet.
 use Rattle.std.specs.Prelude.{◌≡◌, ℕ, ◌+◌, ◌-◌, ◌/◌, ◌%◌, List, [], ◌∷◌, ◌++◌, length, replicate, codes, decimal, filter, ◌≤◌, nat_le, take, slice_index, not, Bool, true, false, ◌||◌, ◌&&◌, ◌==◌, if◌then◌else◌, Option, Ok}
-use Rattle.std.specs.List.{AllByRecursion, flat_map}
+use Rattle.std.specs.List.{flat_map}
 use Rattle.std.specs.Io.KnownBytes.{Appends}
 use Rattle.echo_packet.specs.declared.limits.Limits.{Limits}
 use Rattle.echo_packet.specs.Packet.{PacketOf}
 use Rattle.hex.specs.Hex.{lower_digits, encode_lower, decode_of}
 use Rattle.echo_packet.specs.declared.header.Header.{Header}
-use Rattle.echo_packet.specs.Header.{word}
-use Rattle.echo_packet.specs.Message.{Message, IsMessage, message_bytes, messages_bytes}
+use Rattle.echo_packet.specs.Message.{Message, message_bytes}
 
 -- a number in decimal, with leading zeros where it has fewer digits than asked for
 unfoldable pub zero_padded : ℕ → ℕ → List ℕ
@@ -114,15 +113,6 @@ Stands true input bytes = decode_of (hex_text input) ≡ Ok bytes
 -- what `show` takes: texts of 16 MiB and any number of messages
 abbrev pub show_limits : Limits
 show_limits = record { text = 16777216; messages = 18446744073709551615 }
-
--- the messages that stand behind a header were taken and printed, so many, and 00 00 after them; they end at this place
-pub record PrintsMessages (bytes rest : List ℕ) (old new : Option (List ℕ)) (count place : ℕ) : Type 0 where
-  pub messages : List Message
-  pub each : AllByRecursion (IsMessage show_limits.text) messages
-  pub number : count ≡ length messages
-  pub taken : bytes ≡ messages_bytes messages ++ (word 0 ++ rest)
-  pub ends : place ≡ 58 + length (messages_bytes messages) + 2
-  pub printed : Appends old new (messages_lines 1 58 messages)
 
 -- the packet at the front of the bytes was printed, and nothing else
 pub record IsPrinted (bytes : List ℕ) (old new : Option (List ℕ)) : Type 0 where

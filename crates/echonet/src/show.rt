@@ -1,8 +1,7 @@
-ghost use Rattle.std.specs.Prelude.{◌≡◌, ◌+◌, ◌^◌, ◌<◌, ◌++◌, length, OnOk, IfOk, Ok};
+ghost use Rattle.std.specs.Prelude.{◌≡◌, OnOk, IfOk, Ok};
 ghost use Rattle.std.specs.Io.KnownBytes.{Appends};
 ghost use Rattle.hex.specs.Hex.{decode_of};
-ghost use Rattle.echo_packet.specs.Reader.{IsReading, reader_header, reader_limits, reader_place, reader_source};
-ghost use Rattle.echonet.specs.Shown.{IsPrinted, IsShown, PrintsMessages, end_line, escaped_line, header_lines, hex_text, message_lines, show_limits};
+ghost use Rattle.echonet.specs.Shown.{IsPrinted, IsShown, end_line, escaped_line, header_lines, hex_text, message_lines};
 
 use crate::escape::escaped_text;
 use crate::fault::Fault;
@@ -16,7 +15,7 @@ use std::io::Write;
 /// What `show` takes of a packet: texts of 16 MiB and any number of messages.
 const LIMITS: Limits = Limits {
     text: 16_777_216,
-    ..Limits::NONE
+    messages: u64::MAX,
 };
 
 /// `show [--hex] PACKET`: prints the packet at the front of the input, which with `hex` is written in
@@ -74,31 +73,14 @@ fn show_bytes<'a, W: Write>(alloc: Global, bytes: &[u8], out: &mut W) -> Result<
 {
     let mut reader = PacketReader::open(alloc, bytes, LIMITS)?;
     print_header(alloc, reader.header(), out)?;
-    let messages = print_messages(alloc, &mut reader, out)?;
-    print_end(alloc, messages, reader.place(), out)
-}
-
-// Prints the messages that are left, as they come, and answers how many there were.
-fn print_messages<'a, W: Write>(
-    alloc: Global,
-    reader: &mut PacketReader<&[u8]>,
-    out: &mut W,
-) -> Result<u64, Fault<'a>>
-    requires reading { IsReading reader.old }
-    requires place { reader_place reader.old ≡ 58 }
-    requires limits { reader_limits reader.old ≡ show_limits }
-    requires room { 58 + length (reader_source reader.old).now < 2 ^ 64 }
-    ensures header { OnOk result (reader_header reader.new ≡ reader_header reader.old) }
-    ensures printed { IfOk result (λ count. PrintsMessages (reader_source reader.old).now (reader_source reader.new).now (W.contents out.old) (W.contents out.new) count (reader_place reader.new)) }
-{
-    let mut count = 0;
+    let mut count = 0u64;
     let mut place = reader.place();
     'messages: while let Some(message) = reader.next()? {
         count += 1;
         print_message(alloc, count, place, &message, out)?;
         place = reader.place();
     }
-    Ok(count)
+    print_end(alloc, count, reader.place(), out)
 }
 
 fn print_header<'a, W: Write>(alloc: Global, header: &Header, out: &mut W) -> Result<(), Fault<'a>>
