@@ -5,4 +5,7 @@ pub mod Numbers
 pub mod Fronts
 pub mod Runs
 pub mod Slices
+pub mod Pieces
+pub mod Verdicts
+pub mod Outcome
 pub mod Bare
