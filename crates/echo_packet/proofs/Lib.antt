@@ -8,4 +8,4 @@ pub mod Slices
 pub mod Pieces
 pub mod Verdicts
 pub mod Outcome
-pub mod Bare
+pub mod Existence
