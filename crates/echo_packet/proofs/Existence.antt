@@ -36,9 +36,9 @@ first_zero [] = inr (λ i lt. absurd (omega arith))
 first_zero (x ∷ xs) = elim (cases_eq x 0) [
   | inl e ↦ inl (record { string = []; rest = xs; is = ap (λ y. y ∷ xs) e; none = λ i lt. absurd (omega arith) })
   | inr not ↦ elim (first_zero xs) [
-      | inl f ↦ inl (record { string = x ∷ f.string; rest = f.rest; is = ap (λ t. x ∷ t) f.is; none = cons_no_zero x f.string not f.none })
-      | inr all ↦ inr (cons_no_zero x xs not all)
-    ]
+    | inl f ↦ inl (record { string = x ∷ f.string; rest = f.rest; is = ap (λ t. x ∷ t) f.is; none = cons_no_zero x f.string not f.none })
+    | inr all ↦ inr (cons_no_zero x xs not all)
+  ]
 ]
 
 -- a string at the front of the bytes
@@ -79,13 +79,13 @@ has_string most r x bytes fits =
 string_cases : (most : ℕ) (r : List ℕ) → AreBytes r → HasString most r ⊎ (IsOpen most r ⊎ IsTooLong most r)
 string_cases most r bytes = elim (first_zero r) [
   | inl x ↦ elim (cases_lt most (length x.string)) [
-      | inl more ↦ inr (inr (long_split most r x more))
-      | inr fits ↦ inl (has_string most r x bytes fits)
-    ]
+    | inl more ↦ inr (inr (long_split most r x more))
+    | inr fits ↦ inl (has_string most r x bytes fits)
+  ]
   | inr none ↦ elim (cases_lt most (length r)) [
-      | inl more ↦ inr (inr (too_long most r none more))
-      | inr fits ↦ inr (inl (none, fits))
-    ]
+    | inl more ↦ inr (inr (too_long most r none more))
+    | inr fits ↦ inr (inl (none, fits))
+  ]
 ]
 
 -- a fault of the bytes behind the number 2
@@ -107,16 +107,16 @@ from_text : (limits : Limits) (given start p : ℕ) (all r : List ℕ) (m : Mess
     → HasFields limits.text start (Some all) (Some r) Text m p → SomeFields limits given start all
 from_text limits given start p all r m more bytes h = elim (string_cases limits.text r bytes) [
   | inl x ↦ inl (record {
-      message = record m { text = x.string };
-      rest = x.rest;
-      at = place_of (p + length (ended x.string));
-      takes = has-text limits.text start p (place_of (p + length (ended x.string))) (Some all) (Some r) (Some x.rest) m x.string h x.fits x.is refl;
-      bytes = x.bytes;
-    })
+    message = record m { text = x.string };
+    rest = x.rest;
+    at = place_of (p + length (ended x.string));
+    takes = has-text limits.text start p (place_of (p + length (ended x.string))) (Some all) (Some r) (Some x.rest) m x.string h x.fits x.is refl;
+    bytes = x.bytes;
+  })
   | inr wrong ↦ elim wrong [
-      | inl cut ↦ inr (fault.Truncated p, next-field limits given start p (Some all) (Some r) Text m (IsOpen limits.text) Never (IsTooLong limits.text) (fault.Truncated p) h (tells-text limits) more (refl, cut), λ c. c)
-      | inr long ↦ inr (fault.TextTooLong p, next-field limits given start p (Some all) (Some r) Text m (IsOpen limits.text) Never (IsTooLong limits.text) (fault.TextTooLong p) h (tells-text limits) more (refl, long), λ c. c)
-    ]
+    | inl cut ↦ inr (fault.Truncated p, next-field limits given start p (Some all) (Some r) Text m (IsOpen limits.text) Never (IsTooLong limits.text) (fault.Truncated p) h (tells-text limits) more (refl, cut), λ c. c)
+    | inr long ↦ inr (fault.TextTooLong p, next-field limits given start p (Some all) (Some r) Text m (IsOpen limits.text) Never (IsTooLong limits.text) (fault.TextTooLong p) h (tells-text limits) more (refl, long), λ c. c)
+  ]
 ]
 
 from_subject : (limits : Limits) (given start p : ℕ) (all r : List ℕ) (m : Message) → given < limits.messages → AreBytes r
@@ -125,9 +125,9 @@ from_subject limits given start p all r m more bytes h = elim (string_cases 71 r
   | inl x ↦ from_text limits given start (place_of (p + length (ended x.string))) all x.rest (record m { subject = x.string }) more x.bytes
       (has-subject limits.text start p (place_of (p + length (ended x.string))) (Some all) (Some r) (Some x.rest) m x.string h x.fits x.is refl)
   | inr wrong ↦ elim wrong [
-      | inl cut ↦ inr (fault.Truncated p, next-field limits given start p (Some all) (Some r) Subject m (IsOpen 71) (IsTooLong 71) Never (fault.Truncated p) h (tells-subject limits) more (refl, cut), λ c. c)
-      | inr long ↦ inr (fault.FieldTooLong p, next-field limits given start p (Some all) (Some r) Subject m (IsOpen 71) (IsTooLong 71) Never (fault.FieldTooLong p) h (tells-subject limits) more (refl, long), λ c. c)
-    ]
+    | inl cut ↦ inr (fault.Truncated p, next-field limits given start p (Some all) (Some r) Subject m (IsOpen 71) (IsTooLong 71) Never (fault.Truncated p) h (tells-subject limits) more (refl, cut), λ c. c)
+    | inr long ↦ inr (fault.FieldTooLong p, next-field limits given start p (Some all) (Some r) Subject m (IsOpen 71) (IsTooLong 71) Never (fault.FieldTooLong p) h (tells-subject limits) more (refl, long), λ c. c)
+  ]
 ]
 
 from_from : (limits : Limits) (given start p : ℕ) (all r : List ℕ) (m : Message) → given < limits.messages → AreBytes r
@@ -136,9 +136,9 @@ from_from limits given start p all r m more bytes h = elim (string_cases 35 r by
   | inl x ↦ from_subject limits given start (place_of (p + length (ended x.string))) all x.rest (record m { from_name = x.string }) more x.bytes
       (has-from_name limits.text start p (place_of (p + length (ended x.string))) (Some all) (Some r) (Some x.rest) m x.string h x.fits x.is refl)
   | inr wrong ↦ elim wrong [
-      | inl cut ↦ inr (fault.Truncated p, next-field limits given start p (Some all) (Some r) FromName m (IsOpen 35) (IsTooLong 35) Never (fault.Truncated p) h (tells-from_name limits) more (refl, cut), λ c. c)
-      | inr long ↦ inr (fault.FieldTooLong p, next-field limits given start p (Some all) (Some r) FromName m (IsOpen 35) (IsTooLong 35) Never (fault.FieldTooLong p) h (tells-from_name limits) more (refl, long), λ c. c)
-    ]
+    | inl cut ↦ inr (fault.Truncated p, next-field limits given start p (Some all) (Some r) FromName m (IsOpen 35) (IsTooLong 35) Never (fault.Truncated p) h (tells-from_name limits) more (refl, cut), λ c. c)
+    | inr long ↦ inr (fault.FieldTooLong p, next-field limits given start p (Some all) (Some r) FromName m (IsOpen 35) (IsTooLong 35) Never (fault.FieldTooLong p) h (tells-from_name limits) more (refl, long), λ c. c)
+  ]
 ]
 
 from_to : (limits : Limits) (given start p : ℕ) (all r : List ℕ) (m : Message) → given < limits.messages → AreBytes r
@@ -147,9 +147,9 @@ from_to limits given start p all r m more bytes h = elim (string_cases 35 r byte
   | inl x ↦ from_from limits given start (place_of (p + length (ended x.string))) all x.rest (record m { to_name = x.string }) more x.bytes
       (has-to_name limits.text start p (place_of (p + length (ended x.string))) (Some all) (Some r) (Some x.rest) m x.string h x.fits x.is refl)
   | inr wrong ↦ elim wrong [
-      | inl cut ↦ inr (fault.Truncated p, next-field limits given start p (Some all) (Some r) ToName m (IsOpen 35) (IsTooLong 35) Never (fault.Truncated p) h (tells-to_name limits) more (refl, cut), λ c. c)
-      | inr long ↦ inr (fault.FieldTooLong p, next-field limits given start p (Some all) (Some r) ToName m (IsOpen 35) (IsTooLong 35) Never (fault.FieldTooLong p) h (tells-to_name limits) more (refl, long), λ c. c)
-    ]
+    | inl cut ↦ inr (fault.Truncated p, next-field limits given start p (Some all) (Some r) ToName m (IsOpen 35) (IsTooLong 35) Never (fault.Truncated p) h (tells-to_name limits) more (refl, cut), λ c. c)
+    | inr long ↦ inr (fault.FieldTooLong p, next-field limits given start p (Some all) (Some r) ToName m (IsOpen 35) (IsTooLong 35) Never (fault.FieldTooLong p) h (tells-to_name limits) more (refl, long), λ c. c)
+  ]
 ]
 
 from_date : (limits : Limits) (given start p : ℕ) (all r : List ℕ) (m : Message) → given < limits.messages → AreBytes r
@@ -168,8 +168,12 @@ some_fields : (limits : Limits) (given start : ℕ) (r : List ℕ) → given < l
 some_fields limits given start r more bytes =
     let p = place_of (start + 2) in
     elim (cases_lt (length r) 12) [
-      | inl short ↦ inr (fault.Truncated p, next-field limits given start p (Some r) (Some r) Numbers _ (IsShort 12) Never Never (fault.Truncated p)
-          (has-none limits.text start p (Some r) refl) (tells-numbers limits) more (refl, short), λ c. c)
+      | inl short ↦ inr (
+        fault.Truncated p,
+        next-field limits given start p (Some r) (Some r) Numbers _ (IsShort 12) Never Never (fault.Truncated p)
+            (has-none limits.text start p (Some r) refl) (tells-numbers limits) more (refl, short),
+        λ c. c,
+      )
       | inr long ↦
           let ns = take 12 r in
           let size : length ns ≡ 12 = length-take-le 12 r long in
@@ -206,23 +210,23 @@ some_next limits given start r fits room bytes = elim (cases_lt (length r) 2) [
       elim (cases_eq (number_at 0 ns) 0) [
         | inl none ↦ inr (inl (record { rest = rest; is = took ∙ ap (λ t. t ++ rest) (number-bytes ns are size ∙ ap word none) }))
         | inr some ↦ elim (cases_eq (number_at 0 ns) 2) [
-            | inr other ↦ inr (inr (fault.NotMessage start, number-other limits given start (Some r) (Some rest) ns fits size took other some, λ c. c))
-            | inl two ↦ elim (cases_lt given limits.messages) [
-                | inr many ↦
-                    inr (inr (fault.TooManyMessages start, number-many limits given start (Some r) (Some rest) ns fits size took two (omega arith), λ c. c))
-                | inl more ↦ elim (some_fields limits given start rest more (AreBytes-drop 2 r bytes)) [
-                    | inl x ↦ inl (record {
-                        message = x.message;
-                        rest = x.rest;
-                        is = takes-whole limits.text start x.at (Some r) (Some rest) (Some x.rest) ns x.message are size took two x.takes;
-                        fits = x.takes.fits;
-                        more = more;
-                        bytes = x.bytes;
-                      })
-                    | inr wrong ↦ inr (inr (wrong.0, number-then limits given start (Some r) (Some rest) ns wrong.0 are size took two wrong.1, wrong.2))
-                  ]
-              ]
+          | inr other ↦ inr (inr (fault.NotMessage start, number-other limits given start (Some r) (Some rest) ns fits size took other some, λ c. c))
+          | inl two ↦ elim (cases_lt given limits.messages) [
+            | inr many ↦
+                inr (inr (fault.TooManyMessages start, number-many limits given start (Some r) (Some rest) ns fits size took two (omega arith), λ c. c))
+            | inl more ↦ elim (some_fields limits given start rest more (AreBytes-drop 2 r bytes)) [
+              | inl x ↦ inl (record {
+                message = x.message;
+                rest = x.rest;
+                is = takes-whole limits.text start x.at (Some r) (Some rest) (Some x.rest) ns x.message are size took two x.takes;
+                fits = x.takes.fits;
+                more = more;
+                bytes = x.bytes;
+              })
+              | inr wrong ↦ inr (inr (wrong.0, number-then limits given start (Some r) (Some rest) ns wrong.0 are size took two wrong.1, wrong.2))
+            ]
           ]
+        ]
       ]
 ]
 
@@ -241,12 +245,12 @@ some_run (suc k) limits bs h ms r given at so bytes less =
           (run-gives limits bs h ms r x.rest given at x.message so x.is x.fits x.more) x.bytes
           (omega (arith, ap length x.is, length-append (message_bytes x.message) x.rest))
       | inr other ↦ elim other [
-          | inl x ↦ (Ok (h, ms, length (packet_bytes h ms)), run-ends limits bs h ms r x.rest given at so x.is)
-          | inr wrong ↦ elim (run-fails limits bs h ms r given at wrong.0 so wrong.1) [
-              | inl is ↦ (Err wrong.0, (ms, is))
-              | inr call ↦ absurd (wrong.2 call)
-            ]
+        | inl x ↦ (Ok (h, ms, length (packet_bytes h ms)), run-ends limits bs h ms r x.rest given at so x.is)
+        | inr wrong ↦ elim (run-fails limits bs h ms r given at wrong.0 so wrong.1) [
+          | inl is ↦ (Err wrong.0, (ms, is))
+          | inr call ↦ absurd (wrong.2 call)
         ]
+      ]
     ]
 
 -- bytes are a packet or have a fault
@@ -254,11 +258,11 @@ pub some_answer : (limits : Limits) (bs : List ℕ) → AreBytes bs → SomeAnsw
 some_answer limits bs bytes = elim (cases_lt (length bs) 58) [
   | inl short ↦ (Err (fault.Truncated 0), ([], inl (refl, refl, short)))
   | inr long ↦ elim (cases_eq (number_at 18 bs) 2) [
-      | inr other ↦ (Err (fault.NotType2 18), ([], (refl, refl, long, other)))
-      | inl type ↦
-          let split : bs ≡ header_bytes (header_of bs) ++ drop 58 bs =
-          sym (take-append-drop 58 bs) ∙ ap (λ t. t ++ drop 58 bs) (sym (header_bytes-header_of bs bytes long type)) in
-          some_run (suc (length (drop 58 bs))) limits bs (header_of bs) [] (drop 58 bs) 0 58
-          (run-opens limits bs (header_of bs) (drop 58 bs) (IsHeader-header_of bs bytes long) split) (AreBytes-drop 58 bs bytes) (omega arith)
-    ]
+    | inr other ↦ (Err (fault.NotType2 18), ([], (refl, refl, long, other)))
+    | inl type ↦
+        let split : bs ≡ header_bytes (header_of bs) ++ drop 58 bs =
+        sym (take-append-drop 58 bs) ∙ ap (λ t. t ++ drop 58 bs) (sym (header_bytes-header_of bs bytes long type)) in
+        some_run (suc (length (drop 58 bs))) limits bs (header_of bs) [] (drop 58 bs) 0 58
+        (run-opens limits bs (header_of bs) (drop 58 bs) (IsHeader-header_of bs bytes long) split) (AreBytes-drop 58 bs bytes) (omega arith)
+  ]
 ]

@@ -108,10 +108,12 @@ outcome-behind limits bs h ms rest b =
     let type : number_at 18 bs ≡ 2 = ap (number_at 18) b.bytes ∙ number_at-header_bytes h all in
     let behind : drop 58 bs ≡ all = ap (drop 58) b.bytes ∙ drop_at (header_bytes h) all 58 (length-header_bytes h b.is_header) in
     let room : 0 + length ms ≤ limits.messages = omega (arith, b.are_messages.room) in
-    let none : 0 + length ms ≡ length ms = omega arith in
-    (k, cond-false (nat_lt (length bs) 58) _ _ (le-ltb _ _ (omega arith)) ∙ cond-true (number_at 18 bs == 2) _ _ (eq-eqb _ _ type)
-    ∙ ap (λ t. answer_of bs (run (length bs) limits 0 t)) behind ∙ ap (λ n. answer_of bs (run n limits 0 all)) fuel
-    ∙ ap (answer_of bs) (run-messages limits ms (suc k) 0 rest b.are_messages.each room ∙ ap (λ n. put_all ms (run (suc k) limits n rest)) none))
+    let none : 0 + length ms ≡ length ms = omega arith in (
+      k,
+      cond-false (nat_lt (length bs) 58) _ _ (le-ltb _ _ (omega arith)) ∙ cond-true (number_at 18 bs == 2) _ _ (eq-eqb _ _ type)
+          ∙ ap (λ t. answer_of bs (run (length bs) limits 0 t)) behind ∙ ap (λ n. answer_of bs (run n limits 0 all)) fuel
+          ∙ ap (answer_of bs) (run-messages limits ms (suc k) 0 rest b.are_messages.each room ∙ ap (λ n. put_all ms (run (suc k) limits n rest)) none),
+    )
 
 -- a packet is the outcome
 packet_is : (limits : Limits) (bs : List ℕ) (h : Header) (ms : List Message) (n : ℕ) → n ≤ length bs → PacketOf limits h ms (take n bs)
