@@ -3,8 +3,11 @@ pub mod Strings
 pub mod Fields
 pub mod Numbers
 pub mod Fronts
-pub mod Slices
 pub mod Runs
+pub mod Slices
+pub mod Pieces
+pub mod Verdicts
+pub mod Outcome
+pub mod Existence
 pub mod Words
 pub mod Sending
-pub mod Bare

@@ -56,6 +56,7 @@ run-gives limits bs h ms r rest given at m so split fits more =
       count = omega (arith, so.count, count);
       place = past (length (message_bytes m)) (length (messages_bytes ms)) _ at here size;
     }
+
 -- the terminator was read
 pub run-ends : (limits : Limits) (bs : List ℕ) (h : Header) (ms : List Message) (r rest : List ℕ) (given at : ℕ) → SoFar limits bs h ms r given at
     → r ≡ word 0 ++ rest → Describes limits bs (Ok (h, ms, length (packet_bytes h ms)))
@@ -64,12 +65,14 @@ run-ends limits bs h ms r rest given at so split =
     so.bytes ∙ ap (λ t. header_bytes h ++ (messages_bytes ms ++ t)) split
     ∙ ap (λ t. header_bytes h ++ t) (sym (append_assoc (messages_bytes ms) (word 0) rest))
     ∙ sym (append_assoc (header_bytes h) (messages_bytes ms ++ word 0) rest) in
-    let size : length bs ≡ length (packet_bytes h ms) + length rest = ap length whole ∙ length-append (packet_bytes h ms) rest in
-    (omega arith, record {
-      header = so.is_header;
-      messages = so.are_messages;
-      bytes = ap (take (length (packet_bytes h ms))) whole ∙ take_at (packet_bytes h ms) rest (length (packet_bytes h ms)) refl;
-    })
+    let size : length bs ≡ length (packet_bytes h ms) + length rest = ap length whole ∙ length-append (packet_bytes h ms) rest in (
+      omega arith,
+      record {
+        header = so.is_header;
+        messages = so.are_messages;
+        bytes = ap (take (length (packet_bytes h ms))) whole ∙ take_at (packet_bytes h ms) rest (length (packet_bytes h ms)) refl;
+      },
+    )
 
 -- how many bytes a packet has
 pub length-packet_bytes : (h : Header) (ms : List Message) → IsHeader h → length (packet_bytes h ms) ≡ 58 + length (messages_bytes ms) + 2

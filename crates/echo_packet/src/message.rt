@@ -17,6 +17,7 @@ use std::alloc::Global;
 
 /// How many bytes a name, and how many the subject may have before the 00.
 const NAME: usize = 35;
+
 const SUBJECT: usize = 71;
 
 pub(crate) fn name_fault(broken: Broken, at: u64) -> PacketFault
@@ -47,11 +48,7 @@ fn past_string(place: u64, string: &[u8]) -> u64
 }
 
 // Fills a field that begins at the place, which moves past it.
-fn fixed_at<R: Source>(
-    reader: &mut R,
-    field: &mut [u8],
-    place: &mut u64,
-) -> Result<(), PacketFault>
+fn fixed_at<R: Source>(reader: &mut R, field: &mut [u8], place: &mut u64) -> Result<(), PacketFault>
     ensures bytes { AreBytes field.new }
     ensures taken { OnOk result (Consumes (R.remaining reader.old) (R.remaining reader.new) field.new) }
     ensures place { OnOk result (place.new ≡ place_of (place.old + length field.new)) }

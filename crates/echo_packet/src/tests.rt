@@ -1,7 +1,8 @@
-mod writing;
-
 use super::*;
 use std::test::Fail;
+
+mod reading;
+mod writing;
 
 /// A packet of 60 bytes without messages, from 1:10/1 to 1:10/2, and five bytes more.
 const SIXTY: [u8; 65] = [
@@ -12,7 +13,7 @@ const SIXTY: [u8; 65] = [
     0x6f,
 ];
 
-/// What callers allow for now.
+/// No messages.
 const BARE: Limits = Limits {
     text: 1000,
     messages: 0,
