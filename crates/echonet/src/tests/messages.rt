@@ -32,7 +32,9 @@ fn shows_a_plain_message(rt: HostRuntime) -> Result<(), Fail> {
     let header = SIXTY.strip_suffix("0000\n").ok_or("a terminator")?;
     let input = format!(in alloc; "{header}{PLAIN}")?;
     let (status, out, errors) = shown(alloc, true, input.as_bytes());
-    let text = format!(in alloc; "{HEADER}message 1 at 58: 10/1 to 10/2 attribute 1 cost 0\ndate 01 Jan 86  02:34:56\\x00\nto A\nfrom B\nsubject \ntext 2 bytes\nend 1 messages, 102 bytes\n")?;
+    let text = format!(in alloc;
+        "{HEADER}message 1 at 58: 10/1 to 10/2 attribute 1 cost 0\ndate 01 Jan 86  02:34:56\\x00\nto A\nfrom B\nsubject \ntext 2 bytes\nend 1 messages, 102 bytes\n"
+    )?;
     assert_eq!(rt; status, Status::Good);
     assert!(rt; is_text(&out, text.as_str()) && errors.is_empty());
     Ok(())
@@ -46,8 +48,18 @@ fn shows_messages_before_a_fault(rt: HostRuntime) -> Result<(), Fail> {
     let whole = format!(in alloc; "{HEADER}{POSTING}end 1 messages, 212 bytes\n")?;
     for (count, status, printed, line) in [
         (212, Status::Good, whole.as_str(), ""),
-        (211, Status::Refused, posting.as_str(), "echonet: P1 Truncated at 210\n"),
-        (209, Status::Refused, HEADER, "echonet: P1 Truncated at 103\n"),
+        (
+            211,
+            Status::Refused,
+            posting.as_str(),
+            "echonet: P1 Truncated at 210\n",
+        ),
+        (
+            209,
+            Status::Refused,
+            HEADER,
+            "echonet: P1 Truncated at 103\n",
+        ),
     ] {
         let (ended, out, errors) = shown(alloc, false, &bytes[..count]);
         assert_eq!(rt; ended, status);
