@@ -1,5 +1,6 @@
-# `make` builds bin/echonet, `make test` is the gate, `make demo` runs the first example.
-.PHONY: all test demo toolchain
+# `make` builds bin/echonet, `make test` is the gate, `make demo` runs the first example, `make
+# show-examples` compares what `show` prints of the packets in examples/ with what it is to print.
+.PHONY: all test demo show-examples toolchain
 
 all: bin/echonet
 
@@ -17,3 +18,13 @@ test: toolchain
 
 demo: bin/echonet
 	bin/echonet show --hex - < examples/packets/sixty-byte.hex
+
+# What `show` does not print of a text yet.
+ECHOMAIL = ^(area|msgid|reply|tear|origin|seen|not echomail|bad tag)
+
+show-examples: bin/echonet
+	@for packet in examples/packets/*.pkt; do \
+	  bin/echonet show $$packet > bin/shown.txt || exit 1; \
+	  grep -vE '$(ECHOMAIL)' $${packet%.pkt}.txt | diff - bin/shown.txt || exit 1; \
+	  echo "$$packet: as expected"; \
+	done

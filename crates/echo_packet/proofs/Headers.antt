@@ -1,5 +1,5 @@
 -- A header is undone by its bytes, and the bytes by the header.
-use Rattle.std.proofs.Common.{◌≡◌, ℕ, suc, ◌+◌, ◌*◌, ◌/◌, ◌%◌, ◌^◌, ◌<◌, ◌≤◌, List, [], ◌∷◌, ◌++◌, length, get_or, take, drop, refl, sym, ap, ◌∙◌, arith, add-one, append_assoc, drop-cons, length-append}
+use Rattle.std.proofs.Common.{◌≡◌, ℕ, suc, append-nil, ◌+◌, ◌*◌, ◌/◌, ◌%◌, ◌^◌, ◌<◌, ◌≤◌, List, [], ◌∷◌, ◌++◌, length, get_or, take, drop, refl, sym, ap, ◌∙◌, arith, add-one, append_assoc, drop-cons, length-append}
 use Rattle.std.proofs.Math.Seq.{take-add, take-append_seam, drop-append_seam, drop-append-add}
 use Rattle.std.proofs.lemmas.List.{take_at, drop_at, length-take, length-drop, drop-drop, get_or-take, get_or-drop, get_or_past, get_or-append-add}
 use Rattle.std.proofs.lemmas.Bool.{cases_lt}
@@ -41,7 +41,7 @@ pub drop_past : (n k : ℕ) (s rest : List ℕ) → length s ≡ n → drop (n +
 drop_past n k s rest e = let P : ℕ → Type 0 = λ m. drop (m + k) (s ++ rest) ≡ drop k rest in subst P e (drop-append-add s rest k)
 
 -- a number and what follows it, written again
-word_then : (i n : ℕ) (bs t : List ℕ) → AreBytes bs → i + 2 ≤ length bs → take n (drop (i + 2) bs) ≡ t
+pub word_then : (i n : ℕ) (bs t : List ℕ) → AreBytes bs → i + 2 ≤ length bs → take n (drop (i + 2) bs) ≡ t
     → take (2 + n) (drop i bs) ≡ word (number_at i bs) ++ t
 word_then i n bs t bytes room e =
     take_field i 2 n bs ∙ ap (λ f. f ++ take n (drop (i + 2) bs)) (word-number i bs bytes room) ∙ ap (λ r. word (number_at i bs) ++ r) e
@@ -80,23 +80,27 @@ pub get_or_past_string : (n k : ℕ) (s rest : List ℕ) → length s ≡ n → 
 get_or_past_string n k s rest e =
     let P : ℕ → Type 0 = λ m. get_or (s ++ rest) (m + k) 0 ≡ get_or rest k 0 in subst P e (get_or-append-add s rest k 0)
 
-pub header_of-header_bytes : (h : Header) (rest : List ℕ) → IsHeader h → header_of (header_bytes h ++ rest) ≡ h
+-- the lengths of password and fill are enough
+pub header_of-parts : (h : Header) (rest : List ℕ) → length h.password ≡ 8 → length h.fill ≡ 20 → header_of (header_bytes h ++ rest) ≡ h
 unfolding header_bytes header_of
-header_of-header_bytes h rest fits =
+header_of-parts h rest password_len fill_len =
     let bs = header_bytes h ++ rest in
     let zones = word h.orig_zone ++ (word h.dest_zone ++ h.fill) in
     let split = append_assoc h.password zones rest in
     let behind = zones ++ rest in
-    let password : take 8 (drop 26 bs) ≡ h.password = rw split (take_at h.password behind 8 fits.password_len) in
+    let password : take 8 (drop 26 bs) ≡ h.password = rw split (take_at h.password behind 8 password_len) in
     let orig_zone : number_at 34 bs ≡ h.orig_zone =
-    rw (split, get_or_past_string 8 0 h.password behind fits.password_len, get_or_past_string 8 1 h.password behind fits.password_len)
+    rw (split, get_or_past_string 8 0 h.password behind password_len, get_or_past_string 8 1 h.password behind password_len)
     (number-word h.orig_zone) in
     let dest_zone : number_at 36 bs ≡ h.dest_zone =
-    rw (split, get_or_past_string 8 2 h.password behind fits.password_len, get_or_past_string 8 3 h.password behind fits.password_len)
+    rw (split, get_or_past_string 8 2 h.password behind password_len, get_or_past_string 8 3 h.password behind password_len)
     (number-word h.dest_zone) in
     let fill : take 20 (drop 38 bs) ≡ h.fill =
-    rw (split, drop_past 8 4 h.password behind fits.password_len) (take_at h.fill rest 20 fits.fill_len) in
+    rw (split, drop_past 8 4 h.password behind password_len) (take_at h.fill rest 20 fill_len) in
     simp (password, orig_zone, dest_zone, fill, number-word)
+
+pub header_of-header_bytes : (h : Header) (rest : List ℕ) → IsHeader h → header_of (header_bytes h ++ rest) ≡ h
+header_of-header_bytes h rest fits = header_of-parts h rest fits.password_len fits.fill_len
 
 pub length-header_bytes : (h : Header) → IsHeader h → length (header_bytes h) ≡ 58
 unfolding header_bytes
@@ -132,3 +136,10 @@ IsHeader-header_of bs bytes long = record {
   fill_len = omega (arith, length-take 20 (drop 38 bs), length-drop 38 bs);
   fill = AreBytes-take 20 (drop 38 bs) (AreBytes-drop 38 bs bytes);
 }
+
+-- a header whose bytes are bytes is of its sizes
+pub IsHeader-from_bytes : (h : Header) (bs : List ℕ) → bs ≡ header_bytes h → AreBytes bs → length bs ≡ 58 → length h.password ≡ 8 → length h.fill ≡ 20
+    → IsHeader h
+IsHeader-from_bytes h bs is bytes size password fill =
+    let same : header_of bs ≡ h = ap header_of (is ∙ sym (append-nil (header_bytes h))) ∙ header_of-parts h [] password fill in
+    subst IsHeader same (IsHeader-header_of bs bytes (omega (arith, size)))

@@ -1,2 +1,13 @@
 pub mod Headers
-pub mod Bare
+pub mod Strings
+pub mod Fields
+pub mod Numbers
+pub mod Fronts
+pub mod Runs
+pub mod Slices
+pub mod Pieces
+pub mod Verdicts
+pub mod Outcome
+pub mod Existence
+pub mod Words
+pub mod Sending

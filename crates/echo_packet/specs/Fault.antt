@@ -33,10 +33,10 @@ IsLongText limits field r = (field ≡ Text) × IsTooLong limits.text r
 abbrev pub IsOtherNumber : Part → List ℕ → Type 0
 IsOtherNumber field r = (field ≡ Number) × (2 ≤ length r) × (number_at 0 r ≢ 2) × (number_at 0 r ≢ 0)
 
--- a message begins though as many as allowed stand before it
-abbrev pub IsOneTooMany : Limits → List Message → Part → List ℕ → Type 0
-IsOneTooMany limits ms field r =
-    (field ≡ Number) × (2 ≤ length r) × (number_at 0 r ≡ 2) × (length ms ≡ limits.messages)
+-- a message begins though as many as allowed were given before it
+abbrev pub IsOneTooMany : Limits → ℕ → Part → List ℕ → Type 0
+IsOneTooMany limits given field r =
+    (field ≡ Number) × (2 ≤ length r) × (number_at 0 r ≡ 2) × (given ≡ limits.messages)
 
 -- a place as a u64 has it
 abbrev pub place_of : ℕ → ℕ
@@ -64,5 +64,5 @@ FaultOf bs limits ms (fault.NotType2 at) = (at ≡ 18) × (ms ≡ []) × (58 ≤
 FaultOf bs limits ms (fault.NotMessage at) = AtField limits bs ms at IsOtherNumber
 FaultOf bs limits ms (fault.FieldTooLong at) = AtField limits bs ms at IsLongField
 FaultOf bs limits ms (fault.TextTooLong at) = AtField limits bs ms at (IsLongText limits)
-FaultOf bs limits ms (fault.TooManyMessages at) = AtField limits bs ms at (IsOneTooMany limits ms)
+FaultOf bs limits ms (fault.TooManyMessages at) = AtField limits bs ms at (IsOneTooMany limits (length ms))
 FaultOf bs limits ms _ = ⊥

@@ -1,6 +1,12 @@
 pub mod Header
 pub mod Message
+pub mod Packed
 pub mod Packet
 pub mod Fault
+pub mod Field
+pub mod Next
+pub mod Reader
+pub mod Run
 pub mod Answer
 pub mod Outcome
+pub mod Writer

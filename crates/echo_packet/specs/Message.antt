@@ -2,6 +2,8 @@
 use Rattle.std.specs.Prelude.{◌≡◌, ◌≢◌, ℕ, ◌^◌, ◌<◌, ◌≤◌, List, [], ◌∷◌, ◌++◌, length, slice_index, EachIndex}
 use Rattle.std.specs.List.{AllByRecursion}
 use Rattle.echo_packet.specs.declared.limits.Limits.{Limits}
+use Rattle.echo_packet.specs.declared.fault.Field.{Field}
+use Rattle.echo_packet.specs.declared.fault.Field.TheVariants as field
 use Rattle.echo_packet.specs.Header.{AreBytes, word}
 
 -- a packed message, its strings as lists of bytes without their 00
@@ -92,3 +94,18 @@ pub record IsMessage (most : ℕ) (m : Message) : Type 0 where
 pub record AreMessages (limits : Limits) (ms : List Message) : Type 0 where
   pub each : AllByRecursion (IsMessage limits.text) ms
   pub room : length ms ≤ limits.messages
+
+-- names and subject of their sizes, and a text, all without 00
+pub record AreStrings (to_name from_name subject text : List ℕ) : Type 0 where
+  pub to_name_fits : IsString 35 to_name
+  pub from_name_fits : IsString 35 from_name
+  pub subject_fits : IsString 71 subject
+  pub text_fits : IsString (length text) text
+
+-- the field holds 00 or is too long, and those before it are in order
+abbrev pub IsFirstBad : List ℕ → List ℕ → List ℕ → List ℕ → Field → Type 0
+IsFirstBad to_name from_name subject text field.ToName = ¬ IsString 35 to_name
+IsFirstBad to_name from_name subject text field.FromName = IsString 35 to_name × ¬ IsString 35 from_name
+IsFirstBad to_name from_name subject text field.Subject = IsString 35 to_name × IsString 35 from_name × ¬ IsString 71 subject
+IsFirstBad to_name from_name subject text field.Text =
+    IsString 35 to_name × IsString 35 from_name × IsString 71 subject × ¬ IsString (length text) text

@@ -1,3 +1,4 @@
+use std::alloc::{AllocError, AllocFailed};
 use std::fmt;
 use thiserror::Error;
 
@@ -59,4 +60,26 @@ pub enum PacketFault {
     /// The field holds 00 or is too long.
     #[error("P11 BadField {0}")]
     BadField(Field),
+}
+
+impl From<AllocError> for PacketFault {
+    ghost use Rattle.std.specs.Prelude.{◌≡◌};
+    ghost use Rattle.echo_packet.specs.declared.fault.PacketFault.TheVariants as fault;
+
+    ghost from_gives = { λ _ e. e ≡ fault.Memory };
+
+    fn from(_error: AllocError) -> PacketFault {
+        PacketFault::Memory
+    }
+}
+
+impl<T: Drop> From<AllocFailed<T>> for PacketFault {
+    ghost use Rattle.std.specs.Prelude.{◌≡◌};
+    ghost use Rattle.echo_packet.specs.declared.fault.PacketFault.TheVariants as fault;
+
+    ghost from_gives = { λ _ e. e ≡ fault.Memory };
+
+    fn from(_failed: AllocFailed<T>) -> PacketFault {
+        PacketFault::Memory
+    }
 }

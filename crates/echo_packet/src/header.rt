@@ -30,7 +30,7 @@ pub struct Header {
 }
 
 /// The two-byte number at a place.
-fn number_at(bytes: &[u8], at: usize) -> u16
+pub(crate) fn number_at(bytes: &[u8], at: usize) -> u16
     requires { at + 2 ≤ length bytes.now }
     ensures { result ≡ number_at at bytes.now }
 {

@@ -1,10 +1,16 @@
 //! What holds of the definitions. Each law is the contract of a function that does nothing.
 
-ghost use Rattle.std.specs.Prelude.{◌≡◌, ℕ, ◌≤◌, List, ◌++◌, length, take};
+ghost use Rattle.std.specs.Prelude.{◌≡◌, ℕ, ◌+◌, ◌<◌, ◌≤◌, ◌⊎◌, List, [], ◌∷◌, ◌++◌, length, take, Ok};
 ghost use Rattle.echo_packet.specs.declared.header.Header.{Header};
-ghost use Rattle.echo_packet.specs.Header.{AreBytes, IsHeader, header_bytes, header_of, number_at};
-ghost use Rattle.echo_packet.specs.Answer.{Answer, Describes};
 ghost use Rattle.echo_packet.specs.declared.limits.Limits.{Limits};
+ghost use Rattle.echo_packet.specs.declared.fault.PacketFault.{PacketFault};
+ghost use Rattle.echo_packet.specs.Header.{AreBytes, IsHeader, header_bytes, header_of, number_at, word};
+ghost use Rattle.echo_packet.specs.Message.{Message, AreMessages, IsMessage, message_bytes};
+ghost use Rattle.echo_packet.specs.Packet.{packet_bytes};
+ghost use Rattle.echo_packet.specs.Fault.{FaultOf, place_of};
+ghost use Rattle.echo_packet.specs.Answer.{Answer, Describes};
+ghost use Rattle.echo_packet.specs.Next.{NextFault};
+ghost use Rattle.echo_packet.specs.Run.{IsOfCall, SoFar};
 
 /// A header is undone by its bytes, and its bytes by the header that they give.
 pub fn header_laws()
@@ -12,8 +18,32 @@ pub fn header_laws()
     ensures written_again { (bs : List ℕ) → AreBytes bs → 58 ≤ length bs → number_at 18 bs ≡ 2 → header_bytes (header_of bs) ≡ take 58 bs }
 {}
 
-/// Bytes are a packet or have one fault, and only one of these holds, where no message is allowed.
+/// Bytes are a packet within the limits or have one fault, and only one of these holds.
 pub fn one_answer()
-    ensures { (limits : Limits) (bs : List ℕ) → limits.messages ≡ 0 → AreBytes bs →
+    ensures { (limits : Limits) (bs : List ℕ) → AreBytes bs →
         (answer : Answer) × Describes limits bs answer × ((other : Answer) → Describes limits bs other → other ≡ answer) }
+{}
+
+/// A written packet is read back, whatever follows it: its bytes are described by its header, its
+/// messages and their length, where these keep the limits.
+pub fn written_packet_reads_back()
+    ensures { (limits : Limits) (h : Header) (ms : List Message) (rest : List ℕ) → IsHeader h → AreMessages limits ms →
+        Describes limits (packet_bytes h ms ++ rest) (Ok (h, ms, length (packet_bytes h ms))) }
+{}
+
+/// A packet that is read message by message is what its bytes are: the calls of `PacketReader` go
+/// from one `SoFar` to the next, and end in a packet or in the fault of these bytes.
+pub fn whole_runs()
+    // `open` read the header.
+    ensures opens { (limits : Limits) (bs : List ℕ) (h : Header) (rest : List ℕ) → IsHeader h → bs ≡ header_bytes h ++ rest → SoFar limits bs h [] rest 0 58 }
+    // `next` gave a message.
+    ensures gives { (limits : Limits) (bs : List ℕ) (h : Header) (ms : List Message) (left rest : List ℕ) (given at : ℕ) (m : Message) → SoFar limits bs h ms left given at →
+        left ≡ message_bytes m ++ rest → IsMessage limits.text m → given < limits.messages →
+        SoFar limits bs h (ms ++ m ∷ []) rest (given + 1) (place_of (at + length (message_bytes m))) }
+    // `next` met the terminator.
+    ensures ends { (limits : Limits) (bs : List ℕ) (h : Header) (ms : List Message) (left rest : List ℕ) (given at : ℕ) → SoFar limits bs h ms left given at →
+        left ≡ word 0 ++ rest → Describes limits bs (Ok (h, ms, length (packet_bytes h ms))) }
+    // `next` answered a fault: of the bytes, or of the device or of memory.
+    ensures fails { (limits : Limits) (bs : List ℕ) (h : Header) (ms : List Message) (left : List ℕ) (given at : ℕ) (f : PacketFault) → SoFar limits bs h ms left given at →
+        NextFault limits given at left f → FaultOf bs limits ms f ⊎ IsOfCall f }
 {}

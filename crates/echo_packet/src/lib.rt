@@ -1,25 +1,35 @@
 //! FidoNet packets of type 2 (FTS-0001).
 //!
 //! The contract for the layer above: `read_packet` accepts exactly the packets and answers how many
-//! bytes theirs are; else it answers the one fault that the input has, with its place.
+//! bytes theirs are; else it answers the one fault that the input has, with its place. A
+//! `PacketReader` does so over any source, message by message, and takes no byte beyond them.
 //!
 //! Modules in reading order: `header` (the 58 bytes in front), `packed` (one message), `limits`,
-//! `fault` (what may be wrong, and where), `reading`, and `laws` (what holds of the definitions).
+//! `fault` (what may be wrong, and where), `field` (one field from a source), `message` (one
+//! message), `reader` (a packet, message by message), `reading` (a packet in a slice), `encoding` and
+//! `writer` (a packet is written), and `laws` (what holds of the definitions).
 #![tactic(auto)]
 
+mod encoding;
 mod fault;
+mod field;
 mod header;
 mod laws;
 mod limits;
+mod message;
 mod packed;
+mod reader;
 mod reading;
+mod writer;
 
 pub use fault::{Field, PacketFault};
 pub use header::Header;
-pub use laws::{header_laws, one_answer};
+pub use laws::{header_laws, one_answer, whole_runs, written_packet_reads_back};
 pub use limits::Limits;
 pub use packed::Packed;
+pub use reader::PacketReader;
 pub use reading::{read_header, read_packet};
+pub use writer::PacketWriter;
 
 #[cfg(test)]
 mod tests;

@@ -1,5 +1,10 @@
-ghost use Rattle.echo_packet.specs.Message.{Message};
+ghost use Rattle.std.specs.Prelude.{◌≡◌, ◌↔◌, length, IsTrue, IfOk, IfErr, IfSome, IsNone, Err, Some};
+ghost use Rattle.echo_packet.specs.Header.{AreBytes};
+ghost use Rattle.echo_packet.specs.Message.{Message, IsMessage, IsString, AreStrings, IsFirstBad};
+ghost use Rattle.echo_packet.specs.declared.fault.Field.{Field};
+ghost use Rattle.echo_packet.specs.declared.fault.PacketFault.TheVariants.{BadField};
 
+use crate::fault::{Field, PacketFault};
 use std::marker::Model;
 
 /// A packed message: three strings and a text without 00, of which the names have at most 35 bytes
@@ -20,19 +25,187 @@ pub struct Packed {
 }
 
 impl Model for Packed {
+    ghost use Rattle.std.specs.Prelude.{length};
+    ghost use Rattle.echo_packet.specs.Message.{Message, IsMessage};
+
     ghost Value = { Message };
 
-    ghost view = { λ p. record {
-      orig_node = p.orig_node;
-      dest_node = p.dest_node;
-      orig_net = p.orig_net;
-      dest_net = p.dest_net;
-      attribute = p.attribute;
-      cost = p.cost;
-      date = p.date;
-      to_name = p.to_name.items;
-      from_name = p.from_name.items;
-      subject = p.subject.items;
-      text = p.text.items;
-    } };
+    ghost use Rattle.echo_packet.specs.Packed.{message_of};
+
+    ghost view = { message_of };
+
+    ghost invariant = { λ p. IsMessage (length p.text.items) (message_of p) };
+}
+
+/// The message of these parts.
+#[allow(clippy::too_many_arguments)]
+pub(crate) fn from_parts(
+    orig_node: u16,
+    dest_node: u16,
+    orig_net: u16,
+    dest_net: u16,
+    attribute: u16,
+    cost: u16,
+    date: [u8; 20],
+    to_name: Vec<u8>,
+    from_name: Vec<u8>,
+    subject: Vec<u8>,
+    text: Vec<u8>,
+) -> Packed
+    requires date { AreBytes date }
+    requires to_name { IsString 35 to_name.items }
+    requires from_name { IsString 35 from_name.items }
+    requires subject { IsString 71 subject.items }
+    requires text { IsString (length text.items) text.items }
+    ensures { result ≡ record { orig_node = orig_node; dest_node = dest_node; orig_net = orig_net; dest_net = dest_net; attribute = attribute; cost = cost; date = date; to_name = to_name.items; from_name = from_name.items; subject = subject.items; text = text.items } }
+{
+    Packed {
+        orig_node,
+        dest_node,
+        orig_net,
+        dest_net,
+        attribute,
+        cost,
+        date,
+        to_name,
+        from_name,
+        subject,
+        text,
+    }
+}
+
+fn is_string(bytes: &[u8], most: usize) -> bool
+    ensures { IsTrue result ↔ IsString most bytes.now }
+{
+    bytes.len() <= most && bytes.iter().all(|b| *b != 0)
+}
+
+fn first_bad(to_name: &[u8], from_name: &[u8], subject: &[u8], text: &[u8]) -> Option<Field>
+    ensures found { IfSome result (IsFirstBad to_name.now from_name.now subject.now text.now) }
+    ensures none { IsNone result → AreStrings to_name.now from_name.now subject.now text.now }
+{
+    if !is_string(to_name, 35) {
+        Some(Field::ToName)
+    } else if !is_string(from_name, 35) {
+        Some(Field::FromName)
+    } else if !is_string(subject, 71) {
+        Some(Field::Subject)
+    } else if !is_string(text, text.len()) {
+        Some(Field::Text)
+    } else {
+        None
+    }
+}
+
+impl Packed {
+    /// The message of these parts: the two systems, the attributes and the cost, the date, and the
+    /// strings without their 00.
+    ///
+    /// It is `BadField` of the first of the names, the subject and the text that holds 00 or is too
+    /// long: a name may have 35 bytes, a subject 71, a text any number.
+    #[allow(clippy::too_many_arguments)]
+    pub fn new(
+        orig_node: u16,
+        dest_node: u16,
+        orig_net: u16,
+        dest_net: u16,
+        attribute: u16,
+        cost: u16,
+        date: [u8; 20],
+        to_name: Vec<u8>,
+        from_name: Vec<u8>,
+        subject: Vec<u8>,
+        text: Vec<u8>,
+    ) -> Result<Packed, PacketFault>
+        ensures made { IfOk result (λ p. p ≡ record { orig_node = orig_node; dest_node = dest_node; orig_net = orig_net; dest_net = dest_net; attribute = attribute; cost = cost; date = date; to_name = to_name.items; from_name = from_name.items; subject = subject.items; text = text.items }) }
+        ensures message { IfOk result (λ p. IsMessage (length p.text) p) }
+        ensures refused { (field : Field) → (result ≡ Err (BadField field)) ↔ IsFirstBad to_name.items from_name.items subject.items text.items field }
+        ensures only_refused { IfErr result (λ fault. (field : Field) × (fault ≡ BadField field)) }
+    {
+        match first_bad(&to_name, &from_name, &subject, &text) {
+            Some(field) => Err(PacketFault::BadField(field)),
+            None => Ok(from_parts(
+                orig_node, dest_node, orig_net, dest_net, attribute, cost, date, to_name,
+                from_name, subject, text,
+            )),
+        }
+    }
+
+    /// The node of the system that sent the packet.
+    pub fn orig_node(&self) -> u16
+        ensures { result ≡ self.now.orig_node }
+    {
+        self.orig_node
+    }
+
+    /// The node of the system that the packet is for.
+    pub fn dest_node(&self) -> u16
+        ensures { result ≡ self.now.dest_node }
+    {
+        self.dest_node
+    }
+
+    /// The net of the system that sent the packet.
+    pub fn orig_net(&self) -> u16
+        ensures { result ≡ self.now.orig_net }
+    {
+        self.orig_net
+    }
+
+    /// The net of the system that the packet is for.
+    pub fn dest_net(&self) -> u16
+        ensures { result ≡ self.now.dest_net }
+    {
+        self.dest_net
+    }
+
+    /// The AttributeWord.
+    pub fn attribute(&self) -> u16
+        ensures { result ≡ self.now.attribute }
+    {
+        self.attribute
+    }
+
+    /// The cost.
+    pub fn cost(&self) -> u16
+        ensures { result ≡ self.now.cost }
+    {
+        self.cost
+    }
+
+    /// DateTime, as it stands in the packet.
+    pub fn date(&self) -> &[u8; 20]
+        ensures { result.now ≡ self.now.date }
+    {
+        &self.date
+    }
+
+    /// toUserName, without its 00.
+    pub fn to_name(&self) -> &[u8]
+        ensures { result.now ≡ self.now.to_name }
+    {
+        &self.to_name
+    }
+
+    /// fromUserName, without its 00.
+    pub fn from_name(&self) -> &[u8]
+        ensures { result.now ≡ self.now.from_name }
+    {
+        &self.from_name
+    }
+
+    /// The subject, without its 00.
+    pub fn subject(&self) -> &[u8]
+        ensures { result.now ≡ self.now.subject }
+    {
+        &self.subject
+    }
+
+    /// The text, without its 00.
+    pub fn text(&self) -> &[u8]
+        ensures text { result.now ≡ self.now.text }
+        ensures message { IsMessage (length self.now.text) self.now }
+    {
+        &self.text
+    }
 }

@@ -1,6 +1,9 @@
 use super::*;
 use std::test::Fail;
 
+mod reading;
+mod writing;
+
 /// A packet of 60 bytes without messages, from 1:10/1 to 1:10/2, and five bytes more.
 const SIXTY: [u8; 65] = [
     0x01, 0x00, 0x02, 0x00, 0xea, 0x07, 0x06, 0x00, 0x03, 0x00, 0x0c, 0x00, 0x22, 0x00, 0x38, 0x00,
@@ -10,7 +13,7 @@ const SIXTY: [u8; 65] = [
     0x6f,
 ];
 
-/// What callers allow for now.
+/// No messages.
 const BARE: Limits = Limits {
     text: 1000,
     messages: 0,

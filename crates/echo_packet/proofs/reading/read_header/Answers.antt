@@ -1,5 +1,5 @@
 use Rattle.std.proofs.Common.{arith}
-use Rattle.echo_packet.proofs.Bare.{header_found}
+use Rattle.echo_packet.proofs.Fronts.{header_found}
 use Rattle.echo_packet.proofs.reading.read_header.Goals as goal
 
 pub returns-clause-found : goal.returns-clause-found

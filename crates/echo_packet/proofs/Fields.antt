@@ -1,0 +1,265 @@
+-- The fields of a message that came so far, and the fault of the next one.
+use Rattle.std.proofs.Common.{◌≡◌, ◌≢◌, ℕ, zero, suc, replicate, ◌+◌, ◌^◌, ◌<◌, ◌≤◌, min, List, [], ◌∷◌, ◌++◌, Option, None, Some, IfSome, Result, Err, length, take, drop, refl, sym, ap, ◌∙◌, subst, arith}
+use Rattle.std.proofs.lemmas.List.{length-append, take_at, append-nil, take_all}
+use Rattle.std.specs.Prelude.{IfErr}
+use Rattle.std.specs.Io.KnownBytes.{Consumes}
+use Rattle.std.proofs.KnownBytes.{Consumes-nil, Consumes-trans}
+use Rattle.echo_packet.specs.declared.limits.Limits.{Limits}
+use Rattle.echo_packet.specs.declared.fault.PacketFault.{PacketFault}
+use Rattle.echo_packet.specs.declared.fault.PacketFault.TheVariants as fault
+use Rattle.echo_packet.specs.Header.{AreBytes, word, number_at}
+use Rattle.echo_packet.specs.Message.{Message, Part, Number, Numbers, DateTime, ToName, FromName, Subject, Text, IsString, IsMessage, before, ended, numbers, message_bytes}
+use Rattle.echo_packet.specs.Fault.{IsCut, IsLongField, IsLongText, IsTooLong, place_of}
+use Rattle.echo_packet.specs.Field.{FieldFault, FixedFault, NameFault, TextFault, IsShort, IsOpen, Never, Begin, TakesMessage}
+use Rattle.echo_packet.specs.Next.{AtPart, IsUnfinished, NextFault}
+use Rattle.echo_packet.proofs.Headers.{word-number, word_then, number_at-fits}
+
+-- a message of these six numbers, its other fields empty
+abbrev pub numbered : List ℕ → Message
+numbered ns = record {
+  orig_node = number_at 0 ns;
+  dest_node = number_at 2 ns;
+  orig_net = number_at 4 ns;
+  dest_net = number_at 6 ns;
+  attribute = number_at 8 ns;
+  cost = number_at 10 ns;
+  date = replicate 20 0;
+  to_name = [];
+  from_name = [];
+  subject = [];
+  text = [];
+}
+
+-- a list of zeros
+zeros_are_bytes : (n : ℕ) → AreBytes (replicate n 0)
+zeros_are_bytes zero i = omega arith
+zeros_are_bytes (suc n) zero = omega arith
+zeros_are_bytes (suc n) (suc i) = zeros_are_bytes n i
+
+pub empty_string : (most : ℕ) → IsString most []
+empty_string most = record { bytes = λ i. omega arith; no_zero = λ i lt. absurd (omega arith); room = omega arith }
+
+pub numbered-fits : (most : ℕ) (ns : List ℕ) → AreBytes ns → IsMessage most (numbered ns)
+numbered-fits most ns bytes = record {
+  orig_node = number_at-fits 0 ns bytes;
+  dest_node = number_at-fits 2 ns bytes;
+  orig_net = number_at-fits 4 ns bytes;
+  dest_net = number_at-fits 6 ns bytes;
+  attribute = number_at-fits 8 ns bytes;
+  cost = number_at-fits 10 ns bytes;
+  date_len = refl;
+  date = zeros_are_bytes 20;
+  to_name = empty_string 35;
+  from_name = empty_string 35;
+  subject = empty_string 71;
+  text = empty_string most;
+}
+
+-- the message with other fields, each of its size
+with_fields : (most : ℕ) (m : Message) (d to_name from_name subject text : List ℕ) → IsMessage most m → length d ≡ 20 → AreBytes d → IsString 35 to_name
+    → IsString 35 from_name → IsString 71 subject → IsString most text
+    → IsMessage most (record m { date = d; to_name = to_name; from_name = from_name; subject = subject; text = text })
+with_fields most m d to_name from_name subject text h size bytes to_fits from_fits subject_fits text_fits = record {
+  orig_node = h.orig_node;
+  dest_node = h.dest_node;
+  orig_net = h.orig_net;
+  dest_net = h.dest_net;
+  attribute = h.attribute;
+  cost = h.cost;
+  date_len = size;
+  date = bytes;
+  to_name = to_fits;
+  from_name = from_fits;
+  subject = subject_fits;
+  text = text_fits;
+}
+
+-- six numbers are written as they were read
+pub numbers-numbered : (ns : List ℕ) → AreBytes ns → length ns ≡ 12 → numbers (numbered ns) ≡ ns
+unfolding numbers
+numbers-numbered ns bytes size =
+    let last : take 2 (drop 10 ns) ≡ word (number_at 10 ns) = word-number 10 ns bytes (omega arith) in
+    let all = word_then 0 10 ns _ bytes (omega arith) (word_then 2 8 ns _ bytes (omega arith) (word_then 4 6 ns _ bytes (omega arith)
+    (word_then 6 4 ns _ bytes (omega arith) (word_then 8 2 ns _ bytes (omega arith) last)))) in
+    sym all ∙ take_all 12 ns (omega arith)
+
+-- the fields of a message before this one came from the source, up to the place
+pub record HasFields (most start : ℕ) (old new : Option (List ℕ)) (field : Part) (m : Message) (at : ℕ) : Type 0 where
+  pub came : List ℕ
+  pub is : before field m ≡ word 2 ++ came
+  pub fits : IsMessage most m
+  pub took : Consumes old new came
+  pub place : at ≡ place_of (start + 2 + length came)
+
+-- the place moves past a field
+further : (s p q : ℕ) (t u : List ℕ) → p ≡ place_of (s + length t) → q ≡ place_of (p + length u) → q ≡ place_of (s + length (t ++ u))
+further s p q t u here there = omega (arith, length-append t u)
+
+pub has-none : (most start p : ℕ) (a : Option (List ℕ)) → p ≡ place_of (start + 2) → HasFields most start a a Numbers (numbered []) p
+has-none most start p a here = record {
+  came = [];
+  is = refl;
+  fits = numbered-fits most [] (λ i. omega arith);
+  took = Consumes-nil a;
+  place = omega arith;
+}
+
+pub has-numbers : (most start p q : ℕ) (a b : Option (List ℕ)) (ns : List ℕ) → p ≡ place_of (start + 2) → AreBytes ns → length ns ≡ 12
+    → Consumes a b ns → q ≡ place_of (p + length ns) → HasFields most start a b DateTime (numbered ns) q
+has-numbers most start p q a b ns here bytes size took there = record {
+  came = ns;
+  is = ap (λ t. word 2 ++ t) (numbers-numbered ns bytes size);
+  fits = numbered-fits most ns bytes;
+  took = took;
+  place = omega arith;
+}
+
+pub has-date : (most start p q : ℕ) (a b c : Option (List ℕ)) (m : Message) (d : List ℕ) → HasFields most start a b DateTime m p
+    → AreBytes d → length d ≡ 20 → Consumes b c d → q ≡ place_of (p + length d) → HasFields most start a c ToName (record m { date = d }) q
+unfolding numbers
+has-date most start p q a b c m d h bytes size took there = record {
+  came = h.came ++ d;
+  is = ap (λ t. t ++ d) h.is;
+  fits = let f = h.fits in with_fields most m d m.to_name m.from_name m.subject m.text f size bytes f.to_name f.from_name f.subject f.text;
+  took = Consumes-trans a b c h.came d h.took took;
+  place = further (start + 2) p q h.came d h.place there;
+}
+
+pub has-to_name : (most start p q : ℕ) (a b c : Option (List ℕ)) (m : Message) (s : List ℕ) → HasFields most start a b ToName m p
+    → IsString 35 s → Consumes b c (ended s) → q ≡ place_of (p + length (ended s)) → HasFields most start a c FromName (record m { to_name = s }) q
+unfolding numbers
+has-to_name most start p q a b c m s h fits took there = record {
+  came = h.came ++ ended s;
+  is = ap (λ t. t ++ ended s) h.is;
+  fits = let f = h.fits in with_fields most m m.date s m.from_name m.subject m.text f f.date_len f.date fits f.from_name f.subject f.text;
+  took = Consumes-trans a b c h.came (ended s) h.took took;
+  place = further (start + 2) p q h.came (ended s) h.place there;
+}
+
+pub has-from_name : (most start p q : ℕ) (a b c : Option (List ℕ)) (m : Message) (s : List ℕ) → HasFields most start a b FromName m p
+    → IsString 35 s → Consumes b c (ended s) → q ≡ place_of (p + length (ended s)) → HasFields most start a c Subject (record m { from_name = s }) q
+unfolding numbers
+has-from_name most start p q a b c m s h fits took there = record {
+  came = h.came ++ ended s;
+  is = ap (λ t. t ++ ended s) h.is;
+  fits = let f = h.fits in with_fields most m m.date m.to_name s m.subject m.text f f.date_len f.date f.to_name fits f.subject f.text;
+  took = Consumes-trans a b c h.came (ended s) h.took took;
+  place = further (start + 2) p q h.came (ended s) h.place there;
+}
+
+pub has-subject : (most start p q : ℕ) (a b c : Option (List ℕ)) (m : Message) (s : List ℕ) → HasFields most start a b Subject m p
+    → IsString 71 s → Consumes b c (ended s) → q ≡ place_of (p + length (ended s)) → HasFields most start a c Text (record m { subject = s }) q
+unfolding numbers
+has-subject most start p q a b c m s h fits took there = record {
+  came = h.came ++ ended s;
+  is = ap (λ t. t ++ ended s) h.is;
+  fits = let f = h.fits in with_fields most m m.date m.to_name m.from_name s m.text f f.date_len f.date f.to_name f.from_name fits f.text;
+  took = Consumes-trans a b c h.came (ended s) h.took took;
+  place = further (start + 2) p q h.came (ended s) h.place there;
+}
+
+pub has-text : (most start p q : ℕ) (a b c : Option (List ℕ)) (m : Message) (s : List ℕ) → HasFields most start a b Text m p
+    → IsString most s → Consumes b c (ended s) → q ≡ place_of (p + length (ended s)) → TakesMessage most start a c (record m { text = s }) q
+unfolding numbers
+has-text most start p q a b c m s h fits took there =
+    let bytes = h.came ++ ended s in
+    let whole : message_bytes (record m { text = s }) ≡ word 2 ++ bytes = ap (λ t. t ++ ended s) h.is in
+    let past : q ≡ place_of (start + 2 + length bytes) = further (start + 2) p q h.came (ended s) h.place there in
+    record {
+      came = bytes;
+      is = whole;
+      fits = let f = h.fits in with_fields most m m.date m.to_name m.from_name m.subject s f f.date_len f.date f.to_name f.from_name f.subject fits;
+      took = Consumes-trans a b c h.came (ended s) h.took took;
+      place = omega (arith, ap length whole);
+    }
+
+-- what is so of what is left is told of what was there
+pub Consumes-known : (a b : Option (List ℕ)) (t : List ℕ) (P Q : List ℕ → Type 0) → Consumes a b t → IfSome b P
+    → ((bs r : List ℕ) → bs ≡ t ++ r → P r → Q bs) → IfSome a Q
+Consumes-known None b t P Q p k h = tt
+Consumes-known (Some x) None t P Q p k h = absurd p
+Consumes-known (Some x) (Some y) t P Q p k h = h x y p k
+
+-- what is so of the bytes that came, whatever is left, is so of those that were there
+pub Consumes-front : (a b : Option (List ℕ)) (t : List ℕ) (Q : List ℕ → Type 0) → Consumes a b t → ((r : List ℕ) → Q (t ++ r)) → IfSome a Q
+Consumes-front None b t Q p h = tt
+Consumes-front (Some x) None t Q p h = absurd p
+Consumes-front (Some x) (Some y) t Q p h = subst Q (sym p) (h y)
+
+-- what was read of a field that is wrong, as the definition of faults has it
+pub record Tells (limits : Limits) (field : Part) (Cut Long LongText : List ℕ → Type 0) : Type 0 where
+  pub cut : (r : List ℕ) → Cut r → IsCut limits field r
+  pub long : (r : List ℕ) → Long r → IsLongField field r
+  pub long_text : (r : List ℕ) → LongText r → IsLongText limits field r
+  pub later : field ≢ Number
+
+at-part : (limits : Limits) (given start p : ℕ) (a b : Option (List ℕ)) (field : Part) (m : Message) (at : ℕ) (Wrong : Part → List ℕ → Type 0) (bs r : List ℕ)
+    (h : HasFields limits.text start a b field m p) → given < limits.messages → bs ≡ h.came ++ r → at ≡ p → Wrong field r
+    → AtPart limits given start (word 2 ++ bs) at Wrong
+at-part limits given start p a b field m at Wrong bs r h more split here wrong = record {
+  one_more = m;
+  field = field;
+  rest = r;
+  is_message = h.fits;
+  room = λ later. more;
+  bytes = ap (λ t. word 2 ++ t) split ∙ ap (λ t. t ++ r) (sym h.is);
+  place = here ∙ h.place ∙ (let size = ap length h.is in omega arith);
+  wrong = wrong;
+}
+
+told : (limits : Limits) (given start p : ℕ) (a b : Option (List ℕ)) (field : Part) (m : Message) (Cut Long LongText : List ℕ → Type 0) (bs r : List ℕ) (f : PacketFault)
+    (h : HasFields limits.text start a b field m p) → Tells limits field Cut Long LongText → given < limits.messages → bs ≡ h.came ++ r
+    → FieldFault Cut Long LongText (Begin Cut) p r f → NextFault limits given start (word 2 ++ bs) f
+told limits given start p a b field m Cut Long LongText bs r (fault.Truncated at) h tells more split is =
+    at-part limits given start p a b field m at (IsCut limits) bs r h more split is.0 (tells.cut r is.1)
+told limits given start p a b field m Cut Long LongText bs r (fault.FieldTooLong at) h tells more split is =
+    at-part limits given start p a b field m at IsLongField bs r h more split is.0 (tells.long r is.1)
+told limits given start p a b field m Cut Long LongText bs r (fault.TextTooLong at) h tells more split is =
+    at-part limits given start p a b field m at (IsLongText limits) bs r h more split is.0 (tells.long_text r is.1)
+told limits given start p a b field m Cut Long LongText bs r (fault.Read at) h tells more split is =
+    at-part limits given start p a b field m at (IsUnfinished limits) bs r h more split is.0 (is.1.0, is.1.1, tells.cut is.1.0 is.1.2)
+told limits given start p a b field m Cut Long LongText bs r fault.Memory h tells more split is = tt
+told limits given start p a b field m Cut Long LongText bs r (fault.NotType2 at) h tells more split is = absurd is
+told limits given start p a b field m Cut Long LongText bs r (fault.NotMessage at) h tells more split is = absurd is
+told limits given start p a b field m Cut Long LongText bs r fault.Stopped h tells more split is = absurd is
+told limits given start p a b field m Cut Long LongText bs r (fault.Write n) h tells more split is = absurd is
+told limits given start p a b field m Cut Long LongText bs r (fault.TooManyMessages at) h tells more split is = absurd is
+told limits given start p a b field m Cut Long LongText bs r (fault.BadField n) h tells more split is = absurd is
+
+-- the next field of a message is wrong
+pub next-field : (limits : Limits) (given start p : ℕ) (a b : Option (List ℕ)) (field : Part) (m : Message) (Cut Long LongText : List ℕ → Type 0) (f : PacketFault)
+    (h : HasFields limits.text start a b field m p) → Tells limits field Cut Long LongText → given < limits.messages
+    → IfSome b (λ r. FieldFault Cut Long LongText (Begin Cut) p r f) → IfSome a (λ bs. NextFault limits given start (word 2 ++ bs) f)
+next-field limits given start p a b field m Cut Long LongText f h tells more is =
+    Consumes-known a b h.came (λ r. FieldFault Cut Long LongText (Begin Cut) p r f) (λ bs. NextFault limits given start (word 2 ++ bs) f)
+    h.took is (λ bs r split wrong. told limits given start p a b field m Cut Long LongText bs r f h tells more split wrong)
+
+-- what an error says, where the call answered it
+pub at_exit : {A : Type 0} (a : Option (List ℕ)) (r : Result A PacketFault) (y : PacketFault) (Q : List ℕ → PacketFault → Type 0) → r ≡ Err y
+    → IfSome a (λ bs. Q bs y) → IfSome a (λ bs. IfErr r (Q bs))
+at_exit a r y Q e h = subst (λ x. IfSome a (λ bs. IfErr x (Q bs))) (sym e) h
+
+pub tells-numbers : (limits : Limits) → Tells limits Numbers (IsShort 12) Never Never
+tells-numbers limits = record { cut = λ r h. h; long = λ r h. absurd h; long_text = λ r h. absurd h; later = λ e. cc }
+
+pub tells-date : (limits : Limits) → Tells limits DateTime (IsShort 20) Never Never
+tells-date limits = record { cut = λ r h. h; long = λ r h. absurd h; long_text = λ r h. absurd h; later = λ e. cc }
+
+pub tells-to_name : (limits : Limits) → Tells limits ToName (IsOpen 35) (IsTooLong 35) Never
+tells-to_name limits = record { cut = λ r h. h; long = λ r h. h; long_text = λ r h. absurd h; later = λ e. cc }
+
+pub tells-from_name : (limits : Limits) → Tells limits FromName (IsOpen 35) (IsTooLong 35) Never
+tells-from_name limits = record { cut = λ r h. h; long = λ r h. h; long_text = λ r h. absurd h; later = λ e. cc }
+
+pub tells-subject : (limits : Limits) → Tells limits Subject (IsOpen 71) (IsTooLong 71) Never
+tells-subject limits = record { cut = λ r h. h; long = λ r h. h; long_text = λ r h. absurd h; later = λ e. cc }
+
+pub tells-text : (limits : Limits) → Tells limits Text (IsOpen limits.text) Never (IsTooLong limits.text)
+tells-text limits = record { cut = λ r h. h; long = λ r h. absurd h; long_text = λ r h. (refl, h); later = λ e. cc }
+
+-- the message that was made of the fields
+pub made_of : (ns d to_name from_name subject text : List ℕ) (a b e f h i : ℕ) (m : Message)
+    → m ≡ record { orig_node = a; dest_node = b; orig_net = e; dest_net = f; attribute = h; cost = i; date = d; to_name = to_name; from_name = from_name; subject = subject; text = text }
+    → a ≡ number_at 0 ns → b ≡ number_at 2 ns → e ≡ number_at 4 ns → f ≡ number_at 6 ns → h ≡ number_at 8 ns → i ≡ number_at 10 ns
+    → record (numbered ns) { date = d; to_name = to_name; from_name = from_name; subject = subject; text = text } ≡ m
+made_of ns d to_name from_name subject text a b e f h i m is a_is b_is e_is f_is h_is i_is = sym (is ∙ (rw (a_is, b_is, e_is, f_is, h_is, i_is) refl))

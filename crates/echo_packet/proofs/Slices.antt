@@ -1,0 +1,104 @@
+-- A packet read from a slice, which never fails.
+use Rattle.std.proofs.Common.{◌≡◌, ◌≢◌, ℕ, ◌+◌, ◌^◌, ◌<◌, ◌≤◌, ◌⊎◌, min, List, [], ◌∷◌, ◌++◌, Some, None, Result, Ok, Err, length, take, refl, sym, ap, ◌∙◌, subst, inl, inr, arith}
+use Rattle.std.proofs.lemmas.List.{length-append}
+use Rattle.echo_addr.specs.Device.{Failed}
+use Rattle.echo_packet.specs.declared.header.Header.{Header}
+use Rattle.echo_packet.specs.declared.limits.Limits.{Limits}
+use Rattle.echo_packet.specs.declared.fault.PacketFault.{PacketFault}
+use Rattle.echo_packet.specs.declared.fault.PacketFault.TheVariants as fault
+use Rattle.echo_packet.specs.declared.reader.Stage.{Stage}
+use Rattle.echo_packet.specs.declared.reader.Stage.TheVariants as stage
+use Rattle.echo_packet.specs.Header.{header_bytes, IsHeader, word}
+use Rattle.echo_packet.specs.Message.{Message, IsMessage, message_bytes, messages_bytes}
+use Rattle.echo_packet.specs.Packet.{packet_bytes}
+use Rattle.echo_packet.specs.Fault.{FaultOf, place_of}
+use Rattle.echo_packet.specs.Answer.{Answer, Describes}
+use Rattle.echo_packet.specs.Next.{CountsFailures, NextFault}
+use Rattle.echo_packet.specs.Reader.{FrontFault}
+use Rattle.echo_packet.specs.Run.{SoFar, IsOfCall}
+use Rattle.echo_packet.proofs.Runs.{run-opens, run-gives, run-ends, run-fails, length-packet_bytes}
+
+-- the messages that were given, while messages or the terminator are still to come
+pub record HasGiven (limits : Limits) (bs : List ℕ) (ms : List Message) (rest : List ℕ) (header : Header) (own : Limits) (given at : ℕ) (next : Stage) : Type 0 where
+  pub so_far : SoFar limits bs header ms rest given at
+  pub same : own ≡ limits
+  pub reading : next ≡ stage.Reading
+
+-- memory was refused, or this is so of the bytes
+abbrev pub IsJudged : Limits → List ℕ → Answer → Type 0
+IsJudged limits bs a = (a ≡ Err fault.Memory) ⊎ Describes limits bs a
+
+never_failed : Failed 0 0 → ⊥
+never_failed (inl less) = omega arith
+never_failed (inr most) = omega (arith, most.0)
+
+-- what the fault of a call on a slice is
+judge : (A : Type 0) (limits : Limits) (bs : List ℕ) (ms : List Message) (f : PacketFault) → FaultOf bs limits ms f ⊎ IsOfCall f → CountsFailures {A = A} (Err f) 0 0
+    → IsJudged limits bs (Err f)
+judge A limits bs ms f (inl wrong) device = inr (ms, wrong)
+judge A limits bs ms (fault.Read at) (inr call) device = absurd (never_failed device)
+judge A limits bs ms fault.Memory (inr call) device = inl refl
+judge A limits bs ms (fault.Truncated at) (inr call) device = absurd call
+judge A limits bs ms (fault.NotType2 at) (inr call) device = absurd call
+judge A limits bs ms (fault.NotMessage at) (inr call) device = absurd call
+judge A limits bs ms (fault.FieldTooLong at) (inr call) device = absurd call
+judge A limits bs ms (fault.TextTooLong at) (inr call) device = absurd call
+judge A limits bs ms fault.Stopped (inr call) device = absurd call
+judge A limits bs ms (fault.Write at) (inr call) device = absurd call
+judge A limits bs ms (fault.TooManyMessages at) (inr call) device = absurd call
+judge A limits bs ms (fault.BadField at) (inr call) device = absurd call
+
+-- a fault while a message was read
+pub slice-fails : (A : Type 0) (limits : Limits) (bs : List ℕ) (h : Header) (ms : List Message) (r : List ℕ) (given at : ℕ) (f : PacketFault)
+    → SoFar limits bs h ms r given at → NextFault limits given at r f → CountsFailures {A = A} (Err f) 0 0 → IsJudged limits bs (Err f)
+slice-fails A limits bs h ms r given at f so wrong device = judge A limits bs ms f (run-fails limits bs h ms r given at f so wrong) device
+
+-- a fault of the header
+pub slice-front : (limits : Limits) (bs : List ℕ) (f : PacketFault) → FrontFault bs f → (((at : ℕ) → f ≡ fault.Read at → ⊥)) → IsJudged limits bs (Err f)
+slice-front limits bs (fault.Truncated at) h alive = inr ([], inl (h.0, refl, h.1))
+slice-front limits bs (fault.NotType2 at) h alive = inr ([], (h.0, refl, h.1, h.2))
+slice-front limits bs (fault.Read at) h alive = absurd (alive at refl)
+slice-front limits bs (fault.NotMessage at) h alive = absurd h
+slice-front limits bs (fault.FieldTooLong at) h alive = absurd h
+slice-front limits bs (fault.TextTooLong at) h alive = absurd h
+slice-front limits bs fault.Memory h alive = absurd h
+slice-front limits bs fault.Stopped h alive = absurd h
+slice-front limits bs (fault.Write n) h alive = absurd h
+slice-front limits bs (fault.TooManyMessages at) h alive = absurd h
+slice-front limits bs (fault.BadField n) h alive = absurd h
+
+-- the header was read
+pub slice-opens : (limits : Limits) (bs : List ℕ) (h : Header) (rest : List ℕ) (own : Limits) (given at : ℕ) (next : Stage) → IsHeader h → bs ≡ header_bytes h ++ rest
+    → (next ≡ stage.Reading) × (given ≡ 0) × (at ≡ 58) × (own ≡ limits) → HasGiven limits bs [] rest h own given at next
+slice-opens limits bs h rest own given at next fits bytes begins = record {
+  so_far = rw (begins.1, begins.2) (run-opens limits bs h rest fits bytes);
+  same = begins.3;
+  reading = begins.0;
+}
+
+-- one more message was read
+pub slice-gives : (limits : Limits) (bs : List ℕ) (ms more : List Message) (r rest : List ℕ) (h new_h : Header) (own new_own : Limits) (given new_given at new_at : ℕ) (next new_next : Stage) (m : Message)
+    → HasGiven limits bs ms r h own given at next → (new_h ≡ h) × (new_own ≡ own) → IsMessage own.text m × (given < own.messages) → r ≡ message_bytes m ++ rest
+    → new_at ≡ place_of (at + length (message_bytes m)) → (new_given ≡ given + 1) × (new_next ≡ stage.Reading) → more ≡ ms ++ m ∷ []
+    → HasGiven limits bs more rest new_h new_own new_given new_at new_next
+slice-gives limits bs ms more r rest h new_h own new_own given new_given at new_at next new_next m before front within split past on pushed =
+    let fits : IsMessage limits.text m = subst (λ l. IsMessage l.text m) before.same within.0 in
+    let room : given < limits.messages = subst (λ l. given < l.messages) before.same within.1 in
+    let so = run-gives limits bs h ms r rest given at m before.so_far split fits room in record {
+      so_far = rw (front.0, pushed, on.0, past) so;
+      same = front.1 ∙ before.same;
+      reading = on.1;
+    }
+
+-- the terminator was read
+pub slice-ends : (limits : Limits) (bs : List ℕ) (ms : List Message) (r rest : List ℕ) (h new_h : Header) (own new_own : Limits) (given at new_at : ℕ) (next : Stage)
+    → HasGiven limits bs ms r h own given at next → (new_h ≡ h) × (new_own ≡ own) → r ≡ word 0 ++ rest → new_at ≡ place_of (at + 2) → length bs < 2 ^ 64
+    → Describes limits bs (Ok (new_h, ms, new_at))
+slice-ends limits bs ms r rest h new_h own new_own given at new_at next before front split past fits =
+    let so = before.so_far in
+    let ends = run-ends limits bs h ms r rest given at so split in
+    let size = length-packet_bytes h ms so.is_header in
+    let here = so.place in
+    let whole = ends.0 in
+    let is : new_at ≡ length (packet_bytes h ms) = omega (arith, size, here, whole) in
+    rw (front.0, is) ends

@@ -1,0 +1,258 @@
+-- What stands where a message or the terminator begins, read from left to right.
+use Rattle.std.proofs.Common.{◌≡◌, ◌≢◌, ℕ, replicate, ◌+◌, ◌-◌, ◌*◌, ◌/◌, ◌%◌, ◌<◌, ◌≤◌, ◌==◌, ◌⊎◌, inl, inr, List, [], ◌∷◌, ◌++◌, length, get_or, take, drop, refl, sym, ap, ◌∙◌, subst, arith, cond, append_assoc, length-append}
+use Rattle.std.proofs.lemmas.List.{take-append-drop, length-take-le, get_or-take}
+use Rattle.std.proofs.lemmas.Bool.{eq-eqb, ne_eqb, cond-true, cond-false}
+use Rattle.echo_packet.specs.declared.limits.Limits.{Limits}
+use Rattle.echo_packet.specs.declared.fault.PacketFault.{PacketFault}
+use Rattle.echo_packet.specs.declared.fault.PacketFault.TheVariants as fault
+use Rattle.echo_packet.specs.Header.{word, number_at}
+use Rattle.echo_packet.specs.Message.{Message, Part, Number, Numbers, DateTime, ToName, FromName, Subject, Text, IsMessage, before, ended, numbers, message_bytes}
+use Rattle.echo_packet.specs.Fault.{IsCut, IsLongField, IsLongText, IsOtherNumber, IsOneTooMany, place_of}
+use Rattle.echo_packet.specs.Next.{AtPart, NextFault}
+use Rattle.echo_packet.specs.Run.{IsOfCall}
+use Rattle.echo_packet.proofs.Headers.{number-word}
+use Rattle.echo_packet.proofs.Fields.{numbered}
+use Rattle.echo_packet.proofs.Pieces.{Piece, Got, Cut, Long, string, fixed, string-whole, string-cut, string-long, fixed-whole, fixed-cut}
+
+-- a message and what follows it, what follows the terminator, or the fault of a field and the bytes from this on
+pub data Verdict : Type 0 where
+  Whole : Message → List ℕ → Verdict
+  End : List ℕ → Verdict
+  Wrong : (ℕ → PacketFault) → List ℕ → Verdict
+
+then_piece : Piece → Verdict → Verdict → (List ℕ → List ℕ → Verdict) → Verdict
+then_piece (Got s r) cut long go = go s r
+then_piece Cut cut long go = cut
+then_piece Long cut long go = long
+
+then_got : (p : Piece) (cut long : Verdict) (go : List ℕ → List ℕ → Verdict) (s r : List ℕ) → p ≡ Got s r → then_piece p cut long go ≡ go s r
+unfolding then_piece
+then_got p cut long go s r e = ap (λ q. then_piece q cut long go) e
+
+then_cut : (p : Piece) (cut long : Verdict) (go : List ℕ → List ℕ → Verdict) → p ≡ Cut → then_piece p cut long go ≡ cut
+unfolding then_piece
+then_cut p cut long go e = ap (λ q. then_piece q cut long go) e
+
+then_long : (p : Piece) (cut long : Verdict) (go : List ℕ → List ℕ → Verdict) → p ≡ Long → then_piece p cut long go ≡ long
+unfolding then_piece
+then_long p cut long go e = ap (λ q. then_piece q cut long go) e
+
+-- from each field on, with the fields before it
+from_text : ℕ → Message → List ℕ → Verdict
+from_text text m r = then_piece (string text r) (Wrong fault.Truncated r) (Wrong fault.TextTooLong r) (λ s rest. Whole (record m { text = s }) rest)
+
+from_subject : ℕ → Message → List ℕ → Verdict
+from_subject text m r =
+    then_piece (string 71 r) (Wrong fault.Truncated r) (Wrong fault.FieldTooLong r) (λ s rest. from_text text (record m { subject = s }) rest)
+
+from_from : ℕ → Message → List ℕ → Verdict
+from_from text m r =
+    then_piece (string 35 r) (Wrong fault.Truncated r) (Wrong fault.FieldTooLong r) (λ s rest. from_subject text (record m { from_name = s }) rest)
+
+from_to : ℕ → Message → List ℕ → Verdict
+from_to text m r =
+    then_piece (string 35 r) (Wrong fault.Truncated r) (Wrong fault.FieldTooLong r) (λ s rest. from_from text (record m { to_name = s }) rest)
+
+from_date : ℕ → Message → List ℕ → Verdict
+from_date text m r =
+    then_piece (fixed 20 r) (Wrong fault.Truncated r) (Wrong fault.Truncated r) (λ s rest. from_to text (record m { date = s }) rest)
+
+from_numbers : ℕ → List ℕ → Verdict
+from_numbers text r =
+    then_piece (fixed 12 r) (Wrong fault.Truncated r) (Wrong fault.Truncated r) (λ s rest. from_date text (numbered s) rest)
+
+-- what a number leads to, from which so many bytes are left
+from_kind : Limits → ℕ → List ℕ → ℕ → List ℕ → Verdict
+from_kind limits given r kind rest =
+    cond (kind == 0) (End rest) (cond (kind == 2) (cond (given == limits.messages) (Wrong fault.TooManyMessages r) (from_numbers limits.text rest)) (Wrong fault.NotMessage r))
+
+pub verdict : Limits → ℕ → List ℕ → Verdict
+verdict limits given r =
+    then_piece (fixed 2 r) (Wrong fault.Truncated r) (Wrong fault.Truncated r) (λ s rest. from_kind limits given r (number_at 0 s) rest)
+
+-- the message with its six numbers alone
+abbrev only_numbers : Message → Message
+only_numbers m = record m { date = replicate 20 0; to_name = []; from_name = []; subject = []; text = [] }
+
+numbered-numbers : (m : Message) → numbered (numbers m) ≡ only_numbers m
+unfolding numbers
+numbered-numbers m = simp number-word
+
+length-numbers : (m : Message) → length (numbers m) ≡ 12
+unfolding numbers
+length-numbers m = refl
+
+-- from a field on, with the fields of the message before it
+part_verdict : Limits → ℕ → Message → Part → List ℕ → Verdict
+part_verdict limits given m Number r = verdict limits given r
+part_verdict limits given m Numbers r = from_numbers limits.text r
+part_verdict limits given m DateTime r = from_date limits.text (only_numbers m) r
+part_verdict limits given m ToName r = from_to limits.text (record (only_numbers m) { date = m.date }) r
+part_verdict limits given m FromName r = from_from limits.text (record (only_numbers m) { date = m.date; to_name = m.to_name }) r
+part_verdict limits given m Subject r = from_subject limits.text (record (only_numbers m) { date = m.date; to_name = m.to_name; from_name = m.from_name }) r
+part_verdict limits given m Text r = from_text limits.text (record m { text = [] }) r
+
+reach_numbers : (limits : Limits) (given : ℕ) (r : List ℕ) → given < limits.messages → verdict limits given (word 2 ++ r) ≡ from_numbers limits.text r
+unfolding verdict from_kind
+reach_numbers limits given r more =
+    then_got (fixed 2 (word 2 ++ r)) _ _ _ (word 2) r (fixed-whole 2 (word 2) r refl)
+    ∙ cond-false (given == limits.messages) _ _ (ne_eqb _ _ (λ e. omega arith))
+
+reach_date : (limits : Limits) (given : ℕ) (m : Message) (r : List ℕ) → given < limits.messages
+    → verdict limits given (before DateTime m ++ r) ≡ from_date limits.text (only_numbers m) r
+unfolding from_numbers
+reach_date limits given m r more =
+    ap (verdict limits given) (append_assoc (word 2) (numbers m) r) ∙ reach_numbers limits given (numbers m ++ r) more
+    ∙ then_got (fixed 12 (numbers m ++ r)) _ _ _ (numbers m) r (fixed-whole 12 (numbers m) r (length-numbers m))
+    ∙ ap (λ n. from_date limits.text n r) (numbered-numbers m)
+
+reach_to : (limits : Limits) (given : ℕ) (m : Message) (r : List ℕ) → IsMessage limits.text m → given < limits.messages
+    → verdict limits given (before ToName m ++ r) ≡ part_verdict limits given m ToName r
+unfolding from_date part_verdict
+reach_to limits given m r fits more =
+    ap (verdict limits given) (append_assoc (before DateTime m) m.date r) ∙ reach_date limits given m (m.date ++ r) more
+    ∙ then_got (fixed 20 (m.date ++ r)) _ _ _ m.date r (fixed-whole 20 m.date r fits.date_len)
+
+reach_from : (limits : Limits) (given : ℕ) (m : Message) (r : List ℕ) → IsMessage limits.text m → given < limits.messages
+    → verdict limits given (before FromName m ++ r) ≡ part_verdict limits given m FromName r
+unfolding from_to part_verdict
+reach_from limits given m r fits more =
+    let s = m.to_name in
+    ap (verdict limits given) (append_assoc (before ToName m) (ended s) r) ∙ reach_to limits given m (ended s ++ r) fits more
+    ∙ then_got (string 35 (ended s ++ r)) _ _ _ s r (string-whole 35 s r fits.to_name.no_zero fits.to_name.room)
+
+reach_subject : (limits : Limits) (given : ℕ) (m : Message) (r : List ℕ) → IsMessage limits.text m → given < limits.messages
+    → verdict limits given (before Subject m ++ r) ≡ part_verdict limits given m Subject r
+unfolding from_from part_verdict
+reach_subject limits given m r fits more =
+    let s = m.from_name in
+    ap (verdict limits given) (append_assoc (before FromName m) (ended s) r) ∙ reach_from limits given m (ended s ++ r) fits more
+    ∙ then_got (string 35 (ended s ++ r)) _ _ _ s r (string-whole 35 s r fits.from_name.no_zero fits.from_name.room)
+
+reach_text : (limits : Limits) (given : ℕ) (m : Message) (r : List ℕ) → IsMessage limits.text m → given < limits.messages
+    → verdict limits given (before Text m ++ r) ≡ part_verdict limits given m Text r
+unfolding from_subject part_verdict
+reach_text limits given m r fits more =
+    let s = m.subject in
+    ap (verdict limits given) (append_assoc (before Subject m) (ended s) r) ∙ reach_subject limits given m (ended s ++ r) fits more
+    ∙ then_got (string 71 (ended s ++ r)) _ _ _ s r (string-whole 71 s r fits.subject.no_zero fits.subject.room)
+
+pub verdict-whole : (limits : Limits) (given : ℕ) (m : Message) (r : List ℕ) → IsMessage limits.text m → given < limits.messages
+    → verdict limits given (message_bytes m ++ r) ≡ Whole m r
+unfolding from_text part_verdict
+verdict-whole limits given m r fits more =
+    let s = m.text in
+    ap (verdict limits given) (append_assoc (before Text m) (ended s) r) ∙ reach_text limits given m (ended s ++ r) fits more
+    ∙ then_got (string limits.text (ended s ++ r)) _ _ _ s r (string-whole limits.text s r fits.text.no_zero fits.text.room)
+
+pub verdict-end : (limits : Limits) (given : ℕ) (r : List ℕ) → verdict limits given (word 0 ++ r) ≡ End r
+unfolding verdict from_kind
+verdict-end limits given r = then_got (fixed 2 (word 0 ++ r)) _ _ _ (word 0) r (fixed-whole 2 (word 0) r refl)
+
+-- the earlier fields lead to the field
+reach : (limits : Limits) (given : ℕ) (m : Message) (field : Part) (r : List ℕ) → IsMessage limits.text m → (field ≢ Number → given < limits.messages)
+    → verdict limits given (before field m ++ r) ≡ part_verdict limits given m field r
+unfolding part_verdict
+reach limits given m Number r fits more = refl
+reach limits given m Numbers r fits more = reach_numbers limits given r (more (λ e. cc))
+reach limits given m DateTime r fits more = reach_date limits given m r (more (λ e. cc))
+reach limits given m ToName r fits more = reach_to limits given m r fits (more (λ e. cc))
+reach limits given m FromName r fits more = reach_from limits given m r fits (more (λ e. cc))
+reach limits given m Subject r fits more = reach_subject limits given m r fits (more (λ e. cc))
+reach limits given m Text r fits more = reach_text limits given m r fits (more (λ e. cc))
+
+cut_is : (limits : Limits) (given : ℕ) (m : Message) (field : Part) (r : List ℕ) → IsCut limits field r → part_verdict limits given m field r ≡ Wrong fault.Truncated r
+unfolding part_verdict verdict from_numbers from_date from_to from_from from_subject from_text
+cut_is limits given m Number r h = then_cut (fixed 2 r) _ _ _ (fixed-cut 2 r h)
+cut_is limits given m Numbers r h = then_cut (fixed 12 r) _ _ _ (fixed-cut 12 r h)
+cut_is limits given m DateTime r h = then_cut (fixed 20 r) _ _ _ (fixed-cut 20 r h)
+cut_is limits given m ToName r h = then_cut (string 35 r) _ _ _ (string-cut 35 r h.0 h.1)
+cut_is limits given m FromName r h = then_cut (string 35 r) _ _ _ (string-cut 35 r h.0 h.1)
+cut_is limits given m Subject r h = then_cut (string 71 r) _ _ _ (string-cut 71 r h.0 h.1)
+cut_is limits given m Text r h = then_cut (string limits.text r) _ _ _ (string-cut limits.text r h.0 h.1)
+
+long_is : (limits : Limits) (given : ℕ) (m : Message) (field : Part) (r : List ℕ) → IsLongField field r → part_verdict limits given m field r ≡ Wrong fault.FieldTooLong r
+unfolding part_verdict from_to from_from from_subject
+long_is limits given m Number r h = absurd h
+long_is limits given m Numbers r h = absurd h
+long_is limits given m DateTime r h = absurd h
+long_is limits given m ToName r h = then_long (string 35 r) _ _ _ (string-long 35 r h)
+long_is limits given m FromName r h = then_long (string 35 r) _ _ _ (string-long 35 r h)
+long_is limits given m Subject r h = then_long (string 71 r) _ _ _ (string-long 71 r h)
+long_is limits given m Text r h = absurd h
+
+text_is : (limits : Limits) (given : ℕ) (m : Message) (field : Part) (r : List ℕ) → IsLongText limits field r → part_verdict limits given m field r ≡ Wrong fault.TextTooLong r
+unfolding part_verdict from_text
+text_is limits given m field r h =
+    subst (λ f. part_verdict limits given m f r ≡ Wrong fault.TextTooLong r) (sym h.0) (then_long (string limits.text r) _ _ _ (string-long limits.text r h.1))
+
+-- bytes that are long enough begin with a number
+number_of : (limits : Limits) (given : ℕ) (r : List ℕ) → 2 ≤ length r → verdict limits given r ≡ from_kind limits given r (number_at 0 r) (drop 2 r)
+unfolding verdict
+number_of limits given r long =
+    let split = take-append-drop 2 r in
+    let size : length (take 2 r) ≡ 2 = length-take-le 2 r long in
+    let got : fixed 2 r ≡ Got (take 2 r) (drop 2 r) = ap (fixed 2) (sym split) ∙ fixed-whole 2 (take 2 r) (drop 2 r) size in
+    let low : 0 < 2 = omega arith in
+    let high : 1 < 2 = omega arith in
+    then_got (fixed 2 r) _ _ _ (take 2 r) (drop 2 r) got
+    ∙ ap (λ n. from_kind limits given r n (drop 2 r)) (rw (get_or-take 2 r 0 0 low, get_or-take 2 r 1 0 high) refl)
+
+other_is : (limits : Limits) (given : ℕ) (m : Message) (field : Part) (r : List ℕ) → IsOtherNumber field r → part_verdict limits given m field r ≡ Wrong fault.NotMessage r
+unfolding part_verdict from_kind
+other_is limits given m field r h =
+    let at_number = number_of limits given r h.1 ∙ cond-false (number_at 0 r == 0) _ _ (ne_eqb _ _ h.3) ∙ cond-false (number_at 0 r == 2) _ _ (ne_eqb _ _ h.2) in
+    subst (λ f. part_verdict limits given m f r ≡ Wrong fault.NotMessage r) (sym h.0) at_number
+
+many_is : (limits : Limits) (given : ℕ) (m : Message) (field : Part) (r : List ℕ) → IsOneTooMany limits given field r → part_verdict limits given m field r ≡ Wrong fault.TooManyMessages r
+unfolding part_verdict from_kind
+many_is limits given m field r h =
+    let not_none : number_at 0 r ≢ 0 = λ e. (let two = h.2 in omega arith) in
+    let at_number = number_of limits given r h.1 ∙ cond-false (number_at 0 r == 0) _ _ (ne_eqb _ _ not_none) ∙ cond-true (number_at 0 r == 2) _ _ (eq-eqb _ _ h.2)
+    ∙ cond-true (given == limits.messages) _ _ (eq-eqb _ _ h.3) in
+    subst (λ f. part_verdict limits given m f r ≡ Wrong fault.TooManyMessages r) (sym h.0) at_number
+
+-- a field of these bytes that is wrong
+wrong-part : (limits : Limits) (given start at : ℕ) (bs : List ℕ) (Bad : Part → List ℕ → Type 0) (why : ℕ → PacketFault) (a : AtPart limits given start bs at Bad)
+    → ((m : Message) (field : Part) (r : List ℕ) → Bad field r → part_verdict limits given m field r ≡ Wrong why r) → verdict limits given bs ≡ Wrong why a.rest
+wrong-part limits given start at bs Bad why a is =
+    ap (verdict limits given) a.bytes ∙ reach limits given a.one_more a.field a.rest a.is_message a.room ∙ is a.one_more a.field a.rest a.wrong
+
+-- how many bytes stand before a field
+part-place : (limits : Limits) (given start at : ℕ) (bs : List ℕ) (Bad : Part → List ℕ → Type 0) (a : AtPart limits given start bs at Bad)
+    → at ≡ place_of (start + (length bs - length a.rest))
+part-place limits given start at bs Bad a =
+    let size = ap length a.bytes ∙ length-append (before a.field a.one_more) a.rest in
+    let here = a.place in omega arith
+
+-- a fault of the bytes, as they are read from left to right
+pub record Fails (limits : Limits) (given start : ℕ) (bs : List ℕ) (f : PacketFault) : Type 0 where
+  pub why : ℕ → PacketFault
+  pub rest : List ℕ
+  pub found : verdict limits given bs ≡ Wrong why rest
+  pub within : length rest ≤ length bs
+  pub is : f ≡ why (place_of (start + (length bs - length rest)))
+
+fails-part : (limits : Limits) (given start at : ℕ) (bs : List ℕ) (Bad : Part → List ℕ → Type 0) (why : ℕ → PacketFault) (a : AtPart limits given start bs at Bad)
+    → ((m : Message) (field : Part) (r : List ℕ) → Bad field r → part_verdict limits given m field r ≡ Wrong why r) → Fails limits given start bs (why at)
+fails-part limits given start at bs Bad why a is = record {
+  why = why;
+  rest = a.rest;
+  found = wrong-part limits given start at bs Bad why a is;
+  within = omega (arith, ap length a.bytes, length-append (before a.field a.one_more) a.rest);
+  is = ap why (part-place limits given start at bs Bad a);
+}
+
+pub fails : (limits : Limits) (given start : ℕ) (bs : List ℕ) (f : PacketFault) → NextFault limits given start bs f → Fails limits given start bs f ⊎ IsOfCall f
+fails limits given start bs (fault.Truncated at) a = inl (fails-part limits given start at bs (IsCut limits) fault.Truncated a (cut_is limits given))
+fails limits given start bs (fault.NotMessage at) a = inl (fails-part limits given start at bs IsOtherNumber fault.NotMessage a (other_is limits given))
+fails limits given start bs (fault.FieldTooLong at) a = inl (fails-part limits given start at bs IsLongField fault.FieldTooLong a (long_is limits given))
+fails limits given start bs (fault.TextTooLong at) a = inl (fails-part limits given start at bs (IsLongText limits) fault.TextTooLong a (text_is limits given))
+fails limits given start bs (fault.TooManyMessages at) a =
+    inl (fails-part limits given start at bs (IsOneTooMany limits given) fault.TooManyMessages a (many_is limits given))
+fails limits given start bs (fault.Read at) a = inr tt
+fails limits given start bs fault.Memory a = inr tt
+fails limits given start bs (fault.NotType2 at) a = absurd a
+fails limits given start bs fault.Stopped a = absurd a
+fails limits given start bs (fault.Write n) a = absurd a
+fails limits given start bs (fault.BadField n) a = absurd a

@@ -1,0 +1,58 @@
+-- What stands where a message or the terminator begins, or what is wrong there.
+use Rattle.std.specs.Prelude.{◌≡◌, ◌≢◌, ℕ, ◌+◌, ◌<◌, List, ◌∷◌, ◌++◌, length, Option, None, Some, Result, Ok, Err}
+use Rattle.std.specs.Io.{StartsWith}
+use Rattle.std.specs.Io.KnownBytes.{Consumes}
+use Rattle.echo_addr.specs.Device.{Failed}
+use Rattle.echo_packet.specs.declared.limits.Limits.{Limits}
+use Rattle.echo_packet.specs.declared.fault.PacketFault.{PacketFault}
+use Rattle.echo_packet.specs.declared.fault.PacketFault.TheVariants as fault
+use Rattle.echo_packet.specs.Header.{word, number_at}
+use Rattle.echo_packet.specs.Message.{Message, Part, Number, before, message_bytes, IsMessage}
+use Rattle.echo_packet.specs.Fault.{IsCut, IsLongField, IsLongText, IsOtherNumber, IsOneTooMany, place_of}
+
+-- the bytes from a field on begin with some that end inside it
+abbrev pub IsUnfinished : Limits → Part → List ℕ → Type 0
+IsUnfinished limits field r = (came : List ℕ) × StartsWith r came × IsCut limits field came
+
+-- So many messages and bytes stand before these bytes. After the earlier fields of one more message, the field at the place is wrong.
+pub record AtPart (limits : Limits) (given start : ℕ) (bs : List ℕ) (at : ℕ) (Wrong : Part → List ℕ → Type 0) : Type 0 where
+  pub one_more : Message
+  pub field : Part
+  pub rest : List ℕ
+  pub is_message : IsMessage limits.text one_more
+  pub room : field ≢ Number → given < limits.messages
+  pub bytes : bs ≡ before field one_more ++ rest
+  pub place : at ≡ place_of (start + length (before field one_more))
+  pub wrong : Wrong field rest
+
+-- the fault of these bytes, or that the device failed inside a field, or want of memory
+abbrev pub NextFault : Limits → ℕ → ℕ → List ℕ → PacketFault → Type 0
+NextFault limits given start bs (fault.Truncated at) = AtPart limits given start bs at (IsCut limits)
+NextFault limits given start bs (fault.NotMessage at) = AtPart limits given start bs at IsOtherNumber
+NextFault limits given start bs (fault.FieldTooLong at) = AtPart limits given start bs at IsLongField
+NextFault limits given start bs (fault.TextTooLong at) = AtPart limits given start bs at (IsLongText limits)
+NextFault limits given start bs (fault.TooManyMessages at) = AtPart limits given start bs at (IsOneTooMany limits given)
+NextFault limits given start bs (fault.Read at) = AtPart limits given start bs at (IsUnfinished limits)
+NextFault limits given start bs fault.Memory = Unit {0}
+NextFault limits given start bs _ = ⊥
+
+-- the bytes of the message, or 00 00 where there is none
+abbrev pub next_bytes : Option Message → List ℕ
+next_bytes (Some m) = message_bytes m
+next_bytes None = word 0
+
+-- the source lost just the bytes of what is given
+abbrev pub TakesNext : Option (List ℕ) → Option (List ℕ) → Result (Option Message) PacketFault → Type 0
+TakesNext old new (Ok next) = Consumes old new (next_bytes next)
+TakesNext old new (Err f) = Unit {0}
+
+-- a message is within the limits, and fewer than allowed were given before it
+abbrev pub IsWithin : Limits → ℕ → Option Message → Type 0
+IsWithin limits given (Some m) = IsMessage limits.text m × (given < limits.messages)
+IsWithin limits given None = Unit {0}
+
+-- the count of failures rose where the answer is a read fault, and only there
+abbrev pub CountsFailures : {A : Type 0} → Result A PacketFault → ℕ → ℕ → Type 0
+CountsFailures (Err (fault.Read at)) old new = Failed old new
+CountsFailures (Err _) old new = new ≡ old
+CountsFailures (Ok _) old new = new ≡ old

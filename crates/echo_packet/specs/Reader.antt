@@ -1,0 +1,66 @@
+-- What a clause reads of a `PacketReader`, and what its calls are to answer.
+use Rattle.std.specs.Prelude.{◌≡◌, ◌≢◌, ℕ, ◌+◌, ◌<◌, ◌≤◌, List, ◌++◌, length, Option, None, Some, Result, Ok, Err}
+use Rattle.echo_addr.specs.Device.{Failed}
+use Rattle.echo_packet.specs.declared.header.Header.{Header}
+use Rattle.echo_packet.specs.declared.limits.Limits.{Limits}
+use Rattle.echo_packet.specs.declared.fault.PacketFault.{PacketFault}
+use Rattle.echo_packet.specs.declared.fault.PacketFault.TheVariants as fault
+use Rattle.echo_packet.specs.declared.reader.PacketReader.{PacketReader}
+use Rattle.echo_packet.specs.declared.reader.Stage.{Stage}
+use Rattle.echo_packet.specs.declared.reader.Stage.TheVariants as stage
+use Rattle.echo_packet.specs.Header.{number_at}
+use Rattle.echo_packet.specs.Message.{Message}
+
+-- the source that is left
+abbrev pub reader_source : {R : Type 0} → PacketReader R → R
+reader_source p = p.source
+
+-- the header of the packet
+abbrev pub reader_header : {R : Type 0} → PacketReader R → Header
+reader_header p = p.header
+
+-- what the caller allows
+abbrev pub reader_limits : {R : Type 0} → PacketReader R → Limits
+reader_limits p = p.limits
+
+-- how many messages were given
+abbrev pub reader_given : {R : Type 0} → PacketReader R → ℕ
+reader_given p = p.given
+
+-- how many bytes of the packet were read, as a u64 has it
+abbrev pub reader_place : {R : Type 0} → PacketReader R → ℕ
+reader_place p = p.place
+
+-- messages or the terminator are still to come
+abbrev pub IsReading : {R : Type 0} → PacketReader R → Type 0
+IsReading p = p.stage ≡ stage.Reading
+
+-- the terminator was read
+abbrev pub IsEnded : {R : Type 0} → PacketReader R → Type 0
+IsEnded p = p.stage ≡ stage.Ended
+
+-- a call answered an error
+abbrev pub IsStopped : {R : Type 0} → PacketReader R → Type 0
+IsStopped p = p.stage ≡ stage.Stopped
+
+-- the header and the limits stay
+abbrev pub KeepsFront : {R : Type 0} → PacketReader R → PacketReader R → Type 0
+KeepsFront old new = (new.header ≡ old.header) × (new.limits ≡ old.limits)
+
+-- how many messages were given, and what comes: it goes on after a message, ends at the terminator and stops at an error
+abbrev pub GoesOn : {R : Type 0} → PacketReader R → PacketReader R → Result (Option Message) PacketFault → Type 0
+GoesOn old new (Ok (Some m)) = (new.given ≡ old.given + 1) × IsReading new
+GoesOn old new (Ok None) = (new.given ≡ old.given) × IsEnded new
+GoesOn old new (Err f) = (new.given ≡ old.given) × (new.place ≡ old.place) × IsStopped new
+
+-- the fault of bytes that do not begin with a header of type 2, or that the device failed
+abbrev pub FrontFault : List ℕ → PacketFault → Type 0
+FrontFault bs (fault.Truncated at) = (at ≡ 0) × (length bs < 58)
+FrontFault bs (fault.NotType2 at) = (at ≡ 18) × (58 ≤ length bs) × (number_at 18 bs ≢ 2)
+FrontFault bs (fault.Read at) = at ≡ 0
+FrontFault bs _ = ⊥
+
+-- at a read fault the source was left after one more failure
+abbrev pub FailedOnce : {R : Type 0} → (R → ℕ) → R → PacketFault → Type 0
+FailedOnce {R} failures source (fault.Read at) = (left : R) × Failed (failures source) (failures left)
+FailedOnce {R} failures source _ = Unit {0}

@@ -1,0 +1,23 @@
+-- A packet read message by message.
+use Rattle.std.specs.Prelude.{◌≡◌, ℕ, ◌+◌, List, ◌++◌, length}
+use Rattle.echo_packet.specs.declared.header.Header.{Header}
+use Rattle.echo_packet.specs.declared.limits.Limits.{Limits}
+use Rattle.echo_packet.specs.declared.fault.PacketFault.{PacketFault}
+use Rattle.echo_packet.specs.declared.fault.PacketFault.TheVariants as fault
+use Rattle.echo_packet.specs.Header.{header_bytes, IsHeader}
+use Rattle.echo_packet.specs.Message.{Message, messages_bytes, AreMessages}
+use Rattle.echo_packet.specs.Fault.{place_of}
+
+-- The bytes begin with the header and these messages, within the limits; so many were given, up to the place, and the rest is left.
+pub record SoFar (limits : Limits) (bs : List ℕ) (header : Header) (ms : List Message) (rest : List ℕ) (given at : ℕ) : Type 0 where
+  pub is_header : IsHeader header
+  pub are_messages : AreMessages limits ms
+  pub bytes : bs ≡ header_bytes header ++ (messages_bytes ms ++ rest)
+  pub count : given ≡ length ms
+  pub place : at ≡ place_of (58 + length (messages_bytes ms))
+
+-- the fault tells of the device or of memory, and not of the bytes
+abbrev pub IsOfCall : PacketFault → Type 0
+IsOfCall (fault.Read at) = Unit {0}
+IsOfCall fault.Memory = Unit {0}
+IsOfCall _ = ⊥

@@ -1,0 +1,33 @@
+//! A packet read from any source, message by message.
+ghost use Rattle.std.specs.Prelude.{◌≤◌};
+
+mod calls;
+
+use crate::header::Header;
+use crate::limits::Limits;
+use std::alloc::Global;
+
+/// What the next call meets.
+#[derive(Clone, Copy, Debug, PartialEq, Eq)]
+enum Stage {
+    /// A message or the terminator.
+    Reading,
+    /// The terminator was read.
+    Ended,
+    /// A call answered an error.
+    Stopped,
+}
+
+/// Reads a packet (FTS-0001) from a source. It holds the header and at most one message, and never
+/// asks for a byte after the terminator.
+#[derive(Drop)]
+pub struct PacketReader<R> {
+    alloc: Global,
+    source: R,
+    limits: Limits,
+    header: Header,
+    given: u64,
+    place: u64,
+    stage: Stage,
+    ghost fits: { given ≤ limits.messages },
+}

@@ -1,0 +1,129 @@
+//! Opening a packet, and its next message.
+ghost use Rattle.std.specs.Prelude.{◌≡◌, ◌+◌, length, Ok, Err, None, IfOk, IfErr, IfSome};
+ghost use Rattle.std.specs.Io.KnownBytes.{Consumes};
+ghost use Rattle.echo_packet.specs.declared.fault.PacketFault.TheVariants.{Stopped};
+ghost use Rattle.echo_packet.specs.Header.{IsHeader, header_bytes};
+ghost use Rattle.echo_packet.specs.Fault.{place_of};
+ghost use Rattle.echo_packet.specs.Next.{CountsFailures, IsWithin, NextFault, TakesNext, next_bytes};
+ghost use Rattle.echo_packet.specs.Reader.{FailedOnce, FrontFault, GoesOn, IsEnded, IsReading, IsStopped, KeepsFront, reader_given, reader_header, reader_limits, reader_place, reader_source};
+
+use crate::fault::PacketFault;
+use crate::field::{are_bytes, read_fixed};
+use crate::header::{HEADER_BYTES, Header, header_of, number_at};
+use crate::limits::Limits;
+use crate::message::{name_fault, read_next};
+use crate::packed::Packed;
+use crate::reader::{PacketReader, Stage};
+use echo_addr::Source;
+use std::alloc::Global;
+
+// The header at the front of what the source has.
+fn read_front<R: Source>(source: &mut R) -> Result<Header, PacketFault>
+    ensures header { IfOk result IsHeader }
+    ensures taken { IfOk result (λ h. Consumes (R.remaining source.old) (R.remaining source.new) (header_bytes h)) }
+    ensures fault { IfSome (R.remaining source.old) (λ bs. IfErr result (FrontFault bs)) }
+    ensures device { CountsFailures result (R.failures source.old) (R.failures source.new) }
+{
+    let mut bytes = [0u8; HEADER_BYTES];
+    let read = read_fixed(source, &mut bytes);
+    are_bytes(&bytes);
+    if let Err(broken) = read {
+        return Err(name_fault(broken, 0));
+    }
+    let kind = number_at(&bytes, 18);
+    if kind != 2 {
+        return Err(PacketFault::NotType2 { at: 18 });
+    }
+    Ok(header_of(&bytes))
+}
+
+impl<R: Source> PacketReader<R> {
+    /// Reads the header, and no byte more.
+    ///
+    /// It is `Truncated` at 0 where fewer than 58 bytes come, `NotType2` at 18 where these hold
+    /// another packet type, and `Read` at 0 where the device failed. The source is dropped then.
+    pub fn open(alloc: Global, reader: R, limits: Limits) -> Result<PacketReader<R>, PacketFault>
+    where
+        R: Drop,
+        ensures header { IfOk result (λ p. IsHeader (reader_header p)) }
+        ensures taken { IfOk result (λ p. Consumes (R.remaining reader) (R.remaining (reader_source p)) (header_bytes (reader_header p))) }
+        ensures begins { IfOk result (λ p. IsReading p × (reader_given p ≡ 0) × (reader_place p ≡ 58) × (reader_limits p ≡ limits)) }
+        ensures device { IfOk result (λ p. R.failures (reader_source p) ≡ R.failures reader) }
+        ensures fault { IfSome (R.remaining reader) (λ bs. IfErr result (FrontFault bs)) }
+        ensures failed { IfErr result (FailedOnce R.failures reader) }
+    {
+        let mut source = reader;
+        let header = read_front(&mut source)?;
+        Ok(PacketReader {
+            alloc,
+            source,
+            limits,
+            header,
+            given: 0,
+            place: HEADER_BYTES as u64,
+            stage: Stage::Reading,
+        })
+    }
+
+    /// The next message, or `None` at the terminator and from then on.
+    ///
+    /// A fault has the place of its field, counted from the packet's start. After an error each
+    /// call answers `Stopped`.
+    pub fn next(&mut self) -> Result<Option<Packed>, PacketFault>
+        ensures within { IsReading self.old → IfOk result (IsWithin (reader_limits self.old) (reader_given self.old)) }
+        ensures taken { IsReading self.old → TakesNext (R.remaining (reader_source self.old)) (R.remaining (reader_source self.new)) result }
+        ensures place { IsReading self.old → IfOk result (λ next. reader_place self.new ≡ place_of (reader_place self.old + length (next_bytes next))) }
+        ensures goes_on { IsReading self.old → GoesOn self.old self.new result }
+        ensures fault { IsReading self.old → IfSome (R.remaining (reader_source self.old)) (λ bs. IfErr result (NextFault (reader_limits self.old) (reader_given self.old) (reader_place self.old) bs)) }
+        ensures ended { IsEnded self.old → (result ≡ Ok None) × (self.new ≡ self.old) }
+        ensures stopped { IsStopped self.old → (result ≡ Err Stopped) × (self.new ≡ self.old) }
+        ensures front { KeepsFront self.old self.new }
+        ensures device { CountsFailures result (R.failures (reader_source self.old)) (R.failures (reader_source self.new)) }
+    {
+        match self.stage {
+            Stage::Reading => {}
+            Stage::Ended => return Ok(None),
+            Stage::Stopped => return Err(PacketFault::Stopped),
+        }
+        let mut place = self.place;
+        match read_next(
+            self.alloc,
+            &mut self.source,
+            self.limits,
+            self.given,
+            &mut place,
+        ) {
+            Ok(Some(message)) => {
+                self.given += 1;
+                self.place = place;
+                Ok(Some(message))
+            }
+            Ok(None) => {
+                self.place = place;
+                self.stage = Stage::Ended;
+                Ok(None)
+            }
+            Err(fault) => {
+                self.stage = Stage::Stopped;
+                Err(fault)
+            }
+        }
+    }
+}
+
+impl<R> PacketReader<R> {
+    /// The header of the packet.
+    pub fn header(&self) -> &Header
+        ensures { result.now ≡ reader_header self.now }
+    {
+        &self.header
+    }
+
+    /// How many bytes of the packet were read: those of the header, of the messages that were given
+    /// and of the terminator. The greatest `u64` stands for a greater number.
+    pub fn place(&self) -> u64
+        ensures { result ≡ reader_place self.now }
+    {
+        self.place
+    }
+}

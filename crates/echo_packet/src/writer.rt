@@ -1,0 +1,114 @@
+ghost use Rattle.std.specs.Prelude.{◌≡◌, ◌+◌, true, false, length, IfOk, IfErr, OnOk, OnErr, Err};
+ghost use Rattle.std.specs.Io.KnownBytes.{Appends};
+ghost use Rattle.echo_addr.specs.Device.{Failed, Sends};
+ghost use Rattle.echo_packet.specs.declared.fault.PacketFault.TheVariants.{Stopped, Write};
+ghost use Rattle.echo_packet.specs.Header.{IsHeader, header_bytes, word};
+ghost use Rattle.echo_packet.specs.Message.{IsMessage, ended, message_bytes};
+ghost use Rattle.echo_packet.specs.Writer.{IsLost, bytes_sent, has_stopped, writer_below};
+
+use crate::encoding::{fixed_bytes, write_header};
+use crate::fault::PacketFault;
+use crate::header::{HEADER_BYTES, Header};
+use crate::packed::Packed;
+use echo_addr::{Failure, Sink, send};
+
+/// Writes a packet: its header, messages one by one, and the terminator (FTS-0001). It takes no
+/// memory.
+#[derive(Drop)]
+pub struct PacketWriter<W> {
+    writer: W,
+    sent: u64,
+    stopped: bool,
+}
+
+// A string and the 00 that ends it.
+fn send_string<W: Sink>(writer: &mut W, string: &[u8], sent: &mut u64) -> Result<(), Failure>
+    ensures bytes { Sends (W.contents writer.old) (W.contents writer.new) result (ended string.now) sent.old sent.new }
+    ensures ok { OnOk result (W.failures writer.new ≡ W.failures writer.old) }
+    ensures err { OnErr result (Failed (W.failures writer.old) (W.failures writer.new)) }
+{
+    send(writer, string, sent)?;
+    send(writer, &[0], sent)
+}
+
+// The bytes of a message.
+fn send_message<W: Sink>(writer: &mut W, message: &Packed, sent: &mut u64) -> Result<(), Failure>
+    ensures bytes { Sends (W.contents writer.old) (W.contents writer.new) result (message_bytes message.now) sent.old sent.new }
+    ensures ok { OnOk result (W.failures writer.new ≡ W.failures writer.old) }
+    ensures err { OnErr result (Failed (W.failures writer.old) (W.failures writer.new)) }
+    ensures message { OnOk result (IsMessage (length message.now.text) message.now) }
+{
+    send(writer, &fixed_bytes(message), sent)?;
+    send_string(writer, message.to_name(), sent)?;
+    send_string(writer, message.from_name(), sent)?;
+    send_string(writer, message.subject(), sent)?;
+    send_string(writer, message.text(), sent)
+}
+
+impl<W: Sink + Drop> PacketWriter<W> {
+    /// Writes the header. A fault is `Write` with the number of bytes that went out.
+    pub fn begin(writer: W, header: &Header) -> Result<PacketWriter<W>, PacketFault>
+        ensures bytes { IfOk result (λ packet. Appends (W.contents writer) (W.contents (writer_below packet)) (header_bytes header.now)) }
+        ensures count { IfOk result (λ packet. bytes_sent packet ≡ 58) }
+        ensures ready { IfOk result (λ packet. has_stopped packet ≡ false) }
+        ensures same { IfOk result (λ packet. W.failures (writer_below packet) ≡ W.failures writer) }
+        ensures fault { IfErr result (IsLost W.contents W.failures writer (header_bytes header.now) 0) }
+        ensures header { IsHeader header.now }
+    {
+        let mut writer = writer;
+        let mut sent = 0;
+        let mut bytes = [0u8; HEADER_BYTES];
+        write_header(header, &mut bytes);
+        match send(&mut writer, &bytes, &mut sent) {
+            Ok(()) => Ok(PacketWriter {
+                writer,
+                sent,
+                stopped: false,
+            }),
+            Err(Failure) => Err(PacketFault::Write { bytes: sent }),
+        }
+    }
+
+    /// Writes a message. A fault is `Write` with the number of bytes that went out since `begin`,
+    /// its own among them; after an error of an earlier call it is `Stopped`.
+    pub fn put(&mut self, message: &Packed) -> Result<(), PacketFault>
+        ensures bytes { has_stopped self.old ≡ false → Sends (W.contents (writer_below self.old)) (W.contents (writer_below self.new)) result (message_bytes message.now) (bytes_sent self.old) (bytes_sent self.new) }
+        ensures ok { OnOk result (has_stopped self.new ≡ false) }
+        ensures same { OnOk result (W.failures (writer_below self.new) ≡ W.failures (writer_below self.old)) }
+        ensures fault { has_stopped self.old ≡ false → IfErr result (λ fault. fault ≡ Write (bytes_sent self.new)) }
+        ensures failed { has_stopped self.old ≡ false → OnErr result (Failed (W.failures (writer_below self.old)) (W.failures (writer_below self.new))) }
+        ensures stops { OnErr result (has_stopped self.new ≡ true) }
+        ensures message { OnOk result (IsMessage (length message.now.text) message.now) }
+        ensures stopped { has_stopped self.old ≡ true → (result ≡ Err Stopped) × (self.new ≡ self.old) }
+    {
+        if self.stopped {
+            return Err(PacketFault::Stopped);
+        }
+        match send_message(&mut self.writer, message, &mut self.sent) {
+            Ok(()) => Ok(()),
+            Err(Failure) => {
+                self.stopped = true;
+                Err(PacketFault::Write { bytes: self.sent })
+            }
+        }
+    }
+
+    /// Writes the terminator 00 00 and gives the writer back. What that holds back is left to its
+    /// owner. Faults are those of `put`.
+    pub fn finish(self) -> Result<W, PacketFault>
+        ensures bytes { IfOk result (λ writer. Appends (W.contents (writer_below self)) (W.contents writer) (word 0)) }
+        ensures same { IfOk result (λ writer. W.failures writer ≡ W.failures (writer_below self)) }
+        ensures fault { has_stopped self ≡ false → IfErr result (IsLost W.contents W.failures (writer_below self) (word 0) (bytes_sent self)) }
+        ensures stopped { has_stopped self ≡ true → result ≡ Err Stopped }
+    {
+        if self.stopped {
+            return Err(PacketFault::Stopped);
+        }
+        let mut writer = self.writer;
+        let mut sent = self.sent;
+        match send(&mut writer, &[0, 0], &mut sent) {
+            Ok(()) => Ok(writer),
+            Err(Failure) => Err(PacketFault::Write { bytes: sent }),
+        }
+    }
+}
