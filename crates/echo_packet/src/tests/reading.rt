@@ -134,12 +134,12 @@ fn keeps_limits(rt: HostRuntime) {
     );
 }
 
-// The packet with a toUserName of so many bytes, its 00 left out where they are 36.
-fn with_name(alloc: Global, count: usize) -> Result<Vec<u8>, AllocError> {
+// The packet with this toUserName, and a 00 behind it where there is room.
+fn with_name(alloc: Global, name: &[u8]) -> Result<Vec<u8>, AllocError> {
     let mut bytes = Vec::new(alloc);
     bytes.extend_from_slice(&FIRST[..92])?;
-    bytes.resize(92 + count, b'A')?;
-    if count < 36 {
+    bytes.extend_from_slice(name)?;
+    if name.len() < 36 {
         bytes.push(0)?;
     }
     bytes.extend_from_slice(&FIRST[96..])?;
@@ -149,9 +149,9 @@ fn with_name(alloc: Global, count: usize) -> Result<Vec<u8>, AllocError> {
 #[test]
 fn longest_name(rt: HostRuntime) -> Result<(), Fail> {
     let alloc = rt.alloc();
-    let longest = with_name(alloc, 35)?;
+    let longest = with_name(alloc, &[b'A'; 35])?;
     assert_eq!(rt; fault_of(alloc, &longest, Limits::NONE), None);
-    let longer = with_name(alloc, 36)?;
+    let longer = with_name(alloc, &[b'A'; 36])?;
     assert_eq!(rt;
         fault_of(alloc, &longer, Limits::NONE),
         Some(PacketFault::FieldTooLong { at: 92 })
