@@ -1,11 +1,12 @@
 -- What `show` prints of a packet.
-use Rattle.std.specs.Prelude.{◌≡◌, ℕ, ◌+◌, ◌-◌, List, [], ◌∷◌, ◌++◌, length, replicate, codes, decimal, filter, ◌≤◌, take, not, Bool, true, false, ◌||◌, ◌==◌, Option, Ok}
+use Rattle.std.specs.Prelude.{◌≡◌, ℕ, ◌+◌, ◌-◌, ◌/◌, ◌%◌, List, [], ◌∷◌, ◌++◌, length, replicate, codes, decimal, filter, ◌≤◌, nat_le, take, slice_index, not, Bool, true, false, ◌||◌, ◌&&◌, ◌==◌, if◌then◌else◌, Option, Ok}
+use Rattle.std.specs.List.{flat_map}
 use Rattle.std.specs.Io.KnownBytes.{Appends}
 use Rattle.echo_packet.specs.declared.limits.Limits.{Limits}
 use Rattle.echo_packet.specs.Packet.{PacketOf}
-use Rattle.hex.specs.Hex.{encode_lower, decode_of}
+use Rattle.hex.specs.Hex.{lower_digits, encode_lower, decode_of}
 use Rattle.echo_packet.specs.declared.header.Header.{Header}
-use Rattle.echo_packet.specs.Message.{Message}
+use Rattle.echo_packet.specs.Message.{Message, message_bytes}
 
 -- a number in decimal, with leading zeros where it has fewer digits than asked for
 unfoldable pub zero_padded : ℕ → ℕ → List ℕ
@@ -39,13 +40,62 @@ abbrev pub header_lines : Header → List ℕ
 header_lines h =
     packet_line h ++ (codes "password " ++ (encode_lower h.password ++ (codes "\nfill " ++ (encode_lower h.fill ++ codes "\n"))))
 
+-- a byte that is printed as it is: 20 to 7E, but for the backslash
+abbrev pub is_plain : ℕ → Bool
+is_plain b = nat_le 32 b && (nat_le b 126 && not (b == 92))
+
+-- a byte as it is printed: as it is, the backslash twice, every other one by two digits
+abbrev pub escaped_byte : ℕ → List ℕ
+escaped_byte b =
+    if is_plain b then b ∷ []
+    else if b == 92 then codes "\\\\"
+    else codes "\\x" ++ (slice_index lower_digits (b / 16) ∷ slice_index lower_digits (b % 16) ∷ [])
+
+-- bytes as they are printed
+abbrev pub escaped : List ℕ → List ℕ
+escaped bytes = flat_map escaped_byte bytes
+
+-- a line of a word, a blank and bytes
+abbrev pub escaped_line : List ℕ → List ℕ → List ℕ
+escaped_line word bytes = word ++ (codes " " ++ (escaped bytes ++ codes "\n"))
+
+-- net/node
+abbrev pub net_node : ℕ → ℕ → List ℕ
+net_node net node = decimal net ++ (codes "/" ++ decimal node)
+
+-- from which system to which a message goes
+abbrev pub route : Message → List ℕ
+route m = net_node m.orig_net m.orig_node ++ (codes " to " ++ net_node m.dest_net m.dest_node)
+
+-- the line of a message's number, the place where it begins, its systems and numbers
+abbrev pub message_line : ℕ → ℕ → Message → List ℕ
+message_line number place m =
+    codes "message " ++ (decimal number ++ (codes " at " ++ (decimal place ++ (codes ": " ++ (route m
+    ++ (codes " attribute " ++ (decimal m.attribute ++ (codes " cost " ++ (decimal m.cost ++ codes "\n")))))))))
+
+-- the line of the length of a text
+abbrev pub text_line : ℕ → List ℕ
+text_line n = codes "text " ++ (decimal n ++ codes " bytes\n")
+
+-- the lines of a message
+abbrev pub message_lines : ℕ → ℕ → Message → List ℕ
+message_lines number place m =
+    message_line number place m ++ (escaped_line (codes "date") m.date ++ (escaped_line (codes "to") m.to_name
+    ++ (escaped_line (codes "from") m.from_name ++ (escaped_line (codes "subject") m.subject ++ text_line (length m.text)))))
+
+-- the lines of messages, of which the first has this number and begins at this place
+abbrev pub messages_lines : ℕ → ℕ → List Message → List ℕ
+messages_lines number place [] = []
+messages_lines number place (m ∷ ms) =
+    message_lines number place m ++ messages_lines (number + 1) (place + length (message_bytes m)) ms
+
 -- the line after the last message
 abbrev pub end_line : ℕ → ℕ → List ℕ
 end_line messages bytes = codes "end " ++ (decimal messages ++ (codes " messages, " ++ (decimal bytes ++ codes " bytes\n")))
 
--- the lines for a packet without messages of n bytes
+-- the lines for a packet of n bytes: its messages begin after the 58 bytes of the header
 abbrev pub shown : Header → List Message → ℕ → List ℕ
-shown h ms n = header_lines h ++ end_line (length ms) n
+shown h ms n = header_lines h ++ (messages_lines 1 58 ms ++ end_line (length ms) n)
 
 -- a byte that lays out hexadecimal text: a blank, a tab or a part of a line end
 abbrev pub is_layout : ℕ → Bool
@@ -60,14 +110,17 @@ abbrev pub Stands : Bool → List ℕ → List ℕ → Type 0
 Stands false input bytes = bytes ≡ input
 Stands true input bytes = decode_of (hex_text input) ≡ Ok bytes
 
+-- what `show` takes: texts of 16 MiB and any number of messages
+abbrev pub show_limits : Limits
+show_limits = record { text = 16777216; messages = 18446744073709551615 }
+
 -- the packet at the front of the bytes was printed, and nothing else
 pub record IsPrinted (bytes : List ℕ) (old new : Option (List ℕ)) : Type 0 where
-  pub limits : Limits
   pub header : Header
   pub messages : List Message
   pub size : ℕ
   pub room : size ≤ length bytes
-  pub packet : PacketOf limits header messages (take size bytes)
+  pub packet : PacketOf show_limits header messages (take size bytes)
   pub printed : Appends old new (shown header messages size)
 
 -- the same of the bytes that the input stands for

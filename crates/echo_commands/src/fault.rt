@@ -1,5 +1,5 @@
 ghost use Rattle.std.specs.Prelude.{◌≡◌, ◌≢◌};
-ghost use Rattle.echo_commands.specs.declared.fault.Fault.TheVariants.{OutOfMemory};
+ghost use Rattle.echo_commands.specs.declared.fault.Fault.TheVariants.{OutOfMemory, Packet};
 
 use crate::status::Status;
 use echo_packet::PacketFault;
@@ -20,6 +20,14 @@ pub enum Fault<'a> {
     CannotUse(&'a str),
     #[error("out of memory")]
     OutOfMemory,
+}
+
+impl From<PacketFault> for Fault<'_> {
+    ghost from_gives = { λ fault e. e ≡ Packet fault };
+
+    fn from(fault: PacketFault) -> Self {
+        Fault::Packet(fault)
+    }
 }
 
 impl From<AllocError> for Fault<'_> {

@@ -8,6 +8,7 @@
 //! prints), `fault` and `status` (how a command ends).
 #![tactic(auto)]
 
+mod escape;
 mod fault;
 mod input;
 mod show_text;

@@ -1,7 +1,7 @@
 ghost use Rattle.std.specs.Prelude.{◌≡◌, IfOk, string_bytes};
-ghost use Rattle.echo_commands.specs.Shown.{address, end_line, date, header_lines, packet_line, systems, time, zero_padded};
+ghost use Rattle.echo_commands.specs.Shown.{address, end_line, date, header_lines, message_line, net_node, packet_line, route, systems, text_line, time, zero_padded};
 
-use echo_packet::Header;
+use echo_packet::{Header, Packed};
 use std::alloc::{AllocError, Global};
 
 fn two_digits(alloc: Global, n: u32) -> Result<String, AllocError>
@@ -69,8 +69,44 @@ pub fn header_text(alloc: Global, h: &Header) -> Result<String, AllocError>
     format!(in alloc; "{packet}password {password}\nfill {fill}\n")
 }
 
+fn net_node_text(alloc: Global, net: u16, node: u16) -> Result<String, AllocError>
+    ensures { IfOk result (λ text. string_bytes text ≡ net_node net node) }
+{
+    format!(in alloc; "{net}/{node}")
+}
+
+fn route_text(alloc: Global, m: &Packed) -> Result<String, AllocError>
+    ensures { IfOk result (λ text. string_bytes text ≡ route m.now) }
+{
+    let from = net_node_text(alloc, m.orig_net(), m.orig_node())?;
+    let to = net_node_text(alloc, m.dest_net(), m.dest_node())?;
+    format!(in alloc; "{from} to {to}")
+}
+
+/// The first line of a message, its number counted from 1, its place from the start of the packet.
+pub fn message_text(
+    alloc: Global,
+    number: u64,
+    place: u64,
+    m: &Packed,
+) -> Result<String, AllocError>
+    ensures { IfOk result (λ text. string_bytes text ≡ message_line number place m.now) }
+{
+    let route = route_text(alloc, m)?;
+    let attribute = m.attribute();
+    let cost = m.cost();
+    format!(in alloc; "message {number} at {place}: {route} attribute {attribute} cost {cost}\n")
+}
+
+/// The line of a text of so many bytes.
+pub fn text_text(alloc: Global, bytes: usize) -> Result<String, AllocError>
+    ensures { IfOk result (λ text. string_bytes text ≡ text_line bytes) }
+{
+    format!(in alloc; "text {bytes} bytes\n")
+}
+
 /// The line after the last message.
-pub fn end_text(alloc: Global, messages: usize, bytes: usize) -> Result<String, AllocError>
+pub fn end_text(alloc: Global, messages: u64, bytes: u64) -> Result<String, AllocError>
     ensures { IfOk result (λ text. string_bytes text ≡ end_line messages bytes) }
 {
     format!(in alloc; "end {messages} messages, {bytes} bytes\n")

@@ -1,20 +1,21 @@
-ghost use Rattle.std.specs.Prelude.{◌≡◌, ◌++◌, OnOk, IfOk, Ok};
+ghost use Rattle.std.specs.Prelude.{◌≡◌, OnOk, IfOk, Ok};
 ghost use Rattle.std.specs.Io.KnownBytes.{Appends};
 ghost use Rattle.hex.specs.Hex.{decode_of};
-ghost use Rattle.echo_commands.specs.Shown.{IsPrinted, IsShown, end_line, header_lines, hex_text};
+ghost use Rattle.echo_commands.specs.Shown.{IsPrinted, IsShown, end_line, escaped_line, header_lines, hex_text, message_lines};
 
+use crate::escape::escaped_text;
 use crate::fault::Fault;
-use crate::show_text::{end_text, header_text};
+use crate::show_text::{end_text, header_text, message_text, text_text};
 use crate::status::Status;
-use echo_packet::{Header, Limits, read_header, read_packet};
+use echo_packet::{Header, Limits, Packed, PacketReader};
 use hex::FromHexError;
 use std::alloc::Global;
 use std::io::Write;
 
-/// What `show` takes of a packet: texts of 16 MiB, and no messages yet.
+/// What `show` takes of a packet: texts of 16 MiB and any number of messages.
 const LIMITS: Limits = Limits {
     text: 16_777_216,
-    messages: 0,
+    messages: u64::MAX,
 };
 
 /// `show [--hex] PACKET`: prints the packet at the front of the input, which with `hex` is written in
@@ -70,52 +71,71 @@ fn decode<'a>(alloc: Global, input: &[u8]) -> Result<Vec<u8>, Fault<'a>>
 fn show_bytes<'a, W: Write>(alloc: Global, bytes: &[u8], out: &mut W) -> Result<(), Fault<'a>>
     ensures { OnOk result (IsPrinted bytes.now (W.contents out.old) (W.contents out.new)) }
 {
-    match read_packet(alloc, bytes, LIMITS) {
-        Ok((header, messages, size)) => { print_packet(alloc, &header, messages.len(), size, out) }
-        Err(fault) => {
-            if let Ok(header) = read_header(bytes) {
-                print_header(alloc, &header, out)?;
-            }
-            Err(Fault::Packet(fault))
-        }
+    let mut reader = PacketReader::open(alloc, bytes, LIMITS)?;
+    print_header(alloc, reader.header(), out)?;
+    let mut count = 0u64;
+    let mut place = reader.place();
+    'messages: while let Some(message) = reader.next()? {
+        count += 1;
+        print_message(alloc, count, place, &message, out)?;
+        place = reader.place();
     }
-}
-
-fn print_packet<'a, W: Write>(
-    alloc: Global,
-    header: &Header,
-    messages: usize,
-    size: usize,
-    out: &mut W,
-) -> Result<(), Fault<'a>>
-    ensures { OnOk result (Appends (W.contents out.old) (W.contents out.new) (header_lines header.now ++ end_line messages size)) }
-{
-    print_header(alloc, header, out)?;
-    print_end(alloc, messages, size, out)
+    print_end(alloc, count, reader.place(), out)
 }
 
 fn print_header<'a, W: Write>(alloc: Global, header: &Header, out: &mut W) -> Result<(), Fault<'a>>
     ensures { OnOk result (Appends (W.contents out.old) (W.contents out.new) (header_lines header.now)) }
 {
     let lines = header_text(alloc, header)?;
-    print(out, lines.as_str())
+    print(out, lines.as_bytes())
+}
+
+// The six lines of a message.
+fn print_message<'a, W: Write>(
+    alloc: Global,
+    number: u64,
+    place: u64,
+    message: &Packed,
+    out: &mut W,
+) -> Result<(), Fault<'a>>
+    ensures { OnOk result (Appends (W.contents out.old) (W.contents out.new) (message_lines number place message.now)) }
+{
+    let line = message_text(alloc, number, place, message)?;
+    print(out, line.as_bytes())?;
+    print_bytes(alloc, "date", message.date(), out)?;
+    print_bytes(alloc, "to", message.to_name(), out)?;
+    print_bytes(alloc, "from", message.from_name(), out)?;
+    print_bytes(alloc, "subject", message.subject(), out)?;
+    let line = text_text(alloc, message.text().len())?;
+    print(out, line.as_bytes())
+}
+
+fn print_bytes<'a, W: Write>(
+    alloc: Global,
+    word: &str,
+    bytes: &[u8],
+    out: &mut W,
+) -> Result<(), Fault<'a>>
+    ensures { OnOk result (Appends (W.contents out.old) (W.contents out.new) (escaped_line word.now bytes.now)) }
+{
+    let line = escaped_text(alloc, word, bytes)?;
+    print(out, &line)
 }
 
 fn print_end<'a, W: Write>(
     alloc: Global,
-    messages: usize,
-    size: usize,
+    messages: u64,
+    size: u64,
     out: &mut W,
 ) -> Result<(), Fault<'a>>
     ensures { OnOk result (Appends (W.contents out.old) (W.contents out.new) (end_line messages size)) }
 {
     let line = end_text(alloc, messages, size)?;
-    print(out, line.as_str())
+    print(out, line.as_bytes())
 }
 
-fn print<'a, W: Write>(out: &mut W, text: &str) -> Result<(), Fault<'a>>
-    ensures { OnOk result (Appends (W.contents out.old) (W.contents out.new) text.now) }
+fn print<'a, W: Write>(out: &mut W, bytes: &[u8]) -> Result<(), Fault<'a>>
+    ensures { OnOk result (Appends (W.contents out.old) (W.contents out.new) bytes.now) }
 {
-    out.write_all(text.as_bytes())
-        .map_err(|_| Fault::CannotUse("-"))
+    out.write_all(bytes).map_err(|_| Fault::CannotUse("-"))
 }

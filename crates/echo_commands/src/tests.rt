@@ -1,3 +1,5 @@
+mod messages;
+
 use super::*;
 use std::alloc::Global;
 use std::io::Read;
@@ -77,7 +79,7 @@ fn refuses_wrong_numbers(rt: HostRuntime) -> Result<(), Fail> {
             "\n0000\n",
             "\n0200\n",
             HEADER,
-            "echonet: P10 TooManyMessages at 58\n",
+            "echonet: P1 Truncated at 60\n",
         ),
         ("01000200", "0100020", "", "echonet: bad hex\n"),
         ("01000200", "0100020g", "", "echonet: bad hex\n"),

@@ -6,7 +6,7 @@ use Rattle.std.specs.Result.{IsErrAnd}
 use Rattle.std.proofs.Math.Seq.{take-append-add}
 use Rattle.std.specs.Io.KnownBytes.{Appends}
 use Rattle.std.proofs.KnownBytes.{Appends-trans}
-use Rattle.echo_addr.specs.Device.{counted, Gets, Sends}
+use Rattle.echo_addr.specs.Device.{counted, SendsFront, Sends}
 use Rattle.echo_packet.specs.Message.{Message, ToName, FromName, Subject, Text, before, ended, message_bytes}
 
 -- all bytes went out, and were counted
@@ -15,7 +15,7 @@ AllSent before after bytes n m = Appends before after bytes × (m ≡ counted (n
 
 -- a front of the bytes that lacks some went out, and was counted
 abbrev pub PartSent : Option (List ℕ) → Option (List ℕ) → List ℕ → ℕ → ℕ → Type 0
-PartSent before after bytes n m = (k : ℕ) × (k < length bytes) × Gets before after bytes n m k
+PartSent before after bytes n m = SendsFront before after bytes n m
 
 -- more bytes went out behind them
 pub AllSent-more : (a b c : Option (List ℕ)) (bs cs : List ℕ) (n m k : ℕ) → AllSent a b bs n m → AllSent b c cs m k → AllSent a c (bs ++ cs) n k
@@ -26,19 +26,17 @@ AllSent-more a b c bs cs n m k first second =
 pub AllSent-part : (a b c : Option (List ℕ)) (bs cs : List ℕ) (n m k : ℕ) → AllSent a b bs n m → PartSent b c cs m k → PartSent a c (bs ++ cs) n k
 AllSent-part a b c bs cs n m k first second =
     let i = second.0 in
-    let gets = second.2 in
-    let went : Appends a c (bs ++ take i cs) = Appends-trans a b c bs (take i cs) first.0 gets.0 in
+    let went : Appends a c (bs ++ take i cs) = Appends-trans a b c bs (take i cs) first.0 second.2 in
     let bytes : Appends a c (take (length bs + i) (bs ++ cs)) = subst (Appends a c) (sym (take-append-add bs cs i)) went in
-    let count : k ≡ counted (n + (length bs + i)) = omega (arith, first.1, gets.1) in
-    (length bs + i, omega (arith, second.1, length-append bs cs), (bytes, count))
+    let count : k ≡ counted (n + (length bs + i)) = omega (arith, first.1, second.3) in
+    (length bs + i, omega (arith, second.1, length-append bs cs), bytes, count)
 
 -- a part of the first bytes is a part of all of them
 pub PartSent-longer : (a b : Option (List ℕ)) (bs cs : List ℕ) (n m : ℕ) → PartSent a b bs n m → PartSent a b (bs ++ cs) n m
 PartSent-longer a b bs cs n m part =
     let i = part.0 in
-    let gets = part.2 in
     let within : i ≤ length bs = omega (arith, part.1) in
-    (i, omega (arith, part.1, length-append bs cs), (subst (Appends a b) (sym (take-append-le i bs cs within)) gets.0, gets.1))
+    (i, omega (arith, part.1, length-append bs cs), subst (Appends a b) (sym (take-append-le i bs cs within)) part.2, part.3)
 
 -- what an error says
 pub Sends-at_err : {E A : Type 0} (a b : Option (List ℕ)) (r : Result A E) (bs : List ℕ) (n m : ℕ) (Q : E → Type 0)

@@ -1,0 +1,45 @@
+//! Bytes as they are printed.
+ghost use Rattle.std.specs.Prelude.{◌≡◌, ◌++◌, codes, IfOk, OnOk};
+ghost use Rattle.echo_commands.specs.Shown.{escaped, escaped_byte, escaped_line};
+
+use std::alloc::{AllocError, Global};
+
+/// The digits of a byte that is not printed as it is.
+const DIGITS: [u8; 16] = *b"0123456789abcdef";
+
+// A byte that is printed as it is, the backslash twice, and another one as `\x` and two digits.
+fn push_byte(line: &mut Vec<u8>, byte: u8) -> Result<(), AllocError>
+    ensures { OnOk result (line.new.items ≡ line.old.items ++ escaped_byte byte) }
+{
+    match byte {
+        b'\\' => line.extend_from_slice(b"\\\\")?,
+        b' '..=b'~' => line.push(byte)?,
+        _ => {
+            let high = DIGITS[usize::from(byte / 16)];
+            let low = DIGITS[usize::from(byte % 16)];
+            line.extend_from_slice(&[b'\\', b'x', high, low])?;
+        }
+    }
+    Ok(())
+}
+
+fn push_bytes(line: &mut Vec<u8>, bytes: &[u8]) -> Result<(), AllocError>
+    ensures { OnOk result (line.new.items ≡ line.old.items ++ escaped bytes.now) }
+{
+    'bytes: for byte in bytes {
+        push_byte(line, *byte)?;
+    }
+    Ok(())
+}
+
+/// The line of a word, a blank and the bytes.
+pub fn escaped_text(alloc: Global, word: &str, bytes: &[u8]) -> Result<Vec<u8>, AllocError>
+    ensures { IfOk result (λ line. line.items ≡ escaped_line word.now bytes.now) }
+{
+    let mut line = Vec::new(alloc);
+    line.extend_from_slice(word.as_bytes())?;
+    line.push(b' ')?;
+    push_bytes(&mut line, bytes)?;
+    line.push(b'\n')?;
+    Ok(line)
+}
