@@ -1,7 +1,7 @@
 -- What lines of one kind begin with, and that they are of no other kind.
 use Rattle.std.proofs.Common.{◌≡◌, ℕ, suc, ◌+◌, ◌<◌, ◌≤◌, ◌==◌, ◌&&◌, ◌||◌, not, nat_eq, Bool, true, false, cond, List, [], ◌∷◌, ◌++◌, length, drop, take, refl, sym, ap, subst, ◌∙◌, arith, inl, inr, ◌⊎◌}
 use Rattle.std.specs.List.{list_all, prefix_len, starts_with}
-use Rattle.std.proofs.lemmas.Bool.{and_parts, cases_Bool, cond-true, cond-false, eqb-true, or_from, or_left, or_right}
+use Rattle.std.proofs.lemmas.Bool.{and_parts, cases_Bool, cond-true, cond-false, eqb-true, not-true, or_left, or_right}
 use Rattle.echo_addr.specs.Entries.{is_blank}
 use Rattle.echo_addr.specs.ShortLines.{path_prefix, seen_prefix}
 use Rattle.echo_text.specs.Lines.{after_feeds, after_word, area_word, begins, control_word, is_area, is_blank_line, is_control, is_feed, is_path, is_seen}
@@ -126,3 +126,10 @@ not_shed_if_kept line kept =
     by false seen path blank k s b = absurd cc
     by true true path blank k s b = absurd cc
     by true false path true k s b = absurd cc
+
+-- a kept line of the tail is no SEEN-BY line and no PATH line
+pub kept_no_seen : (line : List ℕ) → is_kept_control line ≡ true → is_seen line ≡ false
+kept_no_seen line kept = control_is_not_seen line (and_parts (is_control line) (not (is_path line)) kept).0
+
+pub kept_no_path : (line : List ℕ) → is_kept_control line ≡ true → is_path line ≡ false
+kept_no_path line kept = not-true (is_path line) (and_parts (is_control line) (not (is_path line)) kept).1
