@@ -1,6 +1,6 @@
 -- What is written of an echo, cut into lines and taken apart, is that echo.
-use Rattle.std.proofs.Common.{◌≡◌, ℕ, ◌+◌, ◌<◌, ◌≤◌, ◌==◌, not, Bool, true, false, List, [], ◌∷◌, ◌++◌, length, map, refl, sym, ap, subst, ◌∙◌, ◌↔◌, arith, inl, inr, ◌⊎◌}
-use Rattle.std.specs.List.{All, AllByRecursion, filter, flat_map, list_all, sum_by}
+use Rattle.std.proofs.Common.{◌≡◌, ◌≢◌, ℕ, ◌+◌, ◌<◌, ◌≤◌, ◌==◌, not, Bool, true, false, List, [], ◌∷◌, ◌++◌, length, map, refl, sym, ap, subst, ◌∙◌, ◌↔◌, arith, inl, inr, ◌⊎◌}
+use Rattle.std.specs.List.{All, AllByRecursion, AllPairs, filter, flat_map, list_all, sum_by}
 use Rattle.std.proofs.lemmas.List.{append_assoc, append-nil}
 use Rattle.std.proofs.lemmas.List.Elements.{All-append, All-from_recursion, All-weaker, filter-append, recursion_from_All}
 use Rattle.std.proofs.lemmas.List.Folds.{list_all-append}
@@ -144,4 +144,80 @@ says kept seen path ending =
                   (filter_prefixed_none is_path seen_prefix seen_is_not_path seen)
                   (filter_prefixed is_path path_prefix path_is_path path))
           ∙ after_prefixed path_prefix after_path path;
+    }
+
+-- the lines of a text that was written
+line_piece : (line : List ℕ) → IsLine line → IsPiece line
+line_piece line h = All-weaker (λ b. (b ≢ 0) × (b ≢ 13)) (λ b. is_return b ≡ false) (λ b parts. ne_eqb b 13 parts.1) line h
+
+line_pieces : (kept : List (List ℕ)) → AllByRecursion IsLine kept → AllByRecursion IsPiece kept
+line_pieces [] h = tt
+line_pieces (line ∷ more) h = (line_piece line h.0, line_pieces more h.1)
+
+area_piece : IsPiece area_word
+area_piece = All-from_recursion (λ b. is_return b ≡ false) area_word (refl, (refl, (refl, (refl, (refl, tt)))))
+
+seen_piece : IsPiece seen_prefix
+seen_piece = All-from_recursion (λ b. is_return b ≡ false) seen_prefix (refl, (refl, (refl, (refl, (refl, (refl, (refl, (refl, tt))))))))
+
+path_piece : IsPiece path_prefix
+path_piece = All-from_recursion (λ b. is_return b ≡ false) path_prefix (refl, (refl, (refl, (refl, (refl, (refl, tt))))))
+
+prefixed_lines : (prefix : List ℕ) (rests : List (List ℕ)) (b : List ℕ) → IsPiece prefix → b ≡ flat_map (line_of prefix) rests
+    → AllByRecursion (AllByRecursion IsEntryByte) rests → (more : List ℕ) → lines (b ++ more) ≡ prefixed prefix rests ++ lines more
+prefixed_lines prefix rests b piece is bytes more =
+    ap (λ s. lines (s ++ more)) (is ∙ lines_prefixed prefix rests)
+    ∙ lines_of_ended (prefixed prefix rests) more (prefixed_pieces prefix piece rests bytes)
+
+written_lines : (e : Echo) (text : List ℕ) → IsEcho e → (w : TextOf e text) → (s : ReadBack seen_prefix e.seen w.seen_lines) → (p : ReadBack path_prefix e.path w.path_lines)
+    → lines text ≡ (area_word ++ e.tag) ∷ laid_out e.kept s.rests p.rests
+written_lines e text h w s p =
+    ap lines w.whole
+    ∙ lines_ended (area_word ++ e.tag) (flat_map ended e.kept ++ (w.seen_lines ++ w.path_lines))
+        (All-append (λ b. is_return b ≡ false) area_word e.tag area_piece (tag_piece e.tag h.tag_bytes))
+    ∙ ap (λ ls. (area_word ++ e.tag) ∷ ls)
+        (lines_of_ended e.kept (w.seen_lines ++ w.path_lines) (line_pieces e.kept (recursion_from_All IsLine e.kept h.kept_lines))
+        ∙ ap (λ ls. e.kept ++ ls)
+            (prefixed_lines seen_prefix s.rests w.seen_lines seen_piece s.lines s.bytes w.path_lines
+            ∙ ap (λ ls. prefixed seen_prefix s.rests ++ ls)
+                (ap lines (sym (append-nil w.path_lines))
+                ∙ prefixed_lines path_prefix p.rests w.path_lines path_piece p.lines p.bytes []
+                ∙ ap (λ ls. prefixed path_prefix p.rests ++ ls) lines_nil
+                ∙ append-nil (prefixed path_prefix p.rests))))
+
+none_dropped : (rests : List (List ℕ)) → AllByRecursion (λ rest. dropped rest ≡ 0) rests → all_dropped rests ≡ 0
+none_dropped [] h = refl
+none_dropped (rest ∷ more) h = omega (arith, sum_by-cons dropped rest more, h.0, none_dropped more h.1)
+
+itself : (list : List NetNode) → (all : List NetNode) → all ≡ list → AllPairs ComesBefore list → IsSetOf list all
+itself list all is ascending =
+    let P : List NetNode → Type 0 = λ other. IsSetOf list other in
+    subst P (sym is) (record { ascending = ascending; members = λ entry. ((λ x. x), (λ x. x)) })
+
+-- the lines of a text, where it is known what they are
+record Begun (text first : List ℕ) (later : List (List ℕ)) : Type 0 where
+  first_is : first_line (lines text) ≡ first
+  later_is : later_lines (lines text) ≡ later
+
+begun : (text first : List ℕ) (later : List (List ℕ)) → lines text ≡ first ∷ later → Begun text first later
+begun text first later is = record { first_is = ap first_line is; later_is = ap later_lines is }
+
+pub written_read_back : (e : Echo) (text : List ℕ) → IsEcho e → TextOf e text → EchoOf text e 0
+written_read_back e text h w =
+    let s = read_back seen_prefix e.seen w.seen_lines h.seen_entries w.seen in
+    let p = read_back path_prefix e.path w.path_lines h.path_entries w.path in
+    let at = begun text (area_word ++ e.tag) (laid_out e.kept s.rests p.rests) (written_lines e text h w s p) in
+    let left = list_all-from_AllPass (λ line. not (is_shed line)) (tail e.kept) h.ending in
+    let back = says e.kept s.rests p.rests (kept_ending (tail e.kept) (tail_is_tail e.kept) left) in
+    let seen = ap seen_lists at.later_is ∙ back.seen_back in
+    let path = ap path_lists at.later_is ∙ back.path_back in
+    record {
+      area = ap is_area at.first_is ∙ area_is_area e.tag;
+      tag = sym (ap area_tag at.first_is ∙ area_tag_back e.tag h.tag_bytes);
+      tag_bytes = h.tag_bytes;
+      kept = sym (ap kept_of at.later_is ∙ back.kept_back);
+      seen = itself e.seen (all_entries (seen_lists (later_lines (lines text)))) (ap all_entries seen ∙ s.list_back) h.ascending;
+      path = sym (ap all_entries path ∙ p.list_back);
+      dropped_tokens =
+          omega (arith, ap all_dropped seen, ap all_dropped path, none_dropped s.rests s.none_dropped, none_dropped p.rests p.none_dropped);
     }
