@@ -24,7 +24,7 @@ no_front_blanks (b ∷ bytes) ink =
 no_back_blanks : (bytes : List ℕ) → IsInked bytes → without_back_blanks bytes ≡ bytes
 no_back_blanks bytes ink =
     let none =
-        suffix_len_is is_blank bytes (length bytes) 0 (omega arith) (λ k low high. absurd (omega arith)) (λ some. ink (length bytes - 1) 0 (omega arith))
+    suffix_len_is is_blank bytes (length bytes) 0 (omega arith) (λ k low high. absurd (omega arith)) (λ some. ink (length bytes - 1) 0 (omega arith))
     in
     take_all (length bytes - suffix_len is_blank bytes) bytes (omega (arith, none))
 
@@ -54,7 +54,7 @@ tag_byte_upper b h = elim (cases_lt b 97) [
   | inr above ↦
       cond-false (nat_lt b 97) b (cond (nat_lt b 123) (b - 32) b) (le-ltb b 97 above)
       ∙ (elim (cases_lt b 123) [
-        | inl letter ↦ 
+        | inl letter ↦
             let is = and_from (nat_le 97 b) (nat_le b 122) (le-leb 97 b above) (le-leb b 122 (omega arith)) in
             let isnt = h.no_small_letter in absurd cc
         | inr past ↦ cond-false (nat_lt b 123) (b - 32) b (le-ltb b 123 past)

@@ -3,6 +3,8 @@
 
 mod fault;
 mod laws;
+mod lines;
+mod words;
 
 pub use fault::TextFault;
 pub use laws::written_text_read_back;
