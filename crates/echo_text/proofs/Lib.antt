@@ -1,5 +1,6 @@
 pub mod Cutting
 pub mod Tails
+pub mod Listing
 pub mod Sets
 pub mod Written
 pub mod Tags

@@ -1,6 +1,6 @@
 -- The longest ending of lines that is made of control lines.
-use Rattle.std.proofs.Common.{◌≡◌, ℕ, ◌+◌, ◌<◌, ◌&&◌, Bool, true, false, cond, List, [], ◌∷◌, ◌++◌, length, take, drop, get_or, refl, sym, ap, ◌∙◌, inl, inr, ◌⊎◌}
-use Rattle.std.proofs.lemmas.List.{drop_more, take_more, take-append-drop}
+use Rattle.std.proofs.Common.{◌≡◌, ℕ, ◌+◌, ◌-◌, ◌<◌, ◌≤◌, ◌&&◌, Bool, true, false, cond, List, [], ◌∷◌, ◌++◌, length, map, take, drop, get_or, refl, sym, ap, subst, ◌∙◌, arith, inl, inr, ◌⊎◌}
+use Rattle.std.proofs.lemmas.List.{drop-map, drop_more, get_or-map, length-map, take-map, take_more, take-append-drop}
 use Rattle.std.specs.List.{list_all}
 use Rattle.std.proofs.lemmas.List.Folds.{list_all-append}
 use Rattle.std.proofs.lemmas.Bool.{and_cases, and_from, and_left, and_parts, and_right, cases_Bool, cond-true, cond-false}
@@ -134,3 +134,36 @@ pub all_tail_more : (lines : List (List ℕ)) (n : ℕ) → n < length lines →
     → is_tail_line (get_or lines n []) ≡ true → all_tail (drop n lines) ≡ true
 all_tail_more lines n within all is =
     ap all_tail (drop_more lines n [] within) ∙ and_from (is_tail_line (get_or lines n [])) (all_tail (drop (n + 1) lines)) is all
+
+-- the same, where the lines are seen through f
+module _ {X : Type 0} (f : X → List ℕ) (xs : List X) where
+  pub seen_at : (i : ℕ) (d : X) → i < length xs → get_or (map f xs) i [] ≡ f (get_or xs i d)
+  seen_at i d within = get_or-map f xs i d [] within
+
+  pub ends_more : (n : ℕ) (d : X) → 0 < n → n ≤ length xs → all_tail (drop n (map f xs)) ≡ true → is_tail_line (f (get_or xs (n - 1) d)) ≡ true
+      → all_tail (drop (n - 1) (map f xs)) ≡ true
+  ends_more n d some within all is =
+      let back : n ≡ n - 1 + 1 = omega arith in
+      all_tail_more (map f xs) (n - 1) (omega (arith, length-map xs f))
+      (subst (λ k. all_tail (drop k (map f xs)) ≡ true) back all)
+      (ap is_tail_line (seen_at (n - 1) d (omega arith)) ∙ is)
+
+  pub ends_here : (n : ℕ) (d : X) → 0 < n → n ≤ length xs → all_tail (drop n (map f xs)) ≡ true → is_tail_line (f (get_or xs (n - 1) d)) ≡ false
+      → Cuts (map f xs) n
+  ends_here n d some within all isnt =
+      let back : n ≡ n - 1 + 1 = omega arith in
+      subst (Cuts (map f xs)) (sym back)
+      (cuts_after (map f xs) (n - 1) (omega (arith, length-map xs f))
+      (subst (λ k. all_tail (drop k (map f xs)) ≡ true) back all)
+      (ap is_tail_line (seen_at (n - 1) d (omega arith)) ∙ isnt))
+
+  pub ends_at_start : (n : ℕ) → n ≤ 0 → all_tail (drop n (map f xs)) ≡ true → Cuts (map f xs) n
+  ends_at_start n none all =
+      let is : n ≡ 0 = omega arith in
+      subst (Cuts (map f xs)) (sym is) (cuts_at_start (map f xs) (subst (λ k. all_tail (drop k (map f xs)) ≡ true) is all))
+
+  pub body_seen : (n : ℕ) → Cuts (map f xs) n → map f (take n xs) ≡ body (map f xs)
+  body_seen n cuts = sym (take-map f n xs) ∙ cuts.body_is
+
+  pub tail_seen : (n : ℕ) → Cuts (map f xs) n → map f (drop n xs) ≡ tail (map f xs)
+  tail_seen n cuts = sym (drop-map f n xs) ∙ cuts.tail_is

@@ -1,5 +1,6 @@
 ghost use Rattle.std.specs.Prelude.{◌≡◌, Some, None, map, IfOk, MatchResult};
 ghost use Rattle.std.specs.Char.{to_ascii_uppercase};
+ghost use Rattle.std.specs.List.{list_all};
 ghost use Rattle.echo_text.specs.Lines.{area_tag, is_tag, is_tag_byte};
 ghost use Rattle.echo_text.specs.Refusal.{refusal_of};
 
@@ -31,6 +32,13 @@ fn is_tag(bytes: &[u8]) -> bool
     if bytes.is_empty() || bytes.len() > MOST {
         return false;
     }
+    has_tag_bytes(bytes)
+}
+
+/// Whether each byte, in upper case, may stand in a tag.
+fn has_tag_bytes(bytes: &[u8]) -> bool
+    ensures { result ≡ list_all (λ b. is_tag_byte (to_ascii_uppercase b)) bytes.now }
+{
     bytes.iter().all(|b| is_tag_byte(b.to_ascii_uppercase()))
 }
 
