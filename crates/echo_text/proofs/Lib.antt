@@ -1,5 +1,7 @@
 pub mod Cutting
 pub mod Tails
+pub mod Reread
+pub mod EntryRanges
 pub mod Listing
 pub mod Sets
 pub mod Written

@@ -133,3 +133,8 @@ kept_no_seen line kept = control_is_not_seen line (and_parts (is_control line) (
 
 pub kept_no_path : (line : List ℕ) → is_kept_control line ≡ true → is_path line ≡ false
 kept_no_path line kept = not-true (is_path line) (and_parts (is_control line) (not (is_path line)) kept).1
+
+-- a kept line of the tail is a tail line
+pub control_in_tail : (line : List ℕ) → is_kept_control line ≡ true → is_tail_line line ≡ true
+control_in_tail line kept =
+    or_left _ _ (or_right (is_seen line) (is_control line) (and_parts (is_control line) (not (is_path line)) kept).0)

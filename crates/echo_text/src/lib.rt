@@ -2,12 +2,16 @@
 #![tactic(auto)]
 
 mod area;
+mod echo;
 mod fault;
 mod laws;
 mod lines;
 mod listed;
+mod reading;
 mod tail;
 mod words;
 
+pub use echo::{Echo, EchoView};
 pub use fault::TextFault;
 pub use laws::written_text_read_back;
+pub use reading::view_text;
