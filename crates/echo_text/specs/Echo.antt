@@ -39,6 +39,13 @@ pub record IsSetOf (set all : List NetNode) : Type 0 where
   pub ascending : AllPairs ComesBefore set
   pub members : (entry : NetNode) → Contains set entry ↔ Contains all entry
 
+-- what the lines after the AREA line say
+pub record Says (later kept : List (List ℕ)) (seen path : List NetNode) (dropped : ℕ) : Type 0 where
+  pub kept_lines : kept ≡ kept_of later
+  pub seen_set : IsSetOf seen (all_entries (seen_lists later))
+  pub path_list : path ≡ all_entries (path_lists later)
+  pub dropped_tokens : dropped ≡ all_dropped (seen_lists later) + all_dropped (path_lists later)
+
 -- the text is an echo text that says e; so many tokens of its SEEN-BY and PATH lines are no entry
 pub record EchoOf (text : List ℕ) (e : EchoText) (dropped : ℕ) : Type 0 where
   pub area : is_area (first_line (lines text)) ≡ true
