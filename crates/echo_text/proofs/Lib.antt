@@ -1,5 +1,6 @@
 pub mod Cutting
 pub mod Tails
+pub mod SaidAfter
 pub mod Bounds
 pub mod Reread
 pub mod EntryRanges

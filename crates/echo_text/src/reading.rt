@@ -8,7 +8,7 @@ use crate::echo::EchoView;
 use crate::fault::TextFault;
 use crate::lines::{cut, split_line};
 use crate::listed::{entries_of, set_of};
-use crate::tail::{body_len, kept_lines};
+use crate::tail::{kept_lines, split_tail};
 use crate::words::{PATH, SEEN_BY};
 use echo_addr::{Items, NetNode};
 use std::alloc::{AllocError, Global};
@@ -46,7 +46,7 @@ fn parts_of<'a>(alloc: Global, rest: &'a [u8]) -> Result<Parts<'a>, AllocError>
     ensures { IfOk result (λ p. Says (lines rest.now) (map (λ line. line.now) p.kept.items) p.seen.items p.path.items p.dropped) }
 {
     let lines = cut(alloc, rest)?;
-    let (body, tail) = lines.split_at(body_len(&lines));
+    let (body, tail) = split_tail(&lines);
     let kept = kept_lines(alloc, body, tail)?;
     let (seen, seen_dropped) = entries_of(alloc, SEEN_BY, tail)?;
     let (path, path_dropped) = entries_of(alloc, PATH, tail)?;

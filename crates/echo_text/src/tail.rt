@@ -4,8 +4,16 @@ ghost use Rattle.echo_text.specs.Tail.{body, is_kept_control, tail};
 use crate::words::{is_kept_control, is_tail_line};
 use std::alloc::{AllocError, Global};
 
+/// The lines before the control tail, and those of the tail.
+pub(crate) fn split_tail<'s, 'a>(lines: &'s [&'a [u8]]) -> (&'s [&'a [u8]], &'s [&'a [u8]])
+    ensures body { map (λ line. line.now) result.0.now ≡ body (map (λ line. line.now) lines.now) }
+    ensures tail { map (λ line. line.now) result.1.now ≡ tail (map (λ line. line.now) lines.now) }
+{
+    lines.split_at(body_len(lines))
+}
+
 /// How many of the lines stand before the control tail.
-pub(crate) fn body_len(lines: &[&[u8]]) -> usize
+fn body_len(lines: &[&[u8]]) -> usize
     ensures within { result ≤ length lines.now }
     ensures body { map (λ line. line.now) (take result lines.now) ≡ body (map (λ line. line.now) lines.now) }
     ensures tail { map (λ line. line.now) (drop result lines.now) ≡ tail (map (λ line. line.now) lines.now) }
