@@ -2,17 +2,17 @@
 use Rattle.std.proofs.Common.{◌≡◌, ℕ, ◌+◌, ◌^◌, ◌<◌, ◌≤◌, List, [], ◌∷◌, ◌++◌, length, map, refl, sym, ap, subst, ◌∙◌, arith}
 use Rattle.std.specs.Char.{to_ascii_uppercase}
 use Rattle.std.specs.List.{filter}
-use Rattle.std.specs.Option.{is_some}
-use Rattle.std.proofs.Common.{Bool, true, false, cond, not, Some, None, Option}
+use Rattle.std.specs.Result.{IsErrAnd}
+use Rattle.std.proofs.Common.{Bool, true, false, cond, not, Some, None, Option, Result, Ok, Err, inl, inr, ◌⊎◌}
 use Rattle.std.proofs.lemmas.Bool.{cases_Bool}
 use Rattle.echo_addr.specs.declared.address.NetNode.{NetNode}
 use Rattle.echo_addr.specs.ShortLines.{path_prefix, seen_prefix}
 use Rattle.echo_text.specs.declared.fault.TextFault.{TextFault}
-use Rattle.echo_text.specs.declared.fault.TextFault.TheVariants.{BadTag, NotEcho}
+use Rattle.echo_text.specs.declared.fault.TextFault.TheVariants.{BadTag, Memory, NotEcho}
 use Rattle.echo_text.specs.Lines.{area_tag, first_line, is_area, is_tag, later_lines, lines}
 use Rattle.echo_text.specs.Tail.{all_dropped, all_entries, body, is_kept_control, kept_of, lists_of, path_lists, seen_lists, tail}
 use Rattle.echo_text.specs.Echo.{EchoOf, EchoText, IsSetOf, Says}
-use Rattle.echo_text.specs.Refusal.{refusal, refusal_of}
+use Rattle.echo_text.specs.Refusal.{Answers, refusal, refusal_of}
 use Rattle.echo_text.proofs.Bounds.{dropped_of_text}
 
 -- the counts of dropped tokens fit
@@ -71,3 +71,23 @@ read_text_is text first rest tag kept seen path d f l none t says =
 pub refusal_is : (text first : List ℕ) (r : Option TextFault) → first ≡ first_line (lines text) → refusal_of first ≡ r → refusal text ≡ r
 unfolding refusal
 refusal_is text first r f is = ap refusal_of (sym f) ∙ is
+
+-- the same under other names
+pub says_same : (later kept kept' : List (List ℕ)) (seen seen' path path' : List NetNode) (d : ℕ) → Says later kept seen path d
+    → kept' ≡ kept → seen' ≡ seen → path' ≡ path → Says later kept' seen' path' d
+says_same later kept kept' seen seen' path path' d h k s p = record {
+  kept_lines = k ∙ h.kept_lines;
+  seen_set = subst (λ es. IsSetOf es (all_entries (seen_lists later))) (sym s) h.seen_set;
+  path_list = p ∙ h.path_list;
+  dropped_tokens = h.dropped_tokens;
+}
+
+-- a reader that answers the refusal, and one that lacks memory
+pub answers_refusal : (text : List ℕ) (fault : TextFault) (r : Result (EchoText × ℕ) TextFault) → IsErrAnd r (λ e. e ≡ fault)
+    → refusal text ≡ Some fault → Answers text r
+answers_refusal text fault (Ok read) h is = absurd h
+answers_refusal text fault (Err e) h is = inl (is ∙ ap Some (sym h))
+
+pub answers_memory : (text : List ℕ) (r : Result (EchoText × ℕ) TextFault) → IsErrAnd r (λ e. e ≡ Memory) → refusal text ≡ None → Answers text r
+answers_memory text (Ok read) h is = absurd h
+answers_memory text (Err e) h is = inr (is, h)

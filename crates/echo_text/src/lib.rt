@@ -10,8 +10,10 @@ mod listed;
 mod reading;
 mod tail;
 mod words;
+mod writing;
 
 pub use echo::{Echo, EchoView};
 pub use fault::TextFault;
 pub use laws::written_text_read_back;
 pub use reading::view_text;
+pub use writing::write_text;
