@@ -1,5 +1,5 @@
 -- What a text says (FTS-0004, FTS-0009), and the text that is written for it.
-use Rattle.std.specs.Prelude.{◌≡◌, ◌≢◌, ℕ, ◌+◌, nat_lt, ◌↔◌, ◌||◌, not, Bool, true, List, [], ◌∷◌, ◌++◌, length, All, AllPairs, Contains, Option, None, filter, find, map}
+use Rattle.std.specs.Prelude.{◌≡◌, ◌≢◌, ℕ, ◌+◌, nat_lt, ◌↔◌, ◌||◌, ◌&&◌, not, if◌then◌else◌, Bool, true, List, [], ◌∷◌, ◌++◌, length, All, AllPairs, Contains, Option, Some, None, filter, find, map}
 use Rattle.std.specs.List.{AllPass, flat_map, last_or}
 use Rattle.echo_addr.specs.declared.address.NetNode.{NetNode}
 use Rattle.echo_addr.specs.ShortLines.{ComesBefore, IsNetNode, ShortLines, path_prefix, seen_prefix}
@@ -72,6 +72,11 @@ pub record TextOf (e : EchoText) (bytes : List ℕ) : Type 0 where
 abbrev pub first_after : List ℕ → List (List ℕ) → Option (List ℕ)
 first_after word kept =
     find (λ found. nat_lt 0 (length found)) (map (λ line. trimmed (after_word word line)) (filter (begins word) kept))
+
+-- the same of one line
+abbrev pub id_in : List ℕ → List ℕ → Option (List ℕ)
+id_in word line =
+    let found = trimmed (after_word word line) in if begins word line && nat_lt 0 (length found) then Some found else None
 
 -- the id of the first MSGID line that has one, and of the first REPLY line
 unfoldable pub msgid_of : List (List ℕ) → Option (List ℕ)

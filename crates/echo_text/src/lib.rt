@@ -2,8 +2,10 @@
 #![tactic(auto)]
 
 mod area;
+mod copying;
 mod echo;
 mod fault;
+mod found;
 mod laws;
 mod lines;
 mod listed;
@@ -15,5 +17,5 @@ mod writing;
 pub use echo::{Echo, EchoView};
 pub use fault::TextFault;
 pub use laws::written_text_read_back;
-pub use reading::view_text;
+pub use reading::{read_text, view_text};
 pub use writing::write_text;

@@ -4,7 +4,7 @@ ghost use Rattle.echo_text.specs.Lines.{lines};
 ghost use Rattle.echo_text.specs.Refusal.{Answers};
 
 use crate::area::{in_upper_case, tag_of};
-use crate::echo::EchoView;
+use crate::echo::{Echo, EchoView};
 use crate::fault::TextFault;
 use crate::lines::{cut, split_line};
 use crate::listed::{entries_of, set_of};
@@ -30,6 +30,16 @@ pub fn view_text<'a>(alloc: Global, text: &'a [u8]) -> Result<(EchoView<'a>, usi
         path: Items::new(parts.path),
     };
     Ok((view, parts.dropped))
+}
+
+/// What the text says, as `view_text` does, with lines of its own.
+pub fn read_text(alloc: Global, text: &[u8]) -> Result<(Echo, usize), TextFault>
+    requires { HasNoZero text.now }
+    ensures { Answers text.now result }
+{
+    let (view, dropped) = view_text(alloc, text)?;
+    let echo = view.to_echo(alloc)?;
+    Ok((echo, dropped))
 }
 
 /// What the lines after the AREA line say.
