@@ -1,8 +1,8 @@
 -- No more tokens are dropped than a text has bytes.
-use Rattle.std.proofs.Common.{◌≡◌, ℕ, suc, ◌+◌, ◌-◌, ◌<◌, ◌≤◌, ◌==◌, ◌&&◌, nat_eq, nat_lt, Bool, true, false, List, [], ◌∷◌, ◌++◌, length, refl, sym, ap, subst, ◌∙◌, arith, inl, inr, ◌⊎◌}
+use Rattle.std.proofs.Common.{◌≡◌, ℕ, suc, ◌+◌, ◌≤◌, ◌==◌, ◌&&◌, nat_eq, nat_lt, true, false, List, [], ◌∷◌, length, refl, sym, ap, arith, inl, inr}
 use Rattle.std.specs.Option.{is_none}
-use Rattle.std.specs.List.{count_by, filter, onto_first, prefix_len, slice_split, starts_with, sum_by}
-use Rattle.std.proofs.lemmas.Bool.{and_parts, cases_Bool, cond-false, cond-true, lt-ltb}
+use Rattle.std.specs.List.{filter, onto_first, prefix_len, slice_split, starts_with, sum_by}
+use Rattle.std.proofs.lemmas.Bool.{and_parts, cases_Bool, cond-false, cond-true}
 use Rattle.std.proofs.lemmas.List.{length-drop}
 use Rattle.std.proofs.lemmas.List.Splits.{slice_split-cons_no, slice_split-cons_yes}
 use Rattle.std.proofs.lemmas.List.Sums.{count_by-le-length, sum_by-cons}
@@ -72,8 +72,13 @@ dropped_in word ls = all_dropped (lists_of word ls)
 dropped_yes : (word line : List ℕ) (more : List (List ℕ)) → begins word line ≡ true → dropped_in word (line ∷ more) ≤ length line + dropped_in word more
 unfolding dropped_in
 dropped_yes word line more is =
-    omega (arith, ap all_dropped (listed_yes word line more is), sym (sum_by-cons dropped (after_word word line) (lists_of word more)),
-        dropped_within (after_word word line), after_within word line)
+    omega (
+      arith,
+      ap all_dropped (listed_yes word line more is),
+      sym (sum_by-cons dropped (after_word word line) (lists_of word more)),
+      dropped_within (after_word word line),
+      after_within word line,
+    )
 
 dropped_no : (word line : List ℕ) (more : List (List ℕ)) → begins word line ≡ false → dropped_in word (line ∷ more) ≡ dropped_in word more
 unfolding dropped_in
@@ -84,8 +89,13 @@ unfolding dropped_in
 dropped_by_lines [] = omega arith
 dropped_by_lines (line ∷ more) = elim (cases_Bool (is_path line)) [
   | inl path ↦
-      omega (arith, dropped_yes path_prefix line more path, dropped_no seen_prefix line more (control_is_not_seen line (path_is_a_control line path)),
-          dropped_by_lines more, sum_by-cons length line more)
+      omega (
+        arith,
+        dropped_yes path_prefix line more path,
+        dropped_no seen_prefix line more (control_is_not_seen line (path_is_a_control line path)),
+        dropped_by_lines more,
+        sum_by-cons length line more,
+      )
   | inr other ↦ elim (cases_Bool (is_seen line)) [
     | inl seen ↦
         omega (arith, dropped_yes seen_prefix line more seen, dropped_no path_prefix line more other, dropped_by_lines more, sum_by-cons length line more)
@@ -132,6 +142,6 @@ pub dropped_of_text : (text : List ℕ)
 unfolding dropped_in
 dropped_of_text text =
     let by_lines : all_dropped (lists_of seen_prefix (tail (lines text))) + all_dropped (lists_of path_prefix (tail (lines text))) ≤ sum_by length (tail (lines text))
-      = dropped_by_lines (tail (lines text))
+    = dropped_by_lines (tail (lines text))
     in
     omega (arith, by_lines, tail_within (lines text), lines_within text)

@@ -1,14 +1,14 @@
 -- The parts of entries are numbers of two bytes.
-use Rattle.std.proofs.Common.{◌≡◌, ℕ, ◌+◌, ◌^◌, ◌<◌, ◌≤◌, ◌&&◌, Bool, true, false, cond, List, [], ◌∷◌, ◌++◌, Option, Some, None, nat_le, refl, sym, ap, arith, inl, inr, ◌⊎◌}
+use Rattle.std.proofs.Common.{◌≡◌, ℕ, ◌^◌, ◌<◌, ◌&&◌, Bool, true, false, cond, List, [], ◌∷◌, Option, Some, None, nat_le, refl, arith}
 use Rattle.std.specs.Option.{option_map, option_or}
 use Rattle.std.specs.List.{All, AllByRecursion, after_first, before_first, filter_map, flat_map}
 use Rattle.std.specs.Str.Parse.{digits_value}
-use Rattle.std.proofs.lemmas.Bool.{and_parts, cases_Bool, cond-false, cond-true, leb-true}
+use Rattle.std.proofs.lemmas.Bool.{and_parts, leb-true}
 use Rattle.std.proofs.lemmas.List.Elements.{All-append, All-from_recursion, All-nil}
 use Rattle.echo_addr.specs.declared.address.NetNode.{NetNode}
 use Rattle.echo_addr.specs.Address.{is_slash}
-use Rattle.echo_addr.specs.Digits.{is_number, number_within}
-use Rattle.echo_addr.specs.Entries.{entries, entry_from, entry_of, judged, nearest_net, pair_of, part_of, tokens}
+use Rattle.echo_addr.specs.Digits.{is_number}
+use Rattle.echo_addr.specs.Entries.{entries, entry_from, judged, nearest_net, pair_of, part_of, tokens}
 use Rattle.echo_addr.specs.ShortLines.{IsNetNode}
 
 -- a number of two bytes, where there is one

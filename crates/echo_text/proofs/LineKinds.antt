@@ -1,5 +1,5 @@
 -- What lines of one kind begin with, and that they are of no other kind.
-use Rattle.std.proofs.Common.{◌≡◌, ℕ, suc, ◌+◌, ◌<◌, ◌≤◌, ◌==◌, ◌&&◌, ◌||◌, not, nat_eq, Bool, true, false, cond, List, [], ◌∷◌, ◌++◌, length, drop, take, refl, sym, ap, subst, ◌∙◌, arith, inl, inr, ◌⊎◌}
+use Rattle.std.proofs.Common.{◌≡◌, ℕ, suc, ◌+◌, ◌==◌, ◌&&◌, ◌||◌, not, nat_eq, Bool, true, false, List, [], ◌∷◌, ◌++◌, drop, refl, ap, subst, ◌∙◌, arith, inl, inr}
 use Rattle.std.specs.List.{list_all, prefix_len, starts_with}
 use Rattle.std.proofs.lemmas.Bool.{and_parts, cases_Bool, cond-true, cond-false, eqb-true, not-true, or_left, or_right}
 use Rattle.echo_addr.specs.Entries.{is_blank}

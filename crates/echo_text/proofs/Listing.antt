@@ -1,5 +1,5 @@
 -- Going through lines one by one.
-use Rattle.std.proofs.Common.{◌≡◌, ℕ, ◌+◌, ◌<◌, Bool, true, false, cond, List, [], ◌∷◌, ◌++◌, length, map, take, drop, get_or, refl, sym, ap, ◌∙◌, arith}
+use Rattle.std.proofs.Common.{◌≡◌, ℕ, ◌+◌, ◌<◌, Bool, true, false, cond, List, [], ◌∷◌, ◌++◌, length, map, take, drop, get_or, sym, ap, ◌∙◌, arith}
 use Rattle.std.specs.List.{filter}
 use Rattle.std.proofs.lemmas.Bool.{cond-false, cond-true}
 use Rattle.std.proofs.lemmas.List.{append-nil, append_assoc, drop_more, get_or-map, length-map, map_push}
@@ -29,8 +29,11 @@ module _ (word : List ℕ) (left : List (List ℕ)) (line : List ℕ) (more : Li
   pub dropped_more : (n lost total : ℕ) → n + all_dropped (lists_of word left) ≡ total → begins word line ≡ true
       → lost ≡ dropped (after_word word line) → n + lost + all_dropped (lists_of word more) ≡ total
   dropped_more n lost total so_far begun here =
-      omega (arith, ap all_dropped (ap (lists_of word) is ∙ listed_yes word line more begun),
-          sum_by-cons dropped (after_word word line) (lists_of word more))
+      omega (
+        arith,
+        ap all_dropped (ap (lists_of word) is ∙ listed_yes word line more begun),
+        sum_by-cons dropped (after_word word line) (lists_of word more),
+      )
 
   pub found_same : (found total : List NetNode) → found ++ all_entries (lists_of word left) ≡ total → begins word line ≡ false
       → found ++ all_entries (lists_of word more) ≡ total

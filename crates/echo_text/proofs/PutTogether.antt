@@ -1,5 +1,5 @@
 -- A text put together from its parts.
-use Rattle.std.proofs.Common.{◌≡◌, ℕ, List, [], ◌∷◌, ◌++◌, refl, sym, ap, subst, ◌∙◌, arith}
+use Rattle.std.proofs.Common.{◌≡◌, ℕ, List, [], ◌∷◌, ◌++◌, sym, ap, subst, ◌∙◌}
 use Rattle.std.specs.List.{flat_map}
 use Rattle.std.proofs.lemmas.List.{append_assoc}
 use Rattle.echo_addr.specs.declared.address.NetNode.{NetNode}
@@ -17,9 +17,18 @@ pub text_of_parts : (e : EchoText) (tag : List ℕ) (kept : List (List ℕ)) (se
     → ShortLines seen_prefix seen s → ShortLines path_prefix path p → record { tag = tag; kept = kept; seen = seen; path = path } ≡ e → TextOf e t₅
 text_of_parts e tag kept seen path t₀ t₁ t₂ t₃ t₄ t₅ s p e₀ e₁ e₂ e₃ e₄ e₅ seen_is path_is is =
     let whole : t₅ ≡ ended (area_word ++ tag) ++ (flat_map ended kept ++ (s ++ p)) =
-        e₅ ∙ ap (λ t. t ++ p) (e₄ ∙ ap (λ t. t ++ s) (e₃ ∙ ap (λ t. t ++ flat_map ended kept) (e₂ ∙ ap (λ t. t ++ ended tag) (e₁ ∙ ap (λ t. t ++ area_word) e₀))))
-        ∙ regrouped area_word (ended tag) (flat_map ended kept) s p
-        ∙ ap (λ t. t ++ (flat_map ended kept ++ (s ++ p))) (sym (append_assoc area_word tag (13 ∷ [])))
+    e₅ ∙ ap (λ t. t ++ p) (e₄ ∙ ap (λ t. t ++ s) (e₃ ∙ ap (λ t. t ++ flat_map ended kept) (e₂ ∙ ap (λ t. t ++ ended tag) (e₁ ∙ ap (λ t. t ++ area_word) e₀))))
+    ∙ regrouped area_word (ended tag) (flat_map ended kept) s p
+    ∙ ap (λ t. t ++ (flat_map ended kept ++ (s ++ p))) (sym (append_assoc area_word tag (13 ∷ [])))
     in
     let P : EchoText → Type 0 = λ said. TextOf said t₅ in
     subst P is (record { seen_lines = s; path_lines = p; seen = seen_is; path = path_is; whole = whole })
+
+-- echoes with the same parts
+pub same_parts : (tag tag' : List ℕ) (kept kept' : List (List ℕ)) (seen seen' path path' : List NetNode)
+    → tag ≡ tag' → kept ≡ kept' → seen ≡ seen' → path ≡ path'
+    → let one : EchoText = record { tag = tag; kept = kept; seen = seen; path = path } in
+    let other : EchoText = record { tag = tag'; kept = kept'; seen = seen'; path = path' } in one ≡ other
+same_parts tag tag' kept kept' seen seen' path path' t k s p =
+    let made : List ℕ → List (List ℕ) → List NetNode → List NetNode → EchoText = λ a b c d. record { tag = a; kept = b; seen = c; path = d } in
+    ap (λ a. made a kept seen path) t ∙ ap (λ b. made tag' b seen path) k ∙ ap (λ c. made tag' kept' c path) s ∙ ap (λ d. made tag' kept' seen' d) p

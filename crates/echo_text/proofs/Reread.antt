@@ -1,18 +1,18 @@
 -- What was read of a text keeps the rules of an echo.
-use Rattle.std.proofs.Common.{◌≡◌, ◌≢◌, ℕ, ◌+◌, ◌<◌, ◌==◌, not, Bool, true, false, List, [], ◌∷◌, ◌++◌, length, refl, sym, ap, subst, ◌∙◌, arith, inl, inr, ◌⊎◌}
-use Rattle.std.specs.List.{All, AllByRecursion, AllPass, Contains, filter, list_all, onto_first, slice_split}
-use Rattle.std.proofs.lemmas.Bool.{and_from, cases_Bool, cond-false, cond-true, eq-eqb, eqb-true}
-use Rattle.std.proofs.lemmas.List.Elements.{All-append, All-contains, All-contains_itself, All-filter, All-from_recursion, All-nil, All-same, All-weaker, filter_passes, recursion_from_All}
+use Rattle.std.proofs.Common.{◌≡◌, ◌≢◌, ℕ, ◌==◌, not, true, List, [], ◌∷◌, ◌++◌, length, sym, ap, subst, ◌∙◌, inl, inr}
+use Rattle.std.specs.List.{All, AllByRecursion, AllPass, Contains, filter, onto_first, slice_split}
+use Rattle.std.proofs.lemmas.Bool.{cases_Bool, cond-false, cond-true, eq-eqb}
+use Rattle.std.proofs.lemmas.List.Elements.{All-append, All-contains, All-contains_itself, All-filter, All-from_recursion, All-same, All-weaker, filter_passes, recursion_from_All}
 use Rattle.std.proofs.lemmas.List.Splits.{slice_split-cons_no, slice_split-cons_yes}
-use Rattle.std.proofs.lemmas.List.Sums.{AllPass-from_list_all, list_all-from_AllPass}
+use Rattle.std.proofs.lemmas.List.Sums.{list_all-from_AllPass}
 use Rattle.echo_addr.specs.declared.address.NetNode.{NetNode}
 use Rattle.echo_addr.specs.ShortLines.{IsNetNode}
-use Rattle.echo_text.specs.Lines.{first_line, is_return, later_lines, lines, without_empty_last}
+use Rattle.echo_text.specs.Lines.{is_return, later_lines, lines, without_empty_last}
 use Rattle.echo_text.specs.Tail.{all_entries, body, is_kept_control, is_tail_line, kept_of, path_lists, seen_lists, tail}
 use Rattle.echo_text.specs.Echo.{EchoOf, EchoText, HasNoZero, IsEcho, IsLine, IsSetOf, is_shed}
 use Rattle.echo_text.proofs.EntryRanges.{all_entries_in_range}
 use Rattle.echo_text.proofs.LineKinds.{control_in_tail, not_shed_if_kept}
-use Rattle.echo_text.proofs.Tails.{all_tail, body_and_tail, tail-append, tail_of_body}
+use Rattle.echo_text.proofs.Tails.{all_tail, tail-append, tail_of_body}
 
 -- a byte of a line
 abbrev IsLineByte : ℕ → Type 0
@@ -84,7 +84,7 @@ kept_in_tail : (ls : List (List ℕ)) → all_tail (filter is_kept_control ls) �
 kept_in_tail ls =
     list_all-from_AllPass is_tail_line (filter is_kept_control ls)
     (All-weaker (λ line. is_kept_control line ≡ true) (λ line. is_tail_line line ≡ true) control_in_tail (filter is_kept_control ls)
-        (filter_passes is_kept_control ls))
+    (filter_passes is_kept_control ls))
 
 pub tail-kept_of : (later : List (List ℕ)) → tail (kept_of later) ≡ filter is_kept_control (tail later)
 unfolding kept_of
@@ -96,7 +96,7 @@ pub nothing_shed : (later : List (List ℕ)) → AllPass (λ line. not (is_shed 
 nothing_shed later =
     All-same (λ line. not (is_shed line) ≡ true) (tail (kept_of later)) (filter is_kept_control (tail later)) (tail-kept_of later)
     (All-weaker (λ line. is_kept_control line ≡ true) (λ line. not (is_shed line) ≡ true) not_shed_if_kept (filter is_kept_control (tail later))
-        (filter_passes is_kept_control (tail later)))
+    (filter_passes is_kept_control (tail later)))
 
 -- members of a set are what it was made of
 set_in_range : (set all : List NetNode) → IsSetOf set all → All IsNetNode all → All IsNetNode set

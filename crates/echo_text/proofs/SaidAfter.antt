@@ -1,10 +1,8 @@
 -- What the lines after the AREA line say, put together.
-use Rattle.std.proofs.Common.{◌≡◌, ℕ, ◌+◌, ◌^◌, ◌<◌, ◌≤◌, List, [], ◌∷◌, ◌++◌, length, map, refl, sym, ap, subst, ◌∙◌, arith}
-use Rattle.std.specs.Char.{to_ascii_uppercase}
+use Rattle.std.proofs.Common.{◌≡◌, ℕ, ◌+◌, ◌^◌, ◌<◌, List, ◌++◌, length, refl, sym, ap, subst, ◌∙◌, arith}
 use Rattle.std.specs.List.{filter}
 use Rattle.std.specs.Result.{IsErrAnd}
-use Rattle.std.proofs.Common.{Bool, true, false, cond, not, Some, None, Option, Result, Ok, Err, inl, inr, ◌⊎◌}
-use Rattle.std.proofs.lemmas.Bool.{cases_Bool}
+use Rattle.std.proofs.Common.{Bool, true, false, cond, not, Some, None, Option, Result, Ok, Err, inl, inr}
 use Rattle.echo_addr.specs.declared.address.NetNode.{NetNode}
 use Rattle.echo_addr.specs.ShortLines.{path_prefix, seen_prefix}
 use Rattle.echo_text.specs.declared.fault.TextFault.{TextFault}
@@ -91,3 +89,11 @@ answers_refusal text fault (Err e) h is = inl (is ∙ ap Some (sym h))
 pub answers_memory : (text : List ℕ) (r : Result (EchoText × ℕ) TextFault) → IsErrAnd r (λ e. e ≡ Memory) → refusal text ≡ None → Answers text r
 answers_memory text (Ok read) h is = absurd h
 answers_memory text (Err e) h is = inr (is, h)
+
+-- a text that says something is not refused
+pub not_refused : (text : List ℕ) (e : EchoText) (d : ℕ) → EchoOf text e d → refusal text ≡ None
+unfolding refusal
+not_refused text e d h =
+    let first = first_line (lines text) in
+    ap (λ x. cond (not x) (Some NotEcho) (cond (not (is_tag (area_tag first))) (Some BadTag) None)) h.area
+    ∙ ap (λ x. cond (not x) (Some BadTag) None) (ap is_tag (sym h.tag) ∙ h.tag_bytes)

@@ -1,6 +1,6 @@
 use Rattle.std.proofs.Common.{length, sym, ◌∙◌, arith}
 use Rattle.std.proofs.lemmas.Bool.{eqb-false}
-use Rattle.echo_text.proofs.Tags.{no_tag_empty, no_tag_long, tag_by_bytes}
+use Rattle.echo_text.proofs.Tags.{tag_by_bytes}
 use Rattle.echo_text.proofs.area.is_tag.Goals as goal
 
 pub returns : goal.returns

@@ -1,4 +1,3 @@
-use Rattle.std.proofs.Common.{subst, sym}
 use Rattle.std.proofs.lemmas.List.Filters.{dedup_is}
 use Rattle.echo_text.proofs.Sets.{same, set_of_sorted}
 use Rattle.echo_text.proofs.listed.set_of.Goals as goal

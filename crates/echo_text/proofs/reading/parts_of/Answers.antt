@@ -1,4 +1,4 @@
-use Rattle.std.proofs.Common.{ap, sym, map, ◌≡◌, ◌∙◌, ◌+◌, ◌^◌, ◌<◌, length, arith}
+use Rattle.std.proofs.Common.{ap, map, ◌∙◌, ◌^◌, ◌<◌, length, arith}
 use Rattle.echo_text.specs.Lines.{lines}
 use Rattle.echo_text.specs.Tail.{body, tail}
 use Rattle.echo_text.proofs.SaidAfter.{counts_fit, said_after}

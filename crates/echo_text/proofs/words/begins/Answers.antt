@@ -1,4 +1,4 @@
-use Rattle.std.proofs.Common.{ap, length, nat_eq, ◌∙◌, ◌≤◌}
+use Rattle.std.proofs.Common.{ap, nat_eq, ◌∙◌}
 use Rattle.std.specs.List.{starts_with}
 use Rattle.echo_text.specs.Lines.{begins}
 use Rattle.echo_text.proofs.words.begins.Goals as goal

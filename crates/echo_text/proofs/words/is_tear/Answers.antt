@@ -1,5 +1,4 @@
 use Rattle.std.proofs.Common.{rules}
-use Rattle.std.proofs.lemmas.Grind.{common_steps}
 use Rattle.echo_text.specs.Lines.{is_tear}
 use Rattle.echo_text.proofs.words.is_tear.Goals as goal
 

@@ -1,8 +1,5 @@
 use Rattle.std.proofs.Common.{ap, ◌++◌, ◌∙◌}
-use Rattle.std.specs.List.{flat_map}
-use Rattle.echo_addr.specs.ShortLines.{ShortLines, path_prefix, seen_prefix}
-use Rattle.echo_text.specs.Echo.{ended}
-use Rattle.echo_text.proofs.PutTogether.{text_of_parts}
+use Rattle.echo_text.proofs.PutTogether.{same_parts, text_of_parts}
 use Rattle.echo_text.proofs.writing.write_text.Goals as goal
 
 pub returns : goal.returns
@@ -12,4 +9,5 @@ returns c =
     c.new-text.ensures.items c.in_ok-extend_from_slice.ensures.items c.in_ok-push_line.ensures c.in_ok-push_lines.ensures
     (c.in_ok-extend_from_slice-2.ensures.items ∙ ap (λ s. c.push_lines.new.text.items ++ s) c.deref.ensures.value)
     (c.in_ok-extend_from_slice-3.ensures.items ∙ ap (λ s. c.extend_from_slice-2.new.self.items ++ s) c.deref-2.ensures.value)
-    c.in_ok-write_seen.ensures c.in_ok-write_path.ensures ?
+    c.in_ok-write_seen.ensures c.in_ok-write_path.ensures
+    (same_parts _ _ _ _ _ _ _ _ c.as_slice.ensures c.as_slice-2.ensures c.as_slice-3.ensures c.as_slice-4.ensures ∙ c.echo.view_is)
