@@ -29,8 +29,8 @@ part_is digits =
     by true is = omega (arith, leb-true (digits_value 10 digits) 65535 (and_parts (is_number digits) (nat_le (digits_value 10 digits) 65535) is).1)
     by false is = tt
 
-from_parts : (net node : Option ℕ) → IsPart net → IsPart node → IsEntry (entry_from net node)
-from_parts None node p q = tt
+from_parts : (net other : Option ℕ) → IsPart net → IsPart other → IsEntry (entry_from net other)
+from_parts None other p q = tt
 from_parts (Some m) None p q = tt
 from_parts (Some m) (Some n) p q = record { net = p; node = q }
 

@@ -1,5 +1,6 @@
 pub mod Cutting
 pub mod Tails
+pub mod OneReading
 pub mod Seeking
 pub mod PutTogether
 pub mod SaidAfter

@@ -16,6 +16,6 @@ mod writing;
 
 pub use echo::{Echo, EchoView};
 pub use fault::TextFault;
-pub use laws::written_text_read_back;
+pub use laws::{one_reading, one_writing, written_text_read_back};
 pub use reading::{read_text, view_text};
 pub use writing::write_text;
