@@ -1,4 +1,12 @@
 //! Echomail texts (FTS-0004, FTS-0009).
+//!
+//! The contract for the layer above: what `write_text` writes for an `Echo`, `read_text` answers with
+//! that `Echo`, no token dropped (`written_text_read_back`).
+//!
+//! Modules in reading order: `fault` (why a text is refused), `words` (what lines begin with), `lines`
+//! (cutting a text), `area` (the tag), `tail` (the control tail), `listed` (its entries), `found` (ids,
+//! tear and origin lines), `echo` (a text taken apart), `copying`, `reading`, `writing`, and `laws`
+//! (what holds of the definitions).
 #![tactic(auto)]
 
 mod area;
