@@ -1,0 +1,32 @@
+//! Echomail texts (FTS-0004, FTS-0009).
+//!
+//! The contract for the layer above: what `write_text` writes for an `Echo`, `read_text` answers with
+//! that `Echo`, no token dropped (`written_text_read_back`).
+//!
+//! Modules in reading order: `fault` (why a text is refused), `words` (what lines begin with), `lines`
+//! (cutting a text), `area` (the tag), `tail` (the control tail), `listed` (its entries), `found` (ids,
+//! tear and origin lines), `echo` (a text taken apart), `copying`, `reading`, `writing`, and `laws`
+//! (what holds of the definitions).
+#![tactic(auto)]
+
+mod area;
+mod copying;
+mod echo;
+mod fault;
+mod found;
+mod laws;
+mod lines;
+mod listed;
+mod reading;
+mod tail;
+mod words;
+mod writing;
+
+pub use echo::{Echo, EchoView};
+pub use fault::TextFault;
+pub use laws::{one_reading, one_writing, written_text_read_back};
+pub use reading::{read_text, view_text};
+pub use writing::write_text;
+
+#[cfg(test)]
+mod tests;
