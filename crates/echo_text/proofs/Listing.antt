@@ -29,11 +29,8 @@ module _ (word : List ℕ) (left : List (List ℕ)) (line : List ℕ) (more : Li
   pub dropped_more : (n lost total : ℕ) → n + all_dropped (lists_of word left) ≡ total → begins word line ≡ true
       → lost ≡ dropped (after_word word line) → n + lost + all_dropped (lists_of word more) ≡ total
   dropped_more n lost total so_far begun here =
-      omega (
-        arith,
-        ap all_dropped (ap (lists_of word) is ∙ listed_yes word line more begun),
-        sum_by-cons dropped (after_word word line) (lists_of word more),
-      )
+      omega (arith, ap all_dropped (ap (lists_of word) is ∙ listed_yes word line more begun),
+          sum_by-cons dropped (after_word word line) (lists_of word more))
 
   pub found_same : (found total : List NetNode) → found ++ all_entries (lists_of word left) ≡ total → begins word line ≡ false
       → found ++ all_entries (lists_of word more) ≡ total

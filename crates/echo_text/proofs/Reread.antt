@@ -84,7 +84,7 @@ kept_in_tail : (ls : List (List ℕ)) → all_tail (filter is_kept_control ls) �
 kept_in_tail ls =
     list_all-from_AllPass is_tail_line (filter is_kept_control ls)
     (All-weaker (λ line. is_kept_control line ≡ true) (λ line. is_tail_line line ≡ true) control_in_tail (filter is_kept_control ls)
-    (filter_passes is_kept_control ls))
+        (filter_passes is_kept_control ls))
 
 pub tail-kept_of : (later : List (List ℕ)) → tail (kept_of later) ≡ filter is_kept_control (tail later)
 unfolding kept_of
@@ -96,7 +96,7 @@ pub nothing_shed : (later : List (List ℕ)) → AllPass (λ line. not (is_shed 
 nothing_shed later =
     All-same (λ line. not (is_shed line) ≡ true) (tail (kept_of later)) (filter is_kept_control (tail later)) (tail-kept_of later)
     (All-weaker (λ line. is_kept_control line ≡ true) (λ line. not (is_shed line) ≡ true) not_shed_if_kept (filter is_kept_control (tail later))
-    (filter_passes is_kept_control (tail later)))
+        (filter_passes is_kept_control (tail later)))
 
 -- members of a set are what it was made of
 set_in_range : (set all : List NetNode) → IsSetOf set all → All IsNetNode all → All IsNetNode set

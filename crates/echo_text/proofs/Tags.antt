@@ -89,13 +89,13 @@ no_tag_empty bytes none =
 pub no_tag_long : (bytes : List ℕ) → 60 < length bytes → is_tag (map to_ascii_uppercase bytes) ≡ false
 no_tag_long bytes long =
     and_left _ _ (and_right (nat_lt 0 (length (map to_ascii_uppercase bytes))) _
-    (lt-leb (length (map to_ascii_uppercase bytes)) 60 (omega (arith, length-map bytes to_ascii_uppercase))))
+        (lt-leb (length (map to_ascii_uppercase bytes)) 60 (omega (arith, length-map bytes to_ascii_uppercase))))
 
 pub tag_by_bytes : (bytes : List ℕ) → 0 < length bytes → length bytes ≤ 60
     → list_all (λ b. is_tag_byte (to_ascii_uppercase b)) bytes ≡ is_tag (map to_ascii_uppercase bytes)
 tag_by_bytes bytes some short =
     let same = length-map bytes to_ascii_uppercase in
     sym (ap (λ b. b && nat_le (length (map to_ascii_uppercase bytes)) 60 && list_all is_tag_byte (map to_ascii_uppercase bytes))
-    (lt-ltb 0 (length (map to_ascii_uppercase bytes)) (omega arith))
+        (lt-ltb 0 (length (map to_ascii_uppercase bytes)) (omega arith))
     ∙ ap (λ b. b && list_all is_tag_byte (map to_ascii_uppercase bytes)) (le-leb (length (map to_ascii_uppercase bytes)) 60 (omega arith))
     ∙ list_all-map is_tag_byte to_ascii_uppercase bytes)

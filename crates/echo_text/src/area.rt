@@ -20,11 +20,7 @@ pub(crate) fn tag_of(first: &[u8]) -> Result<&[u8], TextFault>
         None => Err(TextFault::NotEcho),
         Some(rest) => {
             let tag = trimmed(rest);
-            if is_tag(tag) {
-                Ok(tag)
-            } else {
-                Err(TextFault::BadTag)
-            }
+            if is_tag(tag) { Ok(tag) } else { Err(TextFault::BadTag) }
         }
     }
 }

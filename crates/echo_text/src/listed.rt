@@ -7,11 +7,7 @@ use echo_addr::{NetNode, read_list};
 use std::alloc::{AllocError, Global};
 
 /// The entries of the lines that begin with the word, in order, and how many tokens were dropped.
-pub(crate) fn entries_of(
-    alloc: Global,
-    word: &[u8],
-    lines: &[&[u8]],
-) -> Result<(Vec<NetNode>, usize), AllocError>
+pub(crate) fn entries_of(alloc: Global, word: &[u8], lines: &[&[u8]]) -> Result<(Vec<NetNode>, usize), AllocError>
     requires { all_dropped (lists_of word.now (map (λ line. line.now) lines.now)) < 2 ^ 64 }
     ensures entries { IfOk result (λ r. r.0.items ≡ all_entries (lists_of word.now (map (λ line. line.now) lines.now))) }
     ensures dropped { IfOk result (λ r. r.1 ≡ all_dropped (lists_of word.now (map (λ line. line.now) lines.now))) }

@@ -18,11 +18,7 @@ pub(crate) fn body_len(lines: &[&[u8]]) -> usize
 }
 
 /// The lines of the body, and those of the tail that are kept.
-pub(crate) fn kept_lines<'a>(
-    alloc: Global,
-    body: &[&'a [u8]],
-    tail: &[&'a [u8]],
-) -> Result<Vec<&'a [u8]>, AllocError>
+pub(crate) fn kept_lines<'a>(alloc: Global, body: &[&'a [u8]], tail: &[&'a [u8]]) -> Result<Vec<&'a [u8]>, AllocError>
     ensures { IfOk result (λ v. map (λ line. line.now) v.items ≡ map (λ line. line.now) body.now ++ filter is_kept_control (map (λ line. line.now) tail.now)) }
 {
     let mut kept = Vec::from_slice(alloc, body)?;

@@ -2,6 +2,7 @@ use Rattle.std.proofs.Common.{sym, ◌∙◌, arith}
 use Rattle.echo_text.proofs.Tails.{body_seen, ends_at_start, ends_here, ends_more, tail_seen}
 use Rattle.echo_text.proofs.tail.body_len.Goals as goal
 
+
 pub ends-preserved : goal.ends-preserved
 ends-preserved c = (
   omega arith,
