@@ -111,12 +111,12 @@ origin_test false spelled origin h = or_right (is_quoted_origin spelled) (is_bar
         (list_all-from_AllPass (λ x. not (is_blank x)) (first ∷ rest) b.ink)
 
 -- the parts of an id, seen from its end
-record Seen (id spelled gap digits : List ℕ) : Type 0 where
-  front : before_serial id ≡ spelled ++ gap
-  serial : drop (length id - 8) id ≡ digits
-  kept : without_gap (before_serial id) ≡ spelled
+pub record Seen (id spelled gap digits : List ℕ) : Type 0 where
+  pub front : before_serial id ≡ spelled ++ gap
+  pub serial : drop (length id - 8) id ≡ digits
+  pub kept : without_gap (before_serial id) ≡ spelled
 
-seen_parts : (id origin : List ℕ) (quoted : Bool) (serial : ℕ) (h : IdParts id origin quoted serial) → Seen id h.spelled h.gap h.digits
+pub seen_parts : (id origin : List ℕ) (quoted : Bool) (serial : ℕ) (h : IdParts id origin quoted serial) → Seen id h.spelled h.gap h.digits
 seen_parts id origin quoted serial h =
     let whole : id ≡ (h.spelled ++ h.gap) ++ h.digits = h.whole ∙ sym (append_assoc h.spelled h.gap h.digits) in
     let long = length-append (h.spelled ++ h.gap) h.digits in

@@ -12,3 +12,4 @@ pub mod Serials
 pub mod IdTests
 pub mod OwnIds
 pub mod OwnIdsRead
+pub mod IdsOnce

@@ -130,3 +130,9 @@ IdOf b origin quoted serial = IdParts (trimmed b) origin quoted serial
 -- the bytes spell no id
 abbrev pub NoId : List ℕ → Type 0
 NoId b = (origin : List ℕ) (quoted : Bool) (serial : ℕ) → IdOf b origin quoted serial → ⊥
+
+-- two ids are one
+pub record SameId (o p : List ℕ) (quoted other : Bool) (s t : ℕ) : Type 0 where
+  pub origin : o ≡ p
+  pub quoting : quoted ≡ other
+  pub serial : s ≡ t

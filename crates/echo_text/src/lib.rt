@@ -15,7 +15,7 @@ mod words;
 
 pub use echo::{Echo, EchoView};
 pub use fault::TextFault;
-pub use id_laws::{doubled_quotes_undone, ids_differ, written_id_read_back};
+pub use id_laws::{doubled_quotes_undone, ids_differ, one_id_is_spelled, written_id_read_back};
 pub use laws::written_text_read_back;
 pub use msgid::MsgId;
 pub use reading::view_text;
