@@ -13,10 +13,15 @@ mod area;
 mod copying;
 mod echo;
 mod fault;
+<<<<<<< HEAD
 mod found;
+=======
+mod id_laws;
+>>>>>>> text-ids
 mod laws;
 mod lines;
 mod listed;
+mod msgid;
 mod reading;
 mod tail;
 mod words;
@@ -24,9 +29,16 @@ mod writing;
 
 pub use echo::{Echo, EchoView};
 pub use fault::TextFault;
+<<<<<<< HEAD
 pub use laws::{one_reading, one_writing, written_text_read_back};
 pub use reading::{read_text, view_text};
 pub use writing::write_text;
 
 #[cfg(test)]
 mod tests;
+=======
+pub use id_laws::{doubled_quotes_undone, ids_differ, one_id_is_spelled, written_id_read_back};
+pub use laws::written_text_read_back;
+pub use msgid::MsgId;
+pub use reading::view_text;
+>>>>>>> text-ids

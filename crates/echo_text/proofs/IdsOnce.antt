@@ -1,0 +1,25 @@
+-- Bytes spell at most one id.
+use Rattle.std.proofs.Common.{◌≡◌, ℕ, Bool, true, false, List, [], ◌∷◌, ◌++◌, get_or, drop, refl, sym, ap, subst, ◌∙◌}
+use Rattle.std.specs.Str.Parse.{digits_value}
+use Rattle.std.proofs.lemmas.List.{append_cancel_right}
+use Rattle.echo_text.specs.Ids.{IdParts, SpellsOrigin, SameId}
+use Rattle.echo_text.proofs.IdTests.{seen_parts}
+
+one_origin : (quoted other : Bool) (spelled o p : List ℕ) → SpellsOrigin quoted spelled o → SpellsOrigin other spelled p → (o ≡ p) × (quoted ≡ other)
+one_origin true true spelled o p h k = (append_cancel_right o p (34 ∷ []) (ap (drop 1) (sym h.between ∙ k.between)), refl)
+one_origin true false spelled o p h k = absurd (k.first (ap (λ s. get_or s 0 0) h.between))
+one_origin false true spelled o p h k = absurd (h.first (ap (λ s. get_or s 0 0) k.between))
+one_origin false false spelled o p h k = (h.same ∙ sym k.same, refl)
+
+pub one_id : (id o p : List ℕ) (quoted other : Bool) (s t : ℕ) → IdParts id o quoted s → IdParts id p other t → SameId o p quoted other s t
+one_id id o p quoted other s t h k =
+    let seen = seen_parts id o quoted s h in
+    let again = seen_parts id p other t k in
+    let spelled : k.spelled ≡ h.spelled = sym again.kept ∙ seen.kept in
+    let spelling : SpellsOrigin other h.spelled p = subst (λ (x : List ℕ). SpellsOrigin other x p) spelled k.spelling in
+    let same = one_origin quoted other h.spelled o p h.spelling spelling in
+    record {
+      origin = same.0;
+      quoting = same.1;
+      serial = sym h.value ∙ ap (digits_value 16) (sym seen.serial ∙ again.serial) ∙ k.value;
+    }
