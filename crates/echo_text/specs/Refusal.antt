@@ -3,7 +3,7 @@ use Rattle.std.specs.Prelude.{◌≡◌, ℕ, ◌⊎◌, not, List, Option, Some
 use Rattle.echo_text.specs.declared.fault.TextFault.{TextFault}
 use Rattle.echo_text.specs.declared.fault.TextFault.TheVariants.{BadTag, Memory, NotEcho}
 use Rattle.echo_text.specs.Lines.{area_tag, first_line, is_area, is_tag, lines}
-use Rattle.echo_text.specs.Echo.{Echo, EchoOf}
+use Rattle.echo_text.specs.EchoText.{EchoText, EchoOf}
 
 -- the first refusal that applies to a text with this first line
 abbrev pub refusal_of : List ℕ → Option TextFault
@@ -17,6 +17,6 @@ unfoldable pub refusal : List ℕ → Option TextFault
 refusal text = refusal_of (first_line (lines text))
 
 -- a reader's answer: what the text says, the refusal that applies, or want of memory where none applies
-abbrev pub Answers : List ℕ → Result (Echo × ℕ) TextFault → Type 0
+abbrev pub Answers : List ℕ → Result (EchoText × ℕ) TextFault → Type 0
 Answers text (Ok read) = EchoOf text read.0 read.1
 Answers text (Err fault) = (refusal text ≡ Some fault) ⊎ ((refusal text ≡ None) × (fault ≡ Memory))
