@@ -3,7 +3,7 @@ use Rattle.std.specs.Prelude.{ℕ, ◌&&◌, Bool, true, false, List, [], ◌∷
 use Rattle.std.specs.Cmp.Lexicographic.{pointwise}
 use Rattle.std.specs.List.{list_any}
 use Rattle.echo_addr.specs.declared.address.Address.{Address}
-use Rattle.echo_text.specs.Echo.{Echo, msgid_of}
+use Rattle.echo_text.specs.Echo.{EchoText, msgid_of}
 use Rattle.echo_toss.specs.declared.key.Key.{Key}
 use Rattle.echo_toss.specs.declared.key.Key.TheVariants.{ByContent, ById}
 use Rattle.echo_toss.specs.Sets.{same_address}
@@ -40,7 +40,7 @@ pub record Filed : Type 0 where
   pub to_name : List ℕ
   pub from_name : List ℕ
   pub subject : List ℕ
-  pub echo : Echo
+  pub echo : EchoText
 
 -- the key of a message with this id, or without one
 abbrev pub key_with : Filed → Option (List ℕ) → Key
