@@ -1,0 +1,5 @@
+pub mod Choices
+pub mod Sets
+pub mod Orders
+pub mod Keys
+mod Examples
