@@ -66,6 +66,3 @@ exported_first : text_of (exported first_file first_posting.echo) ≡
     (codes " * Origin: Alpha (1:10/1)" ++ 13 ∷ (codes "SEEN-BY: 10/1 2" ++ 13 ∷ (1 ∷ codes "PATH: 10/1" ++ 13 ∷ []))))))
 unfolding posted posted_lines id_of trimmed lines digits exported links_of entry_set short_lines text_of
 exported_first = refl
-
-packet_bytes_first : (p : Packet) → scanned first_file (first_posting ∷ []) 0 stamp ≡ p ∷ [] → length (packet_bytes p.header p.messages) ≡ 212
-packet_bytes_first p e = ?

@@ -1,5 +1,9 @@
 pub mod Choices
 pub mod Sets
 pub mod Orders
+pub mod Trims
 pub mod Keys
+pub mod Runs
+pub mod Texts
+pub mod Copies
 mod Examples

@@ -91,7 +91,7 @@ pub address_order : IsOrder address_before
 address_order = record {
   chain = λ x y z.
       chain_then x.zone y.zone z.zone (rest_before x y) (rest_before y z) (rest_before x z)
-          (chain_then x.net y.net z.net (nat_lt x.node y.node) (nat_lt y.node z.node) (nat_lt x.node z.node) (less_chain x.node y.node z.node));
+      (chain_then x.net y.net z.net (nat_lt x.node y.node) (nat_lt y.node z.node) (nat_lt x.node z.node) (less_chain x.node y.node z.node));
   tied = λ x y h g.
       let t : Tied x.zone y.zone (rest_before x y) (rest_before y x) = tied_then x.zone y.zone (rest_before x y) (rest_before y x) h g in
       let t' : Tied x.net y.net (nat_lt x.node y.node) (nat_lt y.node x.node) = tied_then x.net y.net (nat_lt x.node y.node) (nat_lt y.node x.node) t.one t.other in
@@ -115,25 +115,25 @@ before_comes x y h = elim h [
 pub same_entry_decides : (x y : NetNode) → (same_entry x y ≡ true → x ≡ y) × (x ≡ y → same_entry x y ≡ true)
 same_entry_decides x y = (
   λ h.
-    let parts = and_parts (x.net == y.net) (x.node == y.node) h in
-    let net = eqb-true x.net y.net parts.0 in
-    let node = eqb-true x.node y.node parts.1 in
-    λ i. record { net = net i; node = node i },
+      let parts = and_parts (x.net == y.net) (x.node == y.node) h in
+      let net = eqb-true x.net y.net parts.0 in
+      let node = eqb-true x.node y.node parts.1 in
+      λ i. record { net = net i; node = node i },
   λ e. and_from (x.net == y.net) (x.node == y.node) (eq-eqb x.net y.net (ap (λ (z : NetNode). z.net) e)) (eq-eqb x.node y.node (ap (λ (z : NetNode). z.node) e)),
 )
 
 pub same_address_decides : (a b : Address) → (same_address a b ≡ true → a ≡ b) × (a ≡ b → same_address a b ≡ true)
 same_address_decides a b = (
   λ h.
-    let parts = and_parts (a.zone == b.zone) ((a.net == b.net) && (a.node == b.node)) h in
-    let parts' = and_parts (a.net == b.net) (a.node == b.node) parts.1 in
-    let zone = eqb-true a.zone b.zone parts.0 in
-    let net = eqb-true a.net b.net parts'.0 in
-    let node = eqb-true a.node b.node parts'.1 in
-    λ i. record { zone = zone i; net = net i; node = node i },
+      let parts = and_parts (a.zone == b.zone) ((a.net == b.net) && (a.node == b.node)) h in
+      let parts' = and_parts (a.net == b.net) (a.node == b.node) parts.1 in
+      let zone = eqb-true a.zone b.zone parts.0 in
+      let net = eqb-true a.net b.net parts'.0 in
+      let node = eqb-true a.node b.node parts'.1 in
+      λ i. record { zone = zone i; net = net i; node = node i },
   λ e.
-    and_from (a.zone == b.zone) ((a.net == b.net) && (a.node == b.node)) (eq-eqb a.zone b.zone (ap (λ (z : Address). z.zone) e))
-        (and_from (a.net == b.net) (a.node == b.node) (eq-eqb a.net b.net (ap (λ (z : Address). z.net) e)) (eq-eqb a.node b.node (ap (λ (z : Address). z.node) e))),
+      and_from (a.zone == b.zone) ((a.net == b.net) && (a.node == b.node)) (eq-eqb a.zone b.zone (ap (λ (z : Address). z.zone) e))
+      (and_from (a.net == b.net) (a.node == b.node) (eq-eqb a.net b.net (ap (λ (z : Address). z.net) e)) (eq-eqb a.node b.node (ap (λ (z : Address). z.node) e))),
 )
 
 pairs_weaker : {X : Type 0} (R S : X → X → Type 0) → ((x y : X) → R x y → S x y) → (xs : List X) → AllPairs R xs → AllPairs S xs
@@ -163,5 +163,5 @@ ascending_from_pairs (x ∷ xs) up = (
 pub one_set : (xs ys all : List NetNode) → IsSetOf xs all → IsSetOf ys all → xs ≡ ys
 one_set xs ys all h g =
     same_set entry_before entry_order xs ys (ascending_from_pairs xs h.ascending) (ascending_from_pairs ys g.ascending)
-        (λ z i. contained_in z ys ((g.members z).1 ((h.members z).0 (in_contained z xs i))))
-        (λ z i. contained_in z xs ((h.members z).1 ((g.members z).0 (in_contained z ys i))))
+    (λ z i. contained_in z ys ((g.members z).1 ((h.members z).0 (in_contained z xs i))))
+    (λ z i. contained_in z xs ((h.members z).1 ((g.members z).0 (in_contained z ys i))))

@@ -23,38 +23,38 @@ put_in_all : {X : Type 0} (before : X → X → Bool) (P : X → Type 0) (x : X)
 put_in_all before P x [] px all = (px, tt)
 put_in_all before P x (y ∷ ys) px all =
     of_three (AllByRecursion P) (before x y) (before y x) (x ∷ (y ∷ ys)) (y ∷ put_in before x ys) (y ∷ ys)
-        (λ _. (px, all)) (λ _ _. (all.0, put_in_all before P x ys px all.1)) (λ _ _. all)
+    (λ _. (px, all)) (λ _ _. (all.0, put_in_all before P x ys px all.1)) (λ _ _. all)
 
 put_in_ascending : {X : Type 0} (before : X → X → Bool) → IsOrder before → (x : X) (ys : List X) → Ascending before ys → Ascending before (put_in before x ys)
 put_in_ascending before o x [] up = (tt, tt)
 put_in_ascending {X} before o x (y ∷ ys) up =
     of_three (Ascending before) (before x y) (before y x) (x ∷ (y ∷ ys)) (y ∷ put_in before x ys) (y ∷ ys)
-        (λ first. ((first, all_weaker (λ (z : X). before y z ≡ true) (λ (z : X). before x z ≡ true) (λ z later. o.chain x y z first later) ys up.0), up))
-        (λ _ after. (put_in_all before (λ (z : X). before y z ≡ true) x ys after up.0, put_in_ascending before o x ys up.1))
-        (λ _ _. up)
+    (λ first. ((first, all_weaker (λ (z : X). before y z ≡ true) (λ (z : X). before x z ≡ true) (λ z later. o.chain x y z first later) ys up.0), up))
+    (λ _ after. (put_in_all before (λ (z : X). before y z ≡ true) x ys after up.0, put_in_ascending before o x ys up.1))
+    (λ _ _. up)
 
 put_in_only : {X : Type 0} (before : X → X → Bool) (z x : X) (ys : List X) → IsIn z (put_in before x ys) → (z ≡ x) ⊎ IsIn z ys
 put_in_only before z x [] h = h
 put_in_only {X} before z x (y ∷ ys) h' =
     of_three (λ (zs : List X). IsIn z zs → (z ≡ x) ⊎ IsIn z (y ∷ ys)) (before x y) (before y x) (x ∷ (y ∷ ys)) (y ∷ put_in before x ys) (y ∷ ys)
-        (λ _ h. h)
-        (λ _ _ h. elim h [
-          | inl same ↦ inr (inl same)
-          | inr later ↦ elim (put_in_only before z x ys later) [ inl same ↦ inl same | inr there ↦ inr (inr there) ]
-        ])
-        (λ _ _ h. inr h)
-        h'
+    (λ _ h. h)
+    (λ _ _ h. elim h [
+      | inl same ↦ inr (inl same)
+      | inr later ↦ elim (put_in_only before z x ys later) [ inl same ↦ inl same | inr there ↦ inr (inr there) ]
+    ])
+    (λ _ _ h. inr h)
+    h'
 
 put_in_keeps : {X : Type 0} (before : X → X → Bool) → IsOrder before → (z x : X) (ys : List X) → (z ≡ x) ⊎ IsIn z ys → IsIn z (put_in before x ys)
 put_in_keeps before o z x [] h = h
 put_in_keeps {X} before o z x (y ∷ ys) h =
     of_three (IsIn z) (before x y) (before y x) (x ∷ (y ∷ ys)) (y ∷ put_in before x ys) (y ∷ ys)
-        (λ _. h)
-        (λ _ _. elim h [
-          | inl new ↦ inr (put_in_keeps before o z x ys (inl new))
-          | inr old ↦ elim old [ inl same ↦ inl same | inr later ↦ inr (put_in_keeps before o z x ys (inr later)) ]
-        ])
-        (λ p q. elim h [ inl new ↦ inl (new ∙ o.tied x y p q) | inr old ↦ old ])
+    (λ _. h)
+    (λ _ _. elim h [
+      | inl new ↦ inr (put_in_keeps before o z x ys (inl new))
+      | inr old ↦ elim old [ inl same ↦ inl same | inr later ↦ inr (put_in_keeps before o z x ys (inr later)) ]
+    ])
+    (λ p q. elim h [ inl new ↦ inl (new ∙ o.tied x y p q) | inr old ↦ old ])
 
 pub set_ascending : {X : Type 0} (before : X → X → Bool) → IsOrder before → (xs : List X) → Ascending before (set_of before xs)
 set_ascending before o [] = tt
@@ -87,9 +87,9 @@ same_first {X} before o x y xs ys up up' h g = elim h [
   | inr later ↦ elim g [
     | inl same ↦ sym same
     | inr later' ↦
-      let one : before y x ≡ true = all_at (λ (z : X). before y z ≡ true) x ys up'.0 later in
-      let two : before x y ≡ true = all_at (λ (z : X). before x z ≡ true) y xs up.0 later' in
-      absurd (true≢false (sym (o.chain x y x two one) ∙ o.apart x))
+        let one : before y x ≡ true = all_at (λ (z : X). before y z ≡ true) x ys up'.0 later in
+        let two : before x y ≡ true = all_at (λ (z : X). before x z ≡ true) y xs up.0 later' in
+        absurd (true≢false (sym (o.chain x y x two one) ∙ o.apart x))
   ]
 ]
 
@@ -98,9 +98,9 @@ in_rest : {X : Type 0} (before : X → X → Bool) → IsOrder before → (z x y
     → Ascending before (x ∷ xs) → x ≡ y → IsIn z xs → IsIn z (y ∷ ys) → IsIn z ys
 in_rest {X} before o z x y xs ys up e h g = elim g [
   | inl same ↦
-    let later : before x z ≡ true = all_at (λ (w : X). before x w ≡ true) z xs up.0 h in
-    let P : X → Type 0 = λ w. before x w ≡ true in
-    absurd (true≢false (sym (subst P (same ∙ sym e) later) ∙ o.apart x))
+      let later : before x z ≡ true = all_at (λ (w : X). before x w ≡ true) z xs up.0 h in
+      let P : X → Type 0 = λ w. before x w ≡ true in
+      absurd (true≢false (sym (subst P (same ∙ sym e) later) ∙ o.apart x))
   | inr there ↦ there
 ]
 
@@ -112,7 +112,7 @@ same_set before o (x ∷ xs) [] up up' f g = absurd (f x (inl refl))
 same_set {X} before o (x ∷ xs) (y ∷ ys) up up' f g =
     let e = same_first before o x y xs ys up up' (f x (inl refl)) (g y (inl refl)) in
     let rest : xs ≡ ys =
-        same_set before o xs ys up.1 up'.1
-            (λ z h. in_rest before o z x y xs ys up e h (f z (inr h)))
-            (λ z h. in_rest before o z y x ys xs up' (sym e) h (g z (inr h))) in
+    same_set before o xs ys up.1 up'.1
+    (λ z h. in_rest before o z x y xs ys up e h (f z (inr h)))
+    (λ z h. in_rest before o z y x ys xs up' (sym e) h (g z (inr h))) in
     λ i. e i ∷ rest i
