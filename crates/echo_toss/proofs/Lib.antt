@@ -6,4 +6,8 @@ pub mod Keys
 pub mod Runs
 pub mod Texts
 pub mod Copies
+pub mod Plain
+pub mod OwnIds
+pub mod Posted
+pub mod Received
 mod Examples

@@ -1,15 +1,21 @@
 //! What holds of the definitions. Each law is the contract of a function that does nothing.
 
-ghost use Rattle.std.specs.Prelude.{◌≡◌, ◌↔◌, ℕ, List, Option, Some, None, true};
+ghost use Rattle.std.specs.Prelude.{◌≡◌, ◌↔◌, ℕ, List, Option, Some, None, true, false};
+ghost use Rattle.std.specs.List.{list_any};
 ghost use Rattle.echo_addr.specs.declared.address.Address.{Address};
 ghost use Rattle.echo_addr.specs.declared.address.NetNode.{NetNode};
-ghost use Rattle.echo_text.specs.Echo.{EchoOf, EchoText, IsEcho, IsSetOf, TextOf};
+ghost use Rattle.echo_packet.specs.Message.{Message};
+ghost use Rattle.echo_text.specs.Echo.{EchoOf, EchoText, IsEcho, IsSetOf, TextOf, msgid_of};
 ghost use Rattle.echo_text.specs.Refusal.{refusal};
+ghost use Rattle.echo_toss.specs.declared.draft.Draft.{Draft};
 ghost use Rattle.echo_toss.specs.declared.key.Key.{Key};
+ghost use Rattle.echo_toss.specs.declared.stamp.Stamp.{Stamp};
+ghost use Rattle.echo_toss.specs.Ids.{id_of};
 ghost use Rattle.echo_toss.specs.Sets.{entry_set};
 ghost use Rattle.echo_toss.specs.Written.{echo_of, text_of};
-ghost use Rattle.echo_toss.specs.Base.{Filed, IsFile, LinkFile, key_of, same_key};
-ghost use Rattle.echo_toss.specs.Tossing.{received};
+ghost use Rattle.echo_toss.specs.Base.{Filed, IsFile, LinkFile, has_area, key_of, same_key};
+ghost use Rattle.echo_toss.specs.Posting.{has_id, posting};
+ghost use Rattle.echo_toss.specs.Tossing.{IsToBeFiled, received, tossing};
 ghost use Rattle.echo_toss.specs.Scanning.{copy_to, exported};
 ghost use Rattle.echo_toss.specs.Purging.{stub_of};
 
@@ -46,4 +52,24 @@ pub fn copy_laws()
     ensures read_back { (file : LinkFile) (from to : Address) (m : Filed) → IsFile file → IsEcho m.echo →
         received from (copy_to file to m) ≡ record { sender = Some from; date = m.date; to_name = m.to_name; from_name = m.from_name; subject = m.subject; echo = exported file m.echo } }
     ensures keep_keys { (file : LinkFile) (from to : Address) (m : Filed) → IsFile file → IsEcho m.echo → key_of (received from (copy_to file to m)) ≡ key_of m }
+{}
+
+/// What a posting files is echomail, was sent by no other system, stands in an area of the link file,
+/// and has the id of the system and the serial, which no message of the base has.
+pub fn posting_laws()
+    ensures echo { (file : LinkFile) (base : List Filed) (tag : List ℕ) (draft : Draft) (serial : ℕ) (stamp : Stamp) (m : Filed) →
+        IsFile file → posting file base tag draft serial stamp ≡ Some m → IsEcho m.echo }
+    ensures own { (file : LinkFile) (base : List Filed) (tag : List ℕ) (draft : Draft) (serial : ℕ) (stamp : Stamp) (m : Filed) →
+        posting file base tag draft serial stamp ≡ Some m → (m.sender ≡ None) × (has_area file m.echo.tag ≡ true) }
+    ensures id { (file : LinkFile) (base : List Filed) (tag : List ℕ) (draft : Draft) (serial : ℕ) (stamp : Stamp) (m : Filed) →
+        IsFile file → posting file base tag draft serial stamp ≡ Some m → msgid_of m.echo.kept ≡ Some (id_of file.system serial) }
+    ensures new { (file : LinkFile) (base : List Filed) (tag : List ℕ) (draft : Draft) (serial : ℕ) (stamp : Stamp) (m : Filed) →
+        posting file base tag draft serial stamp ≡ Some m → list_any (has_id (id_of file.system serial)) base ≡ false }
+{}
+
+/// A message is filed by a toss exactly where its text is echomail, its area is in the link file, the
+/// sender is a link of the area, and no message of the base has its key.
+pub fn toss_law()
+    ensures { (file : LinkFile) (base : List Filed) (sender : Address) (packed : Message) →
+        (tossing file base sender packed ≡ Some (received sender packed)) ↔ IsToBeFiled file base sender packed }
 {}
