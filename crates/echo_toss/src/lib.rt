@@ -17,7 +17,7 @@ mod packet;
 mod stamp;
 
 pub use draft::Draft;
-pub use fault::{PostFault, ScanFault};
+pub use fault::{BaseFault, LinkFault, PostFault, ScanFault};
 pub use key::Key;
 pub use laws::{copy_laws, key_law, posting_laws, set_law, stub_laws, text_laws, toss_law};
 pub use outcome::Outcome;
