@@ -119,3 +119,17 @@ repeated_link = refl
 repeated_area : file_fault (codes "AREA test" ++ 10 ∷ codes "AREA TEST") ≡ Some (fault.RepeatedArea 2)
 unfolding file_fault file_lines words line_fault
 repeated_area = refl
+
+-- the next system on the way
+abbrev second_file : LinkFile
+second_file = record {
+  system = system 2;
+  name = codes "Beta";
+  areas = record { tag = codes "TEST"; links = system 1 ∷ (system 3 ∷ []) } ∷ [];
+}
+
+exported_second : text_of (exported second_file (exported first_file first_posting.echo)) ≡
+    codes "AREA:TEST" ++ 13 ∷ (1 ∷ codes "MSGID: 1:10/1 00000001" ++ 13 ∷ (codes "Hello" ++ 13 ∷ (codes "--- echonet" ++ 13 ∷
+    (codes " * Origin: Alpha (1:10/1)" ++ 13 ∷ (codes "SEEN-BY: 10/1 2 3" ++ 13 ∷ (1 ∷ codes "PATH: 10/1 2" ++ 13 ∷ []))))))
+unfolding posted posted_lines id_of trimmed lines digits exported links_of entry_set short_lines text_of
+exported_second = refl

@@ -10,4 +10,6 @@ pub mod Plain
 pub mod OwnIds
 pub mod Posted
 pub mod Received
+pub mod Bytes
+pub mod Saved
 mod Examples

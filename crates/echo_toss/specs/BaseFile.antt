@@ -2,9 +2,10 @@
 use Rattle.std.specs.Prelude.{◌≡◌, ◌≢◌, ℕ, ◌+◌, ◌*◌, ◌/◌, ◌%◌, ◌^◌, ◌<◌, ◌≤◌, ◌⊎◌, ⊤, ◌==◌, ◌||◌, ◌&&◌, not, nat_eq, nat_lt, Bool, true, false, List, [], ◌∷◌, ◌++◌, map, length, take, drop, codes, if◌then◌else◌, Option, Some, None, is_some, is_none, unwrap_or, bytes_eq}
 use Rattle.std.specs.List.{AllByRecursion, flat_map, list_all, list_any, starts_with}
 use Rattle.echo_addr.specs.declared.address.Address.{Address}
-use Rattle.echo_packet.specs.Header.{AreBytes, number_at, word}
+use Rattle.echo_packet.specs.Header.{number_at, word}
+use Rattle.echo_packet.specs.Message.{HasNoZero}
 use Rattle.echo_text.specs.Lines.{is_tag, trimmed}
-use Rattle.echo_text.specs.Echo.{EchoText, msgid_of}
+use Rattle.echo_text.specs.Echo.{EchoText, IsEcho, msgid_of}
 use Rattle.echo_text.specs.Refusal.{refusal}
 use Rattle.echo_toss.specs.declared.fault.BaseFault.{BaseFault}
 use Rattle.echo_toss.specs.declared.fault.BaseFault.TheVariants as fault
@@ -79,7 +80,6 @@ pub record IsStored (version : Version) (s : Stored) : Type 0 where
   pub tag : length s.tag < 2 ^ 8
   pub no_tag : has_tag version s.kind ≡ false → s.tag ≡ []
   pub last : length s.last < 2 ^ 32
-  pub bytes : AreBytes (stored_bytes version s)
 
 -- 00 and 02 were posted here, 01 and 03 received
 abbrev pub is_posted : ℕ → Bool
@@ -224,7 +224,7 @@ BaseFaultOf bytes (fault.Truncated n) =
 BaseFaultOf bytes (fault.Damaged n) = IsDamagedAt n bytes
 BaseFaultOf bytes _ = ⊥
 
--- how a message that stands at a place is stored by the second version
+-- how the second version stores a message, in short or not
 abbrev pub kind_of : Bool → Option Address → ℕ
 kind_of short None = if short then 2 else 0
 kind_of short (Some sender) = if short then 3 else 1
@@ -233,21 +233,22 @@ abbrev pub sender_or_zeros : Option Address → Address
 sender_or_zeros None = record { zone = 0; net = 0; node = 0 }
 sender_or_zeros (Some sender) = sender
 
+abbrev pub stored_as : Bool → Filed → Stored
+stored_as short m = record {
+  kind = kind_of short m.sender;
+  zone = (sender_or_zeros m.sender).zone;
+  net = (sender_or_zeros m.sender).net;
+  node = (sender_or_zeros m.sender).node;
+  date = m.date;
+  to_name = m.to_name;
+  from_name = m.from_name;
+  subject = m.subject;
+  tag = if short then m.echo.tag else [];
+  last = if short then unwrap_or (msgid_of m.echo.kept) [] else text_of m.echo;
+}
+
 unfoldable pub stored_at : ℕ → ℕ → Filed → Stored
-stored_at cursor place m =
-    let short : Bool = is_short Second cursor place m in
-    record {
-      kind = kind_of short m.sender;
-      zone = (sender_or_zeros m.sender).zone;
-      net = (sender_or_zeros m.sender).net;
-      node = (sender_or_zeros m.sender).node;
-      date = m.date;
-      to_name = m.to_name;
-      from_name = m.from_name;
-      subject = m.subject;
-      tag = if short then m.echo.tag else [];
-      last = if short then unwrap_or (msgid_of m.echo.kept) [] else text_of m.echo;
-    }
+stored_at cursor place m = stored_as (is_short Second cursor place m) m
 
 -- the messages from a place on
 abbrev pub stored_from : ℕ → ℕ → List Filed → List Stored
@@ -265,3 +266,31 @@ is_short_enough s = nat_lt (length s.last) (2 ^ 32)
 
 unfoldable pub is_countable : List Filed → ℕ → Bool
 is_countable base cursor = nat_lt (length base) (2 ^ 32) && list_all is_short_enough (stored_from cursor 0 base)
+
+-- each part of a sender is a number of two bytes
+abbrev pub HasSmallSender : Option Address → Type 0
+HasSmallSender None = ⊤
+HasSmallSender (Some a) = (a.zone < 2 ^ 16) × (a.net < 2 ^ 16) × (a.node < 2 ^ 16)
+
+-- what holds of each message of a base
+pub record IsFiled (m : Filed) : Type 0 where
+  pub small_sender : HasSmallSender m.sender
+  pub date_len : length m.date ≡ 20
+  pub to_room : length m.to_name ≤ 35
+  pub to_bytes : HasNoZero m.to_name
+  pub from_room : length m.from_name ≤ 35
+  pub from_bytes : HasNoZero m.from_name
+  pub subject_room : length m.subject ≤ 71
+  pub subject_bytes : HasNoZero m.subject
+  pub is_echo : IsEcho m.echo
+
+-- no message has a key that one before it has
+abbrev pub AreNew : List Filed → List Filed → Type 0
+AreNew earlier [] = ⊤
+AreNew earlier (m ∷ later) = (is_known earlier (key_of m) ≡ false) × AreNew (earlier ++ m ∷ []) later
+
+-- what holds of each base and its cursor
+pub record IsBase (base : List Filed) (cursor : ℕ) : Type 0 where
+  pub each : AllByRecursion IsFiled base
+  pub new : AreNew [] base
+  pub within : cursor ≤ length base
