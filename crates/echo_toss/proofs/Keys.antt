@@ -12,7 +12,7 @@ use Rattle.echo_toss.specs.Posting.{id_line}
 use Rattle.echo_toss.specs.Purging.{stub_of, stub_with}
 use Rattle.echo_toss.proofs.Trims.{IsTrim, after_blank, trimmed_trim}
 
-lines_decide : (a b : List (List ℕ)) → (pointwise bytes_eq a b ≡ true → a ≡ b) × (a ≡ b → pointwise bytes_eq a b ≡ true)
+pub lines_decide : (a b : List (List ℕ)) → (pointwise bytes_eq a b ≡ true → a ≡ b) × (a ≡ b → pointwise bytes_eq a b ≡ true)
 lines_decide = pointwise_decides bytes_decides
 
 same_if : (k l : Key) → same_key k l ≡ true → k ≡ l

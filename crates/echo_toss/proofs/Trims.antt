@@ -83,3 +83,8 @@ joined_trim front back some some' begin finish = record {
           let is : 0 ≡ 1 + prefix_len is_blank xs = sym none ∙ cond-true (is_blank x) (1 + prefix_len is_blank xs) 0 passes in absurd (omega arith)
       | inr fails ↦ cond-false (is_blank x) (1 + prefix_len is_blank (xs ++ ys)) 0 fails
     ]
+
+-- nothing goes
+pub trimmed_same : (bs : List ℕ) → IsTrim bs → trimmed bs ≡ bs
+unfolding trimmed
+trimmed_same bs h = ap (λ (n : ℕ). without_back_blanks (drop n bs)) h.front ∙ no_back bs h.back

@@ -18,6 +18,7 @@ ghost use Rattle.echo_toss.specs.Posting.{has_id, posting};
 ghost use Rattle.echo_toss.specs.Tossing.{IsToBeFiled, received, tossing};
 ghost use Rattle.echo_toss.specs.Scanning.{copy_to, exported};
 ghost use Rattle.echo_toss.specs.Purging.{stub_of};
+ghost use Rattle.echo_toss.specs.BaseFile.{BaseOf, IsBase, is_countable, saved_bytes};
 
 /// The test of keys passes exactly where they are the same.
 pub fn key_law()
@@ -72,4 +73,10 @@ pub fn posting_laws()
 pub fn toss_law()
     ensures { (file : LinkFile) (base : List Filed) (sender : Address) (packed : Message) →
         (tossing file base sender packed ≡ Some (received sender packed)) ↔ IsToBeFiled file base sender packed }
+{}
+
+/// What is saved of a base is a base file of it, where four bytes count its messages and the bytes of
+/// each text and id.
+pub fn saved_base_law()
+    ensures { (base : List Filed) (cursor : ℕ) → IsBase base cursor → is_countable base cursor ≡ true → BaseOf base cursor (saved_bytes base cursor) }
 {}

@@ -19,7 +19,9 @@ mod stamp;
 pub use draft::Draft;
 pub use fault::{BaseFault, LinkFault, PostFault, ScanFault};
 pub use key::Key;
-pub use laws::{copy_laws, key_law, posting_laws, set_law, stub_laws, text_laws, toss_law};
+pub use laws::{
+    copy_laws, key_law, posting_laws, saved_base_law, set_law, stub_laws, text_laws, toss_law,
+};
 pub use outcome::Outcome;
 pub use packet::Packet;
 pub use stamp::Stamp;
