@@ -1,5 +1,14 @@
 pub mod Cutting
 pub mod Tails
+pub mod OneReading
+pub mod Seeking
+pub mod PutTogether
+pub mod SaidAfter
+pub mod Bounds
+pub mod Reread
+pub mod EntryRanges
+pub mod Listing
+pub mod Sets
 pub mod Written
 pub mod Tags
 pub mod LineKinds

@@ -1,5 +1,5 @@
 -- What lines of one kind begin with, and that they are of no other kind.
-use Rattle.std.proofs.Common.{◌≡◌, ℕ, suc, ◌+◌, ◌<◌, ◌≤◌, ◌==◌, ◌&&◌, ◌||◌, not, nat_eq, Bool, true, false, cond, List, [], ◌∷◌, ◌++◌, length, drop, take, refl, sym, ap, subst, ◌∙◌, arith, inl, inr, ◌⊎◌}
+use Rattle.std.proofs.Common.{◌≡◌, ℕ, suc, ◌+◌, ◌==◌, ◌&&◌, ◌||◌, not, nat_eq, Bool, true, false, List, [], ◌∷◌, ◌++◌, drop, refl, ap, subst, ◌∙◌, arith, inl, inr}
 use Rattle.std.specs.List.{list_all, prefix_len, starts_with}
 use Rattle.std.proofs.lemmas.Bool.{and_parts, cases_Bool, cond-true, cond-false, eqb-true, not-true, or_left, or_right}
 use Rattle.echo_addr.specs.Entries.{is_blank}
@@ -133,3 +133,8 @@ kept_no_seen line kept = control_is_not_seen line (and_parts (is_control line) (
 
 pub kept_no_path : (line : List ℕ) → is_kept_control line ≡ true → is_path line ≡ false
 kept_no_path line kept = not-true (is_path line) (and_parts (is_control line) (not (is_path line)) kept).1
+
+-- a kept line of the tail is a tail line
+pub control_in_tail : (line : List ℕ) → is_kept_control line ≡ true → is_tail_line line ≡ true
+control_in_tail line kept =
+    or_left _ _ (or_right (is_seen line) (is_control line) (and_parts (is_control line) (not (is_path line)) kept).0)

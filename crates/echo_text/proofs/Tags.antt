@@ -1,15 +1,15 @@
 -- A tag stands between no blanks, and its letters are in upper case.
-use Rattle.std.proofs.Common.{◌≡◌, ℕ, zero, suc, ◌+◌, ◌-◌, ◌<◌, ◌≤◌, ◌==◌, ◌&&◌, ◌||◌, not, nat_lt, nat_le, Bool, true, false, cond, List, [], ◌∷◌, ◌++◌, length, map, reverse, drop, take, refl, sym, ap, ◌∙◌, arith, inl, inr, ◌⊎◌}
+use Rattle.std.proofs.Common.{◌≡◌, ℕ, ◌+◌, ◌-◌, ◌<◌, ◌≤◌, ◌&&◌, not, nat_lt, nat_le, true, false, cond, List, [], ◌∷◌, ◌++◌, length, map, drop, refl, sym, ap, ◌∙◌, arith, inl, inr}
 use Rattle.std.specs.Char.{to_ascii_uppercase}
 use Rattle.std.specs.Int.{is_in_range}
 use Rattle.std.specs.List.{All, list_all, prefix_len, suffix_len}
-use Rattle.std.proofs.lemmas.List.{take_all}
+use Rattle.std.proofs.lemmas.List.{length-map, take_all}
 use Rattle.std.proofs.lemmas.List.Elements.{All-head, All-weaker}
-use Rattle.std.proofs.lemmas.List.Folds.{map_fixed}
+use Rattle.std.proofs.lemmas.List.Folds.{list_all-map, map_fixed}
 use Rattle.std.proofs.lemmas.List.Sums.{AllPass-from_list_all, suffix_len_is}
-use Rattle.std.proofs.lemmas.Bool.{and_parts, and_from, cases_Bool, cases_lt, cond-false, cond-true, le-leb, leb-true, lt-ltb, le-ltb, ltb-true, ltb-false, ne_eqb, not-true, or_from}
+use Rattle.std.proofs.lemmas.Bool.{and_left, and_parts, and_right, and_from, cases_lt, cond-false, cond-true, le-leb, lt-leb, leb-true, lt-ltb, le-ltb, ne_eqb, not-true, or_from}
 use Rattle.echo_addr.specs.Entries.{is_blank}
-use Rattle.echo_text.specs.Lines.{after_word, area_tag, area_word, is_return, is_tag, is_tag_byte, trimmed, without_back_blanks, without_front_blanks}
+use Rattle.echo_text.specs.Lines.{area_tag, area_word, is_return, is_tag, is_tag_byte, trimmed, without_back_blanks, without_front_blanks}
 use Rattle.echo_text.proofs.LineKinds.{after_area}
 
 -- bytes without a blank
@@ -24,7 +24,7 @@ no_front_blanks (b ∷ bytes) ink =
 no_back_blanks : (bytes : List ℕ) → IsInked bytes → without_back_blanks bytes ≡ bytes
 no_back_blanks bytes ink =
     let none =
-        suffix_len_is is_blank bytes (length bytes) 0 (omega arith) (λ k low high. absurd (omega arith)) (λ some. ink (length bytes - 1) 0 (omega arith))
+    suffix_len_is is_blank bytes (length bytes) 0 (omega arith) (λ k low high. absurd (omega arith)) (λ some. ink (length bytes - 1) 0 (omega arith))
     in
     take_all (length bytes - suffix_len is_blank bytes) bytes (omega (arith, none))
 
@@ -54,7 +54,7 @@ tag_byte_upper b h = elim (cases_lt b 97) [
   | inr above ↦
       cond-false (nat_lt b 97) b (cond (nat_lt b 123) (b - 32) b) (le-ltb b 97 above)
       ∙ (elim (cases_lt b 123) [
-        | inl letter ↦ 
+        | inl letter ↦
             let is = and_from (nat_le 97 b) (nat_le b 122) (le-leb 97 b above) (le-leb b 122 (omega arith)) in
             let isnt = h.no_small_letter in absurd cc
         | inr past ↦ cond-false (nat_lt b 123) (b - 32) b (le-ltb b 123 past)
@@ -80,3 +80,22 @@ area_tag_back tag is =
     ap (λ s. map to_ascii_uppercase (trimmed s)) (after_area tag)
     ∙ ap (map to_ascii_uppercase) (trimmed_ink tag (All-weaker IsTagByte (λ b. is_blank b ≡ false) tag_byte_ink tag bytes))
     ∙ map_fixed to_ascii_uppercase tag (All-weaker IsTagByte (λ b. to_ascii_uppercase b ≡ b) tag_byte_upper tag bytes)
+
+-- when bytes in upper case are a tag
+pub no_tag_empty : (bytes : List ℕ) → length bytes ≡ 0 → is_tag (map to_ascii_uppercase bytes) ≡ false
+no_tag_empty bytes none =
+    and_left _ _ (and_left _ _ (le-ltb 0 (length (map to_ascii_uppercase bytes)) (omega (arith, length-map bytes to_ascii_uppercase))))
+
+pub no_tag_long : (bytes : List ℕ) → 60 < length bytes → is_tag (map to_ascii_uppercase bytes) ≡ false
+no_tag_long bytes long =
+    and_left _ _ (and_right (nat_lt 0 (length (map to_ascii_uppercase bytes))) _
+    (lt-leb (length (map to_ascii_uppercase bytes)) 60 (omega (arith, length-map bytes to_ascii_uppercase))))
+
+pub tag_by_bytes : (bytes : List ℕ) → 0 < length bytes → length bytes ≤ 60
+    → list_all (λ b. is_tag_byte (to_ascii_uppercase b)) bytes ≡ is_tag (map to_ascii_uppercase bytes)
+tag_by_bytes bytes some short =
+    let same = length-map bytes to_ascii_uppercase in
+    sym (ap (λ b. b && nat_le (length (map to_ascii_uppercase bytes)) 60 && list_all is_tag_byte (map to_ascii_uppercase bytes))
+    (lt-ltb 0 (length (map to_ascii_uppercase bytes)) (omega arith))
+    ∙ ap (λ b. b && list_all is_tag_byte (map to_ascii_uppercase bytes)) (le-leb (length (map to_ascii_uppercase bytes)) 60 (omega arith))
+    ∙ list_all-map is_tag_byte to_ascii_uppercase bytes)

@@ -1,16 +1,16 @@
 -- What is written of an echo, cut into lines and taken apart, is that echo.
-use Rattle.std.proofs.Common.{◌≡◌, ◌≢◌, ℕ, ◌+◌, ◌<◌, ◌≤◌, ◌==◌, not, Bool, true, false, List, [], ◌∷◌, ◌++◌, length, map, refl, sym, ap, subst, ◌∙◌, ◌↔◌, arith, inl, inr, ◌⊎◌}
-use Rattle.std.specs.List.{All, AllByRecursion, AllPairs, filter, flat_map, list_all, sum_by}
+use Rattle.std.proofs.Common.{◌≡◌, ◌≢◌, ℕ, not, Bool, true, false, List, [], ◌∷◌, ◌++◌, map, refl, sym, ap, subst, ◌∙◌, arith, inl, inr}
+use Rattle.std.specs.List.{AllByRecursion, AllPairs, filter, flat_map, list_all}
 use Rattle.std.proofs.lemmas.List.{append_assoc, append-nil}
 use Rattle.std.proofs.lemmas.List.Elements.{All-append, All-from_recursion, All-weaker, filter-append, recursion_from_All}
 use Rattle.std.proofs.lemmas.List.Folds.{list_all-append}
 use Rattle.std.proofs.lemmas.List.Sums.{list_all-from_AllPass, sum_by-cons}
 use Rattle.std.proofs.lemmas.Bool.{and_from, and_parts, cond-false, cond-true, ne_eqb}
 use Rattle.echo_addr.specs.declared.address.NetNode.{NetNode}
-use Rattle.echo_addr.specs.Entries.{dropped, entries}
+use Rattle.echo_addr.specs.Entries.{dropped}
 use Rattle.echo_addr.specs.ShortLines.{ComesBefore, IsEntryByte, ReadBack, line_of, path_prefix, seen_prefix}
 use Rattle.echo_addr.proofs.ReadBack.{read_back}
-use Rattle.echo_text.specs.Lines.{after_word, area_tag, area_word, first_line, is_area, is_path, is_return, is_seen, is_tag, is_tag_byte, later_lines, lines}
+use Rattle.echo_text.specs.Lines.{after_word, area_tag, area_word, first_line, is_area, is_path, is_return, is_seen, later_lines, lines}
 use Rattle.echo_text.specs.Tail.{all_dropped, all_entries, body, is_kept_control, is_tail_line, kept_of, path_lists, seen_lists, tail}
 use Rattle.echo_text.specs.Echo.{EchoText, EchoOf, IsEcho, IsLine, IsSetOf, TextOf, ended, is_shed}
 use Rattle.echo_text.proofs.Cutting.{IsPiece, lines_ended, lines_nil, lines_of_ended}
@@ -124,25 +124,25 @@ says kept seen path ending =
           ap (λ ls. ls ++ filter is_kept_control (tail (kept ++ shed))) (body-append kept shed (shed_all_tail seen path))
           ∙ ap (λ ls. body kept ++ filter is_kept_control ls) whole
           ∙ ap (λ ls. body kept ++ ls)
-              (both is_kept_control (tail kept) [] [] (tail kept) seen path ending.kept
-                  (filter_prefixed_none is_kept_control seen_prefix seen_not_kept seen)
-                  (filter_prefixed_none is_kept_control path_prefix path_not_kept path))
+          (both is_kept_control (tail kept) [] [] (tail kept) seen path ending.kept
+          (filter_prefixed_none is_kept_control seen_prefix seen_not_kept seen)
+          (filter_prefixed_none is_kept_control path_prefix path_not_kept path))
           ∙ ap (λ ls. body kept ++ ls) (append-nil (tail kept))
           ∙ body_and_tail kept;
       seen_back =
           ap (λ ls. map (after_word seen_prefix) (filter is_seen ls)) whole
           ∙ ap (map (after_word seen_prefix))
-              (both is_seen [] (prefixed seen_prefix seen) [] (tail kept) seen path ending.no_seen
-                  (filter_prefixed is_seen seen_prefix seen_is_seen seen)
-                  (filter_prefixed_none is_seen path_prefix path_is_not_seen path))
+          (both is_seen [] (prefixed seen_prefix seen) [] (tail kept) seen path ending.no_seen
+          (filter_prefixed is_seen seen_prefix seen_is_seen seen)
+          (filter_prefixed_none is_seen path_prefix path_is_not_seen path))
           ∙ ap (map (after_word seen_prefix)) (append-nil (prefixed seen_prefix seen))
           ∙ after_prefixed seen_prefix after_seen seen;
       path_back =
           ap (λ ls. map (after_word path_prefix) (filter is_path ls)) whole
           ∙ ap (map (after_word path_prefix))
-              (both is_path [] [] (prefixed path_prefix path) (tail kept) seen path ending.no_path
-                  (filter_prefixed_none is_path seen_prefix seen_is_not_path seen)
-                  (filter_prefixed is_path path_prefix path_is_path path))
+          (both is_path [] [] (prefixed path_prefix path) (tail kept) seen path ending.no_path
+          (filter_prefixed_none is_path seen_prefix seen_is_not_path seen)
+          (filter_prefixed is_path path_prefix path_is_path path))
           ∙ after_prefixed path_prefix after_path path;
     }
 
@@ -174,16 +174,16 @@ written_lines : (e : EchoText) (text : List ℕ) → IsEcho e → (w : TextOf e 
 written_lines e text h w s p =
     ap lines w.whole
     ∙ lines_ended (area_word ++ e.tag) (flat_map ended e.kept ++ (w.seen_lines ++ w.path_lines))
-        (All-append (λ b. is_return b ≡ false) area_word e.tag area_piece (tag_piece e.tag h.tag_bytes))
+    (All-append (λ b. is_return b ≡ false) area_word e.tag area_piece (tag_piece e.tag h.tag_bytes))
     ∙ ap (λ ls. (area_word ++ e.tag) ∷ ls)
-        (lines_of_ended e.kept (w.seen_lines ++ w.path_lines) (line_pieces e.kept (recursion_from_All IsLine e.kept h.kept_lines))
-        ∙ ap (λ ls. e.kept ++ ls)
-            (prefixed_lines seen_prefix s.rests w.seen_lines seen_piece s.lines s.bytes w.path_lines
-            ∙ ap (λ ls. prefixed seen_prefix s.rests ++ ls)
-                (ap lines (sym (append-nil w.path_lines))
-                ∙ prefixed_lines path_prefix p.rests w.path_lines path_piece p.lines p.bytes []
-                ∙ ap (λ ls. prefixed path_prefix p.rests ++ ls) lines_nil
-                ∙ append-nil (prefixed path_prefix p.rests))))
+    (lines_of_ended e.kept (w.seen_lines ++ w.path_lines) (line_pieces e.kept (recursion_from_All IsLine e.kept h.kept_lines))
+    ∙ ap (λ ls. e.kept ++ ls)
+    (prefixed_lines seen_prefix s.rests w.seen_lines seen_piece s.lines s.bytes w.path_lines
+    ∙ ap (λ ls. prefixed seen_prefix s.rests ++ ls)
+    (ap lines (sym (append-nil w.path_lines))
+    ∙ prefixed_lines path_prefix p.rests w.path_lines path_piece p.lines p.bytes []
+    ∙ ap (λ ls. prefixed path_prefix p.rests ++ ls) lines_nil
+    ∙ append-nil (prefixed path_prefix p.rests))))
 
 none_dropped : (rests : List (List ℕ)) → AllByRecursion (λ rest. dropped rest ≡ 0) rests → all_dropped rests ≡ 0
 none_dropped [] h = refl

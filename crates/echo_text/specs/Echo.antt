@@ -1,5 +1,5 @@
 -- What a text says (FTS-0004, FTS-0009), and the text that is written for it.
-use Rattle.std.specs.Prelude.{◌≡◌, ◌≢◌, ℕ, ◌+◌, nat_lt, ◌↔◌, ◌||◌, not, Bool, true, List, [], ◌∷◌, ◌++◌, length, All, AllPairs, Contains, Option, None, filter, find, map}
+use Rattle.std.specs.Prelude.{◌≡◌, ◌≢◌, ℕ, ◌+◌, nat_lt, ◌↔◌, ◌||◌, ◌&&◌, not, if◌then◌else◌, Bool, true, List, [], ◌∷◌, ◌++◌, length, All, AllPairs, Contains, Option, Some, None, filter, find, map}
 use Rattle.std.specs.List.{AllPass, flat_map, last_or}
 use Rattle.echo_addr.specs.declared.address.NetNode.{NetNode}
 use Rattle.echo_addr.specs.ShortLines.{ComesBefore, IsNetNode, ShortLines, path_prefix, seen_prefix}
@@ -39,6 +39,13 @@ pub record IsSetOf (set all : List NetNode) : Type 0 where
   pub ascending : AllPairs ComesBefore set
   pub members : (entry : NetNode) → Contains set entry ↔ Contains all entry
 
+-- what the lines after the AREA line say
+pub record Says (later kept : List (List ℕ)) (seen path : List NetNode) (dropped : ℕ) : Type 0 where
+  pub kept_lines : kept ≡ kept_of later
+  pub seen_set : IsSetOf seen (all_entries (seen_lists later))
+  pub path_list : path ≡ all_entries (path_lists later)
+  pub dropped_tokens : dropped ≡ all_dropped (seen_lists later) + all_dropped (path_lists later)
+
 -- the text is an echo text that says e; so many tokens of its SEEN-BY and PATH lines are no entry
 pub record EchoOf (text : List ℕ) (e : EchoText) (dropped : ℕ) : Type 0 where
   pub area : is_area (first_line (lines text)) ≡ true
@@ -65,6 +72,11 @@ pub record TextOf (e : EchoText) (bytes : List ℕ) : Type 0 where
 abbrev pub first_after : List ℕ → List (List ℕ) → Option (List ℕ)
 first_after word kept =
     find (λ found. nat_lt 0 (length found)) (map (λ line. trimmed (after_word word line)) (filter (begins word) kept))
+
+-- the same of one line
+abbrev pub id_in : List ℕ → List ℕ → Option (List ℕ)
+id_in word line =
+    let found = trimmed (after_word word line) in if begins word line && nat_lt 0 (length found) then Some found else None
 
 -- the id of the first MSGID line that has one, and of the first REPLY line
 unfoldable pub msgid_of : List (List ℕ) → Option (List ℕ)

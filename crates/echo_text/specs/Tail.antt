@@ -4,7 +4,7 @@ use Rattle.std.specs.List.{flat_map, list_all}
 use Rattle.echo_addr.specs.declared.address.NetNode.{NetNode}
 use Rattle.echo_addr.specs.Entries.{dropped, entries}
 use Rattle.echo_addr.specs.ShortLines.{path_prefix, seen_prefix}
-use Rattle.echo_text.specs.Lines.{after_word, is_blank_line, is_control, is_path, is_seen}
+use Rattle.echo_text.specs.Lines.{after_word, begins, is_blank_line, is_control, is_path, is_seen}
 
 -- a line of which the tail is made
 abbrev pub is_tail_line : List ℕ → Bool
@@ -28,12 +28,16 @@ is_kept_control line = is_control line && not (is_path line)
 unfoldable pub kept_of : List (List ℕ) → List (List ℕ)
 kept_of later = body later ++ filter is_kept_control (tail later)
 
+-- what follows the word in the lines that begin with it
+abbrev pub lists_of : List ℕ → List (List ℕ) → List (List ℕ)
+lists_of word lines = map (after_word word) (filter (begins word) lines)
+
 -- what follows the colon in the tail's SEEN-BY lines, and in its PATH lines
 unfoldable pub seen_lists : List (List ℕ) → List (List ℕ)
-seen_lists later = map (after_word seen_prefix) (filter is_seen (tail later))
+seen_lists later = lists_of seen_prefix (tail later)
 
 unfoldable pub path_lists : List (List ℕ) → List (List ℕ)
-path_lists later = map (after_word path_prefix) (filter is_path (tail later))
+path_lists later = lists_of path_prefix (tail later)
 
 -- the entries of lists, in order
 abbrev pub all_entries : List (List ℕ) → List NetNode

@@ -1,0 +1,34 @@
+-- A text put together from its parts.
+use Rattle.std.proofs.Common.{◌≡◌, ℕ, List, [], ◌∷◌, ◌++◌, sym, ap, subst, ◌∙◌}
+use Rattle.std.specs.List.{flat_map}
+use Rattle.std.proofs.lemmas.List.{append_assoc}
+use Rattle.echo_addr.specs.declared.address.NetNode.{NetNode}
+use Rattle.echo_addr.specs.ShortLines.{ShortLines, path_prefix, seen_prefix}
+use Rattle.echo_text.specs.Lines.{area_word}
+use Rattle.echo_text.specs.Echo.{EchoText, TextOf, ended}
+
+regrouped : (a b k s p : List ℕ) → (((a ++ b) ++ k) ++ s) ++ p ≡ (a ++ b) ++ (k ++ (s ++ p))
+regrouped a b k s p =
+    append_assoc ((a ++ b) ++ k) s p ∙ append_assoc (a ++ b) k (s ++ p)
+
+-- each part is written behind those before it
+pub text_of_parts : (e : EchoText) (tag : List ℕ) (kept : List (List ℕ)) (seen path : List NetNode) (t₀ t₁ t₂ t₃ t₄ t₅ s p : List ℕ)
+    → t₀ ≡ [] → t₁ ≡ t₀ ++ area_word → t₂ ≡ t₁ ++ ended tag → t₃ ≡ t₂ ++ flat_map ended kept → t₄ ≡ t₃ ++ s → t₅ ≡ t₄ ++ p
+    → ShortLines seen_prefix seen s → ShortLines path_prefix path p → record { tag = tag; kept = kept; seen = seen; path = path } ≡ e → TextOf e t₅
+text_of_parts e tag kept seen path t₀ t₁ t₂ t₃ t₄ t₅ s p e₀ e₁ e₂ e₃ e₄ e₅ seen_is path_is is =
+    let whole : t₅ ≡ ended (area_word ++ tag) ++ (flat_map ended kept ++ (s ++ p)) =
+    e₅ ∙ ap (λ t. t ++ p) (e₄ ∙ ap (λ t. t ++ s) (e₃ ∙ ap (λ t. t ++ flat_map ended kept) (e₂ ∙ ap (λ t. t ++ ended tag) (e₁ ∙ ap (λ t. t ++ area_word) e₀))))
+    ∙ regrouped area_word (ended tag) (flat_map ended kept) s p
+    ∙ ap (λ t. t ++ (flat_map ended kept ++ (s ++ p))) (sym (append_assoc area_word tag (13 ∷ [])))
+    in
+    let P : EchoText → Type 0 = λ said. TextOf said t₅ in
+    subst P is (record { seen_lines = s; path_lines = p; seen = seen_is; path = path_is; whole = whole })
+
+-- echoes with the same parts
+pub same_parts : (tag tag' : List ℕ) (kept kept' : List (List ℕ)) (seen seen' path path' : List NetNode)
+    → tag ≡ tag' → kept ≡ kept' → seen ≡ seen' → path ≡ path'
+    → let one : EchoText = record { tag = tag; kept = kept; seen = seen; path = path } in
+    let other : EchoText = record { tag = tag'; kept = kept'; seen = seen'; path = path' } in one ≡ other
+same_parts tag tag' kept kept' seen seen' path path' t k s p =
+    let made : List ℕ → List (List ℕ) → List NetNode → List NetNode → EchoText = λ a b c d. record { tag = a; kept = b; seen = c; path = d } in
+    ap (λ a. made a kept seen path) t ∙ ap (λ b. made tag' b seen path) k ∙ ap (λ c. made tag' kept' c path) s ∙ ap (λ d. made tag' kept' seen' d) p

@@ -1,0 +1,71 @@
+-- Entries sorted, with each kept once, are the set of the entries.
+use Rattle.std.proofs.Common.{◌≡◌, ℕ, ◌<◌, ◌==◌, ◌&&◌, Bool, true, List, [], ◌∷◌, refl, ap, ◌∙◌, arith, inl, inr, ◌⊎◌}
+use Rattle.std.specs.declared.cmp.Ordering.{Ordering}
+use Rattle.std.specs.declared.cmp.Ordering.TheVariants.{Less, Equal, Greater}
+use Rattle.std.specs.Ordering.{MatchOrdering, eq_by_cmp, nat_cmp, ordering_then}
+use Rattle.std.specs.Cmp.{IsEquivalence, IsTotalOrder, and_equiv, both_tied, nat_cmp_total, nat_eq_equiv, on_equiv, on_total, then_total, unsigned_ties}
+use Rattle.std.specs.List.{AllPairs, dedup}
+use Rattle.std.specs.List.Sorted.{IsPermutation, IsSorted, IsStrictlySortedBy}
+use Rattle.std.proofs.lemmas.Bool.{and_parts, eqb-true}
+use Rattle.std.proofs.lemmas.Cmp.{ranked}
+use Rattle.std.proofs.lemmas.List.Elements.{All-from_recursion, All-weaker}
+use Rattle.std.proofs.lemmas.List.Kept.{AllPairs-cons, Contains-dedup, Contains-from_dedup, IsStrictlySortedBy-dedup}
+use Rattle.std.proofs.lemmas.List.Sorted.{Contains-permutation, IsPermutation-sym}
+use Rattle.echo_addr.specs.declared.address.NetNode.{NetNode}
+use Rattle.echo_addr.specs.ShortLines.{ComesBefore}
+use Rattle.echo_text.specs.Echo.{IsSetOf}
+
+-- the order and the equality of entries, part by part
+abbrev pub order : NetNode → NetNode → Ordering
+order x y = ordering_then (nat_cmp x.net y.net) (nat_cmp x.node y.node)
+
+abbrev pub same : NetNode → NetNode → Bool
+same x y = (x.net == y.net) && (x.node == y.node)
+
+total : IsTotalOrder order
+total = then_total (on_total (λ (x : NetNode). x.net) nat_cmp_total) (on_total (λ (x : NetNode). x.node) nat_cmp_total)
+
+ties : (x y : NetNode) → same x y ≡ eq_by_cmp order x y
+ties x y = both_tied (x.net == y.net) (x.node == y.node) (nat_cmp x.net y.net) (nat_cmp x.node y.node) (unsigned_ties x.net y.net) (unsigned_ties x.node y.node)
+
+equivalence : IsEquivalence same
+equivalence = and_equiv (on_equiv (λ (x : NetNode). x.net) nat_eq_equiv) (on_equiv (λ (x : NetNode). x.node) nat_eq_equiv)
+
+same_entry : (x y : NetNode) → x.net ≡ y.net → x.node ≡ y.node → x ≡ y
+same_entry x y net node = ap (λ n. record x { net = n }) net ∙ ap (λ n. record { net = y.net; node = n }) node
+
+same_is : (x y : NetNode) → same x y ≡ true → x ≡ y
+same_is x y is =
+    let parts = and_parts (x.net == y.net) (x.node == y.node) is in
+    same_entry x y (eqb-true x.net y.net parts.0) (eqb-true x.node y.node parts.1)
+
+-- what is less comes before
+less_then : (p q : Ordering) (m n k l : ℕ) → MatchOrdering p (m < n) (m ≡ n) (n < m) → MatchOrdering q (k < l) (k ≡ l) (l < k)
+    → ordering_then p q ≡ Less → (m < n) ⊎ ((m ≡ n) × (k < l))
+less_then Less q m n k l h i less = inl h
+less_then Equal Less m n k l h i less = inr (h, i)
+less_then Equal Equal m n k l h i less = absurd cc
+less_then Equal Greater m n k l h i less = absurd cc
+less_then Greater q m n k l h i less = absurd cc
+
+less_before : (x y : NetNode) → order x y ≡ Less → ComesBefore x y
+less_before x y less =
+    less_then (nat_cmp x.net y.net) (nat_cmp x.node y.node) x.net y.net x.node y.node
+    (ranked x.net y.net (nat_cmp x.net y.net) refl) (ranked x.node y.node (nat_cmp x.node y.node) refl) less
+
+ascending : (es : List NetNode) → IsStrictlySortedBy order es → AllPairs ComesBefore es
+unfolding IsStrictlySortedBy
+ascending [] h = λ i j d low high. absurd (omega arith)
+ascending (e ∷ es) h =
+    AllPairs-cons ComesBefore e es
+    (All-weaker (λ y. order e y ≡ Less) (ComesBefore e) (less_before e) es (All-from_recursion (λ y. order e y ≡ Less) es h.0))
+    (ascending es h.1)
+
+pub set_of_sorted : (all sorted : List NetNode) → IsPermutation all sorted → IsSorted order sorted → IsSetOf (dedup same sorted) all
+set_of_sorted all sorted moved is = record {
+  ascending = ascending (dedup same sorted) (IsStrictlySortedBy-dedup total ties sorted is);
+  members = λ entry. (
+    λ h. Contains-permutation sorted all entry (IsPermutation-sym all sorted moved) (Contains-from_dedup same sorted entry h),
+    λ h. Contains-dedup equivalence same_is sorted entry (Contains-permutation all sorted entry moved h),
+  );
+}

@@ -1,0 +1,11 @@
+use Rattle.std.proofs.Common.{ap, map, None, ◌∙◌}
+use Rattle.std.specs.List.{filter, last_or}
+use Rattle.echo_text.specs.Lines.{after_feeds, is_origin}
+use Rattle.echo_text.specs.Echo.{EchoText, origin_of}
+use Rattle.echo_text.proofs.echo.Echo.origin.Goals as goal
+
+pub returns : goal.returns
+unfolding origin_of
+returns c =
+    c.last_with.ensures
+    ∙ ap (λ kept. last_or None (map after_feeds (filter is_origin kept))) (c.as_slice.ensures ∙ ap (λ (e : EchoText). e.kept) c.self.view_is)

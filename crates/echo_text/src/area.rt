@@ -1,0 +1,61 @@
+ghost use Rattle.std.specs.Prelude.{◌≡◌, Some, None, map, IfOk, MatchResult};
+ghost use Rattle.std.specs.Char.{to_ascii_uppercase};
+ghost use Rattle.std.specs.List.{list_all};
+ghost use Rattle.echo_text.specs.Lines.{area_tag, is_tag, is_tag_byte};
+ghost use Rattle.echo_text.specs.Refusal.{refusal_of};
+
+use crate::fault::TextFault;
+use crate::words::{AREA, after_word, trimmed};
+use std::alloc::{AllocError, Global};
+
+/// The most bytes of a tag.
+const MOST: usize = 60;
+
+/// The tag of the AREA line as it stands there, where the line is one and the tag a good one.
+pub(crate) fn tag_of(first: &[u8]) -> Result<&[u8], TextFault>
+    ensures refused { MatchResult result (λ _. refusal_of first.now ≡ None) (λ fault. refusal_of first.now ≡ Some fault) }
+    ensures tag { IfOk result (λ tag. map to_ascii_uppercase tag.now ≡ area_tag first.now) }
+{
+    match after_word(AREA, first) {
+        None => Err(TextFault::NotEcho),
+        Some(rest) => {
+            let tag = trimmed(rest);
+            if is_tag(tag) {
+                Ok(tag)
+            } else {
+                Err(TextFault::BadTag)
+            }
+        }
+    }
+}
+
+/// Whether the bytes, in upper case, are a tag.
+fn is_tag(bytes: &[u8]) -> bool
+    ensures { result ≡ is_tag (map to_ascii_uppercase bytes.now) }
+{
+    if bytes.is_empty() || bytes.len() > MOST {
+        return false;
+    }
+    has_tag_bytes(bytes)
+}
+
+/// Whether each byte, in upper case, may stand in a tag.
+fn has_tag_bytes(bytes: &[u8]) -> bool
+    ensures { result ≡ list_all (λ b. is_tag_byte (to_ascii_uppercase b)) bytes.now }
+{
+    bytes.iter().all(|b| is_tag_byte(b.to_ascii_uppercase()))
+}
+
+/// Whether the byte may stand in a tag.
+fn is_tag_byte(byte: u8) -> bool
+    ensures { result ≡ is_tag_byte byte }
+{
+    byte.is_ascii_graphic() && !byte.is_ascii_lowercase()
+}
+
+/// The bytes in upper case.
+pub(crate) fn in_upper_case(alloc: Global, bytes: &[u8]) -> Result<Vec<u8>, AllocError>
+    ensures { IfOk result (λ v. v.items ≡ map to_ascii_uppercase bytes.now) }
+{
+    bytes.iter().map(|b| b.to_ascii_uppercase()).collect(alloc)
+}

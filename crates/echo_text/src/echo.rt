@@ -1,0 +1,112 @@
+use crate::copying::copies;
+use crate::found::{first_id, first_id_of_slices, last_tear, last_with};
+use crate::words::{MSGID, ORIGIN, REPLY};
+use echo_addr::{Items, NetNode};
+use std::alloc::{AllocError, Global};
+use std::marker::Model;
+
+/// An echomail text taken apart (FTS-0004). The tag has 1 to 60 bytes from `!` to `~` without small
+/// letters. No kept line holds 00 or 0D, and the longest ending of the kept lines that is made of
+/// control lines holds no SEEN-BY line, no PATH line and no blank line. `seen` ascends without
+/// repeats; `path` has its entries in order, with repeats.
+#[derive(Debug, Drop, PartialEq, Eq, Hash)]
+pub struct Echo {
+    pub tag: Items<u8>,
+    pub kept: Items<Items<u8>>,
+    pub seen: Items<NetNode>,
+    pub path: Items<NetNode>,
+}
+
+impl Model for Echo {
+    ghost use Rattle.echo_text.specs.Echo.{EchoText, IsEcho};
+
+    ghost Value = { EchoText };
+
+    ghost view = { λ e. record { tag = e.tag; kept = e.kept; seen = e.seen; path = e.path } };
+
+    ghost invariant = { λ e. IsEcho (record { tag = e.tag; kept = e.kept; seen = e.seen; path = e.path }) };
+
+    ghost inverse = { λ e. record { tag = e.tag; kept = e.kept; seen = e.seen; path = e.path } };
+}
+
+/// The same over a text: each kept line is a slice of it.
+#[derive(Debug, Drop)]
+pub struct EchoView<'a> {
+    pub tag: Items<u8>,
+    pub kept: Items<&'a [u8]>,
+    pub seen: Items<NetNode>,
+    pub path: Items<NetNode>,
+}
+
+impl<'a> Model for EchoView<'a> {
+    ghost use Rattle.std.specs.Prelude.{map};
+    ghost use Rattle.echo_text.specs.Echo.{EchoText, IsEcho};
+
+    ghost Value = { EchoText };
+
+    ghost view = { λ e. record { tag = e.tag; kept = map (λ line. line.now) e.kept; seen = e.seen; path = e.path } };
+
+    ghost invariant = { λ e. IsEcho (record { tag = e.tag; kept = map (λ line. line.now) e.kept; seen = e.seen; path = e.path }) };
+}
+
+impl Echo {
+    ghost use Rattle.std.specs.Prelude.{◌≡◌, option_copied};
+    ghost use Rattle.echo_text.specs.Echo.{msgid_of, origin_of, reply_of, tear_of};
+
+    /// The id of the message (FTS-0009): what follows the colon of the first MSGID line with more
+    /// than blanks there, without blanks at both ends.
+    pub fn msgid(&self) -> Option<&[u8]>
+        ensures { option_copied result ≡ msgid_of self.now.kept }
+    {
+        first_id(MSGID, self.kept.as_slice())
+    }
+
+    /// The id of the message replied to, read likewise from the REPLY lines (FTS-0009).
+    pub fn reply(&self) -> Option<&[u8]>
+        ensures { option_copied result ≡ reply_of self.now.kept }
+    {
+        first_id(REPLY, self.kept.as_slice())
+    }
+
+    /// The last tear line, without the line feeds at its front (FTS-0004).
+    pub fn tear(&self) -> Option<&[u8]>
+        ensures { option_copied result ≡ tear_of self.now.kept }
+    {
+        last_tear(self.kept.as_slice())
+    }
+
+    /// The last origin line, without the line feeds at its front (FTS-0004).
+    pub fn origin(&self) -> Option<&[u8]>
+        ensures { option_copied result ≡ origin_of self.now.kept }
+    {
+        last_with(ORIGIN, self.kept.as_slice())
+    }
+}
+
+impl<'a> EchoView<'a> {
+    ghost use Rattle.std.specs.Prelude.{◌≡◌, option_copied, IfOk};
+    ghost use Rattle.echo_text.specs.Echo.{msgid_of};
+
+    /// The id of the message, as `Echo` has it.
+    pub fn msgid(&self) -> Option<&[u8]>
+        ensures { option_copied result ≡ msgid_of self.now.kept }
+    {
+        first_id_of_slices(MSGID, self.kept.as_slice())
+    }
+
+    /// The same parts, with lines of their own.
+    pub fn to_echo(&self, alloc: Global) -> Result<Echo, AllocError>
+        ensures { IfOk result (λ echo. echo ≡ self.now) }
+    {
+        let tag = Vec::from_slice(alloc, self.tag.as_slice())?;
+        let kept = copies(alloc, self.kept.as_slice())?;
+        let seen = Vec::from_slice(alloc, self.seen.as_slice())?;
+        let path = Vec::from_slice(alloc, self.path.as_slice())?;
+        Ok(Echo {
+            tag: Items::new(tag),
+            kept: Items::new(kept),
+            seen: Items::new(seen),
+            path: Items::new(path),
+        })
+    }
+}

@@ -1,0 +1,39 @@
+ghost use Rattle.std.specs.Prelude.{◌≡◌, ◌<◌, ◌^◌, map, IfOk};
+ghost use Rattle.echo_text.specs.Echo.{IsSetOf};
+ghost use Rattle.echo_text.specs.Tail.{all_dropped, all_entries, lists_of};
+
+use crate::words::after_word;
+use echo_addr::{NetNode, read_list};
+use std::alloc::{AllocError, Global};
+
+/// The entries of the lines that begin with the word, in order, and how many tokens were dropped.
+pub(crate) fn entries_of(
+    alloc: Global,
+    word: &[u8],
+    lines: &[&[u8]],
+) -> Result<(Vec<NetNode>, usize), AllocError>
+    requires { all_dropped (lists_of word.now (map (λ line. line.now) lines.now)) < 2 ^ 64 }
+    ensures entries { IfOk result (λ r. r.0.items ≡ all_entries (lists_of word.now (map (λ line. line.now) lines.now))) }
+    ensures dropped { IfOk result (λ r. r.1 ≡ all_dropped (lists_of word.now (map (λ line. line.now) lines.now))) }
+{
+    let mut found = Vec::new(alloc);
+    let mut dropped = 0;
+    'lines: for line in lines {
+        if let Some(list) = after_word(word, line) {
+            let (entries, lost) = read_list(alloc, list)?;
+            found.extend_from_slice(&entries)?;
+            dropped += lost;
+        }
+    }
+    Ok((found, dropped))
+}
+
+/// The entries in ascending order, each once.
+pub(crate) fn set_of(entries: Vec<NetNode>) -> Vec<NetNode>
+    ensures { IsSetOf result.items entries.items }
+{
+    let mut set = entries;
+    set.sort_unstable();
+    set.dedup();
+    set
+}

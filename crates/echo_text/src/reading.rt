@@ -1,0 +1,69 @@
+ghost use Rattle.std.specs.Prelude.{IfOk, map};
+ghost use Rattle.echo_text.specs.Echo.{HasNoZero, Says};
+ghost use Rattle.echo_text.specs.Lines.{lines};
+ghost use Rattle.echo_text.specs.Refusal.{Answers};
+
+use crate::area::{in_upper_case, tag_of};
+use crate::echo::{Echo, EchoView};
+use crate::fault::TextFault;
+use crate::lines::{cut, split_line};
+use crate::listed::{entries_of, set_of};
+use crate::tail::{kept_lines, split_tail};
+use crate::words::{PATH, SEEN_BY};
+use echo_addr::{Items, NetNode};
+use std::alloc::{AllocError, Global};
+
+/// What the text says (FTS-0004), and how many tokens of its SEEN-BY and PATH lines are no entries.
+/// The kept lines are slices of the text.
+pub fn view_text<'a>(alloc: Global, text: &'a [u8]) -> Result<(EchoView<'a>, usize), TextFault>
+    requires { HasNoZero text.now }
+    ensures { Answers text.now result }
+{
+    let (first, rest) = split_line(text);
+    let raw = tag_of(first)?;
+    let tag = in_upper_case(alloc, raw)?;
+    let parts = parts_of(alloc, rest)?;
+    let view = EchoView {
+        tag: Items::new(tag),
+        kept: Items::new(parts.kept),
+        seen: Items::new(parts.seen),
+        path: Items::new(parts.path),
+    };
+    Ok((view, parts.dropped))
+}
+
+/// What the text says, as `view_text` does, with lines of its own.
+pub fn read_text(alloc: Global, text: &[u8]) -> Result<(Echo, usize), TextFault>
+    requires { HasNoZero text.now }
+    ensures { Answers text.now result }
+{
+    let (view, dropped) = view_text(alloc, text)?;
+    let echo = view.to_echo(alloc)?;
+    Ok((echo, dropped))
+}
+
+/// What the lines after the AREA line say.
+#[derive(Drop)]
+struct Parts<'a> {
+    kept: Vec<&'a [u8]>,
+    seen: Vec<NetNode>,
+    path: Vec<NetNode>,
+    dropped: usize,
+}
+
+/// What the lines say, of which `rest` is made.
+fn parts_of<'a>(alloc: Global, rest: &'a [u8]) -> Result<Parts<'a>, AllocError>
+    ensures { IfOk result (λ p. Says (lines rest.now) (map (λ line. line.now) p.kept.items) p.seen.items p.path.items p.dropped) }
+{
+    let lines = cut(alloc, rest)?;
+    let (body, tail) = split_tail(&lines);
+    let kept = kept_lines(alloc, body, tail)?;
+    let (seen, seen_dropped) = entries_of(alloc, SEEN_BY, tail)?;
+    let (path, path_dropped) = entries_of(alloc, PATH, tail)?;
+    Ok(Parts {
+        kept,
+        seen: set_of(seen),
+        path,
+        dropped: seen_dropped + path_dropped,
+    })
+}
