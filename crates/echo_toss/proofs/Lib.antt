@@ -12,4 +12,5 @@ pub mod Posted
 pub mod Received
 pub mod Bytes
 pub mod Saved
+pub mod LinkFiles
 mod Examples

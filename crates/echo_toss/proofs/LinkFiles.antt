@@ -1,0 +1,135 @@
+-- What a link file says, where no line of it is faulty.
+use Rattle.std.proofs.Common.{◌≡◌, ◌≢◌, ℕ, zero, suc, ◌+◌, ◌<◌, ◌≤◌, ◌==◌, ◌&&◌, ◌||◌, not, nat_lt, Bool, true, false, cond, List, [], ◌∷◌, ◌++◌, length, map, take, drop, codes, refl, sym, ap, subst, ◌∙◌, Option, Some, None, Result, Ok, Err, arith, lit≤, inl, inr, ◌⊎◌}
+use Rattle.std.specs.Prelude.{bytes_eq, filter, find, is_err, is_ok, option_map, unwrap_or, AllPairs}
+use Rattle.std.specs.Option.{option_or}
+use Rattle.std.specs.Cmp.Lexicographic.{bytes_decides}
+use Rattle.std.specs.List.{AllByRecursion, list_any, prefix_len, suffix_len}
+use Rattle.std.proofs.lemmas.Bool.{and_cases, cases_Bool, cond-false, cond-true, eqb-true, ltb-false, not-false, not_from_false, not_from_true, or_parts, true≢false, false_from_ne_true}
+use Rattle.std.proofs.lemmas.List.Elements.{All-from_recursion}
+use Rattle.std.proofs.lemmas.List.Kept.{AllPairs-cons}
+use Rattle.echo_addr.specs.declared.address.Address.{Address}
+use Rattle.echo_addr.specs.declared.fault.AddrFault.{AddrFault}
+use Rattle.echo_addr.specs.Address.{IsAddress, address_in, answer_of, outcome, refusal}
+use Rattle.echo_addr.proofs.Outcomes.{AddressOf-from_refusal}
+use Rattle.echo_text.specs.Lines.{is_tag}
+use Rattle.echo_text.specs.Echo.{IsLine}
+use Rattle.echo_toss.specs.declared.fault.LinkFault.{LinkFault}
+use Rattle.echo_toss.specs.declared.fault.LinkFault.TheVariants as fault
+use Rattle.echo_toss.specs.Sets.{same_address}
+use Rattle.echo_toss.specs.Base.{Area, IsArea, IsFile, LinkFile}
+use Rattle.echo_toss.specs.LinkLines.{after_first_of, area_fault, area_in, file_fault, file_lines, file_of, first_fault, first_of, has_word, is_area_line, is_control_byte, is_name_line, is_one_address, is_skipped, is_space, is_system_line, line_fault, links_fault, links_in, name_fault, name_in, no_address, read_lines, system_fault, system_in, tag_in, without_front_spaces, words}
+use Rattle.echo_toss.proofs.Orders.{same_address_decides}
+use Rattle.echo_toss.proofs.Plain.{IsLineByte, Plain, plain_if, plain_line}
+
+-- addresses that were read are in range
+ok_refusal : (o : Option AddrFault) (a : Address) → is_ok (answer_of o a) ≡ true → o ≡ None
+ok_refusal None a h = refl
+ok_refusal (Some f) a h = absurd (true≢false (sym h))
+
+no_err_refusal : (o : Option AddrFault) (a : Address) → is_err (answer_of o a) ≡ false → o ≡ None
+no_err_refusal None a h = refl
+no_err_refusal (Some f) a h = absurd (true≢false h)
+
+address_read : (word : List ℕ) → is_ok (outcome word) ≡ true → IsAddress (address_in word)
+address_read word h = (AddressOf-from_refusal word (ok_refusal (refusal word) (address_in word) h)).in_range
+
+link_read : (word : List ℕ) → is_err (outcome word) ≡ false → IsAddress (address_in word)
+link_read word h = (AddressOf-from_refusal word (no_err_refusal (refusal word) (address_in word) h)).in_range
+
+one_address : (words : List (List ℕ)) → is_one_address words ≡ true → IsAddress (address_in (first_of words))
+one_address [] h = absurd (true≢false (sym h))
+one_address (word ∷ []) h = address_read word h
+one_address (word ∷ (next ∷ more)) h = absurd (true≢false (sym h))
+
+-- a chain of refusals of which none applies
+passed : {F : Type 0} (b : Bool) (f : F) (rest : Option F) → cond b (Some f) rest ≡ None → (b ≡ false) × (rest ≡ None)
+passed true f rest h = absurd (cc)
+passed false f rest h = (refl, h)
+
+taken : {F : Type 0} (b : Bool) (one other : Option F) → b ≡ true → cond b one other ≡ None → one ≡ None
+taken b one other e h = sym (cond-true b one other e) ∙ h
+
+left : {F : Type 0} (b : Bool) (one other : Option F) → b ≡ false → cond b one other ≡ None → other ≡ None
+left b one other e h = sym (cond-false b one other e) ∙ h
+
+either_none : {F : Type 0} (a b : Option F) → option_or a b ≡ None → (a ≡ None) × (b ≡ None)
+either_none None b h = (refl, h)
+either_none (Some f) b h = absurd (cc)
+
+-- the links of a line: each in range, and none the same as one before
+links_read : (number : ℕ) (before words : List (List ℕ)) → links_fault number before words ≡ None → AllByRecursion IsAddress (map address_in words)
+links_read number before [] h = tt
+links_read number before (word ∷ more) h =
+    let p1 = passed (is_err (outcome word)) (fault.BadAddress number) _ h in
+    let p2 = passed (list_any (same_address (address_in word)) (map address_in before)) (fault.RepeatedLink number) (links_fault number (word ∷ before) more) p1.1 in
+    (link_read word p1.0, links_read number (word ∷ before) more p2.1)
+
+-- an address is not among some
+not_among : (a : Address) (all : List Address) → list_any (same_address a) all ≡ false → AllByRecursion (λ b. a ≢ b) all
+not_among a [] h = tt
+not_among a (b ∷ all) h =
+    let parts = or_parts (same_address a b) (list_any (same_address a) all) h in
+    (λ e. true≢false (sym ((same_address_decides a b).1 e) ∙ parts.0), not_among a all parts.1)
+
+-- none of the links is the same as one of those before
+links_apart : (number : ℕ) (before words : List (List ℕ)) → links_fault number before words ≡ None
+    → AllByRecursion (λ b. AllByRecursion (λ a. b ≢ a) (map address_in before)) (map address_in words)
+links_apart number before [] h = tt
+links_apart number before (word ∷ more) h =
+    let p1 = passed (is_err (outcome word)) (fault.BadAddress number) _ h in
+    let p2 = passed (list_any (same_address (address_in word)) (map address_in before)) (fault.RepeatedLink number) (links_fault number (word ∷ before) more) p1.1 in
+    (not_among (address_in word) (map address_in before) p2.0, less (map address_in more) (links_apart number (word ∷ before) more p2.1))
+  where
+    less : (all : List Address) → AllByRecursion (λ b. AllByRecursion (λ a. b ≢ a) (address_in word ∷ map address_in before)) all
+        → AllByRecursion (λ b. AllByRecursion (λ a. b ≢ a) (map address_in before)) all
+    less [] k = tt
+    less (b ∷ all) k = (k.0.1, less all k.1)
+
+links_once : (number : ℕ) (before words : List (List ℕ)) → links_fault number before words ≡ None → AllPairs (λ (a b : Address). a ≢ b) (map address_in words)
+links_once number before [] h = λ i j d less inside. absurd (omega arith)
+links_once number before (word ∷ more) h =
+    let p1 = passed (is_err (outcome word)) (fault.BadAddress number) _ h in
+    let p2 = passed (list_any (same_address (address_in word)) (map address_in before)) (fault.RepeatedLink number) (links_fault number (word ∷ before) more) p1.1 in
+    AllPairs-cons (λ (a b : Address). a ≢ b) (address_in word) (map address_in more)
+        (All-from_recursion (λ (b : Address). address_in word ≢ b) (map address_in more) (firsts (map address_in more) (links_apart number (word ∷ before) more p2.1)))
+        (links_once number (word ∷ before) more p2.1)
+  where
+    firsts : (all : List Address) → AllByRecursion (λ b. AllByRecursion (λ a. b ≢ a) (address_in word ∷ map address_in before)) all
+        → AllByRecursion (λ b. address_in word ≢ b) all
+    firsts [] k = tt
+    firsts (b ∷ all) k = (λ e. k.0.0 (sym e), firsts all k.1)
+
+-- the bytes of a line without control bytes
+line_plain : (line : List ℕ) → list_any is_control_byte line ≡ false → Plain line
+line_plain [] h = tt
+line_plain (b ∷ line) h =
+    let parts = or_parts (is_control_byte b) (list_any is_control_byte line) h in
+    (byte_plain b parts.0, line_plain line parts.1)
+  where
+    byte_plain : (b : ℕ) → is_control_byte b ≡ false → IsLineByte b
+    byte_plain b k = elim (and_cases (nat_lt b 32) (not (b == 9)) k) [
+      | inl high ↦ let above = ltb-false b 32 high in (λ e. omega arith, λ e. omega arith)
+      | inr tab ↦ let nine = eqb-true b 9 (not-false (b == 9) tab) in (λ e. omega arith, λ e. omega arith)
+    ]
+
+plain_drop : (n : ℕ) (bytes : List ℕ) → Plain bytes → Plain (drop n bytes)
+plain_drop zero bytes h = h
+plain_drop (suc n) [] h = tt
+plain_drop (suc n) (b ∷ bytes) h = plain_drop n bytes h.1
+
+plain_take : (n : ℕ) (bytes : List ℕ) → Plain bytes → Plain (take n bytes)
+plain_take zero bytes h = tt
+plain_take (suc n) [] h = tt
+plain_take (suc n) (b ∷ bytes) h = (h.0, plain_take n bytes h.1)
+
+name_plain : (line : List ℕ) → Plain line → Plain (name_in line)
+name_plain line h =
+    let plain : Plain (drop 4 (without_front_spaces line)) = plain_drop 4 (without_front_spaces line) (plain_drop (prefix_len is_space line) line h) in
+    plain_take _ (without_front_spaces (drop 4 (without_front_spaces line)))
+        (plain_drop (prefix_len is_space (drop 4 (without_front_spaces line))) (drop 4 (without_front_spaces line)) plain)
+
+-- a line of one kind is of no other
+other_word : (w one other : List ℕ) → bytes_eq one other ≡ false → bytes_eq w one ≡ true → bytes_eq w other ≡ false
+other_word w one other apart h =
+    let P : List ℕ → Type 0 = λ x. bytes_eq x other ≡ false in
+    subst P (sym ((bytes_decides w one).0 h)) apart
