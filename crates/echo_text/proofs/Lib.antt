@@ -12,3 +12,8 @@ pub mod Sets
 pub mod Written
 pub mod Tags
 pub mod LineKinds
+pub mod Ids
+pub mod Serials
+pub mod IdTests
+pub mod OwnIds
+pub mod OwnIdsRead

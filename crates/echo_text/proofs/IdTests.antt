@@ -1,0 +1,150 @@
+-- The test of an id holds exactly where the bytes are the parts of one.
+use Rattle.std.proofs.Common.{◌≡◌, ◌≢◌, ℕ, ◌+◌, ◌-◌, ◌<◌, ◌≤◌, ◌==◌, ◌||◌, ◌&&◌, not, nat_lt, cond, Bool, true, false, List, [], ◌∷◌, ◌++◌, length, get_or, take, drop, reverse, refl, sym, ap, subst, ◌∙◌, arith, inl, inr, ◌⊎◌}
+use Rattle.std.specs.List.{All, AllPass, list_all, prefix_len, suffix_len}
+use Rattle.std.specs.Str.Parse.{AllDigits, digits_value}
+use Rattle.std.proofs.lemmas.Bool.{and_from, and_left, and_right, both_ways, cases_Bool, cases_lt, eq-eqb, eqb-true, false_from_ne_true, le-ltb, lt-ltb, ne_eqb, not-true, not_from_false, not_from_true, or_cases, or_from, or_left, or_parts, or_right}
+use Rattle.std.proofs.lemmas.List.{append_assoc, drop_at, get_or-append_right, get_or-drop, get_or-reverse, get_or_append_left, get_or_at, length-append, length-drop, length-reverse, length-take, length-take-le, take-append-drop, take_at}
+use Rattle.std.proofs.lemmas.List.Sums.{AllPass-from_list_all, list_all-from_AllPass, prefix_len_passes, suffix_len-le-length, suffix_len_is}
+use Rattle.echo_addr.specs.Entries.{is_blank}
+use Rattle.echo_text.specs.Ids.{Bare, IdParts, Quoted, SpellsOrigin, before_serial, doubled, ends_quoted, is_bare_origin, is_gap, is_hex_digit, is_id_trimmed, is_line_byte, is_quote, is_quoted_origin, without_gap}
+use Rattle.echo_text.proofs.Ids.{ends_doubled, hex_from_digits}
+
+-- the tests on what stands before the serial
+abbrev is_apart : List ℕ → Bool
+is_apart id = nat_lt (length (without_gap (before_serial id))) (length (before_serial id))
+
+abbrev is_serial : List ℕ → Bool
+is_serial id = list_all is_hex_digit (drop (length id - 8) id)
+
+abbrev is_origin : List ℕ → Bool
+is_origin id = is_quoted_origin (without_gap (before_serial id)) || is_bare_origin (without_gap (before_serial id))
+
+-- why bytes are no id
+pub no_line : (id : List ℕ) → list_all is_line_byte id ≡ false → is_id_trimmed id ≡ false
+no_line id h = and_left (list_all is_line_byte id) _ h
+
+pub no_room : (id : List ℕ) → length id < 8 → is_id_trimmed id ≡ false
+no_room id short =
+    and_right (list_all is_line_byte id) _
+    (and_left (is_apart id) (is_serial id && is_origin id) (le-ltb _ _ (omega (arith, length-take (length id - 8) id))))
+
+pub no_gap : (id front : List ℕ) → front ≡ before_serial id → length (without_gap front) ≡ length front → is_id_trimmed id ≡ false
+no_gap id front is same =
+    and_right (list_all is_line_byte id) _
+    (and_left (is_apart id) (is_serial id && is_origin id)
+    (let back : length (without_gap (before_serial id)) ≡ length (before_serial id) = subst (λ f. length (without_gap f) ≡ length f) is same in
+    le-ltb _ _ (omega (arith, back))))
+
+pub no_serial : (id digits : List ℕ) → digits ≡ drop (length id - 8) id → list_all is_hex_digit digits ≡ false → is_id_trimmed id ≡ false
+no_serial id digits is h =
+    and_right (list_all is_line_byte id) _
+    (and_right (is_apart id) (is_serial id && is_origin id) (and_left (is_serial id) (is_origin id) (ap (list_all is_hex_digit) (sym is) ∙ h)))
+
+pub no_origin : (id spelled : List ℕ) → spelled ≡ without_gap (before_serial id) → (is_quoted_origin spelled || is_bare_origin spelled) ≡ false
+    → is_id_trimmed id ≡ false
+no_origin id spelled is h =
+    and_right (list_all is_line_byte id) _
+    (and_right (is_apart id) (is_serial id && is_origin id)
+    (and_right (is_serial id) (is_origin id) (ap (λ s. is_quoted_origin s || is_bare_origin s) (sym is) ∙ h)))
+
+-- the blanks 20 at the end
+gap_blanks : (front : List ℕ) → AllPass is_gap (drop (length front - suffix_len is_gap front) front)
+gap_blanks front k d within =
+    let fit = suffix_len-le-length is_gap front in
+    let long = length-drop (length front - suffix_len is_gap front) front in
+    let at : ℕ = length front - suffix_len is_gap front + k in
+    let mirror : ℕ = length front - 1 - at in
+    let same = length-reverse front in
+    ap is_gap (get_or-drop (length front - suffix_len is_gap front) front k d
+    ∙ ap (λ n. get_or front n d) (omega arith)
+    ∙ sym (get_or-reverse front mirror d (omega arith)))
+    ∙ prefix_len_passes is_gap (reverse front) mirror d (omega arith)
+
+-- bytes that pass the test, taken apart
+pub parts_found : (id front digits spelled origin : List ℕ) (quoted : Bool) (serial : ℕ) → 8 ≤ length id → list_all is_line_byte id ≡ true
+    → front ≡ before_serial id → digits ≡ drop (length id - 8) id → spelled ≡ without_gap front → length spelled ≢ length front
+    → AllDigits 16 digits → digits_value 16 digits ≡ serial → SpellsOrigin quoted spelled origin → IdParts id origin quoted serial
+parts_found id front digits spelled origin quoted serial room line is_front is_digits is_spelled apart hex value spelling =
+    let n : ℕ = length front - suffix_len is_gap front in
+    let fit = suffix_len-le-length is_gap front in
+    let kept : length spelled ≡ n = ap length is_spelled ∙ length-take-le n front (omega arith) in
+    record {
+      spelled = spelled;
+      gap = drop n front;
+      digits = digits;
+      whole = sym (take-append-drop (length id - 8) id)
+          ∙ ap (λ x. x ++ drop (length id - 8) id) (sym is_front ∙ sym (take-append-drop n front) ∙ ap (λ x. x ++ drop n front) (sym is_spelled))
+          ∙ append_assoc spelled (drop n front) (drop (length id - 8) id)
+          ∙ ap (λ x. spelled ++ (drop n front ++ x)) (sym is_digits);
+      line = AllPass-from_list_all is_line_byte id line;
+      spelling = spelling;
+      apart = omega (arith, length-drop n front);
+      blanks = gap_blanks front;
+      eight = omega (arith, ap length is_digits, length-drop (length id - 8) id);
+      hex = hex;
+      value = value;
+    }
+
+-- an origin ends in no blank 20
+ink_no_gap : (b : ℕ) → not (is_blank b) ≡ true → is_gap b ≡ false
+ink_no_gap b h =
+    let parts = or_parts ((b == 32) || (b == 9)) (b == 10) (not-true (is_blank b) h) in (or_parts (b == 32) (b == 9) parts.0).0
+
+origin_end : (quoted : Bool) (spelled origin : List ℕ) → SpellsOrigin quoted spelled origin → 0 < length spelled → is_gap (get_or spelled (length spelled - 1) 0) ≡ false
+origin_end true spelled origin h some =
+    let long : length (34 ∷ origin) ≡ length spelled - 1 = omega (arith, ap length h.between, length-append (34 ∷ origin) (34 ∷ [])) in
+    ap is_gap (ap (λ s. get_or s (length spelled - 1) 0) h.between ∙ get_or_at (34 ∷ origin) 34 [] 0 (length spelled - 1) long)
+origin_end false spelled origin h some = ink_no_gap (get_or spelled (length spelled - 1) 0) (h.ink (length spelled - 1) 0 (omega arith))
+
+-- an origin passes one of the tests
+origin_test : (quoted : Bool) (spelled origin : List ℕ) → SpellsOrigin quoted spelled origin → (is_quoted_origin spelled || is_bare_origin spelled) ≡ true
+origin_test true spelled origin h =
+    or_left (is_quoted_origin spelled) (is_bare_origin spelled)
+    (ap is_quoted_origin (h.between ∙ ap (λ x. 34 ∷ (x ++ 34 ∷ [])) h.each_doubled) ∙ ends_doubled h.plain)
+origin_test false spelled origin h = or_right (is_quoted_origin spelled) (is_bare_origin spelled) (bare spelled h)
+  where
+    bare : (s : List ℕ) → Bare s origin → is_bare_origin s ≡ true
+    bare [] b = absurd (omega (arith, b.some))
+    bare (first ∷ rest) b =
+        and_from (not (is_quote first)) (list_all (λ x. not (is_blank x)) (first ∷ rest))
+        (not_from_false (is_quote first) (ne_eqb first 34 b.first))
+        (list_all-from_AllPass (λ x. not (is_blank x)) (first ∷ rest) b.ink)
+
+-- the parts of an id, seen from its end
+record Seen (id spelled gap digits : List ℕ) : Type 0 where
+  front : before_serial id ≡ spelled ++ gap
+  serial : drop (length id - 8) id ≡ digits
+  kept : without_gap (before_serial id) ≡ spelled
+
+seen_parts : (id origin : List ℕ) (quoted : Bool) (serial : ℕ) (h : IdParts id origin quoted serial) → Seen id h.spelled h.gap h.digits
+seen_parts id origin quoted serial h =
+    let whole : id ≡ (h.spelled ++ h.gap) ++ h.digits = h.whole ∙ sym (append_assoc h.spelled h.gap h.digits) in
+    let long = length-append (h.spelled ++ h.gap) h.digits in
+    let all : length (h.spelled ++ h.gap) ≡ length id - 8 = omega (arith, ap length whole, long, h.eight) in
+    let is_front : before_serial id ≡ h.spelled ++ h.gap =
+    ap (take (length id - 8)) whole ∙ take_at (h.spelled ++ h.gap) h.digits (length id - 8) all in
+    let joined = length-append h.spelled h.gap in
+    let blanks : suffix_len is_gap (h.spelled ++ h.gap) ≡ length (h.spelled ++ h.gap) - length h.spelled =
+    suffix_len_is is_gap (h.spelled ++ h.gap) (length h.spelled) 0 (omega arith)
+    (λ k low high. ap is_gap (get_or-append_right h.spelled h.gap (length h.spelled) k 0 refl low) ∙ h.blanks (k - length h.spelled) 0 (omega arith))
+    (λ some. ap is_gap (get_or_append_left h.spelled h.gap 0 (length h.spelled - 1) (omega arith)) ∙ origin_end quoted h.spelled origin h.spelling some) in
+    let size : length h.spelled ≡ length (h.spelled ++ h.gap) - suffix_len is_gap (h.spelled ++ h.gap) = omega (arith, blanks) in
+    record {
+      front = is_front;
+      serial = ap (drop (length id - 8)) whole ∙ drop_at (h.spelled ++ h.gap) h.digits (length id - 8) all;
+      kept = ap without_gap is_front ∙ take_at h.spelled h.gap (length (h.spelled ++ h.gap) - suffix_len is_gap (h.spelled ++ h.gap)) size;
+    }
+
+-- the parts of an id pass the test
+pub test_passes : (id origin : List ℕ) (quoted : Bool) (serial : ℕ) → IdParts id origin quoted serial → is_id_trimmed id ≡ true
+test_passes id origin quoted serial h =
+    let seen = seen_parts id origin quoted serial h in
+    let longer : length (without_gap (before_serial id)) < length (before_serial id) =
+    omega (arith, ap length seen.kept, ap length seen.front, length-append h.spelled h.gap, h.apart) in
+    and_from (list_all is_line_byte id) (is_apart id && (is_serial id && is_origin id)) (list_all-from_AllPass is_line_byte id h.line)
+    (and_from (is_apart id) (is_serial id && is_origin id) (lt-ltb _ _ longer)
+    (and_from (is_serial id) (is_origin id) (ap (list_all is_hex_digit) seen.serial ∙ hex_from_digits h.digits h.hex)
+    (ap (λ s. is_quoted_origin s || is_bare_origin s) seen.kept ∙ origin_test quoted h.spelled origin h.spelling)))
+
+pub no_parts : (id : List ℕ) → is_id_trimmed id ≡ false → (origin : List ℕ) (quoted : Bool) (serial : ℕ) → IdParts id origin quoted serial → ⊥
+no_parts id fails origin quoted serial h = both_ways (is_id_trimmed id) fails (test_passes id origin quoted serial h)

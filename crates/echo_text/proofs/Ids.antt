@@ -1,0 +1,123 @@
+-- What spells an id, and that the test finds it.
+use Rattle.std.proofs.Common.{◌≡◌, ◌≢◌, ℕ, ◌+◌, ◌-◌, ◌<◌, ◌≤◌, ◌==◌, ◌||◌, ◌&&◌, not, nat_lt, nat_le, cond, Bool, true, false, List, [], ◌∷◌, ◌++◌, length, get_or, take, drop, reverse, refl, sym, ap, subst, ◌∙◌, arith, inl, inr, ◌⊎◌}
+use Rattle.std.specs.Int.{is_in_range}
+use Rattle.std.specs.Char.{digit_value}
+use Rattle.std.specs.List.{All, AllPass, list_all, prefix_len, suffix_len}
+use Rattle.std.specs.Str.Parse.{AllDigits, digits_value}
+use Rattle.std.proofs.lemmas.Bool.{agree_below_at, and_from, and_parts, and_right, cases_Bool, cases_lt, cond-false, cond-true, eq-eqb, eqb-true, false≢true, le-ltb, lt-leb, lt-ltb, ltb-true, ne_eqb, not-true, not_from_false, or_cases}
+use Rattle.std.proofs.lemmas.List.{append_assoc, drop_at, length-append, length-drop, length-reverse, length-take, take-append-drop, take_at, get_or-reverse, get_or-drop, get_or_append_left, get_or-append_right}
+use Rattle.std.proofs.lemmas.List.Sums.{AllPass-from_list_all, list_all-from_AllPass, prefix_len_passes, suffix_len-le-length, suffix_len_is}
+use Rattle.echo_addr.specs.Entries.{is_blank}
+use Rattle.echo_text.specs.Ids.{Bare, IdParts, Quoted, SpellsOrigin, before_serial, doubled, ends_quoted, is_bare_origin, is_gap, is_hex_digit, is_id_trimmed, is_line_byte, is_quote, is_quoted_origin, undoubled, without_gap}
+
+-- a digit to the base 16, in both wordings
+worthless : (b : ℕ) → 128 ≤ b → digit_value b ≡ 36
+worthless b high =
+    cond-false (nat_lt b 48) _ _ (le-ltb b 48 (omega arith))
+    ∙ cond-false (nat_lt b 58) _ _ (le-ltb b 58 (omega arith))
+    ∙ cond-false (nat_lt b 65) _ _ (le-ltb b 65 (omega arith))
+    ∙ cond-false (nat_lt b 91) _ _ (le-ltb b 91 (omega arith))
+    ∙ cond-false (nat_lt b 97) _ _ (le-ltb b 97 (omega arith))
+    ∙ cond-false (nat_lt b 123) _ _ (le-ltb b 123 (omega arith))
+
+pub hex_digit_same : (b : ℕ) → nat_lt (digit_value b) 16 ≡ is_hex_digit b
+hex_digit_same b = elim (cases_lt b 128) [
+  | inl low ↦ agree_below_at (λ x. nat_lt (digit_value x) 16) is_hex_digit 128 b refl low
+  | inr high ↦
+      le-ltb (digit_value b) 16 (omega (arith, worthless b high))
+      ∙ sym (ap (λ t. t || (is_in_range 65 70 b || is_in_range 97 102 b)) (and_right (nat_le 48 b) (nat_le b 57) (lt-leb b 57 (omega arith)))
+      ∙ ap (λ t. t || is_in_range 97 102 b) (and_right (nat_le 65 b) (nat_le b 70) (lt-leb b 70 (omega arith)))
+      ∙ and_right (nat_le 97 b) (nat_le b 102) (lt-leb b 102 (omega arith)))
+]
+
+pub hex_from_digits : (ds : List ℕ) → AllDigits 16 ds → list_all is_hex_digit ds ≡ true
+hex_from_digits [] h = refl
+hex_from_digits (d ∷ ds) h =
+    and_from (is_hex_digit d) (list_all is_hex_digit ds) (sym (hex_digit_same d) ∙ lt-ltb (digit_value d) 16 h.0) (hex_from_digits ds h.1)
+
+-- a text with each double quote doubled, and then a double quote
+pub ends_doubled : (plain : List ℕ) → ends_quoted false (doubled plain ++ 34 ∷ []) ≡ true
+ends_doubled [] = refl
+ends_doubled (b ∷ plain) = elim (cases_Bool (is_quote b)) [
+  | inl quote ↦
+      ap (λ bytes. ends_quoted false (bytes ++ 34 ∷ [])) (cond-true (is_quote b) (34 ∷ (34 ∷ doubled plain)) (b ∷ doubled plain) quote)
+      ∙ ends_doubled plain
+  | inr other ↦
+      ap (λ bytes. ends_quoted false (bytes ++ 34 ∷ [])) (cond-false (is_quote b) (34 ∷ (34 ∷ doubled plain)) (b ∷ doubled plain) other)
+      ∙ ap (λ t. (t || true) && ends_quoted (t && true) (doubled plain ++ 34 ∷ [])) other
+      ∙ ends_doubled plain
+]
+
+-- a text that doubled gives these bytes, without a double quote at their end
+record Undone (rest : List ℕ) : Type 0 where
+  plain : List ℕ
+  is : rest ≡ doubled plain ++ 34 ∷ []
+
+undo : (rest : List ℕ) → ends_quoted false rest ≡ true → Undone rest
+undo [] h = absurd (false≢true h)
+undo (b ∷ []) h = elim (cases_Bool (is_quote b)) [
+  | inl quote ↦ record { plain = []; is = ap (λ x. x ∷ []) (eqb-true b 34 quote) }
+  | inr other ↦ absurd (false≢true (sym (ap (λ t. (t || true) && (t && true)) other) ∙ h))
+]
+undo (b ∷ (c ∷ rest)) h = elim (cases_Bool (is_quote b)) [
+  | inl quote ↦
+      let after : ends_quoted true (c ∷ rest) ≡ true = sym (ap (λ t. (t || true) && ends_quoted (t && true) (c ∷ rest)) quote) ∙ h in
+      elim (cases_Bool (is_quote c)) [
+        | inl second ↦
+            let left : Undone rest = undo rest (sym (ap (λ t. (t || false) && ends_quoted (t && false) rest) second) ∙ after) in
+            record {
+              plain = 34 ∷ left.plain;
+              is = ap (λ x. x ∷ (c ∷ rest)) (eqb-true b 34 quote) ∙ ap (λ x. 34 ∷ (x ∷ rest)) (eqb-true c 34 second) ∙ ap (λ x. 34 ∷ (34 ∷ x)) left.is;
+            }
+        | inr other ↦ absurd (false≢true (sym (ap (λ t. (t || false) && ends_quoted (t && false) rest) other) ∙ after))
+      ]
+  | inr other ↦
+      let left : Undone (c ∷ rest) = undo (c ∷ rest) (sym (ap (λ t. (t || true) && ends_quoted (t && true) (c ∷ rest)) other) ∙ h) in
+      record {
+        plain = b ∷ left.plain;
+        is = ap (λ x. b ∷ x) left.is
+            ∙ sym (ap (λ x. x ++ 34 ∷ []) (cond-false (is_quote b) (34 ∷ (34 ∷ doubled left.plain)) (b ∷ doubled left.plain) other));
+      }
+]
+
+-- a doubled text made single again
+pub undoubled_doubled : (plain : List ℕ) → undoubled false (doubled plain) ≡ plain
+undoubled_doubled [] = refl
+undoubled_doubled (b ∷ plain) = elim (cases_Bool (is_quote b)) [
+  | inl quote ↦
+      ap (undoubled false) (cond-true (is_quote b) (34 ∷ (34 ∷ doubled plain)) (b ∷ doubled plain) quote)
+      ∙ ap (λ bytes. 34 ∷ bytes) (undoubled_doubled plain)
+      ∙ ap (λ x. x ∷ plain) (sym (eqb-true b 34 quote))
+  | inr other ↦
+      ap (undoubled false) (cond-false (is_quote b) (34 ∷ (34 ∷ doubled plain)) (b ∷ doubled plain) other)
+      ∙ ap (λ t. b ∷ undoubled t (doubled plain)) other
+      ∙ ap (λ bytes. b ∷ bytes) (undoubled_doubled plain)
+]
+
+-- quoted bytes are an origin between double quotes
+pub quoted_origin : (spelled origin : List ℕ) → is_quoted_origin spelled ≡ true → origin ≡ take (length spelled - 2) (drop 1 spelled)
+    → Quoted spelled origin
+quoted_origin [] origin h is = absurd (false≢true h)
+quoted_origin (first ∷ rest) origin h is =
+    let parts = and_parts (is_quote first) (ends_quoted false rest) h in
+    let undone : Undone rest = undo rest parts.1 in
+    let long : length (doubled undone.plain) ≡ length (first ∷ rest) - 2 = omega (arith, ap length undone.is, length-append (doubled undone.plain) (34 ∷ [])) in
+    let same : origin ≡ doubled undone.plain =
+    is ∙ ap (take (length (first ∷ rest) - 2)) undone.is ∙ take_at (doubled undone.plain) (34 ∷ []) (length (first ∷ rest) - 2) long in
+    record {
+      plain = undone.plain;
+      between = ap (λ x. x ∷ rest) (eqb-true first 34 parts.0) ∙ ap (λ x. 34 ∷ x) (undone.is ∙ ap (λ x. x ++ 34 ∷ []) (sym same));
+      each_doubled = same;
+    }
+
+-- bare bytes are an origin
+pub bare_origin : (spelled : List ℕ) → is_bare_origin spelled ≡ true → Bare spelled spelled
+bare_origin [] h = absurd (false≢true h)
+bare_origin (first ∷ rest) h =
+    let parts = and_parts (not (is_quote first)) (list_all (λ b. not (is_blank b)) (first ∷ rest)) h in
+    record {
+      same = refl;
+      some = omega arith;
+      first = λ e. false≢true (sym (not-true (is_quote first) parts.0) ∙ eq-eqb first 34 e);
+      ink = AllPass-from_list_all (λ b. not (is_blank b)) (first ∷ rest) parts.1;
+    }

@@ -1,0 +1,55 @@
+-- Serials as digits to the base 16.
+use Rattle.std.proofs.Common.{◌≡◌, ℕ, ◌+◌, ◌-◌, ◌*◌, ◌/◌, ◌%◌, ◌^◌, ◌<◌, ◌≤◌, nat_lt, Bool, true, false, List, [], ◌∷◌, ◌++◌, length, get_or, take, min, refl, sym, ap, subst, ◌∙◌, arith, lit<}
+use Rattle.std.specs.Char.{digit_value}
+use Rattle.std.specs.List.{list_all}
+use Rattle.std.specs.Int.{to_be_bytes, w32}
+use Rattle.std.specs.Str.Parse.{AllDigits, digits_value}
+use Rattle.std.proofs.Math.Nat.{pow-le-pow_right}
+use Rattle.std.proofs.lemmas.Bool.{le-ltb}
+use Rattle.std.proofs.lemmas.Int.Digits.{digits_more, digits_value-lt, digits_value_more}
+use Rattle.std.proofs.lemmas.List.{length-take-le, take_all}
+use Rattle.std.proofs.lemmas.List.Folds.{list_all_at}
+use Rattle.hex.specs.Hex.{encode_lower, encode_with, lower_digits}
+use Rattle.echo_text.specs.Ids.{hex_digit, is_hex_digit, serial_text}
+use Rattle.echo_text.proofs.Ids.{hex_digit_same}
+
+-- the first i bytes are digits, and this is their value
+pub record Valued (ds : List ℕ) (i value : ℕ) : Type 0 where
+  pub each : AllDigits 16 (take i ds)
+  pub value_is : digits_value 16 (take i ds) ≡ value
+
+pub valued_none : (ds : List ℕ) → Valued ds 0 0
+valued_none ds = record { each = tt; value_is = refl }
+
+pub valued_more : (ds : List ℕ) (i value digit : ℕ) → i < length ds → digit_value (get_or ds i 0) < 16 → digit ≡ digit_value (get_or ds i 0)
+    → Valued ds i value → Valued ds (i + 1) (value * 16 + digit)
+valued_more ds i value digit within small is v = record {
+  each = digits_more 16 ds i within v.each small;
+  value_is = digits_value_more 16 ds i within ∙ ap (λ n. n * 16 + digit_value (get_or ds i 0)) v.value_is ∙ ap (λ n. value * 16 + n) (sym is);
+}
+
+pub valued_room : (ds : List ℕ) (i value : ℕ) → i < length ds → length ds ≤ 8 → Valued ds i value → value < 268435456
+valued_room ds i value within short v =
+    let few : length (take i ds) ≤ 7 = omega (arith, length-take-le i ds (omega arith)) in
+    let bound : 16 ^ length (take i ds) ≤ 16 ^ 7 = pow-le-pow_right (lit< tt) few in
+    omega (arith, digits_value-lt 16 (take i ds) v.each, v.value_is)
+
+pub valued_all : (ds : List ℕ) (i value : ℕ) → length ds ≤ i → Valued ds i value → AllDigits 16 ds × (digits_value 16 ds ≡ value)
+valued_all ds i value all v =
+    let same = take_all i ds all in (subst (AllDigits 16) same v.each, ap (digits_value 16) (sym same) ∙ v.value_is)
+
+pub no_digit : (ds : List ℕ) (i : ℕ) → i < length ds → 16 ≤ digit_value (get_or ds i 0) → list_all is_hex_digit ds ≡ false
+no_digit ds i within large =
+    list_all_at is_hex_digit ds i 0 within (sym (hex_digit_same (get_or ds i 0)) ∙ le-ltb (digit_value (get_or ds i 0)) 16 large)
+
+-- the text of four bytes as the digits of their number
+both : (h l g m : ℕ) (xs ys : List ℕ) → h ≡ g → l ≡ m → xs ≡ ys → hex_digit h ∷ (hex_digit l ∷ xs) ≡ hex_digit g ∷ (hex_digit m ∷ ys)
+both h l g m xs ys e f r = ap (λ n. hex_digit n ∷ (hex_digit l ∷ xs)) e ∙ ap (λ n. hex_digit g ∷ (hex_digit n ∷ xs)) f ∙ ap (λ t. hex_digit g ∷ (hex_digit m ∷ t)) r
+
+pub serial_hex : (n : ℕ) → encode_lower (to_be_bytes w32 n) ≡ serial_text n
+unfolding encode_with
+serial_hex n =
+    both _ _ (n / 268435456 % 16) (n / 16777216 % 16) _ _ (omega arith) (omega arith)
+    (both _ _ (n / 1048576 % 16) (n / 65536 % 16) _ _ (omega arith) (omega arith)
+    (both _ _ (n / 4096 % 16) (n / 256 % 16) _ _ (omega arith) (omega arith)
+    (both _ _ (n / 16 % 16) (n / 1 % 16) _ _ (omega arith) (omega arith) refl)))

@@ -1,0 +1,5 @@
+use Rattle.echo_text.proofs.OwnIdsRead.{own_id}
+use Rattle.echo_text.proofs.id_laws.written_id_read_back.Goals as goal
+
+pub returns : goal.returns
+returns c = own_id

@@ -1,0 +1,21 @@
+//! What holds of message ids. Each law is the contract of a function that does nothing.
+
+ghost use Rattle.std.specs.Prelude.{◌≡◌, ◌<◌, ◌^◌, ℕ, false, List};
+ghost use Rattle.echo_addr.specs.declared.address.Address.{Address};
+ghost use Rattle.echo_addr.specs.Address.{address_text};
+ghost use Rattle.echo_text.specs.Ids.{IdOf, IsWide, doubled, id_of, undoubled};
+
+/// Ids of different pairs of address and serial differ (FTS-0009).
+pub fn ids_differ()
+    ensures { (a b : Address) (s t : ℕ) → IsWide a → IsWide b → s < 2 ^ 32 → t < 2 ^ 32 → id_of a s ≡ id_of b t → (a ≡ b) × (s ≡ t) }
+{}
+
+/// Where each double quote of a text was doubled, undoing that gives the text.
+pub fn doubled_quotes_undone()
+    ensures { (plain : List ℕ) → undoubled false (doubled plain) ≡ plain }
+{}
+
+/// The id that a system gives its message is read back as its address, unquoted, and its serial.
+pub fn written_id_read_back()
+    ensures { (a : Address) (s : ℕ) → IsWide a → s < 2 ^ 32 → IdOf (id_of a s) (address_text a) false s }
+{}
