@@ -10,7 +10,7 @@ use Rattle.echo_addr.specs.ShortLines.{IsEntryByte, IsNetNode, ReadBack, ShortLi
 use Rattle.echo_addr.proofs.ReadBack.{read_back}
 use Rattle.echo_text.specs.Lines.{area_word, is_tag, is_tag_byte}
 use Rattle.echo_text.specs.Echo.{EchoText, IsEcho, IsLine, ended}
-use Rattle.echo_toss.specs.Ids.{is_zero}
+use Rattle.echo_text.specs.Ids.{is_zero}
 use Rattle.echo_toss.specs.Written.{short_lines, text_of}
 use Rattle.echo_toss.proofs.Choices.{all_weaker}
 use Rattle.echo_toss.proofs.Plain.{IsLineByte, all_append}

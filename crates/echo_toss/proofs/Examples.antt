@@ -12,7 +12,7 @@ use Rattle.echo_toss.specs.declared.draft.Draft.{Draft}
 use Rattle.echo_toss.specs.declared.stamp.Stamp.{Stamp}
 use Rattle.echo_toss.specs.declared.packet.Packet.{Packet}
 use Rattle.echo_toss.specs.Sets.{address_set, entry_set}
-use Rattle.echo_toss.specs.Ids.{id_of, is_id}
+use Rattle.echo_text.specs.Ids.{id_of, is_id}
 use Rattle.echo_toss.specs.Stamps.{date_of}
 use Rattle.echo_toss.specs.Written.{short_lines, text_of}
 use Rattle.echo_toss.specs.Base.{Area, Filed, LinkFile, key_of, links_of}

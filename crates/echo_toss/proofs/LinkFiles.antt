@@ -133,3 +133,72 @@ other_word : (w one other : List ℕ) → bytes_eq one other ≡ false → bytes
 other_word w one other apart h =
     let P : List ℕ → Type 0 = λ x. bytes_eq x other ≡ false in
     subst P (sym ((bytes_decides w one).0 h)) apart
+
+-- no refusal applies to a line
+record IsFine (earlier : List (List ℕ)) (number : ℕ) (line : List ℕ) : Type 0 where
+  plain : Plain line
+  system : is_system_line line ≡ true → is_one_address (after_first_of (words line)) ≡ true
+  name : is_name_line line ≡ true → nat_lt 40 (length (name_in line)) ≡ false
+  area : is_area_line line ≡ true → area_fault earlier number line ≡ None
+
+one_system : (earlier : List (List ℕ)) (number : ℕ) (line : List ℕ) → system_fault earlier number line ≡ None → is_one_address (after_first_of (words line)) ≡ true
+one_system earlier number line h =
+    let p = passed (list_any is_system_line earlier) (fault.RepeatedSystem number) _ h in
+    elim (cases_Bool (is_one_address (after_first_of (words line)))) [
+      | inl is ↦ is
+      | inr isnt ↦
+        let never : Some (fault.BadAddress number) ≡ None = left (is_one_address (after_first_of (words line))) None (Some (fault.BadAddress number)) isnt p.1 in
+        absurd (cc)
+    ]
+
+fine : (earlier : List (List ℕ)) (number : ℕ) (line : List ℕ) → is_skipped line ≡ false → line_fault earlier number line ≡ None → IsFine earlier number line
+unfolding line_fault
+fine earlier number line read h =
+    let not_skipped = left (is_skipped line) None _ read h in
+    let p = passed (list_any is_control_byte line) (fault.UnknownWord number) _ not_skipped in
+    record {
+      plain = line_plain line p.0;
+      system = λ is. one_system earlier number line (taken (is_system_line line) (system_fault earlier number line) _ is p.1);
+      name = λ is.
+          let no_system = other_word (first_of (words line)) (codes "NAME") (codes "SYSTEM") refl is in
+          let rest = left (is_system_line line) (system_fault earlier number line) _ no_system p.1 in
+          let name = taken (is_name_line line) (name_fault earlier number line) _ is rest in
+          let once = passed (list_any is_name_line earlier) (fault.RepeatedSystem number) _ name in
+          (passed (nat_lt 40 (length (name_in line))) (fault.NameTooLong number) None once.1).0;
+      area = λ is.
+          let no_system = other_word (first_of (words line)) (codes "AREA") (codes "SYSTEM") refl is in
+          let no_name = other_word (first_of (words line)) (codes "AREA") (codes "NAME") refl is in
+          let rest = left (is_system_line line) (system_fault earlier number line) _ no_system p.1 in
+          let rest' = left (is_name_line line) (name_fault earlier number line) _ no_name rest in
+          taken (is_area_line line) (area_fault earlier number line) (Some (fault.UnknownWord number)) is rest';
+    }
+
+-- the tags of some lines
+abbrev tags_of : List (List ℕ) → List (List ℕ)
+tags_of lines = map tag_in (filter is_area_line lines)
+
+area_fine : (earlier : List (List ℕ)) (number : ℕ) (line : List ℕ) → area_fault earlier number line ≡ None
+    → IsArea (area_in line) × (list_any (bytes_eq (tag_in line)) (tags_of earlier) ≡ false)
+area_fine earlier number line h =
+    let p1 = passed (not (is_tag (tag_in line))) (fault.BadTag number) _ h in
+    let p2 = passed (list_any (bytes_eq (tag_in line)) (tags_of earlier)) (fault.RepeatedArea number) (links_fault number [] (links_in line)) p1.1 in
+    (record {
+      tag_bytes = not-false (is_tag (tag_in line)) p1.0;
+      addresses = links_read number [] (links_in line) p2.1;
+      each_once = links_once number [] (links_in line) p2.1;
+    }, p2.0)
+
+-- the lines that are read, of some lines
+abbrev kept_lines : List (List ℕ) → List (List ℕ)
+kept_lines lines = filter (λ line. not (is_skipped line)) lines
+
+abbrev areas_of : List (List ℕ) → List Area
+areas_of lines = map area_in (filter is_area_line (kept_lines lines))
+
+-- what holds of the lines after earlier ones
+record AreFine (earlier lines : List (List ℕ)) : Type 0 where
+  system : (line : List ℕ) → find is_system_line (kept_lines lines) ≡ Some line → IsAddress (system_in line)
+  name : (line : List ℕ) → find is_name_line (kept_lines lines) ≡ Some line → Plain (name_in line) × (length (name_in line) ≤ 40)
+  areas : AllByRecursion IsArea (areas_of lines)
+  new : AllByRecursion (λ (b : Area). list_any (bytes_eq b.tag) (tags_of earlier) ≡ false) (areas_of lines)
+  once : AllPairs (λ (a b : Area). a.tag ≢ b.tag) (areas_of lines)

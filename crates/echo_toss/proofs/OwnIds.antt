@@ -9,7 +9,7 @@ use Rattle.echo_addr.specs.declared.address.Address.{Address}
 use Rattle.echo_addr.specs.Address.{IsAddress, address_text}
 use Rattle.echo_addr.specs.Entries.{is_blank}
 use Rattle.echo_addr.proofs.Decimals.{IsDigit, digits_of_decimal}
-use Rattle.echo_toss.specs.Ids.{hex_digit, id_of, serial_text}
+use Rattle.echo_text.specs.Ids.{hex_digit, id_of, serial_text}
 use Rattle.echo_toss.proofs.Choices.{all_weaker}
 use Rattle.echo_toss.proofs.Trims.{IsTrim, joined_trim}
 use Rattle.echo_toss.proofs.Keys.{IsIdText}

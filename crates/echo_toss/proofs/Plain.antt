@@ -9,7 +9,7 @@ use Rattle.echo_addr.specs.Address.{IsAddress, address_text}
 use Rattle.echo_addr.proofs.Decimals.{IsDigit, digits_of_decimal}
 use Rattle.echo_text.specs.Lines.{is_return, lines, without_empty_last}
 use Rattle.echo_text.specs.Echo.{IsLine}
-use Rattle.echo_toss.specs.Ids.{is_line_byte, is_zero}
+use Rattle.echo_text.specs.Ids.{is_line_byte, is_zero}
 use Rattle.echo_toss.proofs.Choices.{all_weaker}
 
 -- a byte that is neither 00 nor 0D

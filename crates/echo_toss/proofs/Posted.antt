@@ -16,7 +16,7 @@ use Rattle.echo_toss.specs.declared.draft.Draft.{Draft}
 use Rattle.echo_toss.specs.declared.stamp.Stamp.{Stamp}
 use Rattle.echo_toss.specs.declared.fault.PostFault.{PostFault}
 use Rattle.echo_toss.specs.declared.fault.PostFault.TheVariants as fault
-use Rattle.echo_toss.specs.Ids.{id_of, is_id, is_id_trimmed, is_zero, is_line_byte}
+use Rattle.echo_text.specs.Ids.{id_of, is_id, is_id_trimmed, is_zero, is_line_byte}
 use Rattle.echo_toss.specs.Base.{Area, Filed, IsArea, IsFile, LinkFile, area_of, has_area}
 use Rattle.echo_toss.specs.Stamps.{is_stamp}
 use Rattle.echo_toss.specs.Posting.{has_id, holds_zero, id_line, is_too_long, origin_line, post_refusal, posted, posted_lines, posting, reply_lines, upper}

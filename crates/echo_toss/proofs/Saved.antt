@@ -12,7 +12,7 @@ use Rattle.echo_packet.specs.Message.{HasNoZero}
 use Rattle.echo_text.specs.Lines.{is_tag, is_tag_byte, msgid_word, trimmed}
 use Rattle.echo_text.specs.Echo.{EchoText, IsEcho, IsLine, msgid_of}
 use Rattle.echo_text.specs.Refusal.{refusal}
-use Rattle.echo_toss.specs.Ids.{is_line_byte, is_zero}
+use Rattle.echo_text.specs.Ids.{is_line_byte, is_zero}
 use Rattle.echo_toss.specs.Written.{echo_of, text_of}
 use Rattle.echo_toss.specs.Base.{Filed, is_known, key_of}
 use Rattle.echo_toss.specs.Posting.{id_line}

@@ -9,7 +9,7 @@ use Rattle.echo_text.specs.Echo.{EchoText, IsEcho, msgid_of}
 use Rattle.echo_text.specs.Refusal.{refusal}
 use Rattle.echo_toss.specs.declared.fault.BaseFault.{BaseFault}
 use Rattle.echo_toss.specs.declared.fault.BaseFault.TheVariants as fault
-use Rattle.echo_toss.specs.Ids.{is_line_byte, is_zero}
+use Rattle.echo_text.specs.Ids.{is_line_byte, is_zero}
 use Rattle.echo_toss.specs.Written.{echo_of, text_of}
 use Rattle.echo_toss.specs.Base.{Filed, is_known, key_of}
 use Rattle.echo_toss.specs.Purging.{bare, is_stub}

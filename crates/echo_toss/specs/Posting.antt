@@ -13,7 +13,7 @@ use Rattle.echo_toss.specs.declared.stamp.Stamp.{Stamp}
 use Rattle.echo_toss.specs.declared.fault.PostFault.{PostFault}
 use Rattle.echo_toss.specs.declared.fault.PostFault.TheVariants as fault
 use Rattle.echo_toss.specs.Base.{Filed, LinkFile, has_area}
-use Rattle.echo_toss.specs.Ids.{id_of, is_id, is_zero}
+use Rattle.echo_text.specs.Ids.{id_of, is_id, is_zero}
 use Rattle.echo_toss.specs.Stamps.{date_of, is_stamp}
 
 -- the tag with ASCII letters in upper case

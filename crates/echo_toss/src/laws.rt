@@ -10,7 +10,7 @@ ghost use Rattle.echo_text.specs.Refusal.{refusal};
 ghost use Rattle.echo_toss.specs.declared.draft.Draft.{Draft};
 ghost use Rattle.echo_toss.specs.declared.key.Key.{Key};
 ghost use Rattle.echo_toss.specs.declared.stamp.Stamp.{Stamp};
-ghost use Rattle.echo_toss.specs.Ids.{id_of};
+ghost use Rattle.echo_text.specs.Ids.{id_of};
 ghost use Rattle.echo_toss.specs.Sets.{entry_set};
 ghost use Rattle.echo_toss.specs.Written.{echo_of, text_of};
 ghost use Rattle.echo_toss.specs.Base.{Filed, IsFile, LinkFile, has_area, key_of, same_key};
