@@ -91,8 +91,8 @@ links_once number before (word ∷ more) h =
     let p1 = passed (is_err (outcome word)) (fault.BadAddress number) _ h in
     let p2 = passed (list_any (same_address (address_in word)) (map address_in before)) (fault.RepeatedLink number) (links_fault number (word ∷ before) more) p1.1 in
     AllPairs-cons (λ (a b : Address). a ≢ b) (address_in word) (map address_in more)
-        (All-from_recursion (λ (b : Address). address_in word ≢ b) (map address_in more) (firsts (map address_in more) (links_apart number (word ∷ before) more p2.1)))
-        (links_once number (word ∷ before) more p2.1)
+    (All-from_recursion (λ (b : Address). address_in word ≢ b) (map address_in more) (firsts (map address_in more) (links_apart number (word ∷ before) more p2.1)))
+    (links_once number (word ∷ before) more p2.1)
   where
     firsts : (all : List Address) → AllByRecursion (λ b. AllByRecursion (λ a. b ≢ a) (address_in word ∷ map address_in before)) all
         → AllByRecursion (λ b. address_in word ≢ b) all
@@ -126,7 +126,7 @@ name_plain : (line : List ℕ) → Plain line → Plain (name_in line)
 name_plain line h =
     let plain : Plain (drop 4 (without_front_spaces line)) = plain_drop 4 (without_front_spaces line) (plain_drop (prefix_len is_space line) line h) in
     plain_take _ (without_front_spaces (drop 4 (without_front_spaces line)))
-        (plain_drop (prefix_len is_space (drop 4 (without_front_spaces line))) (drop 4 (without_front_spaces line)) plain)
+    (plain_drop (prefix_len is_space (drop 4 (without_front_spaces line))) (drop 4 (without_front_spaces line)) plain)
 
 -- a line of one kind is of no other
 other_word : (w one other : List ℕ) → bytes_eq one other ≡ false → bytes_eq w one ≡ true → bytes_eq w other ≡ false
@@ -147,8 +147,8 @@ one_system earlier number line h =
     elim (cases_Bool (is_one_address (after_first_of (words line)))) [
       | inl is ↦ is
       | inr isnt ↦
-        let never : Some (fault.BadAddress number) ≡ None = left (is_one_address (after_first_of (words line))) None (Some (fault.BadAddress number)) isnt p.1 in
-        absurd (cc)
+          let never : Some (fault.BadAddress number) ≡ None = left (is_one_address (after_first_of (words line))) None (Some (fault.BadAddress number)) isnt p.1 in
+          absurd (cc)
     ]
 
 fine : (earlier : List (List ℕ)) (number : ℕ) (line : List ℕ) → is_skipped line ≡ false → line_fault earlier number line ≡ None → IsFine earlier number line
@@ -181,24 +181,180 @@ area_fine : (earlier : List (List ℕ)) (number : ℕ) (line : List ℕ) → are
     → IsArea (area_in line) × (list_any (bytes_eq (tag_in line)) (tags_of earlier) ≡ false)
 area_fine earlier number line h =
     let p1 = passed (not (is_tag (tag_in line))) (fault.BadTag number) _ h in
-    let p2 = passed (list_any (bytes_eq (tag_in line)) (tags_of earlier)) (fault.RepeatedArea number) (links_fault number [] (links_in line)) p1.1 in
-    (record {
-      tag_bytes = not-false (is_tag (tag_in line)) p1.0;
-      addresses = links_read number [] (links_in line) p2.1;
-      each_once = links_once number [] (links_in line) p2.1;
-    }, p2.0)
+    let p2 = passed (list_any (bytes_eq (tag_in line)) (tags_of earlier)) (fault.RepeatedArea number) (links_fault number [] (links_in line)) p1.1 in (
+      record {
+        tag_bytes = not-false (is_tag (tag_in line)) p1.0;
+        addresses = links_read number [] (links_in line) p2.1;
+        each_once = links_once number [] (links_in line) p2.1;
+      },
+      p2.0,
+    )
 
 -- the lines that are read, of some lines
 abbrev kept_lines : List (List ℕ) → List (List ℕ)
 kept_lines lines = filter (λ line. not (is_skipped line)) lines
 
 abbrev areas_of : List (List ℕ) → List Area
-areas_of lines = map area_in (filter is_area_line (kept_lines lines))
+areas_of kept = map area_in (filter is_area_line kept)
 
--- what holds of the lines after earlier ones
-record AreFine (earlier lines : List (List ℕ)) : Type 0 where
-  system : (line : List ℕ) → find is_system_line (kept_lines lines) ≡ Some line → IsAddress (system_in line)
-  name : (line : List ℕ) → find is_name_line (kept_lines lines) ≡ Some line → Plain (name_in line) × (length (name_in line) ≤ 40)
-  areas : AllByRecursion IsArea (areas_of lines)
-  new : AllByRecursion (λ (b : Area). list_any (bytes_eq b.tag) (tags_of earlier) ≡ false) (areas_of lines)
-  once : AllPairs (λ (a b : Area). a.tag ≢ b.tag) (areas_of lines)
+-- what holds of the lines that are read, where these stand before them
+record AreFine (earlier kept : List (List ℕ)) : Type 0 where
+  system : (line : List ℕ) → find is_system_line kept ≡ Some line → IsAddress (system_in line)
+  name : (line : List ℕ) → find is_name_line kept ≡ Some line → Plain (name_in line) × (length (name_in line) ≤ 40)
+  areas : AllByRecursion IsArea (areas_of kept)
+  new : AllByRecursion (λ (b : Area). list_any (bytes_eq b.tag) (tags_of earlier) ≡ false) (areas_of kept)
+  once : AllPairs (λ (a b : Area). a.tag ≢ b.tag) (areas_of kept)
+
+-- a tag that is new after a line is new before it
+new_before : (line : List ℕ) (earlier : List (List ℕ)) (all : List Area)
+    → AllByRecursion (λ (b : Area). list_any (bytes_eq b.tag) (tags_of (line ∷ earlier)) ≡ false) all
+    → AllByRecursion (λ (b : Area). list_any (bytes_eq b.tag) (tags_of earlier) ≡ false) all
+new_before line earlier [] h = tt
+new_before line earlier (b ∷ all) h = (one (cases_Bool (is_area_line line)), new_before line earlier all h.1)
+  where
+    one : (is_area_line line ≡ true) ⊎ (is_area_line line ≡ false) → list_any (bytes_eq b.tag) (tags_of earlier) ≡ false
+    one (inl is) =
+        let more : tags_of (line ∷ earlier) ≡ tag_in line ∷ tags_of earlier =
+        ap (map tag_in) (cond-true (is_area_line line) (line ∷ filter is_area_line earlier) (filter is_area_line earlier) is) in
+        (or_parts (bytes_eq b.tag (tag_in line)) (list_any (bytes_eq b.tag) (tags_of earlier)) (sym (ap (list_any (bytes_eq b.tag)) more) ∙ h.0)).1
+    one (inr isnt) =
+        let same : tags_of (line ∷ earlier) ≡ tags_of earlier =
+        ap (map tag_in) (cond-false (is_area_line line) (line ∷ filter is_area_line earlier) (filter is_area_line earlier) isnt) in
+        sym (ap (list_any (bytes_eq b.tag)) same) ∙ h.0
+
+-- and it is not the tag of that line
+new_other : (line : List ℕ) (earlier : List (List ℕ)) → is_area_line line ≡ true → (all : List Area)
+    → AllByRecursion (λ (b : Area). list_any (bytes_eq b.tag) (tags_of (line ∷ earlier)) ≡ false) all
+    → AllByRecursion (λ (b : Area). tag_in line ≢ b.tag) all
+new_other line earlier is [] h = tt
+new_other line earlier is (b ∷ all) h =
+    let more : tags_of (line ∷ earlier) ≡ tag_in line ∷ tags_of earlier =
+    ap (map tag_in) (cond-true (is_area_line line) (line ∷ filter is_area_line earlier) (filter is_area_line earlier) is) in
+    let other = (or_parts (bytes_eq b.tag (tag_in line)) (list_any (bytes_eq b.tag) (tags_of earlier)) (sym (ap (list_any (bytes_eq b.tag)) more) ∙ h.0)).0 in
+    (λ e. true≢false (sym ((bytes_decides b.tag (tag_in line)).1 (sym e)) ∙ other), new_other line earlier is all h.1)
+
+no_lines : (earlier : List (List ℕ)) → AreFine earlier []
+no_lines earlier = record {
+  system = λ line h. absurd (none_is_some line h);
+  name = λ line h. absurd (none_is_some line h);
+  areas = tt;
+  new = tt;
+  once = λ i j d less inside. absurd (omega arith);
+}
+  where
+    none_is_some : (line : List ℕ) → None ≡ Some line → ⊥
+    none_is_some line h = cc
+
+-- a line that is not read
+line_skipped : (earlier : List (List ℕ)) (line : List ℕ) (kept : List (List ℕ)) → AreFine (line ∷ earlier) kept → AreFine earlier kept
+line_skipped earlier line kept h = record {
+  system = h.system;
+  name = h.name;
+  areas = h.areas;
+  new = new_before line earlier (areas_of kept) h.new;
+  once = h.once;
+}
+
+-- what is found first of some lines
+found_first : (p : List ℕ → Bool) (P : List ℕ → Type 0) (line : List ℕ) (kept : List (List ℕ)) → (p line ≡ true → P line)
+    → ((found : List ℕ) → find p kept ≡ Some found → P found) → (found : List ℕ) → find p (line ∷ kept) ≡ Some found → P found
+found_first p P line kept one more found h = elim (cases_Bool (p line)) [
+  | inl is ↦
+      let same : Some line ≡ Some found = sym (cond-true (p line) (Some line) (find p kept) is) ∙ h in
+      let e : line ≡ found = cc in
+      subst P e (one is)
+  | inr isnt ↦ more found (sym (cond-false (p line) (Some line) (find p kept) isnt) ∙ h)
+]
+
+-- a line that is read
+line_read : (earlier : List (List ℕ)) (number : ℕ) (line : List ℕ) (kept : List (List ℕ)) → IsFine earlier number line → AreFine (line ∷ earlier) kept → AreFine earlier (line ∷ kept)
+line_read earlier number line kept f h =
+    record {
+      system = found_first is_system_line (λ l. IsAddress (system_in l)) line kept (λ is. one_address (after_first_of (words line)) (f.system is)) h.system;
+      name = found_first is_name_line (λ l. Plain (name_in l) × (length (name_in l) ≤ 40)) line kept
+          (λ is. (name_plain line f.plain, ltb-false 40 (length (name_in line)) (f.name is))) h.name;
+      areas = with_areas (cases_Bool (is_area_line line));
+      new = with_new (cases_Bool (is_area_line line));
+      once = with_once (cases_Bool (is_area_line line));
+    }
+  where
+    one_more : is_area_line line ≡ true → areas_of (line ∷ kept) ≡ area_in line ∷ areas_of kept
+    one_more is = ap (map area_in) (cond-true (is_area_line line) (line ∷ filter is_area_line kept) (filter is_area_line kept) is)
+
+    none_more : is_area_line line ≡ false → areas_of (line ∷ kept) ≡ areas_of kept
+    none_more isnt = ap (map area_in) (cond-false (is_area_line line) (line ∷ filter is_area_line kept) (filter is_area_line kept) isnt)
+
+    with_areas : (is_area_line line ≡ true) ⊎ (is_area_line line ≡ false) → AllByRecursion IsArea (areas_of (line ∷ kept))
+    with_areas (inl is) =
+        let P : List Area → Type 0 = AllByRecursion IsArea in
+        subst P (sym (one_more is)) ((area_fine earlier number line (f.area is)).0, h.areas)
+    with_areas (inr isnt) = let P : List Area → Type 0 = AllByRecursion IsArea in subst P (sym (none_more isnt)) h.areas
+
+    with_new : (is_area_line line ≡ true) ⊎ (is_area_line line ≡ false) → AllByRecursion (λ (b : Area). list_any (bytes_eq b.tag) (tags_of earlier) ≡ false) (areas_of (line ∷ kept))
+    with_new (inl is) =
+        let P : List Area → Type 0 = AllByRecursion (λ (b : Area). list_any (bytes_eq b.tag) (tags_of earlier) ≡ false) in
+        subst P (sym (one_more is)) ((area_fine earlier number line (f.area is)).1, new_before line earlier (areas_of kept) h.new)
+    with_new (inr isnt) =
+        let P : List Area → Type 0 = AllByRecursion (λ (b : Area). list_any (bytes_eq b.tag) (tags_of earlier) ≡ false) in
+        subst P (sym (none_more isnt)) (new_before line earlier (areas_of kept) h.new)
+
+    with_once : (is_area_line line ≡ true) ⊎ (is_area_line line ≡ false) → AllPairs (λ (a b : Area). a.tag ≢ b.tag) (areas_of (line ∷ kept))
+    with_once (inl is) =
+        let P : List Area → Type 0 = AllPairs (λ (a b : Area). a.tag ≢ b.tag) in
+        subst P (sym (one_more is))
+        (AllPairs-cons (λ (a b : Area). a.tag ≢ b.tag) (area_in line) (areas_of kept)
+        (All-from_recursion (λ (b : Area). tag_in line ≢ b.tag) (areas_of kept) (new_other line earlier is (areas_of kept) h.new)) h.once)
+    with_once (inr isnt) = let P : List Area → Type 0 = AllPairs (λ (a b : Area). a.tag ≢ b.tag) in subst P (sym (none_more isnt)) h.once
+
+all_fine : (earlier : List (List ℕ)) (number : ℕ) (lines : List (List ℕ)) → first_fault earlier number lines ≡ None → AreFine earlier (kept_lines lines)
+all_fine earlier number [] h = no_lines earlier
+all_fine earlier number (line ∷ later) h =
+    let none = either_none (line_fault earlier number line) (first_fault (line ∷ earlier) (number + 1) later) h in
+    let rec = all_fine (line ∷ earlier) (number + 1) later none.1 in
+    let P : List (List ℕ) → Type 0 = AreFine earlier in
+    elim (cases_Bool (is_skipped line)) [
+      | inl skipped ↦
+          subst P (sym (cond-false (not (is_skipped line)) (line ∷ kept_lines later) (kept_lines later) (not_from_true (is_skipped line) skipped)))
+          (line_skipped earlier line (kept_lines later) rec)
+      | inr read ↦
+          subst P (sym (cond-true (not (is_skipped line)) (line ∷ kept_lines later) (kept_lines later) (not_from_false (is_skipped line) read)))
+          (line_read earlier number line (kept_lines later) (fine earlier number line read none.0) rec)
+    ]
+
+-- one of some lines passes, so one is found
+some_found : (p : List ℕ → Bool) (lines : List (List ℕ)) → list_any p lines ≡ true → (line : List ℕ) × (find p lines ≡ Some line)
+some_found p [] h = absurd (true≢false (sym h))
+some_found p (line ∷ later) h = elim (cases_Bool (p line)) [
+  | inl is ↦ (line, cond-true (p line) (Some line) (find p later) is)
+  | inr isnt ↦
+      let rec = some_found p later (sym (ap (λ b. b || list_any p later) isnt) ∙ h) in
+      (rec.0, cond-false (p line) (Some line) (find p later) isnt ∙ rec.1)
+]
+
+name_right : (o : Option (List ℕ)) → ((line : List ℕ) → o ≡ Some line → Plain (name_in line) × (length (name_in line) ≤ 40))
+    → Plain (unwrap_or (option_map name_in o) (codes "echonet")) × (length (unwrap_or (option_map name_in o) (codes "echonet")) ≤ 40)
+name_right None h = (plain_if (codes "echonet") refl, lit≤ tt)
+name_right (Some line) h = h line refl
+
+-- a link file without a fault says what a link file may say
+pub file_is_file : (bytes : List ℕ) → file_fault bytes ≡ None → IsFile (file_of bytes)
+unfolding file_fault file_of
+file_is_file bytes h =
+    let none = either_none (first_fault [] 1 (file_lines bytes)) _ h in
+    let f = all_fine [] 1 (file_lines bytes) none.0 in
+    let there : list_any is_system_line (read_lines bytes) ≡ true = elim (cases_Bool (list_any is_system_line (read_lines bytes))) [
+      | inl is ↦ is
+      | inr isnt ↦
+          let never : Some (fault.NoSystem 0) ≡ None = left (list_any is_system_line (read_lines bytes)) None (Some (fault.NoSystem 0)) isnt none.1 in
+          absurd (cc)
+    ] in
+    let own = some_found is_system_line (read_lines bytes) there in
+    let A : Option (List ℕ) → Type 0 = λ o. IsAddress (unwrap_or (option_map system_in o) no_address) in
+    let name = name_right (find is_name_line (read_lines bytes)) f.name in
+    record {
+      address = subst A (sym own.1) (f.system own.0 own.1);
+      name_room = name.1;
+      name_bytes = plain_line (unwrap_or (option_map name_in (find is_name_line (read_lines bytes))) (codes "echonet")) name.0;
+      each_area = f.areas;
+      tags_once = f.once;
+    }

@@ -1,6 +1,6 @@
 //! What holds of the definitions. Each law is the contract of a function that does nothing.
 
-ghost use Rattle.std.specs.Prelude.{◌≡◌, ◌↔◌, ℕ, List, Option, Some, None, true, false};
+ghost use Rattle.std.specs.Prelude.{◌≡◌, ◌↔◌, ℕ, List, Option, Some, None, Ok, true, false};
 ghost use Rattle.std.specs.List.{list_any};
 ghost use Rattle.echo_addr.specs.declared.address.Address.{Address};
 ghost use Rattle.echo_addr.specs.declared.address.NetNode.{NetNode};
@@ -18,6 +18,7 @@ ghost use Rattle.echo_toss.specs.Posting.{has_id, posting};
 ghost use Rattle.echo_toss.specs.Tossing.{IsToBeFiled, received, tossing};
 ghost use Rattle.echo_toss.specs.Scanning.{copy_to, exported};
 ghost use Rattle.echo_toss.specs.Purging.{stub_of};
+ghost use Rattle.echo_toss.specs.LinkLines.{LinksOf};
 ghost use Rattle.echo_toss.specs.BaseFile.{BaseOf, IsBase, is_countable, saved_bytes};
 
 /// The test of keys passes exactly where they are the same.
@@ -79,4 +80,10 @@ pub fn toss_law()
 /// each text and id.
 pub fn saved_base_law()
     ensures { (base : List Filed) (cursor : ℕ) → IsBase base cursor → is_countable base cursor ≡ true → BaseOf base cursor (saved_bytes base cursor) }
+{}
+
+/// A link file that is read says a system in range, a name of one line, areas each once, and in each
+/// area links in range, each once.
+pub fn link_file_law()
+    ensures { (bytes : List ℕ) (file : LinkFile) → LinksOf bytes (Ok file) → IsFile file }
 {}
