@@ -1,14 +1,14 @@
 -- No byte of a written text is 00.
-use Rattle.std.proofs.Common.{◌≡◌, ◌≢◌, ℕ, ◌<◌, ◌≤◌, ◌&&◌, ◌==◌, not, nat_lt, nat_le, Bool, true, false, List, [], ◌∷◌, ◌++◌, length, get_or, codes, refl, sym, ap, subst, ◌∙◌, arith, lit<, inl, inr, ◌⊎◌}
+use Rattle.std.proofs.Common.{◌≡◌, ◌≢◌, ℕ, ◌&&◌, not, nat_lt, nat_le, true, false, List, [], ◌∷◌, ◌++◌, length, refl, sym, subst, arith, inl, inr}
 use Rattle.std.specs.Prelude.{All}
 use Rattle.std.specs.Int.{is_in_range}
 use Rattle.std.specs.List.{AllByRecursion, flat_map, list_all, list_any}
 use Rattle.std.proofs.lemmas.Bool.{and_parts, leb-true, ltb-true, ne_eqb, or_from}
 use Rattle.std.proofs.lemmas.List.Elements.{recursion_from_All}
 use Rattle.echo_addr.specs.declared.address.NetNode.{NetNode}
-use Rattle.echo_addr.specs.ShortLines.{IsEntryByte, IsNetNode, ReadBack, ShortLines, line_of, path_prefix, seen_prefix}
+use Rattle.echo_addr.specs.ShortLines.{IsEntryByte, IsNetNode, ShortLines, line_of, path_prefix, seen_prefix}
 use Rattle.echo_addr.proofs.ReadBack.{read_back}
-use Rattle.echo_text.specs.Lines.{area_word, is_tag, is_tag_byte}
+use Rattle.echo_text.specs.Lines.{area_word, is_tag_byte}
 use Rattle.echo_text.specs.Echo.{EchoText, IsEcho, IsLine, ended}
 use Rattle.echo_text.specs.Ids.{is_zero}
 use Rattle.echo_toss.specs.Written.{short_lines, text_of}

@@ -1,5 +1,5 @@
 -- Copies of a message that a scan makes, and what a toss reads in them.
-use Rattle.std.proofs.Common.{◌≡◌, ℕ, ◌^◌, ◌<◌, ◌≤◌, Bool, true, false, cond, List, [], ◌∷◌, ◌++◌, map, refl, sym, ap, subst, ◌∙◌, Option, Some, None, arith, inl, inr, ◌⊎◌}
+use Rattle.std.proofs.Common.{◌≡◌, ℕ, Bool, List, [], ◌∷◌, ◌++◌, map, refl, sym, ap, subst, ◌∙◌, Option, Some, None, arith, inl, inr}
 use Rattle.std.specs.Prelude.{bytes_eq, find, option_map, unwrap_or}
 use Rattle.std.specs.List.{AllByRecursion}
 use Rattle.std.proofs.lemmas.Bool.{cases_Bool, cond-false, cond-true}
@@ -10,9 +10,9 @@ use Rattle.echo_addr.specs.Address.{IsAddress, net_node_of}
 use Rattle.echo_addr.specs.ShortLines.{IsNetNode}
 use Rattle.echo_text.specs.Echo.{EchoText, IsEcho, msgid_of}
 use Rattle.echo_text.specs.Refusal.{refusal}
-use Rattle.echo_toss.specs.Sets.{entry_before, entry_set, set_of}
+use Rattle.echo_toss.specs.Sets.{entry_before, entry_set}
 use Rattle.echo_toss.specs.Written.{echo_of, text_of}
-use Rattle.echo_toss.specs.Base.{Area, Filed, IsArea, IsFile, LinkFile, area_of, key_of, key_with, links_of}
+use Rattle.echo_toss.specs.Base.{Area, Filed, IsArea, IsFile, LinkFile, key_of, key_with, links_of}
 use Rattle.echo_toss.specs.Tossing.{received}
 use Rattle.echo_toss.specs.Scanning.{copy_to, exported}
 use Rattle.echo_toss.proofs.Sets.{set_all}

@@ -1,8 +1,7 @@
 -- The worked example of a first posting, by computation.
-use Rattle.std.proofs.Common.{◌≡◌, ℕ, List, [], ◌∷◌, ◌++◌, refl, Option, Some, None, codes, length, map}
+use Rattle.std.proofs.Common.{◌≡◌, ℕ, [], ◌∷◌, ◌++◌, refl, Some, codes, length, map}
 use Rattle.std.specs.Fmt.{digits}
 use Rattle.echo_addr.specs.declared.address.Address.{Address}
-use Rattle.echo_addr.specs.declared.address.NetNode.{NetNode}
 use Rattle.echo_packet.specs.Packet.{packet_bytes}
 use Rattle.echo_packet.specs.Header.{header_bytes}
 use Rattle.echo_packet.specs.Message.{numbers}
@@ -12,10 +11,10 @@ use Rattle.echo_toss.specs.declared.draft.Draft.{Draft}
 use Rattle.echo_toss.specs.declared.stamp.Stamp.{Stamp}
 use Rattle.echo_toss.specs.declared.packet.Packet.{Packet}
 use Rattle.echo_toss.specs.Sets.{address_set, entry_set}
-use Rattle.echo_text.specs.Ids.{id_of, is_id}
+use Rattle.echo_text.specs.Ids.{id_of}
 use Rattle.echo_toss.specs.Stamps.{date_of}
 use Rattle.echo_toss.specs.Written.{short_lines, text_of}
-use Rattle.echo_toss.specs.Base.{Area, Filed, LinkFile, key_of, links_of}
+use Rattle.echo_toss.specs.Base.{Filed, LinkFile, links_of}
 use Rattle.echo_toss.specs.Posting.{post_refusal, posted, posted_lines, posting}
 use Rattle.echo_toss.specs.Purging.{changed, is_stub, purged, stub_of}
 use Rattle.echo_toss.specs.LinkLines.{file_fault, file_lines, file_of, line_fault, words}

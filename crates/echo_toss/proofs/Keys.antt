@@ -1,10 +1,10 @@
 -- When two keys are the same, and what a purge leaves of them.
-use Rattle.std.proofs.Common.{◌≡◌, ◌≢◌, ℕ, ◌+◌, ◌<◌, Bool, true, false, cond, ◌&&◌, nat_lt, List, [], ◌∷◌, ◌++◌, length, map, codes, refl, sym, ap, subst, ◌∙◌, Option, Some, None, arith, inl, inr, ◌⊎◌}
+use Rattle.std.proofs.Common.{◌≡◌, ℕ, ◌<◌, Bool, true, cond, nat_lt, List, [], ◌∷◌, length, map, refl, sym, ap, subst, ◌∙◌, Option, Some, None, inl, inr}
 use Rattle.std.specs.Prelude.{bytes_eq, find, filter}
 use Rattle.std.specs.Cmp.Lexicographic.{pointwise, pointwise_decides, bytes_decides}
-use Rattle.std.proofs.lemmas.Bool.{and_from, and_parts, cases_Bool, cond-false, cond-true, ltb-true, lt-ltb, true≢false, false≢true}
-use Rattle.echo_text.specs.Lines.{after_feeds, after_word, begins, msgid_word, trimmed}
-use Rattle.echo_text.specs.Echo.{EchoText, msgid_of}
+use Rattle.std.proofs.lemmas.Bool.{and_from, and_parts, cases_Bool, cond-false, cond-true, ltb-true, lt-ltb, false≢true}
+use Rattle.echo_text.specs.Lines.{after_word, begins, msgid_word, trimmed}
+use Rattle.echo_text.specs.Echo.{msgid_of}
 use Rattle.echo_toss.specs.declared.key.Key.{Key}
 use Rattle.echo_toss.specs.declared.key.Key.TheVariants.{ByContent, ById}
 use Rattle.echo_toss.specs.Base.{Filed, key_of, key_with, same_key}

@@ -13,4 +13,5 @@ pub mod Received
 pub mod Bytes
 pub mod Saved
 pub mod LinkFiles
+pub mod Kept
 mod Examples

@@ -1,10 +1,10 @@
 -- What a link file says, where no line of it is faulty.
-use Rattle.std.proofs.Common.{◌≡◌, ◌≢◌, ℕ, zero, suc, ◌+◌, ◌<◌, ◌≤◌, ◌==◌, ◌&&◌, ◌||◌, not, nat_lt, Bool, true, false, cond, List, [], ◌∷◌, ◌++◌, length, map, take, drop, codes, refl, sym, ap, subst, ◌∙◌, Option, Some, None, Result, Ok, Err, arith, lit≤, inl, inr, ◌⊎◌}
+use Rattle.std.proofs.Common.{◌≡◌, ◌≢◌, ℕ, zero, suc, ◌+◌, ◌≤◌, ◌==◌, ◌||◌, not, nat_lt, Bool, true, false, cond, List, [], ◌∷◌, length, map, take, drop, codes, refl, sym, ap, subst, ◌∙◌, Option, Some, None, arith, lit≤, inl, inr, ◌⊎◌}
 use Rattle.std.specs.Prelude.{bytes_eq, filter, find, is_err, is_ok, option_map, unwrap_or, AllPairs}
 use Rattle.std.specs.Option.{option_or}
 use Rattle.std.specs.Cmp.Lexicographic.{bytes_decides}
-use Rattle.std.specs.List.{AllByRecursion, list_any, prefix_len, suffix_len}
-use Rattle.std.proofs.lemmas.Bool.{and_cases, cases_Bool, cond-false, cond-true, eqb-true, ltb-false, not-false, not_from_false, not_from_true, or_parts, true≢false, false_from_ne_true}
+use Rattle.std.specs.List.{AllByRecursion, list_any, prefix_len}
+use Rattle.std.proofs.lemmas.Bool.{and_cases, cases_Bool, cond-false, cond-true, eqb-true, ltb-false, not-false, not_from_false, not_from_true, or_parts, true≢false}
 use Rattle.std.proofs.lemmas.List.Elements.{All-from_recursion}
 use Rattle.std.proofs.lemmas.List.Kept.{AllPairs-cons}
 use Rattle.echo_addr.specs.declared.address.Address.{Address}
@@ -12,12 +12,10 @@ use Rattle.echo_addr.specs.declared.fault.AddrFault.{AddrFault}
 use Rattle.echo_addr.specs.Address.{IsAddress, address_in, answer_of, outcome, refusal}
 use Rattle.echo_addr.proofs.Outcomes.{AddressOf-from_refusal}
 use Rattle.echo_text.specs.Lines.{is_tag}
-use Rattle.echo_text.specs.Echo.{IsLine}
-use Rattle.echo_toss.specs.declared.fault.LinkFault.{LinkFault}
 use Rattle.echo_toss.specs.declared.fault.LinkFault.TheVariants as fault
 use Rattle.echo_toss.specs.Sets.{same_address}
-use Rattle.echo_toss.specs.Base.{Area, IsArea, IsFile, LinkFile}
-use Rattle.echo_toss.specs.LinkLines.{after_first_of, area_fault, area_in, file_fault, file_lines, file_of, first_fault, first_of, has_word, is_area_line, is_control_byte, is_name_line, is_one_address, is_skipped, is_space, is_system_line, line_fault, links_fault, links_in, name_fault, name_in, no_address, read_lines, system_fault, system_in, tag_in, without_front_spaces, words}
+use Rattle.echo_toss.specs.Base.{Area, IsArea, IsFile}
+use Rattle.echo_toss.specs.LinkLines.{after_first_of, area_fault, area_in, file_fault, file_lines, file_of, first_fault, first_of, is_area_line, is_control_byte, is_name_line, is_one_address, is_skipped, is_space, is_system_line, line_fault, links_fault, links_in, name_fault, name_in, no_address, read_lines, system_fault, system_in, tag_in, without_front_spaces, words}
 use Rattle.echo_toss.proofs.Orders.{same_address_decides}
 use Rattle.echo_toss.proofs.Plain.{IsLineByte, Plain, plain_if, plain_line}
 

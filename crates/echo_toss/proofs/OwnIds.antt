@@ -1,5 +1,5 @@
 -- The ids that a system gives.
-use Rattle.std.proofs.Common.{◌≡◌, ◌≢◌, ℕ, ◌+◌, ◌/◌, ◌%◌, ◌^◌, ◌<◌, ◌≤◌, ◌==◌, ◌||◌, Bool, true, false, nat_le, List, [], ◌∷◌, ◌++◌, length, map, decimal, codes, refl, sym, ap, subst, ◌∙◌, arith, lit<, inl, inr, ◌⊎◌}
+use Rattle.std.proofs.Common.{◌≡◌, ℕ, ◌+◌, ◌/◌, ◌%◌, ◌^◌, ◌<◌, ◌≤◌, ◌==◌, ◌||◌, false, nat_le, List, [], ◌∷◌, ◌++◌, length, map, decimal, codes, refl, arith, lit<}
 use Rattle.std.specs.List.{AllByRecursion, prefix_len, suffix_len}
 use Rattle.std.proofs.lemmas.Bool.{cond-false, leb-true, ne_eqb, or_from}
 use Rattle.std.proofs.lemmas.Fmt.{decimal_nonempty}
@@ -10,10 +10,9 @@ use Rattle.echo_addr.specs.Address.{IsAddress, address_text}
 use Rattle.echo_addr.specs.Entries.{is_blank}
 use Rattle.echo_addr.proofs.Decimals.{IsDigit, digits_of_decimal}
 use Rattle.echo_text.specs.Ids.{hex_digit, id_of, serial_text}
-use Rattle.echo_toss.proofs.Choices.{all_weaker}
-use Rattle.echo_toss.proofs.Trims.{IsTrim, joined_trim}
+use Rattle.echo_toss.proofs.Trims.{joined_trim}
 use Rattle.echo_toss.proofs.Keys.{IsIdText}
-use Rattle.echo_toss.proofs.Plain.{IsLineByte, Plain, all_append, plain_address, plain_if}
+use Rattle.echo_toss.proofs.Plain.{IsLineByte, Plain, all_append, plain_address}
 
 -- a digit to the base 16 is no control byte and no blank
 hex_digit_high : (n : ℕ) → n < 16 → 48 ≤ hex_digit n

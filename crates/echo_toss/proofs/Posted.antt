@@ -1,23 +1,20 @@
 -- What a posting files.
-use Rattle.std.proofs.Common.{◌≡◌, ℕ, ◌<◌, ◌==◌, ◌&&◌, ◌||◌, Bool, true, false, cond, not, List, [], ◌∷◌, ◌++◌, length, codes, refl, sym, ap, subst, ◌∙◌, Option, Some, None, is_none, arith, inl, inr, ◌⊎◌}
-use Rattle.std.specs.Prelude.{bytes_eq, find, is_some, AllPairs}
+use Rattle.std.proofs.Common.{◌≡◌, ℕ, ◌==◌, ◌||◌, Bool, true, false, cond, not, List, [], ◌∷◌, ◌++◌, length, codes, refl, sym, ap, subst, ◌∙◌, Option, Some, None, is_none, arith, inl, inr}
+use Rattle.std.specs.Prelude.{bytes_eq, find, is_some}
 use Rattle.std.specs.List.{AllByRecursion, AllPass, list_all, list_any}
 use Rattle.std.specs.Cmp.Lexicographic.{bytes_decides}
-use Rattle.std.proofs.lemmas.Bool.{and_left, and_parts, and_right, cases_Bool, cond-false, cond-true, not-false, not_from_true, or_cases, or_parts, eqb-true}
+use Rattle.std.proofs.lemmas.Bool.{and_left, and_parts, and_right, cases_Bool, cond-false, cond-true, not-false, or_parts}
 use Rattle.std.proofs.lemmas.List.Elements.{All-from_recursion, recursion_from_All}
-use Rattle.echo_addr.specs.declared.address.NetNode.{NetNode}
 use Rattle.echo_addr.specs.Address.{address_text}
-use Rattle.echo_addr.specs.ShortLines.{ComesBefore, IsNetNode}
 use Rattle.echo_text.specs.Lines.{begins, is_tag, lines, msgid_word, origin_word, reply_word, trimmed}
 use Rattle.echo_text.specs.Tail.{is_tail_line, tail}
 use Rattle.echo_text.specs.Echo.{IsEcho, IsLine, is_shed, msgid_of}
 use Rattle.echo_text.proofs.Tails.{all_tail, tail_later}
 use Rattle.echo_toss.specs.declared.draft.Draft.{Draft}
 use Rattle.echo_toss.specs.declared.stamp.Stamp.{Stamp}
-use Rattle.echo_toss.specs.declared.fault.PostFault.{PostFault}
 use Rattle.echo_toss.specs.declared.fault.PostFault.TheVariants as fault
-use Rattle.echo_text.specs.Ids.{id_of, is_id, is_id_trimmed, is_zero, is_line_byte}
-use Rattle.echo_toss.specs.Base.{Area, Filed, IsArea, IsFile, LinkFile, area_of, has_area}
+use Rattle.echo_text.specs.Ids.{id_of, is_id, is_zero, is_line_byte}
+use Rattle.echo_toss.specs.Base.{Area, Filed, IsArea, IsFile, LinkFile, has_area}
 use Rattle.echo_toss.specs.Stamps.{is_stamp}
 use Rattle.echo_toss.specs.Posting.{has_id, holds_zero, id_line, is_too_long, origin_line, post_refusal, posted, posted_lines, posting, reply_lines, upper}
 use Rattle.echo_toss.proofs.Choices.{all_weaker}

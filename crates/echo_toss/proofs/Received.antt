@@ -1,6 +1,6 @@
 -- What a toss files.
-use Rattle.std.proofs.Common.{◌≡◌, ℕ, Bool, true, false, cond, not, List, [], ◌∷◌, refl, sym, ap, subst, ◌∙◌, Option, Some, None, inl, inr, ◌⊎◌}
-use Rattle.std.proofs.lemmas.Bool.{cases_Bool, cond-false, cond-true, not-false, not_from_false, not_from_true}
+use Rattle.std.proofs.Common.{◌≡◌, Bool, true, false, cond, not, List, refl, ap, ◌∙◌, Option, Some, None}
+use Rattle.std.proofs.lemmas.Bool.{cond-false, not-false, not_from_true}
 use Rattle.echo_addr.specs.declared.address.Address.{Address}
 use Rattle.echo_packet.specs.Message.{Message}
 use Rattle.echo_text.specs.declared.fault.TextFault.{TextFault}

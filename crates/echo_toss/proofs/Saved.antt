@@ -1,13 +1,12 @@
 -- What is saved of a base is a base file of it.
-use Rattle.std.proofs.Common.{◌≡◌, ◌≢◌, ℕ, suc, codes, ◌+◌, ◌^◌, ◌<◌, ◌≤◌, ◌==◌, ◌&&◌, ◌||◌, not, nat_lt, nat_le, Bool, true, false, cond, List, [], ◌∷◌, ◌++◌, length, map, refl, sym, ap, subst, ◌∙◌, Option, Some, None, arith, lit<, inl, inr, ◌⊎◌}
-use Rattle.std.specs.Prelude.{bytes_eq, is_some, is_none, unwrap_or, EachIndex, slice_index, ⊤}
+use Rattle.std.proofs.Common.{◌≡◌, ◌≢◌, ℕ, suc, codes, ◌+◌, ◌^◌, ◌<◌, ◌≤◌, ◌==◌, ◌&&◌, ◌||◌, not, nat_lt, nat_le, Bool, true, false, cond, List, [], ◌∷◌, ◌++◌, length, map, refl, sym, ap, subst, ◌∙◌, Option, Some, None, arith, lit<}
+use Rattle.std.specs.Prelude.{bytes_eq, is_some, is_none, unwrap_or, ⊤}
 use Rattle.std.specs.Cmp.Lexicographic.{pointwise, bytes_decides}
 use Rattle.std.specs.List.{AllByRecursion, flat_map, list_all, list_any}
-use Rattle.std.proofs.lemmas.Bool.{and_from, and_parts, cases_Bool, cond-false, cond-true, eqb-true, le-ltb, leb-true, ltb-true, true≢false, ne_eqb, not_from_true, not_from_false, or_from}
+use Rattle.std.proofs.lemmas.Bool.{and_from, and_parts, cond-false, cond-true, eqb-true, le-ltb, leb-true, ltb-true, true≢false, ne_eqb, not_from_true, not_from_false, or_from}
 use Rattle.std.proofs.lemmas.List.Elements.{recursion_from_All}
 use Rattle.std.proofs.lemmas.List.{append-nil, length-append, nil_from_length}
 use Rattle.echo_addr.specs.declared.address.Address.{Address}
-use Rattle.echo_addr.specs.declared.address.NetNode.{NetNode}
 use Rattle.echo_packet.specs.Message.{HasNoZero}
 use Rattle.echo_text.specs.Lines.{is_tag, is_tag_byte, msgid_word, trimmed}
 use Rattle.echo_text.specs.Echo.{EchoText, IsEcho, IsLine, msgid_of}
@@ -17,10 +16,9 @@ use Rattle.echo_toss.specs.Written.{echo_of, text_of}
 use Rattle.echo_toss.specs.Base.{Filed, is_known, key_of}
 use Rattle.echo_toss.specs.Posting.{id_line}
 use Rattle.echo_toss.specs.Purging.{bare, is_stub, is_stub_with}
-use Rattle.echo_toss.specs.BaseFile.{Version, First, Second, Stored, AreNew, AreSound, BaseOf, Begins, HasSmallSender, IsBase, IsFiled, IsStored, echo_in, has_tag, has_wrong_form, has_wrong_last, has_wrong_sender, has_wrong_string, head_bytes, is_countable, is_damaged, is_no_string, is_other_kind, is_posted, is_short, is_short_enough, is_wrong_id, is_wrong_text, kind_of, message_in, saved_bytes, sender_in, sender_or_zeros, stored_as, stored_at, stored_bytes, stored_from}
-use Rattle.echo_toss.proofs.Choices.{all_weaker}
-use Rattle.echo_toss.proofs.Keys.{IsIdText, lines_decide, msgid_is_id}
-use Rattle.echo_toss.proofs.Trims.{IsTrim, trimmed_same}
+use Rattle.echo_toss.specs.BaseFile.{Second, AreNew, AreSound, BaseOf, HasSmallSender, IsBase, IsFiled, IsStored, echo_in, has_tag, has_wrong_form, has_wrong_last, has_wrong_sender, has_wrong_string, head_bytes, is_countable, is_damaged, is_no_string, is_other_kind, is_posted, is_short, is_short_enough, is_wrong_id, is_wrong_text, kind_of, message_in, saved_bytes, sender_in, sender_or_zeros, stored_as, stored_at, stored_bytes, stored_from}
+use Rattle.echo_toss.proofs.Keys.{lines_decide, msgid_is_id}
+use Rattle.echo_toss.proofs.Trims.{trimmed_same}
 use Rattle.echo_toss.proofs.Plain.{IsLineByte, Plain}
 use Rattle.echo_toss.proofs.Bytes.{none_zero, text_no_zero}
 use Rattle.echo_toss.proofs.Texts.{written_accepted, written_back}

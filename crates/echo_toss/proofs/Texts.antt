@@ -1,6 +1,5 @@
 -- What a text says is one echo, and what is written for an echo says it.
-use Rattle.std.proofs.Common.{◌≡◌, ℕ, Bool, true, false, cond, not, List, [], ◌∷◌, ◌++◌, refl, sym, ap, subst, ◌∙◌, Option, Some, None, inl, inr, ◌⊎◌}
-use Rattle.std.specs.List.{AllByRecursion}
+use Rattle.std.proofs.Common.{◌≡◌, ℕ, true, cond, not, List, refl, sym, subst, ◌∙◌, Option, Some, None, inl, inr}
 use Rattle.std.proofs.lemmas.Bool.{cases_Bool, cond-false, cond-true, not_from_true, not_from_false}
 use Rattle.std.proofs.lemmas.List.Elements.{recursion_from_All}
 use Rattle.echo_addr.specs.declared.address.NetNode.{NetNode}
@@ -8,7 +7,7 @@ use Rattle.echo_addr.specs.ShortLines.{IsNetNode, path_prefix, seen_prefix}
 use Rattle.echo_text.specs.declared.fault.TextFault.{TextFault}
 use Rattle.echo_text.specs.declared.fault.TextFault.TheVariants as text
 use Rattle.echo_text.specs.Lines.{area_tag, first_line, is_area, is_tag, later_lines, lines}
-use Rattle.echo_text.specs.Tail.{all_dropped, all_entries, kept_of, path_lists, seen_lists}
+use Rattle.echo_text.specs.Tail.{all_entries, seen_lists}
 use Rattle.echo_text.specs.Echo.{EchoOf, EchoText, IsEcho, TextOf}
 use Rattle.echo_text.specs.Refusal.{refusal, refusal_of}
 use Rattle.echo_text.proofs.Written.{written_read_back}

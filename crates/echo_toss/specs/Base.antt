@@ -1,5 +1,5 @@
 -- Link files, filed messages and their keys.
-use Rattle.std.specs.Prelude.{◌≡◌, ◌≢◌, ◌≤◌, ℕ, ◌&&◌, AllPairs, length, Bool, true, false, List, [], ◌∷◌, Option, Some, None, option_map, unwrap_or, is_some, bytes_eq, find}
+use Rattle.std.specs.Prelude.{◌≡◌, ◌≢◌, ◌≤◌, ℕ, ◌&&◌, AllPairs, length, Bool, true, false, List, [], Option, Some, None, option_map, unwrap_or, is_some, bytes_eq, find}
 use Rattle.std.specs.Cmp.Lexicographic.{pointwise}
 use Rattle.std.specs.List.{AllByRecursion, list_any}
 use Rattle.echo_addr.specs.declared.address.Address.{Address}

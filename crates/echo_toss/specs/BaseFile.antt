@@ -1,5 +1,5 @@
 -- Base files. Numbers of several bytes have the low byte first.
-use Rattle.std.specs.Prelude.{◌≡◌, ◌≢◌, ℕ, ◌+◌, ◌*◌, ◌/◌, ◌%◌, ◌^◌, ◌<◌, ◌≤◌, ◌⊎◌, ⊤, ◌==◌, ◌||◌, ◌&&◌, not, nat_eq, nat_lt, Bool, true, false, List, [], ◌∷◌, ◌++◌, map, length, take, drop, codes, if◌then◌else◌, Option, Some, None, is_some, is_none, unwrap_or, bytes_eq}
+use Rattle.std.specs.Prelude.{◌≡◌, ℕ, ◌+◌, ◌*◌, ◌/◌, ◌%◌, ◌^◌, ◌<◌, ◌≤◌, ◌⊎◌, ⊤, ◌==◌, ◌||◌, ◌&&◌, not, nat_eq, nat_lt, Bool, true, false, List, [], ◌∷◌, ◌++◌, map, length, take, codes, if◌then◌else◌, Option, Some, None, is_some, is_none, unwrap_or, bytes_eq}
 use Rattle.std.specs.List.{AllByRecursion, flat_map, list_all, list_any, starts_with}
 use Rattle.echo_addr.specs.declared.address.Address.{Address}
 use Rattle.echo_packet.specs.Header.{number_at, word}

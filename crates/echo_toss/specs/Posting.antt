@@ -1,13 +1,10 @@
 -- Posting: what is filed for a draft, and why a draft is refused.
-use Rattle.std.specs.Prelude.{◌≡◌, ℕ, ◌-◌, ◌/◌, ◌%◌, ◌^◌, ◌⊎◌, ◌==◌, ◌||◌, ◌&&◌, not, nat_lt, Bool, false, List, [], ◌∷◌, ◌++◌, map, length, take, drop, slice_index, codes, if◌then◌else◌, Option, Some, None, is_none, option_map, unwrap_or, bytes_eq, Result, Ok, Err}
+use Rattle.std.specs.Prelude.{◌≡◌, ℕ, ◌⊎◌, ◌==◌, ◌||◌, not, nat_lt, Bool, false, List, [], ◌∷◌, ◌++◌, map, length, codes, if◌then◌else◌, Option, Some, None, is_none, option_map, unwrap_or, bytes_eq, Result, Ok, Err}
 use Rattle.std.specs.Char.{to_ascii_uppercase}
-use Rattle.std.specs.Int.{is_in_range}
-use Rattle.std.specs.List.{list_all, list_any, suffix_len}
-use Rattle.echo_addr.specs.declared.address.Address.{Address}
+use Rattle.std.specs.List.{list_any}
 use Rattle.echo_addr.specs.Address.{address_text}
-use Rattle.echo_addr.specs.Entries.{is_blank}
 use Rattle.echo_text.specs.Lines.{lines, msgid_word, origin_word, reply_word, trimmed}
-use Rattle.echo_text.specs.Echo.{EchoText, msgid_of}
+use Rattle.echo_text.specs.Echo.{msgid_of}
 use Rattle.echo_toss.specs.declared.draft.Draft.{Draft}
 use Rattle.echo_toss.specs.declared.stamp.Stamp.{Stamp}
 use Rattle.echo_toss.specs.declared.fault.PostFault.{PostFault}

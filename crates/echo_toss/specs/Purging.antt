@@ -1,5 +1,5 @@
 -- Purging: scanned messages keep their id and nothing else of their text.
-use Rattle.std.specs.Prelude.{◌≡◌, ℕ, ◌==◌, ◌&&◌, not, Bool, true, List, [], ◌∷◌, ◌++◌, map, length, take, drop, count_by, codes, Option, Some, None, bytes_eq, Result, Ok, Err}
+use Rattle.std.specs.Prelude.{◌≡◌, ℕ, ◌==◌, ◌&&◌, not, Bool, true, List, [], ◌∷◌, ◌++◌, map, length, take, drop, count_by, Option, Some, None, bytes_eq, Result, Ok, Err}
 use Rattle.std.specs.Cmp.Lexicographic.{pointwise}
 use Rattle.echo_text.specs.Lines.{msgid_word}
 use Rattle.echo_text.specs.Echo.{EchoText, msgid_of}

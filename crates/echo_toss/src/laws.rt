@@ -1,10 +1,10 @@
 //! What holds of the definitions. Each law is the contract of a function that does nothing.
 
-ghost use Rattle.std.specs.Prelude.{◌≡◌, ◌↔◌, ℕ, List, Option, Some, None, Ok, true, false};
+ghost use Rattle.std.specs.Prelude.{◌≡◌, ◌↔◌, ℕ, List, [], ◌∷◌, ◌++◌, Option, Some, None, Ok, true, false};
 ghost use Rattle.std.specs.List.{list_any};
 ghost use Rattle.echo_addr.specs.declared.address.Address.{Address};
 ghost use Rattle.echo_addr.specs.declared.address.NetNode.{NetNode};
-ghost use Rattle.echo_packet.specs.Message.{Message};
+ghost use Rattle.echo_packet.specs.Message.{IsMessage, Message};
 ghost use Rattle.echo_text.specs.Echo.{EchoOf, EchoText, IsEcho, IsSetOf, TextOf, msgid_of};
 ghost use Rattle.echo_text.specs.Refusal.{refusal};
 ghost use Rattle.echo_toss.specs.declared.draft.Draft.{Draft};
@@ -19,7 +19,7 @@ ghost use Rattle.echo_toss.specs.Tossing.{IsToBeFiled, received, tossing};
 ghost use Rattle.echo_toss.specs.Scanning.{copy_to, exported};
 ghost use Rattle.echo_toss.specs.Purging.{stub_of};
 ghost use Rattle.echo_toss.specs.LinkLines.{LinksOf};
-ghost use Rattle.echo_toss.specs.BaseFile.{BaseOf, IsBase, is_countable, saved_bytes};
+ghost use Rattle.echo_toss.specs.BaseFile.{BaseOf, HasSmallSender, IsBase, is_countable, saved_bytes};
 
 /// The test of keys passes exactly where they are the same.
 pub fn key_law()
@@ -86,4 +86,12 @@ pub fn saved_base_law()
 /// area links in range, each once.
 pub fn link_file_law()
     ensures { (bytes : List ℕ) (file : LinkFile) → LinksOf bytes (Ok file) → IsFile file }
+{}
+
+/// A base stays a base where a posting or a toss files a message.
+pub fn base_laws()
+    ensures posted { (file : LinkFile) (base : List Filed) (cursor : ℕ) (tag : List ℕ) (draft : Draft) (serial : ℕ) (stamp : Stamp) (m : Filed) →
+        IsFile file → IsBase base cursor → posting file base tag draft serial stamp ≡ Some m → IsBase (base ++ m ∷ []) cursor }
+    ensures tossed { (most : ℕ) (file : LinkFile) (base : List Filed) (cursor : ℕ) (sender : Address) (packed : Message) (m : Filed) →
+        HasSmallSender (Some sender) → IsMessage most packed → IsBase base cursor → tossing file base sender packed ≡ Some m → IsBase (base ++ m ∷ []) cursor }
 {}

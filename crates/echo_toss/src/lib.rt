@@ -20,8 +20,8 @@ pub use draft::Draft;
 pub use fault::{BaseFault, LinkFault, PostFault, ScanFault};
 pub use key::Key;
 pub use laws::{
-    copy_laws, key_law, link_file_law, posting_laws, saved_base_law, set_law, stub_laws, text_laws,
-    toss_law,
+    base_laws, copy_laws, key_law, link_file_law, posting_laws, saved_base_law, set_law, stub_laws,
+    text_laws, toss_law,
 };
 pub use outcome::Outcome;
 pub use packet::Packet;

@@ -1,9 +1,6 @@
-use Rattle.std.proofs.Common.{◌≡◌, ℕ, List, Option, Some, None, true, subst, sym, ap, ◌∙◌}
+use Rattle.std.proofs.Common.{subst, sym, ap, ◌∙◌}
 use Rattle.echo_text.specs.Echo.{IsEcho, msgid_of}
-use Rattle.echo_toss.specs.declared.draft.Draft.{Draft}
-use Rattle.echo_toss.specs.declared.stamp.Stamp.{Stamp}
-use Rattle.echo_toss.specs.Base.{Filed, LinkFile, has_area}
-use Rattle.echo_toss.specs.Posting.{posted, posting, upper}
+use Rattle.echo_toss.specs.Base.{Filed}
 use Rattle.echo_toss.proofs.Posted.{posted_id, posted_is_echo, posted_own, posting_posted}
 use Rattle.echo_toss.proofs.laws.posting_laws.Goals as goal
 
