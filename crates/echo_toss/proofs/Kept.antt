@@ -1,24 +1,23 @@
 -- What is filed keeps what holds of each base.
-use Rattle.std.proofs.Common.{◌≡◌, ◌≢◌, ℕ, ◌+◌, ◌-◌, ◌*◌, ◌^◌, ◌<◌, ◌≤◌, ◌==◌, ◌&&◌, ◌||◌, min, not, nat_lt, nat_le, Bool, true, false, cond, List, [], ◌∷◌, ◌++◌, suc, length, take, drop, codes, refl, sym, ap, subst, ◌∙◌, Option, Some, None, arith, inl, inr, ◌⊎◌}
+use Rattle.std.proofs.Common.{◌≡◌, ◌≢◌, ℕ, ◌-◌, ◌*◌, ◌≤◌, nat_lt, nat_le, true, false, List, [], ◌∷◌, ◌++◌, suc, length, drop, codes, refl, sym, ap, subst, ◌∙◌, Option, Some, None, arith}
 use Rattle.std.specs.Prelude.{bytes_eq, option_map, unwrap_or}
 use Rattle.std.specs.Int.{is_in_range}
 use Rattle.std.specs.Cmp.Lexicographic.{bytes_decides}
 use Rattle.std.specs.List.{AllByRecursion, list_any}
-use Rattle.std.proofs.lemmas.Bool.{and_left, and_parts, and_right, false_from_ne_true, leb-true, ltb-false, or_from, or_parts, true≢false}
+use Rattle.std.proofs.lemmas.Bool.{and_parts, and_right, false_from_ne_true, leb-true, ltb-false, or_from, or_parts, true≢false}
 use Rattle.std.proofs.lemmas.List.{append-nil, append_assoc, length-append, length-drop, length-take}
 use Rattle.std.proofs.lemmas.List.Elements.{All-from_recursion}
-use Rattle.std.proofs.lemmas.List.Folds.{list_any-append}
 use Rattle.echo_addr.specs.declared.address.Address.{Address}
 use Rattle.echo_packet.specs.Message.{HasNoZero, IsMessage, Message}
-use Rattle.echo_text.specs.Echo.{IsEcho, msgid_of}
+use Rattle.echo_text.specs.Echo.{msgid_of}
 use Rattle.echo_text.specs.Ids.{id_of, is_zero}
 use Rattle.echo_text.specs.Refusal.{refusal}
 use Rattle.echo_toss.specs.declared.draft.Draft.{Draft}
-use Rattle.echo_toss.specs.declared.key.Key.TheVariants.{ByContent, ById}
+use Rattle.echo_toss.specs.declared.key.Key.TheVariants.{ById}
 use Rattle.echo_toss.specs.declared.stamp.Stamp.{Stamp}
 use Rattle.echo_toss.specs.Base.{Filed, IsFile, LinkFile, is_known, key_of, key_with, same_key}
 use Rattle.echo_toss.specs.Stamps.{date_of, is_stamp, month_name, two_digits}
-use Rattle.echo_toss.specs.Posting.{has_id, holds_zero, is_too_long, posted, posting}
+use Rattle.echo_toss.specs.Posting.{has_id, posted, posting}
 use Rattle.echo_toss.specs.Tossing.{received, tossing}
 use Rattle.echo_toss.specs.BaseFile.{AreNew, HasSmallSender, IsBase, IsFiled}
 use Rattle.echo_text.proofs.Reread.{read_is_echo}

@@ -14,4 +14,5 @@ pub mod Bytes
 pub mod Saved
 pub mod LinkFiles
 pub mod Kept
+pub mod Purged
 mod Examples

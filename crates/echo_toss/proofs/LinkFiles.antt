@@ -110,12 +110,12 @@ line_plain (b ∷ line) h =
       | inr tab ↦ let nine = eqb-true b 9 (not-false (b == 9) tab) in (λ e. omega arith, λ e. omega arith)
     ]
 
-plain_drop : (n : ℕ) (bytes : List ℕ) → Plain bytes → Plain (drop n bytes)
+pub plain_drop : (n : ℕ) (bytes : List ℕ) → Plain bytes → Plain (drop n bytes)
 plain_drop zero bytes h = h
 plain_drop (suc n) [] h = tt
 plain_drop (suc n) (b ∷ bytes) h = plain_drop n bytes h.1
 
-plain_take : (n : ℕ) (bytes : List ℕ) → Plain bytes → Plain (take n bytes)
+pub plain_take : (n : ℕ) (bytes : List ℕ) → Plain bytes → Plain (take n bytes)
 plain_take zero bytes h = tt
 plain_take (suc n) [] h = tt
 plain_take (suc n) (b ∷ bytes) h = (h.0, plain_take n bytes h.1)

@@ -16,7 +16,7 @@ use Rattle.echo_toss.specs.Written.{echo_of, echo_of_lines, short_lines, text_of
 use Rattle.echo_toss.proofs.Orders.{entry_set_is_set, one_set}
 use Rattle.echo_toss.proofs.Runs.{path_short, seen_short}
 
--- the text of an echo is one that "is written for it"
+-- the text of an echo that follows the definition of what is written
 pub text_is_text : (e : EchoText) → IsEcho e → TextOf e (text_of e)
 unfolding text_of
 text_is_text e h = record {

@@ -17,7 +17,7 @@ ghost use Rattle.echo_toss.specs.Base.{Filed, IsFile, LinkFile, has_area, key_of
 ghost use Rattle.echo_toss.specs.Posting.{has_id, posting};
 ghost use Rattle.echo_toss.specs.Tossing.{IsToBeFiled, received, tossing};
 ghost use Rattle.echo_toss.specs.Scanning.{copy_to, exported};
-ghost use Rattle.echo_toss.specs.Purging.{stub_of};
+ghost use Rattle.echo_toss.specs.Purging.{purged, stub_of};
 ghost use Rattle.echo_toss.specs.LinkLines.{LinksOf};
 ghost use Rattle.echo_toss.specs.BaseFile.{BaseOf, HasSmallSender, IsBase, is_countable, saved_bytes};
 
@@ -88,10 +88,11 @@ pub fn link_file_law()
     ensures { (bytes : List ℕ) (file : LinkFile) → LinksOf bytes (Ok file) → IsFile file }
 {}
 
-/// A base stays a base where a posting or a toss files a message.
+/// A base stays a base where a posting or a toss files a message, and where it is purged.
 pub fn base_laws()
     ensures posted { (file : LinkFile) (base : List Filed) (cursor : ℕ) (tag : List ℕ) (draft : Draft) (serial : ℕ) (stamp : Stamp) (m : Filed) →
         IsFile file → IsBase base cursor → posting file base tag draft serial stamp ≡ Some m → IsBase (base ++ m ∷ []) cursor }
     ensures tossed { (most : ℕ) (file : LinkFile) (base : List Filed) (cursor : ℕ) (sender : Address) (packed : Message) (m : Filed) →
         HasSmallSender (Some sender) → IsMessage most packed → IsBase base cursor → tossing file base sender packed ≡ Some m → IsBase (base ++ m ∷ []) cursor }
+    ensures purged { (base : List Filed) (cursor : ℕ) → IsBase base cursor → IsBase (purged base cursor) cursor }
 {}
