@@ -10,6 +10,7 @@
 
 mod draft;
 mod fault;
+mod filed;
 mod key;
 mod laws;
 mod outcome;
@@ -18,6 +19,7 @@ mod stamp;
 
 pub use draft::Draft;
 pub use fault::{BaseFault, LinkFault, PostFault, ScanFault};
+pub use filed::Filed;
 pub use key::Key;
 pub use laws::{
     base_laws, copy_laws, key_law, link_file_law, posting_laws, saved_base_law, set_law, stub_laws,
