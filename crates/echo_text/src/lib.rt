@@ -14,10 +14,15 @@ mod copying;
 mod echo;
 mod fault;
 <<<<<<< HEAD
+<<<<<<< HEAD
 mod found;
 =======
 mod id_laws;
 >>>>>>> text-ids
+=======
+mod found;
+mod id_laws;
+>>>>>>> toss-model
 mod laws;
 mod lines;
 mod listed;
@@ -30,9 +35,15 @@ mod writing;
 pub use echo::{Echo, EchoView};
 pub use fault::TextFault;
 <<<<<<< HEAD
+<<<<<<< HEAD
+=======
+pub use id_laws::{doubled_quotes_undone, ids_differ, written_id_read_back};
+>>>>>>> toss-model
 pub use laws::{one_reading, one_writing, written_text_read_back};
+pub use msgid::MsgId;
 pub use reading::{read_text, view_text};
 pub use writing::write_text;
+<<<<<<< HEAD
 
 #[cfg(test)]
 mod tests;
@@ -42,3 +53,5 @@ pub use laws::written_text_read_back;
 pub use msgid::MsgId;
 pub use reading::view_text;
 >>>>>>> text-ids
+=======
+>>>>>>> toss-model

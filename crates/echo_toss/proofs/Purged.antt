@@ -1,0 +1,161 @@
+-- A purge keeps what holds of each base.
+use Rattle.std.proofs.Common.{◌≡◌, ℕ, zero, suc, ◌||◌, not, Bool, true, false, List, [], ◌∷◌, ◌++◌, length, map, take, drop, codes, refl, sym, ap, subst, ◌∙◌, Option, Some, None, arith, inl, inr}
+use Rattle.std.specs.Prelude.{filter, find}
+use Rattle.std.specs.List.{AllByRecursion, list_any, prefix_len}
+use Rattle.std.proofs.lemmas.Bool.{cases_Bool, cond-false, cond-true}
+use Rattle.std.proofs.lemmas.List.{length-append, length-drop, length-map, length-take}
+use Rattle.std.proofs.lemmas.List.Elements.{All-from_recursion, recursion_from_All}
+use Rattle.echo_text.specs.Lines.{after_feeds, after_word, begins, is_feed, msgid_word, trimmed}
+use Rattle.echo_text.specs.Tail.{tail}
+use Rattle.echo_text.specs.Echo.{IsEcho, IsLine, is_shed, msgid_of}
+use Rattle.echo_addr.specs.Entries.{is_blank}
+use Rattle.echo_toss.specs.declared.key.Key.{Key}
+use Rattle.echo_toss.specs.Base.{Filed, is_known, key_of, same_key}
+use Rattle.echo_toss.specs.Posting.{id_line}
+use Rattle.echo_toss.specs.Purging.{bare, purged, stub_of, stub_with}
+use Rattle.echo_toss.specs.BaseFile.{AreNew, IsBase, IsFiled}
+use Rattle.echo_toss.proofs.Choices.{all_weaker}
+use Rattle.echo_toss.proofs.Keys.{stub_keeps_key}
+use Rattle.echo_toss.proofs.LinkFiles.{plain_drop, plain_take}
+use Rattle.echo_toss.proofs.Plain.{IsLineByte, Plain, all_append, plain_if, plain_line}
+
+-- what holds of each image of some lines holds of what is found among them
+found_of : (P Q : List ℕ → Type 0) (p : List ℕ → Bool) (f : List ℕ → List ℕ) → ((x : List ℕ) → Q x → P (f x)) → (xs : List (List ℕ)) → AllByRecursion Q xs
+    → (y : List ℕ) → find p (map f xs) ≡ Some y → P y
+found_of P Q p f image [] all y h = absurd (cc)
+found_of P Q p f image (x ∷ xs) all y h = elim (cases_Bool (p (f x))) [
+  | inl passes ↦
+      let same : Some (f x) ≡ Some y = sym (cond-true (p (f x)) (Some (f x)) (find p (map f xs)) passes) ∙ h in
+      let e : f x ≡ y = cc in
+      subst P e (image x all.0)
+  | inr fails ↦ found_of P Q p f image xs all.1 y (sym (cond-false (p (f x)) (Some (f x)) (find p (map f xs)) fails) ∙ h)
+]
+
+all_filter : (Q : List ℕ → Type 0) (p : List ℕ → Bool) (xs : List (List ℕ)) → AllByRecursion Q xs → AllByRecursion Q (filter p xs)
+all_filter Q p [] all = tt
+all_filter Q p (x ∷ xs) all =
+    let P : List (List ℕ) → Type 0 = AllByRecursion Q in
+    elim (cases_Bool (p x)) [
+      | inl passes ↦ subst P (sym (cond-true (p x) (x ∷ filter p xs) (filter p xs) passes)) (all.0, all_filter Q p xs all.1)
+      | inr fails ↦ subst P (sym (cond-false (p x) (x ∷ filter p xs) (filter p xs) fails)) (all_filter Q p xs all.1)
+    ]
+
+-- an id is a part of a kept line
+part_plain : (line : List ℕ) → Plain line → Plain (trimmed (after_word msgid_word line))
+unfolding trimmed after_word
+part_plain line h =
+    plain_take _ _ (plain_drop (prefix_len is_blank (drop (length msgid_word) (after_feeds line))) (drop (length msgid_word) (after_feeds line))
+    (plain_drop (length msgid_word) (after_feeds line) (plain_drop (prefix_len is_feed line) line h)))
+
+id_is_plain : (kept : List (List ℕ)) → AllByRecursion Plain kept → (id : List ℕ) → msgid_of kept ≡ Some id → Plain id
+unfolding msgid_of
+id_is_plain kept all id h =
+    found_of Plain Plain _ (λ line. trimmed (after_word msgid_word line)) part_plain (filter (begins msgid_word) kept) (all_filter Plain (begins msgid_word) kept all) id h
+
+line_is_plain : (line : List ℕ) → IsLine line → Plain line
+line_is_plain line h = recursion_from_All IsLineByte line h
+
+id_line_stays : (id : List ℕ) → AllByRecursion (λ line. not (is_shed line) ≡ true) (tail (id_line msgid_word id ∷ []))
+unfolding begins
+id_line_stays id = (refl, tt)
+
+bare_is_echo : (m : Filed) (id : List ℕ) → IsEcho m.echo → msgid_of m.echo.kept ≡ Some id → IsEcho (bare m.echo.tag id)
+bare_is_echo m id is h =
+    let plain = id_is_plain m.echo.kept (all_weaker IsLine Plain line_is_plain m.echo.kept (recursion_from_All IsLine m.echo.kept is.kept_lines)) id h in
+    let line : Plain (id_line msgid_word id) =
+    all_append IsLineByte msgid_word (codes " " ++ id) (plain_if msgid_word refl) ((λ e. omega arith, λ e. omega arith), plain) in
+    record {
+      tag_bytes = is.tag_bytes;
+      kept_lines = All-from_recursion IsLine (id_line msgid_word id ∷ []) (plain_line (id_line msgid_word id) line, tt);
+      ending = All-from_recursion (λ l. not (is_shed l) ≡ true) (tail (id_line msgid_word id ∷ [])) (id_line_stays id);
+      ascending = λ i j d less inside. absurd (omega arith);
+      seen_entries = λ k d inside. absurd (omega arith);
+      path_entries = λ k d inside. absurd (omega arith);
+    }
+
+stub_filed_with : (m : Filed) (id : Option (List ℕ)) → msgid_of m.echo.kept ≡ id → IsFiled m → IsFiled (stub_with m id)
+stub_filed_with m None e h = h
+stub_filed_with m (Some id) e h = record {
+  small_sender = h.small_sender;
+  date_len = h.date_len;
+  to_room = h.to_room;
+  to_bytes = h.to_bytes;
+  from_room = h.from_room;
+  from_bytes = h.from_bytes;
+  subject_room = h.subject_room;
+  subject_bytes = h.subject_bytes;
+  is_echo = bare_is_echo m id h.is_echo e;
+}
+
+-- a stub is a message that a base may have
+pub stub_filed : (m : Filed) → IsFiled m → IsFiled (stub_of m)
+unfolding stub_of
+stub_filed m h = stub_filed_with m (msgid_of m.echo.kept) refl h
+
+stubs_filed : (base : List Filed) → AllByRecursion IsFiled base → AllByRecursion IsFiled (map stub_of base)
+stubs_filed [] h = tt
+stubs_filed (m ∷ base) h = (stub_filed m h.0, stubs_filed base h.1)
+
+all_take : (n : ℕ) (base : List Filed) → AllByRecursion IsFiled base → AllByRecursion IsFiled (take n base)
+all_take zero base h = tt
+all_take (suc n) [] h = tt
+all_take (suc n) (m ∷ base) h = (h.0, all_take n base h.1)
+
+all_drop : (n : ℕ) (base : List Filed) → AllByRecursion IsFiled base → AllByRecursion IsFiled (drop n base)
+all_drop zero base h = h
+all_drop (suc n) [] h = tt
+all_drop (suc n) (m ∷ base) h = all_drop n base h.1
+
+-- the keys of a base are those that it had
+purged_keys : (n : ℕ) (base : List Filed) → map key_of (map stub_of (take n base) ++ drop n base) ≡ map key_of base
+purged_keys zero base = refl
+purged_keys (suc n) [] = refl
+purged_keys (suc n) (m ∷ base) =
+    let one = stub_keeps_key m in
+    let more = purged_keys n base in
+    λ i. one i ∷ more i
+
+known_by_keys : (base : List Filed) (key : Key) → is_known base key ≡ list_any (λ k. same_key k key) (map key_of base)
+known_by_keys [] key = refl
+known_by_keys (m ∷ base) key = ap (λ b. same_key (key_of m) key || b) (known_by_keys base key)
+
+same_known : (a b : List Filed) (k l : Key) → map key_of a ≡ map key_of b → k ≡ l → is_known a k ≡ false → is_known b l ≡ false
+same_known a b k l keys key h =
+    known_by_keys b l ∙ (λ i. list_any (λ x. same_key x (sym key i)) (sym keys i)) ∙ sym (known_by_keys a k) ∙ h
+
+same_first : (x y : Key) (xs ys : List Key) → x ∷ xs ≡ y ∷ ys → (x ≡ y) × (xs ≡ ys)
+same_first x y xs ys h = (cc, cc)
+
+no_pair : {X : Type 0} (y : X) (ys : List X) → [] ≡ y ∷ ys → ⊥
+no_pair y ys h = cc
+
+map_append : (a : List Filed) (m : Filed) → map key_of (a ++ m ∷ []) ≡ map key_of a ++ key_of m ∷ []
+map_append [] m = refl
+map_append (x ∷ a) m = ap (λ l. key_of x ∷ l) (map_append a m)
+
+new_by_keys : (earlier earlier' base base' : List Filed) → map key_of earlier ≡ map key_of earlier' → map key_of base ≡ map key_of base'
+    → AreNew earlier base → AreNew earlier' base'
+new_by_keys earlier earlier' [] [] e k h = tt
+new_by_keys earlier earlier' [] (y ∷ base') e k h = absurd (no_pair (key_of y) (map key_of base') k)
+new_by_keys earlier earlier' (x ∷ base) [] e k h = absurd (no_pair (key_of x) (map key_of base) (sym k))
+new_by_keys earlier earlier' (x ∷ base) (y ∷ base') e k h =
+    let same = same_first (key_of x) (key_of y) (map key_of base) (map key_of base') k in
+    let longer : map key_of (earlier ++ x ∷ []) ≡ map key_of (earlier' ++ y ∷ []) =
+    map_append earlier x ∙ (λ i. e i ++ same.0 i ∷ []) ∙ sym (map_append earlier' y) in
+    (same_known earlier earlier' (key_of x) (key_of y) e same.0 h.0, new_by_keys (earlier ++ x ∷ []) (earlier' ++ y ∷ []) base base' longer same.1 h.1)
+
+pub purge_keeps : (base : List Filed) (cursor : ℕ) → IsBase base cursor → IsBase (purged base cursor) cursor
+unfolding purged
+purge_keeps base cursor h = record {
+  each = all_append IsFiled (map stub_of (take cursor base)) (drop cursor base) (stubs_filed (take cursor base) (all_take cursor base h.each)) (all_drop cursor base h.each);
+  new = new_by_keys [] [] base (map stub_of (take cursor base) ++ drop cursor base) refl (sym (purged_keys cursor base)) h.new;
+  within =
+      let within = h.within in
+      omega (
+        arith,
+        length-append (map stub_of (take cursor base)) (drop cursor base),
+        length-map (take cursor base) stub_of,
+        length-take cursor base,
+        length-drop cursor base,
+      );
+}

@@ -1,0 +1,30 @@
+//! One tosser: link files, the base of filed messages, posting, tossing, scanning and purging.
+//!
+//! What each operation does to a base is defined in specs/ over lists of filed messages: `Posting`,
+//! `Tossing`, `Scanning` and `Purging`.
+//!
+//! Modules in reading order: `stamp` and `draft` (what is posted), `key` (what makes two messages
+//! one), `outcome` (what became of a tossed message), `packet` (what a scan makes), `fault`,
+//! and `laws` (what holds of the definitions).
+#![tactic(auto)]
+
+mod draft;
+mod fault;
+mod filed;
+mod key;
+mod laws;
+mod outcome;
+mod packet;
+mod stamp;
+
+pub use draft::Draft;
+pub use fault::{BaseFault, LinkFault, PostFault, ScanFault};
+pub use filed::Filed;
+pub use key::Key;
+pub use laws::{
+    base_laws, copy_laws, key_law, link_file_law, posting_laws, saved_base_law, set_law, stub_laws,
+    text_laws, toss_law,
+};
+pub use outcome::Outcome;
+pub use packet::Packet;
+pub use stamp::Stamp;
