@@ -1,0 +1,5 @@
+pub mod Walk
+pub mod Cycle
+pub mod Beyond
+pub mod Family
+pub mod Renaming

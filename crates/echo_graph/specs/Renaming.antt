@@ -1,0 +1,9 @@
+-- One graph whose members have two names.
+use Rattle.std.specs.Prelude.{◌≡◌, Bool, IsTrue}
+
+-- `name` and `back` take members that have a link to each other, and links to links
+pub record IsRenaming {A B : Type 0} (linked : A → A → Bool) (joined : B → B → Bool) (name : A → B) (back : B → A) : Type 0 where
+  pub links : (a c : A) → IsTrue (linked a c) → IsTrue (joined (name a) (name c))
+  pub links_back : (a c : B) → IsTrue (joined a c) → IsTrue (linked (back a) (back c))
+  pub back_name : (a c : A) → IsTrue (linked a c) → back (name a) ≡ a
+  pub name_back : (a c : B) → IsTrue (joined a c) → name (back a) ≡ a
