@@ -1,0 +1,2 @@
+//! Nets of systems that exchange echomail.
+#![tactic(auto)]
