@@ -13,20 +13,8 @@ use Rattle.echo_addr.specs.Address.{is_slash}
 use Rattle.echo_addr.specs.Entries.{is_blank, tokens, part_of, entry_from, pair_of, nearest_net, entry_of, judged, entries, dropped}
 use Rattle.echo_addr.specs.ShortLines.{shows_net, entry_token, entry_text, entries_text, line_of, IsNetNode, IsEntryByte, ShortLines, ReadBack}
 use Rattle.echo_addr.proofs.Decimals.{IsDigit, digits_of_decimal, part_of-decimal}
+use Rattle.echo_addr.proofs.Each.{weaker, joined, apart}
 use Rattle.echo_addr.proofs.Tokens.{IsInk, IsEnded, tokens_cons, tokens_nil, before_slash, after_slash, after_no_slash}
-
--- a weaker fact of each element
-weaker : (P Q : ℕ → Type 0) → ((b : ℕ) → P b → Q b) → (bs : List ℕ) → AllByRecursion P bs → AllByRecursion Q bs
-weaker P Q f [] h = tt
-weaker P Q f (b ∷ bs) h = (f b h.0, weaker P Q f bs h.1)
-
-pub joined : (P : ℕ → Type 0) (s t : List ℕ) → AllByRecursion P s → AllByRecursion P t → AllByRecursion P (s ++ t)
-joined P [] t hs ht = ht
-joined P (b ∷ s) t hs ht = (hs.0, joined P s t hs.1 ht)
-
-apart : (es fs : List NetNode) → AllByRecursion IsNetNode (es ++ fs) → AllByRecursion IsNetNode es × AllByRecursion IsNetNode fs
-apart [] fs h = (tt, h)
-apart (e ∷ es) fs h = let rest = apart es fs h.1 in ((h.0, rest.0), rest.1)
 
 digit_is_no_slash : (b : ℕ) → IsDigit b → is_slash b ≡ false
 digit_is_no_slash b h = ne_eqb b 47 (λ e. omega (arith, h.0))
@@ -79,7 +67,7 @@ pair_of-shown e h =
     ∙ ap (λ o. entry_from o (part_of (decimal e.node))) (part_of-decimal e.net h.net)
     ∙ ap (λ o. entry_from (Some e.net) o) (part_of-decimal e.node h.node)
 
-entry_from_none : (net : Option ℕ) → entry_from net None ≡ None
+pub entry_from_none : (net : Option ℕ) → entry_from net None ≡ None
 entry_from_none None = refl
 entry_from_none (Some net) = refl
 
@@ -196,7 +184,7 @@ lines_of_rests prefix (run ∷ runs) = ap (λ t. line_of prefix (entries_text No
 each_run : (runs : List (List NetNode)) → AllByRecursion IsNetNode (flat_map (λ r. r) runs) → AllByRecursion (AllByRecursion IsNetNode) runs
 each_run [] h = tt
 each_run (run ∷ runs) h =
-    let parts = apart run (flat_map (λ r. r) runs) h in (parts.0, each_run runs parts.1)
+    let parts = apart IsNetNode run (flat_map (λ r. r) runs) h in (parts.0, each_run runs parts.1)
 
 rests_bytes : (runs : List (List NetNode)) → AllByRecursion (AllByRecursion IsNetNode) runs
     → AllByRecursion (AllByRecursion IsEntryByte) (rests_of runs)

@@ -82,3 +82,20 @@ refusal b =
     else if not (has_digits b) then Some NotDigits
     else if not (is_in_bounds b) then Some OutOfRange
     else None
+
+-- the address that the parts write
+abbrev pub address_in : List ℕ → Address
+address_in b = record {
+  zone = digits_value 10 (zone_part b);
+  net = digits_value 10 (net_part b);
+  node = digits_value 10 (node_part b);
+}
+
+-- an address, or the refusal where there is one
+abbrev pub answer_of : Option AddrFault → Address → Result Address AddrFault
+answer_of None a = Ok a
+answer_of (Some f) a = Err f
+
+-- the refusal that applies first, or the address of the parts
+abbrev pub outcome : List ℕ → Result Address AddrFault
+outcome b = answer_of (refusal b) (address_in b)

@@ -20,7 +20,7 @@ part_of digits = number_within 65535 digits
 
 -- an entry of a net and a node, where both are there
 abbrev pub entry_from : Option ℕ → Option ℕ → Option NetNode
-entry_from None node = None
+entry_from None _ = None
 entry_from (Some net) None = None
 entry_from (Some net) (Some node) = Some (record { net = net; node = node })
 

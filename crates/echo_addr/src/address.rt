@@ -1,7 +1,16 @@
-ghost use Rattle.std.specs.Prelude.{◌≡◌};
-ghost use Rattle.echo_addr.specs.Address.{address_text, net_node_of};
+ghost use Rattle.std.specs.Prelude.{◌≡◌, ◌↔◌, ◌&&◌, false, min, IsNone, IfSome};
+ghost use Rattle.std.specs.Str.Parse.{digits_value};
+ghost use Rattle.echo_addr.specs.Digits.{is_number};
+ghost use Rattle.echo_addr.specs.Address.{AddressOf, address_text, address_within, has_shape, net_node_of, net_part, node_part, outcome, refusal, zone_part};
+ghost use Rattle.echo_addr.specs.declared.fault.AddrFault.{AddrFault};
 
+use crate::digits::number;
+use crate::fault::AddrFault;
+use crate::places::{count, place};
 use std::fmt;
+
+/// The greatest part of an address.
+const MOST: u32 = 32767;
 
 /// A system's address (FTS-5000): zone and net 1 to 32,767 and node 0 to 32,767 where `parse` made
 /// it. Ordered by zone, net and node.
@@ -34,6 +43,14 @@ impl fmt::Display for Address {
 }
 
 impl Address {
+    /// The address that the bytes write as `zone:net/node`. Zeros may stand in front of a number.
+    pub fn parse(bytes: &[u8]) -> Result<Address, AddrFault>
+        ensures ok { (a : Address) → (result ≡ Ok a) ↔ AddressOf bytes.now a }
+        ensures err { (f : AddrFault) → (result ≡ Err f) ↔ (refusal bytes.now ≡ Some f) }
+    {
+        judged(bytes)
+    }
+
     /// The net and the node, without the zone.
     pub fn net_node(self) -> NetNode
         ensures { result ≡ net_node_of self }
@@ -45,3 +62,64 @@ impl Address {
     }
 }
 
+/// The first refusal that applies, or else the address.
+fn judged(bytes: &[u8]) -> Result<Address, AddrFault>
+    ensures { result ≡ outcome bytes.now }
+{
+    if bytes.is_empty() {
+        return Err(AddrFault::Empty);
+    }
+    let Some((zone, net, node)) = parts_of(bytes) else {
+        return Err(AddrFault::Shape);
+    };
+    let Some((zone, net, node)) = numbers(zone, net, node) else {
+        return Err(AddrFault::NotDigits);
+    };
+    in_range(zone, net, node)
+}
+
+/// The numbers of three parts, as `number` gives them.
+fn numbers(zone: &[u8], net: &[u8], node: &[u8]) -> Option<(u32, u32, u32)>
+    ensures none { IsNone result ↔ ((is_number zone.now && is_number net.now && is_number node.now) ≡ false) }
+    ensures zone { IfSome result (λ p. p.0 ≡ min (digits_value 10 zone.now) 65536) }
+    ensures net { IfSome result (λ p. p.1 ≡ min (digits_value 10 net.now) 65536) }
+    ensures node { IfSome result (λ p. p.2 ≡ min (digits_value 10 node.now) 65536) }
+{
+    Some((number(zone)?, number(net)?, number(node)?))
+}
+
+/// What stands before the colon, between colon and slash, and after the slash.
+fn parts_of(bytes: &[u8]) -> Option<(&[u8], &[u8], &[u8])>
+    ensures none { IsNone result ↔ (has_shape bytes.now ≡ false) }
+    ensures zone { IfSome result (λ p. p.0.now ≡ zone_part bytes.now) }
+    ensures net { IfSome result (λ p. p.1.now ≡ net_part bytes.now) }
+    ensures node { IfSome result (λ p. p.2.now ≡ node_part bytes.now) }
+{
+    if count(bytes, b':') != 1 || count(bytes, b'/') != 1 {
+        return None;
+    }
+    let colon = place(bytes, b':')?;
+    let slash = place(bytes, b'/')?;
+    if slash <= colon {
+        return None;
+    }
+    Some((
+        &bytes[..colon],
+        &bytes[colon + 1..slash],
+        &bytes[slash + 1..],
+    ))
+}
+
+/// The address of these numbers, where each is in its range.
+fn in_range(zone: u32, net: u32, node: u32) -> Result<Address, AddrFault>
+    ensures { result ≡ address_within zone net node }
+{
+    if zone < 1 || zone > MOST || net < 1 || net > MOST || node > MOST {
+        return Err(AddrFault::OutOfRange);
+    }
+    Ok(Address {
+        zone: zone as u16,
+        net: net as u16,
+        node: node as u16,
+    })
+}

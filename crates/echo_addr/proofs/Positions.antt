@@ -1,0 +1,49 @@
+-- Where a byte stands first.
+use Rattle.std.proofs.Common.{◌≡◌, ℕ, suc, ◌+◌, ◌<◌, ◌≤◌, not, nat_lt, cond, Bool, true, false, List, [], ◌∷◌, length, refl, sym, ap, ◌∙◌, arith, Option, Some, None, inl, inr}
+use Rattle.std.specs.Option.{unwrap_or}
+use Rattle.std.specs.List.{position, position_or_len, prefix_len, count_by}
+use Rattle.std.proofs.lemmas.List.Sums.{prefix_len-le-length, sum_by-cons}
+use Rattle.std.proofs.lemmas.Bool.{cases_Bool, cond-true, cond-false, ltb-true, ltb-false}
+
+pub position_or_len-le : (p : ℕ → Bool) (xs : List ℕ) → position_or_len p xs ≤ length xs
+position_or_len-le p xs = prefix_len-le-length (λ x. not (p x)) xs
+
+-- a place that was found
+pub position_some : (p : ℕ → Bool) (xs : List ℕ) (i : ℕ) → position p xs ≡ Some i → (i ≡ position_or_len p xs) × (i < length xs)
+position_some p xs i e = elim (cases_Bool (nat_lt (position_or_len p xs) (length xs))) [
+  | inl y ↦
+      let found = cond-true _ (Some (position_or_len p xs)) None y in
+      let same : i ≡ position_or_len p xs = cc in
+      let lt = ltb-true _ _ y in
+      (same, omega arith)
+  | inr n ↦ let none = cond-false _ (Some (position_or_len p xs)) None n in absurd cc
+]
+
+-- none was found
+pub position_none : (p : ℕ → Bool) (xs : List ℕ) → position p xs ≡ None → position_or_len p xs ≡ length xs
+position_none p xs e = elim (cases_Bool (nat_lt (position_or_len p xs) (length xs))) [
+  | inl y ↦ let found = cond-true _ (Some (position_or_len p xs)) None y in absurd cc
+  | inr n ↦ let le = position_or_len-le p xs in let ge = ltb-false _ _ n in omega arith
+]
+
+-- where none passes, the count is 0
+pub count_none : (p : ℕ → Bool) (xs : List ℕ) → position_or_len p xs ≡ length xs → count_by p xs ≡ 0
+count_none p [] e = refl
+count_none p (x ∷ xs) e = elim (cases_Bool (p x)) [
+  | inl y ↦ let first = ap (λ t. cond (not t) (1 + position_or_len p xs) 0) y in absurd (omega (arith, first, e))
+  | inr n ↦
+      let first = ap (λ t. cond (not t) (1 + position_or_len p xs) 0) n in
+      let rest : position_or_len p xs ≡ length xs = omega (arith, first, e) in
+      sum_by-cons (λ b. cond (p b) 1 0) x xs ∙ ap (λ t. cond t 1 0 + count_by p xs) n ∙ ap (λ m. 0 + m) (count_none p xs rest)
+]
+
+-- the place that was found, or else the length
+pub unwrap_or-position : (p : ℕ → Bool) (xs : List ℕ) → unwrap_or (position p xs) (length xs) ≡ position_or_len p xs
+unwrap_or-position p xs = elim (cases_Bool (nat_lt (position_or_len p xs) (length xs))) [
+  | inl y ↦ ap (λ o. unwrap_or o (length xs)) (cond-true _ (Some (position_or_len p xs)) None y)
+  | inr n ↦
+      let le = position_or_len-le p xs in
+      let ge = ltb-false _ _ n in
+      let same : length xs ≡ position_or_len p xs = omega arith in
+      ap (λ o. unwrap_or o (length xs)) (cond-false _ (Some (position_or_len p xs)) None n) ∙ same
+]

@@ -1,0 +1,129 @@
+-- Runs of entries that fill a line: how to add one in front, and that a list has one cut into them.
+use Rattle.std.proofs.Common.{◌≡◌, ℕ, ◌+◌, ◌-◌, ◌<◌, ◌≤◌, List, [], ◌∷◌, ◌++◌, length, get_or, take, drop, refl, sym, ap, ◌∙◌, arith, Some, None, Option, inl, inr, ◌⊎◌, subst}
+use Rattle.std.specs.List.{flat_map}
+use Rattle.std.proofs.lemmas.List.{append_assoc, length-append, take-append-drop, take-append-le, take_at, drop_at, take_more, drop_more, drop_all, length-take-le, append-nil, nil_from_length}
+use Rattle.std.proofs.lemmas.Bool.{cases_lt, cases_order}
+use Rattle.echo_addr.specs.declared.address.NetNode.{NetNode}
+use Rattle.echo_addr.specs.ShortLines.{line_room, entry_text, entries_text, line_front, line_of, IsFull, IsRun, AreRuns, ShortLines}
+
+-- an entry to read past the end of a list
+abbrev nowhere : NetNode
+nowhere = record { net = 0; node = 0 }
+
+-- what follows a run that leaves no room for the next entry
+full_run : (prefix : List ℕ) (xs : List NetNode) (k : ℕ) → (k < length xs → line_room < length (line_front prefix (take (k + 1) xs)))
+    → IsFull prefix (take k xs) (drop k xs)
+full_run prefix xs k full = elim (cases_lt k (length xs)) [
+  | inl more ↦
+      let P : List NetNode → Type 0 = λ run. line_room < length (line_front prefix run) in
+      subst (IsFull prefix (take k xs)) (sym (drop_more xs k nowhere more)) (subst P (take_more xs k nowhere more) (full more))
+  | inr all ↦ subst (IsFull prefix (take k xs)) (sym (drop_all k xs all)) tt
+]
+
+-- the line of a run, and the lines of what follows it
+pub ShortLines-cons : (prefix : List ℕ) (xs : List NetNode) (k : ℕ) (tail : List ℕ) → 0 < k → k ≤ length xs
+    → length (line_front prefix (take k xs)) ≤ line_room
+    → (k < length xs → line_room < length (line_front prefix (take (k + 1) xs)))
+    → ShortLines prefix (drop k xs) tail
+    → ShortLines prefix xs (line_of prefix (entries_text None (take k xs)) ++ tail)
+ShortLines-cons prefix xs k tail some within room full later = record {
+  runs = take k xs ∷ later.runs;
+  cut = sym (take-append-drop k xs) ∙ ap (λ t. take k xs ++ t) later.cut;
+  lines = ap (λ t. line_of prefix (entries_text None (take k xs)) ++ t) later.lines;
+  each = (
+    record {
+      some = omega (arith, length-take-le k xs within);
+      room = room;
+      full = subst (IsFull prefix (take k xs)) later.cut (full_run prefix xs k full);
+    },
+    later.each,
+  );
+}
+
+-- no entries, no lines
+pub ShortLines-nil : (prefix : List ℕ) → ShortLines prefix [] []
+ShortLines-nil prefix = record { runs = []; cut = refl; lines = refl; each = tt }
+
+-- a longer list takes no fewer bytes
+longer : (before : Option ℕ) (s t : List NetNode) → length (entries_text before s) ≤ length (entries_text before (s ++ t))
+longer before [] t = omega arith
+longer before (e ∷ s) t =
+    omega (
+      arith,
+      longer (Some e.net) s t,
+      length-append (entry_text before e) (entries_text (Some e.net) s),
+      length-append (entry_text before e) (entries_text (Some e.net) (s ++ t)),
+    )
+
+-- a run that leaves no room for the next entry is no part of a longer one
+no_longer : (prefix : List ℕ) (r x q y : List NetNode) → r ++ x ≡ q ++ y → IsFull prefix r x → length (line_front prefix q) ≤ line_room
+    → length q ≤ length r
+no_longer prefix r [] q y e full room =
+    omega (arith, ap length e, length-append r [], length-append q y)
+no_longer prefix r (n ∷ x) q y e full room = elim (cases_lt (length r) (length q)) [
+  | inr le ↦ le
+  | inl lt ↦
+      let k = length r + 1 in
+      let front : take k q ≡ r ++ n ∷ [] =
+      sym (take-append-le k q y (omega arith)) ∙ ap (take k) (sym e) ∙ ap (take k) (sym (append_assoc r (n ∷ []) x))
+      ∙ take_at (r ++ n ∷ []) x k (omega (arith, length-append r (n ∷ []))) in
+      let whole : (r ++ n ∷ []) ++ drop k q ≡ q = ap (λ t. t ++ drop k q) (sym front) ∙ take-append-drop k q in
+      let le : length (entries_text None (r ++ n ∷ [])) ≤ length (entries_text None q) =
+      let P : List NetNode → Type 0 = λ l. length (entries_text None (r ++ n ∷ [])) ≤ length (entries_text None l) in
+      subst P whole (longer None (r ++ n ∷ []) (drop k q)) in
+      absurd (omega (arith, length-append prefix (entries_text None (r ++ n ∷ [])), length-append prefix (entries_text None q)))
+]
+
+-- two ways to cut a list are one
+one_cut : (prefix : List ℕ) (rs qs : List (List NetNode)) → flat_map (λ r. r) rs ≡ flat_map (λ r. r) qs → AreRuns prefix rs → AreRuns prefix qs
+    → rs ≡ qs
+one_cut prefix [] [] e hr hq = refl
+one_cut prefix [] (q ∷ qs) e hr hq = absurd (omega (arith, ap length e, length-append q (flat_map (λ r. r) qs), hq.0.some))
+one_cut prefix (r ∷ rs) [] e hr hq = absurd (omega (arith, ap length e, length-append r (flat_map (λ r. r) rs), hr.0.some))
+one_cut prefix (r ∷ rs) (q ∷ qs) e hr hq =
+    let x = flat_map (λ r. r) rs in
+    let y = flat_map (λ r. r) qs in
+    let below = no_longer prefix r x q y e hr.0.full hq.0.room in
+    let above = no_longer prefix q y r x (sym e) hq.0.full hr.0.room in
+    let same : length r ≡ length q = omega arith in
+    let first : r ≡ q = sym (take_at r x (length q) same) ∙ ap (take (length q)) e ∙ take_at q y (length q) refl in
+    let later : x ≡ y = sym (drop_at r x (length q) same) ∙ ap (drop (length q)) e ∙ drop_at q y (length q) refl in
+    ap (λ l. l ∷ rs) first ∙ ap (λ l. q ∷ l) (one_cut prefix rs qs later hr.1 hq.1)
+
+-- a list has one spelling
+pub one_spelling : (prefix : List ℕ) (list : List NetNode) (b c : List ℕ) → ShortLines prefix list b → ShortLines prefix list c → b ≡ c
+one_spelling prefix list b c hb hc =
+    hb.lines ∙ ap (flat_map (λ run. line_of prefix (entries_text None run))) (one_cut prefix hb.runs hc.runs (sym hb.cut ∙ hc.cut) hb.each hc.each)
+    ∙ sym hc.lines
+
+pub nothing_written : (prefix b : List ℕ) → ShortLines prefix [] b → b ≡ []
+nothing_written prefix b h = one_spelling prefix [] b [] h (ShortLines-nil prefix)
+
+-- lines so far, which further lines of the rest complete
+abbrev pub Completes : List ℕ → List NetNode → List NetNode → List ℕ → Type 0
+Completes prefix xs rest lines = (tail : List ℕ) → ShortLines prefix rest tail → ShortLines prefix xs (lines ++ tail)
+
+pub Completes-more : (prefix : List ℕ) (xs rest run after : List NetNode) (lines more : List ℕ) (k : ℕ)
+    → length prefix ≤ line_room → run ≡ take k rest → after ≡ drop k rest → 0 < k → k ≤ length rest
+    → length (entries_text None (take k rest)) ≤ line_room - length prefix
+    → (k < length rest → line_room - length prefix < length (entries_text None (take (k + 1) rest)))
+    → more ≡ lines ++ line_of prefix (entries_text None run)
+    → Completes prefix xs rest lines → Completes prefix xs after more
+Completes-more prefix xs rest run after lines more k short run-is after-is some within room full more-is completes = λ tail later.
+    let line = line_of prefix (entries_text None (take k rest)) in
+    let later' : ShortLines prefix (drop k rest) tail =
+    let P : List NetNode → Type 0 = λ l. ShortLines prefix l tail in subst P after-is later in
+    let lines' = ShortLines-cons prefix rest k tail some within
+    (omega (arith, length-append prefix (entries_text None (take k rest))))
+    (λ lt. omega (arith, full lt, length-append prefix (entries_text None (take (k + 1) rest)))) later' in
+    let Q : List ℕ → Type 0 = λ b. ShortLines prefix xs b in
+    subst Q
+    (sym (append_assoc lines line tail) ∙ ap (λ r. (lines ++ line_of prefix (entries_text None r)) ++ tail) (sym run-is) ∙ ap (λ t. t ++ tail) (sym more-is))
+    (completes (line ++ tail) lines')
+
+pub Completes-all : (prefix : List ℕ) (xs rest : List NetNode) (lines : List ℕ) → length rest ≡ 0 → Completes prefix xs rest lines
+    → ShortLines prefix xs lines
+Completes-all prefix xs rest lines empty completes =
+    let P : List NetNode → Type 0 = λ l. ShortLines prefix l [] in
+    let Q : List ℕ → Type 0 = λ b. ShortLines prefix xs b in
+    subst Q (append-nil lines) (completes [] (subst P (sym (nil_from_length rest empty)) (ShortLines-nil prefix)))

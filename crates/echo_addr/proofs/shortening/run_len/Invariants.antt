@@ -1,0 +1,9 @@
+use Rattle.std.proofs.Common.{◌≤◌}
+use Rattle.echo_addr.proofs.Writing.{Measured}
+use Rattle.echo_addr.proofs.shortening.run_len.Given as goal
+
+abbrev pub invariant-loop-i : goal.invariant-loop-i
+invariant-loop-i l = record {
+  measured : Measured l.entries l.i l.before l.width;
+  fits : l.width ≤ l.room;
+}

@@ -1,0 +1,99 @@
+ghost use Rattle.std.specs.Prelude.{◌≡◌, ◌+◌, ◌<◌, ◌≤◌, ◌==◌, [], ◌∷◌, length, not, position, MatchOption, IfOk, IfSome, IsTrue};
+ghost use Rattle.std.specs.Option.{option_or};
+ghost use Rattle.echo_addr.specs.Entries.{dropped, entries, entry_from, is_blank, pair_of, part_of, tokens};
+
+use crate::address::NetNode;
+use crate::digits::number;
+use crate::places::place;
+use std::alloc::{AllocError, Global};
+
+/// The entries of what follows the colon of a SEEN-BY or PATH line (FTS-0004), in order, and how
+/// many tokens were dropped. A token is `net/node`, or a node with the net of the nearest such token
+/// before it; each number is decimal and at most 65,535.
+pub fn read_list(alloc: Global, bytes: &[u8]) -> Result<(Vec<NetNode>, usize), AllocError>
+    ensures entries { IfOk result (λ r. r.0.items ≡ entries bytes.now) }
+    ensures dropped { IfOk result (λ r. r.1 ≡ dropped bytes.now) }
+{
+    let mut found = Vec::new(alloc);
+    let mut dropped = 0;
+    let mut net = None;
+    let mut rest = bytes;
+    'tokens: while let Some((token, after)) = next_token(rest) {
+        match entry(net, token) {
+            Some(entry) => {
+                found.push(entry)?;
+                net = Some(entry.net);
+            }
+            None => dropped += 1,
+        }
+        rest = after;
+    }
+    Ok((found, dropped))
+}
+
+/// Whether lists are cut at the byte.
+fn is_blank(byte: u8) -> bool
+    ensures { result ≡ is_blank byte }
+{
+    byte == b' ' || byte == b'\t' || byte == b'\n'
+}
+
+/// The first token, and what stands after it.
+fn next_token(bytes: &[u8]) -> Option<(&[u8], &[u8])>
+    ensures token { MatchOption result (tokens bytes.now ≡ []) (λ r. tokens bytes.now ≡ r.0.now ∷ tokens r.1.now) }
+    ensures shorter { IfSome result (λ r. length r.1.now < length bytes.now) }
+{
+    let begun = &bytes[first_other(bytes)?..];
+    let end = first_blank(begun).unwrap_or(begun.len());
+    Some(begun.split_at(end))
+}
+
+/// Where the first blank stands.
+fn first_blank(bytes: &[u8]) -> Option<usize>
+    ensures { result ≡ position is_blank bytes.now }
+{
+    bytes.iter().position(|b| is_blank(*b))
+}
+
+/// Where the first byte stands that is no blank.
+fn first_other(bytes: &[u8]) -> Option<usize>
+    ensures { result ≡ position (λ b. not (is_blank b)) bytes.now }
+{
+    bytes.iter().position(|b| !is_blank(*b))
+}
+
+/// The entry of the token, where `net` is that of the nearest `net/node` before it.
+fn entry(net: Option<u16>, token: &[u8]) -> Option<NetNode>
+    ensures { result ≡ option_or (pair_of token.now) (entry_from net (part_of token.now)) }
+{
+    pair(token).or(alone(net, token))
+}
+
+/// The entry of a token `net/node`.
+fn pair(token: &[u8]) -> Option<NetNode>
+    ensures { result ≡ pair_of token.now }
+{
+    let slash = place(token, b'/')?;
+    let net = part(&token[..slash])?;
+    let node = part(&token[slash + 1..])?;
+    Some(NetNode { net, node })
+}
+
+/// The entry of a node alone.
+fn alone(net: Option<u16>, token: &[u8]) -> Option<NetNode>
+    ensures { result ≡ entry_from net (part_of token.now) }
+{
+    let net = net?;
+    let node = part(token)?;
+    Some(NetNode { net, node })
+}
+
+/// A net or a node.
+fn part(digits: &[u8]) -> Option<u16>
+    ensures { result ≡ part_of digits.now }
+{
+    match number(digits) {
+        Some(value) if value <= 65535 => Some(value as u16),
+        _ => None,
+    }
+}

@@ -1,0 +1,135 @@
+-- What lines of one kind begin with, and that they are of no other kind.
+use Rattle.std.proofs.Common.{◌≡◌, ℕ, suc, ◌+◌, ◌<◌, ◌≤◌, ◌==◌, ◌&&◌, ◌||◌, not, nat_eq, Bool, true, false, cond, List, [], ◌∷◌, ◌++◌, length, drop, take, refl, sym, ap, subst, ◌∙◌, arith, inl, inr, ◌⊎◌}
+use Rattle.std.specs.List.{list_all, prefix_len, starts_with}
+use Rattle.std.proofs.lemmas.Bool.{and_parts, cases_Bool, cond-true, cond-false, eqb-true, not-true, or_left, or_right}
+use Rattle.echo_addr.specs.Entries.{is_blank}
+use Rattle.echo_addr.specs.ShortLines.{path_prefix, seen_prefix}
+use Rattle.echo_text.specs.Lines.{after_feeds, after_word, area_word, begins, control_word, is_area, is_blank_line, is_control, is_feed, is_path, is_seen}
+use Rattle.echo_text.specs.Tail.{is_kept_control, is_tail_line}
+use Rattle.echo_text.specs.Echo.{is_shed}
+
+-- lines that begin with their word
+pub area_is_area : (rest : List ℕ) → is_area (area_word ++ rest) ≡ true
+unfolding begins
+area_is_area rest = refl
+
+pub seen_is_seen : (rest : List ℕ) → is_seen (seen_prefix ++ rest) ≡ true
+unfolding begins
+seen_is_seen rest = refl
+
+pub path_is_path : (rest : List ℕ) → is_path (path_prefix ++ rest) ≡ true
+unfolding begins
+path_is_path rest = refl
+
+pub path_is_control : (rest : List ℕ) → is_control (path_prefix ++ rest) ≡ true
+unfolding begins
+path_is_control rest = refl
+
+pub path_is_not_seen : (rest : List ℕ) → is_seen (path_prefix ++ rest) ≡ false
+unfolding begins
+path_is_not_seen rest = refl
+
+pub seen_is_not_control : (rest : List ℕ) → is_control (seen_prefix ++ rest) ≡ false
+unfolding begins
+seen_is_not_control rest = refl
+
+pub seen_is_not_path : (rest : List ℕ) → is_path (seen_prefix ++ rest) ≡ false
+unfolding begins
+seen_is_not_path rest = refl
+
+-- what follows the word
+pub after_area : (rest : List ℕ) → after_word area_word (area_word ++ rest) ≡ rest
+unfolding after_word
+after_area rest = refl
+
+pub after_seen : (rest : List ℕ) → after_word seen_prefix (seen_prefix ++ rest) ≡ rest
+unfolding after_word
+after_seen rest = refl
+
+pub after_path : (rest : List ℕ) → after_word path_prefix (path_prefix ++ rest) ≡ rest
+unfolding after_word
+after_path rest = refl
+
+-- SEEN-BY and PATH lines belong to the tail, and neither is kept there
+pub seen_in_tail : (rest : List ℕ) → is_tail_line (seen_prefix ++ rest) ≡ true
+seen_in_tail rest = or_left _ _ (or_left _ _ (seen_is_seen rest))
+
+pub path_in_tail : (rest : List ℕ) → is_tail_line (path_prefix ++ rest) ≡ true
+path_in_tail rest = or_left _ _ (or_right _ _ (path_is_control rest))
+
+pub seen_not_kept : (rest : List ℕ) → is_kept_control (seen_prefix ++ rest) ≡ false
+seen_not_kept rest = ap (λ b. b && not (is_path (seen_prefix ++ rest))) (seen_is_not_control rest)
+
+pub path_not_kept : (rest : List ℕ) → is_kept_control (path_prefix ++ rest) ≡ false
+path_not_kept rest = ap (λ b. is_control (path_prefix ++ rest) && not b) (path_is_path rest) ∙ ap (λ b. b && false) (path_is_control rest)
+
+-- bytes that begin with 01 do not begin with SEEN-BY
+one_is_not_seen : (bytes : List ℕ) → starts_with nat_eq bytes control_word ≡ true → starts_with nat_eq bytes seen_prefix ≡ false
+one_is_not_seen [] one = absurd cc
+one_is_not_seen (b ∷ bytes) one =
+    let is : 1 ≡ b = eqb-true 1 b (and_parts (1 == b) true one).0 in
+    subst (λ c. starts_with nat_eq (c ∷ bytes) seen_prefix ≡ false) is refl
+
+pub control_is_not_seen : (line : List ℕ) → is_control line ≡ true → is_seen line ≡ false
+unfolding begins
+control_is_not_seen line control = one_is_not_seen (after_feeds line) control
+
+one_more : (n : ℕ) → 1 + n ≡ suc n
+one_more n = omega arith
+
+-- the line feeds at the front of a line of blanks leave blanks
+blanks_after_feeds : (line : List ℕ) → list_all is_blank line ≡ true → list_all is_blank (after_feeds line) ≡ true
+blanks_after_feeds [] blank = refl
+blanks_after_feeds (b ∷ line) blank = elim (cases_Bool (is_feed b)) [
+  | inl y ↦
+      ap (λ n. list_all is_blank (drop n (b ∷ line))) (cond-true (is_feed b) (1 + prefix_len is_feed line) 0 y)
+      ∙ ap (λ n. list_all is_blank (drop n (b ∷ line))) (one_more (prefix_len is_feed line))
+      ∙ blanks_after_feeds line (and_parts (is_blank b) (list_all is_blank line) blank).1
+  | inr n ↦ ap (λ n. list_all is_blank (drop n (b ∷ line))) (cond-false (is_feed b) (1 + prefix_len is_feed line) 0 n) ∙ blank
+]
+
+-- blanks do not begin with 01
+one_is_not_blank : (bytes : List ℕ) → starts_with nat_eq bytes control_word ≡ true → list_all is_blank bytes ≡ false
+one_is_not_blank [] one = absurd cc
+one_is_not_blank (b ∷ bytes) one =
+    let is : 1 ≡ b = eqb-true 1 b (and_parts (1 == b) true one).0 in
+    subst (λ c. list_all is_blank (c ∷ bytes) ≡ false) is refl
+
+pub control_is_not_blank : (line : List ℕ) → is_control line ≡ true → is_blank_line line ≡ false
+unfolding begins
+control_is_not_blank line control = elim (cases_Bool (is_blank_line line)) [
+  | inl y ↦ let isnt = one_is_not_blank (after_feeds line) control in let is = blanks_after_feeds line y in absurd cc
+  | inr n ↦ n
+]
+
+-- a tail line that is not shed is kept
+pub kept_unless_shed : (line : List ℕ) → is_tail_line line ≡ true → not (is_shed line) ≡ true → is_kept_control line ≡ true
+kept_unless_shed line tail_line left =
+    by (is_seen line) (is_control line) (is_path line) (is_blank_line line) tail_line left
+  where
+    by : (seen control path blank : Bool) → (seen || control || blank) ≡ true → not (seen || path || blank) ≡ true → (control && not path) ≡ true
+    by true control path blank t l = absurd cc
+    by false control true blank t l = absurd cc
+    by false control false true t l = absurd cc
+    by false true false false t l = refl
+    by false false false false t l = absurd cc
+
+-- a kept line of the tail is not shed
+pub not_shed_if_kept : (line : List ℕ) → is_kept_control line ≡ true → not (is_shed line) ≡ true
+not_shed_if_kept line kept =
+    let control = (and_parts (is_control line) (not (is_path line)) kept).0 in
+    by (is_control line) (is_seen line) (is_path line) (is_blank_line line) kept (control_is_not_seen line control) (control_is_not_blank line control)
+  where
+    by : (control seen path blank : Bool) → (control && not path) ≡ true → seen ≡ false → blank ≡ false → not (seen || path || blank) ≡ true
+    by true false false false k s b = refl
+    by true false true false k s b = absurd cc
+    by false seen path blank k s b = absurd cc
+    by true true path blank k s b = absurd cc
+    by true false path true k s b = absurd cc
+
+-- a kept line of the tail is no SEEN-BY line and no PATH line
+pub kept_no_seen : (line : List ℕ) → is_kept_control line ≡ true → is_seen line ≡ false
+kept_no_seen line kept = control_is_not_seen line (and_parts (is_control line) (not (is_path line)) kept).0
+
+pub kept_no_path : (line : List ℕ) → is_kept_control line ≡ true → is_path line ≡ false
+kept_no_path line kept = not-true (is_path line) (and_parts (is_control line) (not (is_path line)) kept).1

@@ -1,0 +1,88 @@
+-- The longest ending of lines that is made of control lines.
+use Rattle.std.proofs.Common.{◌≡◌, ℕ, ◌&&◌, Bool, true, false, cond, List, [], ◌∷◌, ◌++◌, refl, sym, ap, ◌∙◌, inl, inr, ◌⊎◌, if◌then◌else◌}
+use Rattle.std.specs.List.{list_all}
+use Rattle.std.proofs.lemmas.List.Folds.{list_all-append}
+use Rattle.std.proofs.lemmas.Bool.{and_cases, and_left, and_parts, and_right, cases_Bool, cond-true, cond-false}
+use Rattle.echo_text.specs.Tail.{body, is_tail_line, tail}
+
+-- the lines of which the tail is made
+abbrev pub all_tail : List (List ℕ) → Bool
+all_tail lines = list_all is_tail_line lines
+
+pub tail_whole : (lines : List (List ℕ)) → all_tail lines ≡ true → tail lines ≡ lines
+tail_whole [] all = refl
+tail_whole (line ∷ more) all = cond-true (all_tail (line ∷ more)) (line ∷ more) (tail more) all
+
+pub tail_later : (line : List ℕ) (more : List (List ℕ)) → all_tail (line ∷ more) ≡ false → tail (line ∷ more) ≡ tail more
+tail_later line more not_all = cond-false (all_tail (line ∷ more)) (line ∷ more) (tail more) not_all
+
+pub body_none : (lines : List (List ℕ)) → all_tail lines ≡ true → body lines ≡ []
+body_none [] all = refl
+body_none (line ∷ more) all = cond-true (all_tail (line ∷ more)) [] (line ∷ body more) all
+
+pub body_more : (line : List ℕ) (more : List (List ℕ)) → all_tail (line ∷ more) ≡ false → body (line ∷ more) ≡ line ∷ body more
+body_more line more not_all = cond-false (all_tail (line ∷ more)) [] (line ∷ body more) not_all
+
+-- whether all are tail lines does not change by tail lines at the end
+all_tail-append : (lines ending : List (List ℕ)) → all_tail ending ≡ true → all_tail (lines ++ ending) ≡ all_tail lines
+all_tail-append [] ending all = all
+all_tail-append (line ∷ more) ending all = ap (λ b. is_tail_line line && b) (all_tail-append more ending all)
+
+-- tail lines at the end belong to the tail
+pub tail-append : (lines ending : List (List ℕ)) → all_tail ending ≡ true → tail (lines ++ ending) ≡ tail lines ++ ending
+tail-append [] ending all = tail_whole ending all
+tail-append (line ∷ more) ending all = elim (cases_Bool (all_tail (line ∷ more))) [
+  | inl y ↦
+      tail_whole (line ∷ (more ++ ending)) (all_tail-append (line ∷ more) ending all ∙ y)
+      ∙ ap (λ ls. ls ++ ending) (sym (tail_whole (line ∷ more) y))
+  | inr n ↦
+      tail_later line (more ++ ending) (all_tail-append (line ∷ more) ending all ∙ n)
+      ∙ tail-append more ending all ∙ ap (λ ls. ls ++ ending) (sym (tail_later line more n))
+]
+
+pub body-append : (lines ending : List (List ℕ)) → all_tail ending ≡ true → body (lines ++ ending) ≡ body lines
+body-append [] ending all = body_none ending all
+body-append (line ∷ more) ending all = elim (cases_Bool (all_tail (line ∷ more))) [
+  | inl y ↦
+      body_none (line ∷ (more ++ ending)) (all_tail-append (line ∷ more) ending all ∙ y) ∙ sym (body_none (line ∷ more) y)
+  | inr n ↦
+      body_more line (more ++ ending) (all_tail-append (line ∷ more) ending all ∙ n)
+      ∙ ap (λ ls. line ∷ ls) (body-append more ending all) ∙ sym (body_more line more n)
+]
+
+-- body and tail are the lines
+pub body_and_tail : (lines : List (List ℕ)) → body lines ++ tail lines ≡ lines
+body_and_tail [] = refl
+body_and_tail (line ∷ more) = elim (cases_Bool (all_tail (line ∷ more))) [
+  | inl y ↦
+      ap (λ ls. ls ++ tail (line ∷ more)) (body_none (line ∷ more) y) ∙ tail_whole (line ∷ more) y
+  | inr n ↦
+      ap (λ ls. ls ++ tail (line ∷ more)) (body_more line more n)
+      ∙ ap (λ ls. line ∷ (body more ++ ls)) (tail_later line more n) ∙ ap (λ ls. line ∷ ls) (body_and_tail more)
+]
+
+pub tail_is_tail : (lines : List (List ℕ)) → all_tail (tail lines) ≡ true
+tail_is_tail [] = refl
+tail_is_tail (line ∷ more) = elim (cases_Bool (all_tail (line ∷ more))) [
+  | inl y ↦ ap all_tail (tail_whole (line ∷ more) y) ∙ y
+  | inr n ↦ ap all_tail (tail_later line more n) ∙ tail_is_tail more
+]
+
+-- a body that is not whole still ends with a line that is no tail line
+body_not_tail : (lines : List (List ℕ)) → all_tail lines ≡ false → all_tail (body lines) ≡ false
+body_not_tail [] not_all = not_all
+body_not_tail (line ∷ more) not_all =
+    ap all_tail (body_more line more not_all) ∙ (elim (and_cases (is_tail_line line) (all_tail more) not_all) [
+      | inl here ↦ and_left (is_tail_line line) (all_tail (body more)) here
+      | inr later ↦ and_right (is_tail_line line) (all_tail (body more)) (body_not_tail more later)
+    ])
+
+-- the body has no tail of its own
+pub tail_of_body : (lines : List (List ℕ)) → tail (body lines) ≡ []
+tail_of_body [] = refl
+tail_of_body (line ∷ more) = elim (cases_Bool (all_tail (line ∷ more))) [
+  | inl y ↦ ap tail (body_none (line ∷ more) y)
+  | inr n ↦
+      let is = body_more line more n in
+      ap tail is ∙ tail_later line (body more) (ap all_tail (sym is) ∙ body_not_tail (line ∷ more) n) ∙ tail_of_body more
+]

@@ -1,0 +1,81 @@
+-- What a text says (FTS-0004, FTS-0009), and the text that is written for it.
+use Rattle.std.specs.Prelude.{◌≡◌, ◌≢◌, ℕ, ◌+◌, nat_lt, ◌↔◌, ◌||◌, not, Bool, true, List, [], ◌∷◌, ◌++◌, length, All, AllPairs, Contains, Option, None, filter, find, map}
+use Rattle.std.specs.List.{AllPass, flat_map, last_or}
+use Rattle.echo_addr.specs.declared.address.NetNode.{NetNode}
+use Rattle.echo_addr.specs.ShortLines.{ComesBefore, IsNetNode, ShortLines, path_prefix, seen_prefix}
+use Rattle.echo_text.specs.Lines.{after_feeds, after_word, area_tag, area_word, begins, first_line, is_area, is_blank_line, is_origin, is_path, is_seen, is_tag, is_tear, later_lines, lines, msgid_word, reply_word, trimmed}
+use Rattle.echo_text.specs.Tail.{all_dropped, all_entries, kept_of, path_lists, seen_lists, tail}
+
+-- a text taken apart: the tag in upper case, the lines that are kept, the entries of SEEN-BY and PATH
+pub record Echo : Type 0 where
+  pub tag : List ℕ
+  pub kept : List (List ℕ)
+  pub seen : List NetNode
+  pub path : List NetNode
+
+-- no byte is 00
+abbrev pub HasNoZero : List ℕ → Type 0
+HasNoZero bytes = All (λ b. b ≢ 0) bytes
+
+-- bytes that are one line of a text: none is 00 or 0D
+abbrev pub IsLine : List ℕ → Type 0
+IsLine line = All (λ b. (b ≢ 0) × (b ≢ 13)) line
+
+-- a line that no kept ending may have: SEEN-BY, PATH or blank
+abbrev pub is_shed : List ℕ → Bool
+is_shed line = is_seen line || is_path line || is_blank_line line
+
+-- what holds of each `Echo`
+pub record IsEcho (e : Echo) : Type 0 where
+  pub tag_bytes : is_tag e.tag ≡ true
+  pub kept_lines : All IsLine e.kept
+  pub ending : AllPass (λ line. not (is_shed line)) (tail e.kept)
+  pub ascending : AllPairs ComesBefore e.seen
+  pub seen_entries : All IsNetNode e.seen
+  pub path_entries : All IsNetNode e.path
+
+-- the list has the members of the other, ascending and without repeats
+pub record IsSetOf (set all : List NetNode) : Type 0 where
+  pub ascending : AllPairs ComesBefore set
+  pub members : (entry : NetNode) → Contains set entry ↔ Contains all entry
+
+-- the text is an echo text that says e; so many tokens of its SEEN-BY and PATH lines are no entry
+pub record EchoOf (text : List ℕ) (e : Echo) (dropped : ℕ) : Type 0 where
+  pub area : is_area (first_line (lines text)) ≡ true
+  pub tag : e.tag ≡ area_tag (first_line (lines text))
+  pub tag_bytes : is_tag e.tag ≡ true
+  pub kept : e.kept ≡ kept_of (later_lines (lines text))
+  pub seen : IsSetOf e.seen (all_entries (seen_lists (later_lines (lines text))))
+  pub path : e.path ≡ all_entries (path_lists (later_lines (lines text)))
+  pub dropped_tokens : dropped ≡ all_dropped (seen_lists (later_lines (lines text))) + all_dropped (path_lists (later_lines (lines text)))
+
+-- a line and its 0D
+abbrev pub ended : List ℕ → List ℕ
+ended line = line ++ 13 ∷ []
+
+-- the bytes are the text written for e: AREA line, kept lines, SEEN-BY lines, PATH lines
+pub record TextOf (e : Echo) (bytes : List ℕ) : Type 0 where
+  pub seen_lines : List ℕ
+  pub path_lines : List ℕ
+  pub seen : ShortLines seen_prefix e.seen seen_lines
+  pub path : ShortLines path_prefix e.path path_lines
+  pub whole : bytes ≡ ended (area_word ++ e.tag) ++ (flat_map ended e.kept ++ (seen_lines ++ path_lines))
+
+-- what follows the colon of the first line of this kind with more than blanks after it, without blanks at both ends
+abbrev pub first_after : List ℕ → List (List ℕ) → Option (List ℕ)
+first_after word kept =
+    find (λ found. nat_lt 0 (length found)) (map (λ line. trimmed (after_word word line)) (filter (begins word) kept))
+
+-- the id of the first MSGID line that has one, and of the first REPLY line
+unfoldable pub msgid_of : List (List ℕ) → Option (List ℕ)
+msgid_of kept = first_after msgid_word kept
+
+unfoldable pub reply_of : List (List ℕ) → Option (List ℕ)
+reply_of kept = first_after reply_word kept
+
+-- the last tear line and the last origin line, without the line feeds at its front
+unfoldable pub tear_of : List (List ℕ) → Option (List ℕ)
+tear_of kept = last_or None (map after_feeds (filter is_tear kept))
+
+unfoldable pub origin_of : List (List ℕ) → Option (List ℕ)
+origin_of kept = last_or None (map after_feeds (filter is_origin kept))

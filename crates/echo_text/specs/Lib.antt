@@ -1,0 +1,4 @@
+pub mod Lines
+pub mod Tail
+pub mod Echo
+pub mod Refusal

@@ -1,0 +1,66 @@
+-- Link files, filed messages and their keys.
+use Rattle.std.specs.Prelude.{ℕ, ◌&&◌, Bool, true, false, List, [], ◌∷◌, Option, Some, None, option_map, unwrap_or, is_some, bytes_eq, find}
+use Rattle.std.specs.Cmp.Lexicographic.{pointwise}
+use Rattle.std.specs.List.{list_any}
+use Rattle.echo_addr.specs.declared.address.Address.{Address}
+use Rattle.echo_text.specs.Echo.{Echo, msgid_of}
+use Rattle.echo_toss.specs.declared.key.Key.{Key}
+use Rattle.echo_toss.specs.declared.key.Key.TheVariants.{ByContent, ById}
+use Rattle.echo_toss.specs.Sets.{same_address}
+
+-- an area of a link file: its tag and its links, in order
+pub record Area : Type 0 where
+  pub tag : List ℕ
+  pub links : List Address
+
+-- a link file: the own address, the name and the areas, in order
+pub record LinkFile : Type 0 where
+  pub system : Address
+  pub name : List ℕ
+  pub areas : List Area
+
+-- the area with this tag
+abbrev pub area_of : LinkFile → List ℕ → Option Area
+area_of file tag = find (λ area. bytes_eq area.tag tag) file.areas
+
+abbrev pub has_area : LinkFile → List ℕ → Bool
+has_area file tag = is_some (area_of file tag)
+
+-- the links of the area with this tag, none where there is no such area
+unfoldable pub links_of : LinkFile → List ℕ → List Address
+links_of file tag = unwrap_or (option_map (λ area. area.links) (area_of file tag)) []
+
+abbrev pub is_link : LinkFile → List ℕ → Address → Bool
+is_link file tag address = list_any (same_address address) (links_of file tag)
+
+-- a message of a base: who sent it, none where it was posted here, its DateTime, names, subject and text
+pub record Filed : Type 0 where
+  pub sender : Option Address
+  pub date : List ℕ
+  pub to_name : List ℕ
+  pub from_name : List ℕ
+  pub subject : List ℕ
+  pub echo : Echo
+
+-- the key of a message with this id, or without one
+abbrev pub key_with : Filed → Option (List ℕ) → Key
+key_with m (Some msgid) = ById m.echo.tag msgid
+key_with m None = ByContent m.echo.tag m.date m.to_name m.from_name m.subject m.echo.kept
+
+-- what makes two messages the same
+unfoldable pub key_of : Filed → Key
+key_of m = key_with m (msgid_of m.echo.kept)
+
+-- whether two keys are the same, byte for byte
+abbrev pub same_key : Key → Key → Bool
+same_key (ById tag msgid) (ById tag' msgid') = bytes_eq tag tag' && bytes_eq msgid msgid'
+same_key (ByContent tag date to from subject kept) (ByContent tag' date' to' from' subject' kept') =
+    bytes_eq tag tag'
+    && (bytes_eq date date'
+    && (bytes_eq to to' && (bytes_eq from from' && (bytes_eq subject subject' && pointwise bytes_eq kept kept'))))
+same_key (ById tag msgid) (ByContent tag' date to from subject kept) = false
+same_key (ByContent tag date to from subject kept) (ById tag' msgid) = false
+
+-- whether a message of the base has the key
+abbrev pub is_known : List Filed → Key → Bool
+is_known base key = list_any (λ m. same_key (key_of m) key) base

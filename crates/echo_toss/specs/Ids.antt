@@ -1,0 +1,70 @@
+-- Message ids as they are spelled (FTS-0009).
+use Rattle.std.specs.Prelude.{ℕ, ◌-◌, ◌/◌, ◌%◌, ◌^◌, ◌==◌, ◌||◌, ◌&&◌, not, nat_lt, Bool, false, List, [], ◌∷◌, ◌++◌, map, length, take, drop, slice_index, codes, if◌then◌else◌}
+use Rattle.std.specs.Int.{is_in_range}
+use Rattle.std.specs.List.{list_all, suffix_len}
+use Rattle.echo_addr.specs.declared.address.Address.{Address}
+use Rattle.echo_addr.specs.Address.{address_text}
+use Rattle.echo_addr.specs.Entries.{is_blank}
+use Rattle.echo_text.specs.Lines.{trimmed}
+
+-- a digit of a number to the base 16, in lower case
+abbrev pub hex_digit : ℕ → ℕ
+hex_digit n = slice_index (codes "0123456789abcdef") n
+
+-- a serial as eight of them
+abbrev pub serial_text : ℕ → List ℕ
+serial_text serial = map (λ k. hex_digit (serial / 16 ^ k % 16)) (7 ∷ (6 ∷ (5 ∷ (4 ∷ (3 ∷ (2 ∷ (1 ∷ (0 ∷ []))))))))
+
+-- the id that a system gives its message of this serial
+unfoldable pub id_of : Address → ℕ → List ℕ
+id_of address serial = address_text address ++ (codes " " ++ serial_text serial)
+
+-- a digit to the base 16, of either case
+abbrev pub is_hex_digit : ℕ → Bool
+is_hex_digit b = is_in_range 48 57 b || (is_in_range 65 70 b || is_in_range 97 102 b)
+
+-- a byte 00, a blank 20 and a double quote
+abbrev pub is_zero : ℕ → Bool
+is_zero b = b == 0
+
+abbrev pub is_gap : ℕ → Bool
+is_gap b = b == 32
+
+abbrev pub is_quote : ℕ → Bool
+is_quote b = b == 34
+
+-- what stands before the serial, and the same without the blanks 20 at its end
+abbrev pub before_serial : List ℕ → List ℕ
+before_serial id = take (length id - 8) id
+
+abbrev pub without_gap : List ℕ → List ℕ
+without_gap front = take (length front - suffix_len is_gap front) front
+
+-- bytes in which each double quote is doubled, without 00 and 0D, then one double quote
+abbrev pub ends_quoted : List ℕ → Bool
+ends_quoted [] = false
+ends_quoted (a ∷ []) = is_quote a
+ends_quoted (a ∷ (b ∷ rest)) =
+    if is_quote a then is_quote b && ends_quoted rest else not (is_zero a || (a == 13)) && ends_quoted (b ∷ rest)
+
+-- in double quotes, each double quote between them doubled
+abbrev pub is_quoted_origin : List ℕ → Bool
+is_quoted_origin [] = false
+is_quoted_origin (first ∷ rest) = is_quote first && ends_quoted rest
+
+-- one byte or more, none a blank, 00 or 0D, the first no double quote
+abbrev pub is_bare_origin : List ℕ → Bool
+is_bare_origin [] = false
+is_bare_origin (first ∷ rest) =
+    not (is_quote first) && list_all (λ b. not (is_blank b || (is_zero b || (b == 13)))) (first ∷ rest)
+
+-- an origin, one blank 20 or more, and eight digits
+abbrev pub is_id_trimmed : List ℕ → Bool
+is_id_trimmed id =
+    nat_lt (length (without_gap (before_serial id))) (length (before_serial id))
+    && (list_all is_hex_digit (drop (length id - 8) id)
+    && (is_quoted_origin (without_gap (before_serial id)) || is_bare_origin (without_gap (before_serial id))))
+
+-- whether the bytes spell an id; blanks may stand at both ends
+unfoldable pub is_id : List ℕ → Bool
+is_id id = is_id_trimmed (trimmed id)

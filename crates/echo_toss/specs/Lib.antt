@@ -1,0 +1,9 @@
+pub mod Sets
+pub mod Written
+pub mod Base
+pub mod Stamps
+pub mod Ids
+pub mod Posting
+pub mod Tossing
+pub mod Scanning
+pub mod Purging
