@@ -133,7 +133,7 @@ module _ {A K N C M : Type 0} (parts : Parts A K N C M) (linked : A → A → Bo
           source = inr (sent.from, sent.is_sender, sent.parent);
         })
 
-  module _ (k : ℕ) (marks : Marks parts linked Carrier Wrote v w k) where
+  module _ (marks : Marks parts linked Carrier Wrote v w) where
     held_same : (x : A) → held w x ≡ held v x
     held_same x = let e = marks.done x in let q = marks.waiting x in cc
 
@@ -152,11 +152,8 @@ module _ {A K N C M : Type 0} (parts : Parts A K N C M) (linked : A → A → Bo
       sent_once = keeps_sent_once Marks-grows marks.packets;
       passed_on = keeps_passed_on Marks-grows marks.packets marks.done;
       came = λ j h. elim (marks.delivered j h) [
-        | inr before ↦ keeps_came Marks-grows marks.packets j before
-        | inl e ↦ (
-          marks.packet,
-          (let P : ℕ → Type 0 = λ i. At w.packets i marks.packet in subst P (sym e) (same_index marks.packets k marks.packet marks.is_packet)),
-          λ c i. Has-in parts (parts.key c) (held v marks.packet.to) (held w marks.packet.to) (Marks-grows.holds marks.packet.to) (marks.known c i),
-        )
+        | inl before ↦ keeps_came Marks-grows marks.packets j before
+        | inr now ↦ (let (p, at, known) = now in
+            (p, same_index marks.packets j p at, λ c i. Has-in parts (parts.key c) (held v p.to) (held w p.to) (Marks-grows.holds p.to) (known c i)))
       ];
     }

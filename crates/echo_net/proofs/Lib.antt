@@ -5,3 +5,8 @@ pub mod Growth
 pub mod Filing
 pub mod Sending
 pub mod Arrival
+pub mod Tosser
+pub mod Lists
+pub mod Bases
+pub mod Choices
+pub mod Running

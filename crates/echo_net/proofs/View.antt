@@ -152,12 +152,10 @@ module _ {A K N C M : Type 0} (parts : Parts A K N C M) (linked : A → A → Bo
         (p : Parcel A M) × Among p new × (p.to ≡ x) × Has parts (parts.key m) p.copies
     pub few : (x : A) (k : K) → sent_times parts x k new ≤ times parts k (v.waiting y)
 
-  -- a packet whose messages are all known at its destination is delivered
-  pub record Marks (v w : View A M) (k : ℕ) : Type 0 where
+  -- nothing is filed or sent; packets whose messages are all known at their destination may be delivered
+  pub record Marks (v w : View A M) : Type 0 where
     pub done : (x : A) → w.done x ≡ v.done x
     pub waiting : (x : A) → w.waiting x ≡ v.waiting x
     pub packets : w.packets ≡ v.packets
-    pub delivered : (j : ℕ) → Among j w.delivered → (j ≡ k) ⊎ Among j v.delivered
-    pub packet : Parcel A M
-    pub is_packet : At v.packets k packet
-    pub known : (c : M) → Among c packet.copies → Has parts (parts.key c) (held v packet.to)
+    pub delivered : (j : ℕ) → Among j w.delivered → Among j v.delivered ⊎ ((p : Parcel A M) × At v.packets j p ×
+        ((c : M) → Among c p.copies → Has parts (parts.key c) (held v p.to)))

@@ -2,3 +2,4 @@ pub mod Event
 pub mod Run
 pub mod Orderly
 pub mod Tidy
+pub mod Fits
