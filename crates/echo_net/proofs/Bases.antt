@@ -17,7 +17,7 @@ use Rattle.echo_net.specs.Orderly.{count}
 use Rattle.echo_net.specs.Fits.{FileFits}
 use Rattle.echo_net.proofs.Counts as counts
 use Rattle.echo_net.proofs.Tosser.{Laws}
-use Rattle.echo_net.proofs.Lists.{not_both, yes_or_no, any-to, and-parts}
+use Rattle.echo_net.proofs.Lists.{not_both, yes_or_no, any-to, any-from, and-parts}
 
 -- before the cursor each message of the base is the one that was filed, or has its key; from there on
 -- the base is what was filed
@@ -83,6 +83,18 @@ Kept-in (suc c) (b ∷ base) (h ∷ history) k m i =
       | inr t ↦ (let (n, j, e) = Kept-in c base history k.1 m t in (n, inr j, e))
     ]
 
+-- what the base has was filed with its key
+pub Kept-back : (c : ℕ) (base history : List Filed) → Kept c base history → (b : Filed) → Among b base →
+    (h : Filed) × Among h history × (key_of h ≡ key_of b)
+Kept-back zero base history k m i = (m, (let P : List Filed → Type 0 = λ ms. Among m ms in subst P k i), refl)
+Kept-back (suc c) [] history k m i = absurd i
+Kept-back (suc c) (b ∷ base) [] k m i = absurd k
+Kept-back (suc c) (b ∷ base) (h ∷ history) k m i =
+    elim i [
+      | inl e ↦ (h, inl refl, sym k.0 ∙ ap key_of (sym e))
+      | inr t ↦ (let (n, j, e) = Kept-back c base history k.1 m t in (n, inr j, e))
+    ]
+
 module _ (laws : Laws) where
   purged_kept : (c : ℕ) (base history : List Filed) → Kept c base history → Kept c (map stub_of (take c base) ++ drop c base) history
   purged_kept zero base history k = k
@@ -116,6 +128,13 @@ module _ (laws : Laws) (s : System) (ok : SystemOk s) where
   known-from_history key has =
       let (b, i, e) = Kept-in s.cursor s.base s.history ok.kept has.0 has.1 in
       any-to (λ m. same_key (key_of m) key) b s.base i (laws.keys.full (key_of b) key (e ∙ has.2))
+
+  -- what is known the history has
+  pub known-in_history : (key : Key) → is_known s.base key ≡ true → HasKey key s.history
+  known-in_history key known =
+      let (b, i, t) = any-from (λ m. same_key (key_of m) key) s.base known in
+      let (h, j, e) = Kept-back s.cursor s.base s.history ok.kept b i in
+      (h, j, e ∙ laws.keys.sound (key_of b) key t)
 
   -- so is the id of a message that the history has
   has_id-from_key : (m : Filed) (tag id : List ℕ) → key_of m ≡ ById tag id → has_id id m ≡ true

@@ -10,3 +10,4 @@ pub mod Lists
 pub mod Bases
 pub mod Choices
 pub mod Running
+pub mod Viewing
