@@ -11,3 +11,4 @@ pub mod Bases
 pub mod Choices
 pub mod Running
 pub mod Viewing
+pub mod Changes
