@@ -12,3 +12,5 @@ pub mod Choices
 pub mod Running
 pub mod Viewing
 pub mod Changes
+pub mod Copies
+pub mod Scanned
