@@ -14,3 +14,4 @@ pub mod Viewing
 pub mod Changes
 pub mod Copies
 pub mod Scanned
+pub mod Delivered
