@@ -15,3 +15,4 @@ pub mod Changes
 pub mod Copies
 pub mod Scanned
 pub mod Delivered
+pub mod Runs
