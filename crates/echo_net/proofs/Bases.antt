@@ -11,7 +11,7 @@ use Rattle.echo_toss.specs.declared.key.Key.{Key}
 use Rattle.echo_toss.specs.declared.key.Key.TheVariants.{ByContent, ById}
 use Rattle.echo_toss.specs.Base.{Filed, LinkFile, key_of, key_with, same_key, is_known}
 use Rattle.echo_toss.specs.Posting.{has_id}
-use Rattle.echo_toss.specs.Purging.{stub_of, purged}
+use Rattle.echo_toss.specs.Purging.{stub_of, stub_with, purged}
 use Rattle.echo_net.specs.Run.{System, filing}
 use Rattle.echo_net.specs.Orderly.{count}
 use Rattle.echo_net.specs.Fits.{FileFits}
@@ -19,13 +19,21 @@ use Rattle.echo_net.proofs.Counts as counts
 use Rattle.echo_net.proofs.Tosser.{Laws}
 use Rattle.echo_net.proofs.Lists.{not_both, yes_or_no, any-to, any-from, and-parts}
 
--- before the cursor each message of the base is the one that was filed, or has its key; from there on
--- the base is what was filed
+-- a message of the base is the one that was filed, or what a purge leaves of it
+pub record IsKept (b h : Filed) : Type 0 where
+  pub form : (b ≡ h) ⊎ (b ≡ stub_of h)
+  pub key : key_of b ≡ key_of h
+  pub sender : b.sender ≡ h.sender
+
+IsKept-itself : (m : Filed) → IsKept m m
+IsKept-itself m = record { form = inl refl; key = refl; sender = refl }
+
+-- before the cursor each message of the base is kept; from there on the base is what was filed
 abbrev pub Kept : ℕ → List Filed → List Filed → Type 0
 Kept zero base history = base ≡ history
 Kept (suc c) [] history = ⊥
 Kept (suc c) (b ∷ base) [] = ⊥
-Kept (suc c) (b ∷ base) (h ∷ history) = (key_of b ≡ key_of h) × Kept c base history
+Kept (suc c) (b ∷ base) (h ∷ history) = IsKept b h × Kept c base history
 
 -- the base with one message more
 pub Kept-filed : (c : ℕ) (base history : List Filed) (m : Filed) → Kept c base history → Kept c (base ++ m ∷ []) (history ++ m ∷ [])
@@ -36,7 +44,7 @@ Kept-filed (suc c) (b ∷ base) (h ∷ history) m k = (k.0, Kept-filed c base hi
 
 same_kept : (base : List Filed) → Kept (length base) base base
 same_kept [] = refl
-same_kept (b ∷ base) = (refl, same_kept base)
+same_kept (b ∷ base) = (IsKept-itself b, same_kept base)
 
 -- the cursor put at the end
 pub Kept-scanned : (c : ℕ) (base history : List Filed) → Kept c base history → Kept (length base) base history
@@ -69,7 +77,7 @@ Kept-count key (suc c) [] history k = absurd k
 Kept-count key (suc c) (b ∷ base) [] k = absurd k
 Kept-count key (suc c) (b ∷ base) (h ∷ history) k =
     let P : Key → ℕ = λ own. if same_key own key then 1 else 0 in
-    omega (arith, ap P k.0, Kept-count key c base history k.1)
+    omega (arith, ap P k.0.key, Kept-count key c base history k.1)
 
 -- what was filed has its key in the base
 pub Kept-in : (c : ℕ) (base history : List Filed) → Kept c base history → (h : Filed) → Among h history →
@@ -79,28 +87,46 @@ Kept-in (suc c) [] history k m i = absurd k
 Kept-in (suc c) (b ∷ base) [] k m i = absurd k
 Kept-in (suc c) (b ∷ base) (h ∷ history) k m i =
     elim i [
-      | inl e ↦ (b, inl refl, k.0 ∙ ap key_of (sym e))
+      | inl e ↦ (b, inl refl, k.0.key ∙ ap key_of (sym e))
       | inr t ↦ (let (n, j, e) = Kept-in c base history k.1 m t in (n, inr j, e))
     ]
 
 -- what the base has was filed with its key
 pub Kept-back : (c : ℕ) (base history : List Filed) → Kept c base history → (b : Filed) → Among b base →
-    (h : Filed) × Among h history × (key_of h ≡ key_of b)
-Kept-back zero base history k m i = (m, (let P : List Filed → Type 0 = λ ms. Among m ms in subst P k i), refl)
+    (h : Filed) × Among h history × IsKept b h
+Kept-back zero base history k m i = (m, (let P : List Filed → Type 0 = λ ms. Among m ms in subst P k i), IsKept-itself m)
 Kept-back (suc c) [] history k m i = absurd i
 Kept-back (suc c) (b ∷ base) [] k m i = absurd k
 Kept-back (suc c) (b ∷ base) (h ∷ history) k m i =
     elim i [
-      | inl e ↦ (h, inl refl, sym k.0 ∙ ap key_of (sym e))
+      | inl e ↦ (h, inl refl, (let P : Filed → Type 0 = λ n. IsKept n h in subst P (sym e) k.0))
       | inr t ↦ (let (n, j, e) = Kept-back c base history k.1 m t in (n, inr j, e))
     ]
+
+stub-sender : (m : Filed) → (stub_of m).sender ≡ m.sender
+unfolding stub_of
+stub-sender m = with_id (msgid_of m.echo.kept)
+  where
+    with_id : (o : Option (List ℕ)) → (stub_with m o).sender ≡ m.sender
+    with_id None = refl
+    with_id (Some id) = refl
 
 module _ (laws : Laws) where
   purged_kept : (c : ℕ) (base history : List Filed) → Kept c base history → Kept c (map stub_of (take c base) ++ drop c base) history
   purged_kept zero base history k = k
   purged_kept (suc c) [] history k = absurd k
   purged_kept (suc c) (b ∷ base) [] k = absurd k
-  purged_kept (suc c) (b ∷ base) (h ∷ history) k = (laws.stub_key b ∙ k.0, purged_kept c base history k.1)
+  purged_kept (suc c) (b ∷ base) (h ∷ history) k = (
+    record {
+      form = inr (elim k.0.form [
+        | inl same ↦ ap stub_of same
+        | inr stub ↦ ap stub_of stub ∙ laws.stub_again h
+      ]);
+      key = laws.stub_key b ∙ k.0.key;
+      sender = stub-sender b ∙ k.0.sender;
+    },
+    purged_kept c base history k.1,
+  )
 
   pub Kept-purged : (c : ℕ) (base history : List Filed) → Kept c base history → Kept c (purged base c) history
   unfolding purged
@@ -134,7 +160,7 @@ module _ (laws : Laws) (s : System) (ok : SystemOk s) where
   known-in_history key known =
       let (b, i, t) = any-from (λ m. same_key (key_of m) key) s.base known in
       let (h, j, e) = Kept-back s.cursor s.base s.history ok.kept b i in
-      (h, j, e ∙ laws.keys.sound (key_of b) key t)
+      (h, j, sym e.key ∙ laws.keys.sound (key_of b) key t)
 
   -- so is the id of a message that the history has
   has_id-from_key : (m : Filed) (tag id : List ℕ) → key_of m ≡ ById tag id → has_id id m ≡ true

@@ -16,3 +16,4 @@ pub mod Copies
 pub mod Scanned
 pub mod Delivered
 pub mod Runs
+pub mod Headline

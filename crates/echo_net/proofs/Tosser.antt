@@ -25,6 +25,7 @@ pub record Laws : Type 0 where
   pub entries : Tells same_entry
   pub keys : Tells same_key
   pub stub_key : (m : Filed) → key_of (stub_of m) ≡ key_of m
+  pub stub_again : (m : Filed) → stub_of (stub_of m) ≡ stub_of m
   pub posted_key : (file : LinkFile) (tag : List ℕ) (draft : Draft) (serial : ℕ) (stamp : Stamp) → FileFits file →
       key_of (posted file tag draft serial stamp) ≡ ById (upper tag) (id_of file.system serial)
   pub posted_text : (file : LinkFile) (base : List Filed) (tag : List ℕ) (draft : Draft) (serial : ℕ) (stamp : Stamp) → FileFits file →
