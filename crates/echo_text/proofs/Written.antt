@@ -12,7 +12,7 @@ use Rattle.echo_addr.specs.ShortLines.{ComesBefore, IsEntryByte, ReadBack, line_
 use Rattle.echo_addr.proofs.ReadBack.{read_back}
 use Rattle.echo_text.specs.Lines.{after_word, area_tag, area_word, first_line, is_area, is_path, is_return, is_seen, is_tag, is_tag_byte, later_lines, lines}
 use Rattle.echo_text.specs.Tail.{all_dropped, all_entries, body, is_kept_control, is_tail_line, kept_of, path_lists, seen_lists, tail}
-use Rattle.echo_text.specs.Echo.{Echo, EchoOf, IsEcho, IsLine, IsSetOf, TextOf, ended, is_shed}
+use Rattle.echo_text.specs.Echo.{EchoText, EchoOf, IsEcho, IsLine, IsSetOf, TextOf, ended, is_shed}
 use Rattle.echo_text.proofs.Cutting.{IsPiece, lines_ended, lines_nil, lines_of_ended}
 use Rattle.echo_text.proofs.LineKinds.{after_path, after_seen, area_is_area, kept_no_path, kept_no_seen, kept_unless_shed, path_in_tail, path_is_not_seen, path_is_path, path_not_kept, seen_in_tail, seen_is_not_path, seen_is_seen, seen_not_kept}
 use Rattle.echo_text.proofs.Tags.{area_tag_back, tag_piece}
@@ -169,7 +169,7 @@ prefixed_lines prefix rests b piece is bytes more =
     ap (λ s. lines (s ++ more)) (is ∙ lines_prefixed prefix rests)
     ∙ lines_of_ended (prefixed prefix rests) more (prefixed_pieces prefix piece rests bytes)
 
-written_lines : (e : Echo) (text : List ℕ) → IsEcho e → (w : TextOf e text) → (s : ReadBack seen_prefix e.seen w.seen_lines) → (p : ReadBack path_prefix e.path w.path_lines)
+written_lines : (e : EchoText) (text : List ℕ) → IsEcho e → (w : TextOf e text) → (s : ReadBack seen_prefix e.seen w.seen_lines) → (p : ReadBack path_prefix e.path w.path_lines)
     → lines text ≡ (area_word ++ e.tag) ∷ laid_out e.kept s.rests p.rests
 written_lines e text h w s p =
     ap lines w.whole
@@ -202,7 +202,7 @@ record Begun (text first : List ℕ) (later : List (List ℕ)) : Type 0 where
 begun : (text first : List ℕ) (later : List (List ℕ)) → lines text ≡ first ∷ later → Begun text first later
 begun text first later is = record { first_is = ap first_line is; later_is = ap later_lines is }
 
-pub written_read_back : (e : Echo) (text : List ℕ) → IsEcho e → TextOf e text → EchoOf text e 0
+pub written_read_back : (e : EchoText) (text : List ℕ) → IsEcho e → TextOf e text → EchoOf text e 0
 written_read_back e text h w =
     let s = read_back seen_prefix e.seen w.seen_lines h.seen_entries w.seen in
     let p = read_back path_prefix e.path w.path_lines h.path_entries w.path in

@@ -7,7 +7,7 @@ use Rattle.echo_text.specs.Lines.{after_feeds, after_word, area_tag, area_word, 
 use Rattle.echo_text.specs.Tail.{all_dropped, all_entries, kept_of, path_lists, seen_lists, tail}
 
 -- a text taken apart: the tag in upper case, the lines that are kept, the entries of SEEN-BY and PATH
-pub record Echo : Type 0 where
+pub record EchoText : Type 0 where
   pub tag : List ℕ
   pub kept : List (List ℕ)
   pub seen : List NetNode
@@ -25,8 +25,8 @@ IsLine line = All (λ b. (b ≢ 0) × (b ≢ 13)) line
 abbrev pub is_shed : List ℕ → Bool
 is_shed line = is_seen line || is_path line || is_blank_line line
 
--- what holds of each `Echo`
-pub record IsEcho (e : Echo) : Type 0 where
+-- what holds of each `EchoText`
+pub record IsEcho (e : EchoText) : Type 0 where
   pub tag_bytes : is_tag e.tag ≡ true
   pub kept_lines : All IsLine e.kept
   pub ending : AllPass (λ line. not (is_shed line)) (tail e.kept)
@@ -40,7 +40,7 @@ pub record IsSetOf (set all : List NetNode) : Type 0 where
   pub members : (entry : NetNode) → Contains set entry ↔ Contains all entry
 
 -- the text is an echo text that says e; so many tokens of its SEEN-BY and PATH lines are no entry
-pub record EchoOf (text : List ℕ) (e : Echo) (dropped : ℕ) : Type 0 where
+pub record EchoOf (text : List ℕ) (e : EchoText) (dropped : ℕ) : Type 0 where
   pub area : is_area (first_line (lines text)) ≡ true
   pub tag : e.tag ≡ area_tag (first_line (lines text))
   pub tag_bytes : is_tag e.tag ≡ true
@@ -54,7 +54,7 @@ abbrev pub ended : List ℕ → List ℕ
 ended line = line ++ 13 ∷ []
 
 -- the bytes are the text written for e: AREA line, kept lines, SEEN-BY lines, PATH lines
-pub record TextOf (e : Echo) (bytes : List ℕ) : Type 0 where
+pub record TextOf (e : EchoText) (bytes : List ℕ) : Type 0 where
   pub seen_lines : List ℕ
   pub path_lines : List ℕ
   pub seen : ShortLines seen_prefix e.seen seen_lines

@@ -3,7 +3,7 @@ use Rattle.std.specs.Prelude.{◌≡◌, ℕ, ◌⊎◌, not, List, Option, Some
 use Rattle.echo_text.specs.declared.fault.TextFault.{TextFault}
 use Rattle.echo_text.specs.declared.fault.TextFault.TheVariants.{BadTag, Memory, NotEcho}
 use Rattle.echo_text.specs.Lines.{area_tag, first_line, is_area, is_tag, lines}
-use Rattle.echo_text.specs.EchoText.{EchoText, EchoOf}
+use Rattle.echo_text.specs.Echo.{EchoText, EchoOf}
 
 -- the first refusal that applies to a text with this first line
 abbrev pub refusal_of : List ℕ → Option TextFault

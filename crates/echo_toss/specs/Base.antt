@@ -1,9 +1,11 @@
 -- Link files, filed messages and their keys.
-use Rattle.std.specs.Prelude.{ℕ, ◌&&◌, Bool, true, false, List, [], ◌∷◌, Option, Some, None, option_map, unwrap_or, is_some, bytes_eq, find}
+use Rattle.std.specs.Prelude.{◌≡◌, ◌≢◌, ◌≤◌, ℕ, ◌&&◌, AllPairs, length, Bool, true, false, List, [], ◌∷◌, Option, Some, None, option_map, unwrap_or, is_some, bytes_eq, find}
 use Rattle.std.specs.Cmp.Lexicographic.{pointwise}
-use Rattle.std.specs.List.{list_any}
+use Rattle.std.specs.List.{AllByRecursion, list_any}
 use Rattle.echo_addr.specs.declared.address.Address.{Address}
-use Rattle.echo_text.specs.Echo.{Echo, msgid_of}
+use Rattle.echo_addr.specs.Address.{IsAddress}
+use Rattle.echo_text.specs.Lines.{is_tag}
+use Rattle.echo_text.specs.Echo.{EchoText, IsLine, msgid_of}
 use Rattle.echo_toss.specs.declared.key.Key.{Key}
 use Rattle.echo_toss.specs.declared.key.Key.TheVariants.{ByContent, ById}
 use Rattle.echo_toss.specs.Sets.{same_address}
@@ -18,6 +20,20 @@ pub record LinkFile : Type 0 where
   pub system : Address
   pub name : List ℕ
   pub areas : List Area
+
+-- what holds of the areas of a link file that was read: the tag of a text, and links in range, each once
+pub record IsArea (area : Area) : Type 0 where
+  pub tag_bytes : is_tag area.tag ≡ true
+  pub addresses : AllByRecursion IsAddress area.links
+  pub each_once : AllPairs (λ (a b : Address). a ≢ b) area.links
+
+-- what holds of a link file that was read
+pub record IsFile (file : LinkFile) : Type 0 where
+  pub address : IsAddress file.system
+  pub name_room : length file.name ≤ 40
+  pub name_bytes : IsLine file.name
+  pub each_area : AllByRecursion IsArea file.areas
+  pub tags_once : AllPairs (λ (a b : Area). a.tag ≢ b.tag) file.areas
 
 -- the area with this tag
 abbrev pub area_of : LinkFile → List ℕ → Option Area
@@ -40,7 +56,7 @@ pub record Filed : Type 0 where
   pub to_name : List ℕ
   pub from_name : List ℕ
   pub subject : List ℕ
-  pub echo : Echo
+  pub echo : EchoText
 
 -- the key of a message with this id, or without one
 abbrev pub key_with : Filed → Option (List ℕ) → Key

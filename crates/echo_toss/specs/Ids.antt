@@ -1,5 +1,5 @@
 -- Message ids as they are spelled (FTS-0009).
-use Rattle.std.specs.Prelude.{ℕ, ◌-◌, ◌/◌, ◌%◌, ◌^◌, ◌==◌, ◌||◌, ◌&&◌, not, nat_lt, Bool, false, List, [], ◌∷◌, ◌++◌, map, length, take, drop, slice_index, codes, if◌then◌else◌}
+use Rattle.std.specs.Prelude.{ℕ, ◌-◌, ◌/◌, ◌%◌, ◌^◌, ◌==◌, ◌||◌, ◌&&◌, not, nat_lt, Bool, false, List, [], ◌∷◌, ◌++◌, map, length, take, drop, slice_index, codes}
 use Rattle.std.specs.Int.{is_in_range}
 use Rattle.std.specs.List.{list_all, suffix_len}
 use Rattle.echo_addr.specs.declared.address.Address.{Address}
@@ -33,6 +33,10 @@ is_gap b = b == 32
 abbrev pub is_quote : ℕ → Bool
 is_quote b = b == 34
 
+-- a byte that may stand in a line: neither 00 nor 0D
+abbrev pub is_line_byte : ℕ → Bool
+is_line_byte b = not (is_zero b || (b == 13))
+
 -- what stands before the serial, and the same without the blanks 20 at its end
 abbrev pub before_serial : List ℕ → List ℕ
 before_serial id = take (length id - 8) id
@@ -40,30 +44,30 @@ before_serial id = take (length id - 8) id
 abbrev pub without_gap : List ℕ → List ℕ
 without_gap front = take (length front - suffix_len is_gap front) front
 
--- bytes in which each double quote is doubled, without 00 and 0D, then one double quote
-abbrev pub ends_quoted : List ℕ → Bool
-ends_quoted [] = false
-ends_quoted (a ∷ []) = is_quote a
-ends_quoted (a ∷ (b ∷ rest)) =
-    if is_quote a then is_quote b && ends_quoted rest else not (is_zero a || (a == 13)) && ends_quoted (b ∷ rest)
+-- bytes in which each double quote is doubled, then one double quote; a double quote that is not yet
+-- followed by a second one may stand before them
+abbrev pub ends_quoted : Bool → List ℕ → Bool
+ends_quoted single [] = single
+ends_quoted single (b ∷ rest) = (is_quote b || not single) && ends_quoted (is_quote b && not single) rest
 
 -- in double quotes, each double quote between them doubled
 abbrev pub is_quoted_origin : List ℕ → Bool
 is_quoted_origin [] = false
-is_quoted_origin (first ∷ rest) = is_quote first && ends_quoted rest
+is_quoted_origin (first ∷ rest) = is_quote first && ends_quoted false rest
 
--- one byte or more, none a blank, 00 or 0D, the first no double quote
+-- one byte or more, none a blank, the first no double quote
 abbrev pub is_bare_origin : List ℕ → Bool
 is_bare_origin [] = false
 is_bare_origin (first ∷ rest) =
-    not (is_quote first) && list_all (λ b. not (is_blank b || (is_zero b || (b == 13)))) (first ∷ rest)
+    not (is_quote first) && list_all (λ b. not (is_blank b)) (first ∷ rest)
 
--- an origin, one blank 20 or more, and eight digits
+-- an origin, one blank 20 or more, and eight digits, without 00 and 0D
 abbrev pub is_id_trimmed : List ℕ → Bool
 is_id_trimmed id =
-    nat_lt (length (without_gap (before_serial id))) (length (before_serial id))
+    list_all is_line_byte id
+    && (nat_lt (length (without_gap (before_serial id))) (length (before_serial id))
     && (list_all is_hex_digit (drop (length id - 8) id)
-    && (is_quoted_origin (without_gap (before_serial id)) || is_bare_origin (without_gap (before_serial id))))
+    && (is_quoted_origin (without_gap (before_serial id)) || is_bare_origin (without_gap (before_serial id)))))
 
 -- whether the bytes spell an id; blanks may stand at both ends
 unfoldable pub is_id : List ℕ → Bool

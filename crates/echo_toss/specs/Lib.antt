@@ -7,3 +7,5 @@ pub mod Posting
 pub mod Tossing
 pub mod Scanning
 pub mod Purging
+pub mod LinkLines
+pub mod BaseFile

@@ -7,7 +7,7 @@ use Rattle.echo_addr.specs.declared.address.Address.{Address}
 use Rattle.echo_addr.specs.Address.{address_text}
 use Rattle.echo_addr.specs.Entries.{is_blank}
 use Rattle.echo_text.specs.Lines.{lines, msgid_word, origin_word, reply_word, trimmed}
-use Rattle.echo_text.specs.Echo.{Echo, msgid_of}
+use Rattle.echo_text.specs.Echo.{EchoText, msgid_of}
 use Rattle.echo_toss.specs.declared.draft.Draft.{Draft}
 use Rattle.echo_toss.specs.declared.stamp.Stamp.{Stamp}
 use Rattle.echo_toss.specs.declared.fault.PostFault.{PostFault}

@@ -2,12 +2,12 @@
 use Rattle.std.specs.Prelude.{◌≡◌, ℕ, ◌==◌, ◌&&◌, not, Bool, true, List, [], ◌∷◌, ◌++◌, map, length, take, drop, count_by, codes, Option, Some, None, bytes_eq, Result, Ok, Err}
 use Rattle.std.specs.Cmp.Lexicographic.{pointwise}
 use Rattle.echo_text.specs.Lines.{msgid_word}
-use Rattle.echo_text.specs.Echo.{Echo, msgid_of}
+use Rattle.echo_text.specs.Echo.{EchoText, msgid_of}
 use Rattle.echo_toss.specs.Base.{Filed}
 use Rattle.echo_toss.specs.Posting.{id_line}
 
 -- a text of this tag and id, without any other line and without entries
-abbrev pub bare : List ℕ → List ℕ → Echo
+abbrev pub bare : List ℕ → List ℕ → EchoText
 bare area_tag msgid = record { tag = area_tag; kept = id_line msgid_word msgid ∷ []; seen = []; path = [] }
 
 -- a message with this id, or without one, as a purge leaves it

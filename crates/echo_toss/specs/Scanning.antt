@@ -5,7 +5,7 @@ use Rattle.echo_addr.specs.declared.address.Address.{Address}
 use Rattle.echo_addr.specs.Address.{net_node_of}
 use Rattle.echo_packet.specs.declared.header.Header.{Header}
 use Rattle.echo_packet.specs.Message.{Message}
-use Rattle.echo_text.specs.Echo.{Echo}
+use Rattle.echo_text.specs.Echo.{EchoText}
 use Rattle.echo_toss.specs.declared.packet.Packet.{Packet}
 use Rattle.echo_toss.specs.declared.stamp.Stamp.{Stamp}
 use Rattle.echo_toss.specs.declared.fault.ScanFault.{ScanFault}
@@ -29,7 +29,7 @@ targets file m =
     filter (λ link. not (is_sender m link) && not (is_seen_by m link)) (links_of file m.echo.tag)
 
 -- the text that goes out: the own net/node and those of the links join SEEN-BY, the own ends PATH
-unfoldable pub exported : LinkFile → Echo → Echo
+unfoldable pub exported : LinkFile → EchoText → EchoText
 exported file e = record {
   tag = e.tag;
   kept = e.kept;

@@ -1,5 +1,5 @@
 -- Tossing: what becomes of a received message.
-use Rattle.std.specs.Prelude.{◌≡◌, ℕ, ◌==◌, not, List, [], ◌∷◌, ◌++◌, if◌then◌else◌, Option, Some, None, option_to_list}
+use Rattle.std.specs.Prelude.{◌≡◌, ℕ, ◌==◌, not, true, false, List, [], ◌∷◌, ◌++◌, if◌then◌else◌, Option, Some, None, option_to_list}
 use Rattle.echo_addr.specs.declared.address.Address.{Address}
 use Rattle.echo_packet.specs.declared.header.Header.{Header}
 use Rattle.echo_packet.specs.Message.{Message}
@@ -49,6 +49,13 @@ where_filed other m = None
 -- the message that a toss files
 unfoldable pub tossing : LinkFile → List Filed → Address → Message → Option Filed
 tossing file base sender packed = where_filed (toss_outcome file base sender packed) (received sender packed)
+
+-- a message is to be filed: its text is echomail of an area that is there, from a link, and not known
+pub record IsToBeFiled (file : LinkFile) (base : List Filed) (from : Address) (packed : Message) : Type 0 where
+  pub text : refusal packed.text ≡ None
+  pub area : has_area file (echo_of packed.text).tag ≡ true
+  pub link : is_link file (echo_of packed.text).tag from ≡ true
+  pub new : is_known base (key_of (received from packed)) ≡ false
 
 -- a toss: the message put at the end of the base where it is filed, else the base as it was
 abbrev pub TossStep : LinkFile → List Filed → Address → Message → Outcome → List Filed → Type 0

@@ -5,11 +5,11 @@ use Rattle.echo_addr.specs.declared.address.NetNode.{NetNode}
 use Rattle.echo_addr.specs.ShortLines.{entries_text, line_front, line_of, line_room, path_prefix, seen_prefix}
 use Rattle.echo_text.specs.Lines.{area_tag, area_word, first_line, later_lines, lines}
 use Rattle.echo_text.specs.Tail.{all_entries, kept_of, path_lists, seen_lists}
-use Rattle.echo_text.specs.Echo.{Echo, ended}
+use Rattle.echo_text.specs.Echo.{EchoText, ended}
 use Rattle.echo_toss.specs.Sets.{entry_set}
 
 -- what the lines of an echomail text say
-abbrev pub echo_of_lines : List (List ℕ) → Echo
+abbrev pub echo_of_lines : List (List ℕ) → EchoText
 echo_of_lines all = record {
   tag = area_tag (first_line all);
   kept = kept_of (later_lines all);
@@ -18,7 +18,7 @@ echo_of_lines all = record {
 }
 
 -- what an echomail text says
-unfoldable pub echo_of : List ℕ → Echo
+unfoldable pub echo_of : List ℕ → EchoText
 echo_of text = echo_of_lines (lines text)
 
 -- entries cut into the runs of their lines, where the line that is begun has the given ones
@@ -39,7 +39,7 @@ unfoldable pub short_lines : List ℕ → List NetNode → List ℕ
 short_lines prefix list = flat_map (λ run. line_of prefix (entries_text None run)) (runs_of prefix list)
 
 -- AREA line, kept lines, SEEN-BY lines and PATH lines
-unfoldable pub text_of : Echo → List ℕ
+unfoldable pub text_of : EchoText → List ℕ
 text_of e =
     ended (area_word ++ e.tag)
     ++ (flat_map ended e.kept ++ (short_lines seen_prefix e.seen ++ short_lines path_prefix e.path))

@@ -4,19 +4,22 @@
 //! `Tossing`, `Scanning` and `Purging`.
 //!
 //! Modules in reading order: `stamp` and `draft` (what is posted), `key` (what makes two messages
-//! one), `outcome` (what became of a tossed message), `packet` (what a scan makes) and `fault`.
+//! one), `outcome` (what became of a tossed message), `packet` (what a scan makes), `fault`,
+//! and `laws` (what holds of the definitions).
 #![tactic(auto)]
 
 mod draft;
 mod fault;
 mod key;
+mod laws;
 mod outcome;
 mod packet;
 mod stamp;
 
 pub use draft::Draft;
-pub use fault::{PostFault, ScanFault};
+pub use fault::{BaseFault, LinkFault, PostFault, ScanFault};
 pub use key::Key;
+pub use laws::{copy_laws, key_law, posting_laws, set_law, stub_laws, text_laws, toss_law};
 pub use outcome::Outcome;
 pub use packet::Packet;
 pub use stamp::Stamp;

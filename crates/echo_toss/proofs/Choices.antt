@@ -1,0 +1,40 @@
+-- Cases of tests, and lists by their first element.
+use Rattle.std.proofs.Common.{◌≡◌, ◌≢◌, ℕ, suc, zero, ◌+◌, ◌<◌, Bool, true, false, cond, if◌then◌else◌, ◌&&◌, ◌||◌, not, List, [], ◌∷◌, ◌++◌, length, get_or, refl, sym, ap, subst, ◌∙◌, ◌⊎◌, inl, inr, arith}
+use Rattle.std.specs.Prelude.{Contains, ⊤}
+use Rattle.std.specs.List.{AllByRecursion}
+
+-- one of three choices
+pub of_three : {A : Type 0} (P : A → Type 0) (p q : Bool) (a b c : A)
+    → (p ≡ true → P a) → (p ≡ false → q ≡ true → P b) → (p ≡ false → q ≡ false → P c)
+    → P (if p then a else if q then b else c)
+of_three P true q a b c f g h = f refl
+of_three P false true a b c f g h = g refl refl
+of_three P false false a b c f g h = h refl refl
+
+-- a member of a list
+abbrev pub IsIn : {X : Type 0} → X → List X → Type 0
+IsIn x [] = ⊥
+IsIn x (y ∷ ys) = (x ≡ y) ⊎ IsIn x ys
+
+pub in_contained : {X : Type 0} (x : X) (ys : List X) → IsIn x ys → Contains ys x
+in_contained x [] h = absurd h
+in_contained x (y ∷ ys) h = elim h [
+  | inl same ↦ (0, omega arith, sym same)
+  | inr later ↦ (suc (in_contained x ys later).0, omega (arith, (in_contained x ys later).1), (in_contained x ys later).2)
+]
+
+in_at : {X : Type 0} (x : X) (ys : List X) (k : ℕ) → k < length ys → get_or ys k x ≡ x → IsIn x ys
+in_at x [] k h e = absurd (omega arith)
+in_at x (y ∷ ys) zero h e = inl (sym e)
+in_at x (y ∷ ys) (suc k) h e = inr (in_at x ys k (omega arith) e)
+
+pub contained_in : {X : Type 0} (x : X) (ys : List X) → Contains ys x → IsIn x ys
+contained_in x ys h = in_at x ys h.0 h.1 h.2
+
+pub all_at : {X : Type 0} (P : X → Type 0) (x : X) (ys : List X) → AllByRecursion P ys → IsIn x ys → P x
+all_at P x [] all h = absurd h
+all_at P x (y ∷ ys) all h = elim h [ inl same ↦ subst P (sym same) all.0 | inr later ↦ all_at P x ys all.1 later ]
+
+pub all_weaker : {X : Type 0} (P Q : X → Type 0) → ((x : X) → P x → Q x) → (xs : List X) → AllByRecursion P xs → AllByRecursion Q xs
+all_weaker P Q weaker [] all = tt
+all_weaker P Q weaker (x ∷ xs) all = (weaker x all.0, all_weaker P Q weaker xs all.1)

@@ -1,0 +1,1 @@
+-- What is saved of a base is a base file of it.

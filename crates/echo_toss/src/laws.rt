@@ -1,0 +1,75 @@
+//! What holds of the definitions. Each law is the contract of a function that does nothing.
+
+ghost use Rattle.std.specs.Prelude.{◌≡◌, ◌↔◌, ℕ, List, Option, Some, None, true, false};
+ghost use Rattle.std.specs.List.{list_any};
+ghost use Rattle.echo_addr.specs.declared.address.Address.{Address};
+ghost use Rattle.echo_addr.specs.declared.address.NetNode.{NetNode};
+ghost use Rattle.echo_packet.specs.Message.{Message};
+ghost use Rattle.echo_text.specs.Echo.{EchoOf, EchoText, IsEcho, IsSetOf, TextOf, msgid_of};
+ghost use Rattle.echo_text.specs.Refusal.{refusal};
+ghost use Rattle.echo_toss.specs.declared.draft.Draft.{Draft};
+ghost use Rattle.echo_toss.specs.declared.key.Key.{Key};
+ghost use Rattle.echo_toss.specs.declared.stamp.Stamp.{Stamp};
+ghost use Rattle.echo_toss.specs.Ids.{id_of};
+ghost use Rattle.echo_toss.specs.Sets.{entry_set};
+ghost use Rattle.echo_toss.specs.Written.{echo_of, text_of};
+ghost use Rattle.echo_toss.specs.Base.{Filed, IsFile, LinkFile, has_area, key_of, same_key};
+ghost use Rattle.echo_toss.specs.Posting.{has_id, posting};
+ghost use Rattle.echo_toss.specs.Tossing.{IsToBeFiled, received, tossing};
+ghost use Rattle.echo_toss.specs.Scanning.{copy_to, exported};
+ghost use Rattle.echo_toss.specs.Purging.{stub_of};
+
+/// The test of keys passes exactly where they are the same.
+pub fn key_law()
+    ensures { (k l : Key) → (same_key k l ≡ true) ↔ (k ≡ l) }
+{}
+
+/// A purge keeps keys, and a second purge leaves what the first one left.
+pub fn stub_laws()
+    ensures keep_keys { (m : Filed) → key_of (stub_of m) ≡ key_of m }
+    ensures stay { (m : Filed) → stub_of (stub_of m) ≡ stub_of m }
+{}
+
+/// The entries of a list as a set: ascending, without repeats, with its members.
+pub fn set_law()
+    ensures { (all : List NetNode) → IsSetOf (entry_set all) all }
+{}
+
+/// What an echomail text says, and what is written, are the functions that the definitions of texts
+/// describe; what is written is read back.
+pub fn text_laws()
+    ensures said { (text : List ℕ) → refusal text ≡ None → (dropped : ℕ) × EchoOf text (echo_of text) dropped }
+    ensures only_said { (text : List ℕ) (e : EchoText) (dropped : ℕ) → EchoOf text e dropped → (refusal text ≡ None) × (echo_of text ≡ e) }
+    ensures written { (e : EchoText) → IsEcho e → TextOf e (text_of e) }
+    ensures read_back { (e : EchoText) → IsEcho e → (refusal (text_of e) ≡ None) × (echo_of (text_of e) ≡ e) }
+{}
+
+/// The copy of a message that goes out is echomail whose text is read back, and it has the key of the
+/// message.
+pub fn copy_laws()
+    ensures echo { (file : LinkFile) (m : Filed) → IsFile file → IsEcho m.echo → IsEcho (exported file m.echo) }
+    ensures accepted { (file : LinkFile) (to : Address) (m : Filed) → IsFile file → IsEcho m.echo → refusal ((copy_to file to m).text) ≡ None }
+    ensures read_back { (file : LinkFile) (from to : Address) (m : Filed) → IsFile file → IsEcho m.echo →
+        received from (copy_to file to m) ≡ record { sender = Some from; date = m.date; to_name = m.to_name; from_name = m.from_name; subject = m.subject; echo = exported file m.echo } }
+    ensures keep_keys { (file : LinkFile) (from to : Address) (m : Filed) → IsFile file → IsEcho m.echo → key_of (received from (copy_to file to m)) ≡ key_of m }
+{}
+
+/// What a posting files is echomail, was sent by no other system, stands in an area of the link file,
+/// and has the id of the system and the serial, which no message of the base has.
+pub fn posting_laws()
+    ensures echo { (file : LinkFile) (base : List Filed) (tag : List ℕ) (draft : Draft) (serial : ℕ) (stamp : Stamp) (m : Filed) →
+        IsFile file → posting file base tag draft serial stamp ≡ Some m → IsEcho m.echo }
+    ensures own { (file : LinkFile) (base : List Filed) (tag : List ℕ) (draft : Draft) (serial : ℕ) (stamp : Stamp) (m : Filed) →
+        posting file base tag draft serial stamp ≡ Some m → (m.sender ≡ None) × (has_area file m.echo.tag ≡ true) }
+    ensures id { (file : LinkFile) (base : List Filed) (tag : List ℕ) (draft : Draft) (serial : ℕ) (stamp : Stamp) (m : Filed) →
+        IsFile file → posting file base tag draft serial stamp ≡ Some m → msgid_of m.echo.kept ≡ Some (id_of file.system serial) }
+    ensures new { (file : LinkFile) (base : List Filed) (tag : List ℕ) (draft : Draft) (serial : ℕ) (stamp : Stamp) (m : Filed) →
+        posting file base tag draft serial stamp ≡ Some m → list_any (has_id (id_of file.system serial)) base ≡ false }
+{}
+
+/// A message is filed by a toss exactly where its text is echomail, its area is in the link file, the
+/// sender is a link of the area, and no message of the base has its key.
+pub fn toss_law()
+    ensures { (file : LinkFile) (base : List Filed) (sender : Address) (packed : Message) →
+        (tossing file base sender packed ≡ Some (received sender packed)) ↔ IsToBeFiled file base sender packed }
+{}
