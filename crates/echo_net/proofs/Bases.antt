@@ -14,7 +14,7 @@ use Rattle.echo_toss.specs.Posting.{has_id}
 use Rattle.echo_toss.specs.Purging.{stub_of, stub_with, purged}
 use Rattle.echo_net.specs.Run.{System, filing}
 use Rattle.echo_net.specs.Orderly.{count}
-use Rattle.echo_net.specs.Fits.{FileFits}
+use Rattle.echo_toss.specs.Base.{IsFile}
 use Rattle.echo_net.proofs.Counts as counts
 use Rattle.echo_net.proofs.Tosser.{Laws}
 use Rattle.echo_net.proofs.Lists.{not_both, yes_or_no, any-to, any-from, and-parts}
@@ -139,7 +139,7 @@ count-is key (m ∷ ms) = omega (arith, count-is key ms)
 
 -- of a system at any time
 pub record SystemOk (s : System) : Type 0 where
-  pub file : FileFits s.file
+  pub file : IsFile s.file
   pub kept : Kept s.cursor s.base s.history
   pub valid : (m : Filed) → Among m s.history → IsEcho m.echo
   pub once : (key : Key) → count key s.history ≤ 1

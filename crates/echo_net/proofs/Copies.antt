@@ -22,7 +22,7 @@ use Rattle.echo_toss.specs.Scanning.{packet_to, header_to, copy_to, exported, go
 use Rattle.echo_toss.specs.Written.{echo_of, text_of}
 use Rattle.echo_net.specs.Run.{destination}
 use Rattle.echo_net.specs.Orderly.{copies, origin}
-use Rattle.echo_net.specs.Fits.{FileFits}
+use Rattle.echo_toss.specs.Base.{IsFile}
 use Rattle.echo_net.proofs.Counts.{one_if, count}
 use Rattle.echo_net.proofs.Tosser.{Laws}
 use Rattle.echo_net.proofs.Lists.{not_both, yes_or_no, and-parts, and-from, any-to, any-from, filter-yes, filter-no, Among-map_to, Among-map_from, Among-filter_from, Among-filter_to}
@@ -68,7 +68,7 @@ module _ (laws : Laws) (file : LinkFile) where
   unfolding copied exported
   seen-copied m n h = laws.set_all n (m.echo.seen ++ map net_node_of (file.system ∷ links_of file m.echo.tag)) h
 
-  module _ (fits : FileFits file) where
+  module _ (fits : IsFile file) where
     received-copy : (address : Address) (m : Filed) → IsEcho m.echo →
         (is_none (refusal (copy_to file address m).text) ≡ true) × (received file.system (copy_to file address m) ≡ copied file m)
     unfolding copy_to received copied

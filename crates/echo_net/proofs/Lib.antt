@@ -17,3 +17,4 @@ pub mod Scanned
 pub mod Delivered
 pub mod Runs
 pub mod Headline
+pub mod TheLaws

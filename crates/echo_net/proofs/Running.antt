@@ -23,7 +23,8 @@ use Rattle.echo_toss.specs.Written.{echo_of, text_of}
 use Rattle.echo_net.specs.Event.{RunEvent, Posting, Scanning, Delivery, PartDelivery, Purging}
 use Rattle.echo_net.specs.Run.{System, Run, fresh, filing, posting_at, tossing_at, scanning_at, purging_at, nth, change, receiver, changing, scanning, taking, coming, delivery, part_delivery, after_event, after_events, run_of}
 use Rattle.echo_net.specs.Orderly.{count}
-use Rattle.echo_net.specs.Fits.{FileFits, FilesFit}
+use Rattle.echo_toss.specs.Base.{IsFile}
+use Rattle.echo_net.specs.Fits.{FilesFit}
 use Rattle.echo_net.proofs.Tosser.{Laws}
 use Rattle.echo_net.proofs.Lists.{not_both, yes_or_no, nth-cases, Among-map_from, Among-filter_from, Among-take, Among-drop, Among-change}
 use Rattle.echo_net.proofs.Choices.{posting-cases, tossing-cases, Filing, NotFiling}
@@ -116,7 +117,7 @@ module _ (laws : Laws) where
       let P : List Filed → Type 0 = λ ms. Among m ms in
       ok.valid m (Among-drop s.cursor m s.history (subst P (Kept-waiting s.cursor s.base s.history ok.kept) h))
 
-  copy-ok : (file : LinkFile) (address : Address) (m : Filed) → FileFits file → IsEcho m.echo →
+  copy-ok : (file : LinkFile) (address : Address) (m : Filed) → IsFile file → IsEcho m.echo →
       (refusal (copy_to file address m).text ≡ None) × IsEcho (echo_of (copy_to file address m).text)
   unfolding copy_to
   copy-ok file address m fits echo =
@@ -125,11 +126,11 @@ module _ (laws : Laws) where
       let Q : EchoText → Type 0 = λ e. IsEcho e in
       (read.0, subst Q (sym read.1) valid)
 
-  pub packet-ok : (file : LinkFile) (stamp : Stamp) (waiting : List Filed) (address : Address) → FileFits file →
+  pub packet-ok : (file : LinkFile) (stamp : Stamp) (waiting : List Filed) (address : Address) → IsFile file →
       ((m : Filed) → Among m waiting → IsEcho m.echo) → PacketOk (packet_to file stamp waiting address)
   unfolding packet_to header_to
   packet-ok file stamp waiting address fits valid = record {
-    zone = (let least = fits.system.zone in λ e. absurd (omega (arith, least, e)));
+    zone = (let least = fits.address.zone in λ e. absurd (omega (arith, least, e)));
     messages = λ q h.
         let (m, i, e) = Among-map_from (copy_to file address) q (filter (goes_to file address) waiting) h in
         let P : Message → Type 0 = λ r. (refusal r.text ≡ None) × IsEcho (echo_of r.text) in

@@ -21,7 +21,8 @@ use Rattle.echo_net.specs.Event.{RunEvent, Posting, Scanning, Delivery, PartDeli
 use Rattle.echo_net.specs.Run.{System, Run, fresh, filing, posting_at, tossing_at, scanning_at, purging_at, nth, change, receiver, destination, changing, scanning, taking, coming, delivery, part_delivery, after_event, after_events, run_of}
 use Rattle.echo_net.specs.Orderly.{origin}
 use Rattle.echo_net.specs.Tidy.{Tidy, lists, Carries}
-use Rattle.echo_net.specs.Fits.{FileFits, FilesFit, EventFits, EventsFit}
+use Rattle.echo_toss.specs.Base.{IsFile}
+use Rattle.echo_net.specs.Fits.{FilesFit, EventFits, EventsFit}
 use Rattle.echo_net.proofs.View.{At, Invariant, held, times}
 use Rattle.echo_net.proofs.Tosser.{Laws}
 use Rattle.echo_net.proofs.Lists.{Split, nth-cases, nth-split, change-none, first_passes, map-change, Among-middle, Among-take}
@@ -116,7 +117,7 @@ module _ (laws : Laws) (files : List LinkFile) (tag : List ℕ) (tidy : Tidy fil
           let e : upper g ≡ tag = sym (posted-tag s.file g draft serial stamp) ∙ (in_area-tag laws tag (posted s.file g draft serial stamp) t) in (
             area-carries laws files tag tidy (at.split.before ++ s ∷ at.split.after) at.files_around s (Among-middle s at.split.before at.split.after)
             (ap (λ (h : List ℕ). has_area s.file h) (sym e) ∙ has),
-            (at.ok.file.system, (serial, bound, laws.posted_key s.file g draft serial stamp at.ok.file ∙ ap (λ (h : List ℕ). ById h (id_of s.file.system serial)) e)),
+            (at.ok.file.address, (serial, bound, laws.posted_key s.file g draft serial stamp at.ok.file ∙ ap (λ (h : List ℕ). ById h (id_of s.file.system serial)) e)),
             posted-sender s.file g draft serial stamp,
             posted-seen s.file g draft serial stamp,
           )

@@ -17,7 +17,7 @@ use Rattle.echo_toss.specs.Sets.{same_address}
 use Rattle.echo_toss.specs.Scanning.{scanned, packets_of, packet_to, goes_to, recipients}
 use Rattle.echo_net.specs.Run.{System, Run, scanning_at, destination}
 use Rattle.echo_net.specs.Orderly.{copies}
-use Rattle.echo_net.specs.Fits.{FileFits}
+use Rattle.echo_toss.specs.Base.{IsFile}
 use Rattle.echo_net.specs.Tidy.{Tidy, lists, Carries}
 use Rattle.echo_net.proofs.Counts.{Tells-can, count}
 use Rattle.echo_net.proofs.View.{Parcel, View, Has, sent_times, times, IsTarget, IsCopy, Scans}

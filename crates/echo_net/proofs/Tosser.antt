@@ -17,7 +17,7 @@ use Rattle.echo_toss.specs.Posting.{posted, post_refusal, upper}
 use Rattle.echo_toss.specs.Purging.{stub_of}
 use Rattle.echo_toss.specs.Scanning.{exported}
 use Rattle.echo_toss.specs.Written.{echo_of, text_of}
-use Rattle.echo_net.specs.Fits.{FileFits}
+use Rattle.echo_toss.specs.Base.{IsFile}
 use Rattle.echo_net.proofs.Counts.{Tells}
 
 pub record Laws : Type 0 where
@@ -26,11 +26,11 @@ pub record Laws : Type 0 where
   pub keys : Tells same_key
   pub stub_key : (m : Filed) → key_of (stub_of m) ≡ key_of m
   pub stub_again : (m : Filed) → stub_of (stub_of m) ≡ stub_of m
-  pub posted_key : (file : LinkFile) (tag : List ℕ) (draft : Draft) (serial : ℕ) (stamp : Stamp) → FileFits file →
+  pub posted_key : (file : LinkFile) (tag : List ℕ) (draft : Draft) (serial : ℕ) (stamp : Stamp) → IsFile file →
       key_of (posted file tag draft serial stamp) ≡ ById (upper tag) (id_of file.system serial)
-  pub posted_text : (file : LinkFile) (base : List Filed) (tag : List ℕ) (draft : Draft) (serial : ℕ) (stamp : Stamp) → FileFits file →
+  pub posted_text : (file : LinkFile) (base : List Filed) (tag : List ℕ) (draft : Draft) (serial : ℕ) (stamp : Stamp) → IsFile file →
       post_refusal file base tag draft serial stamp ≡ None → IsEcho (posted file tag draft serial stamp).echo
-  pub exported_text : (file : LinkFile) (e : EchoText) → FileFits file → IsEcho e → IsEcho (exported file e)
+  pub exported_text : (file : LinkFile) (e : EchoText) → IsFile file → IsEcho e → IsEcho (exported file e)
   pub read_back : (e : EchoText) → IsEcho e → (refusal (text_of e) ≡ None) × (echo_of (text_of e) ≡ e)
   pub ids : (a b : Address) (serial other : ℕ) → IsAddress a → IsAddress b → serial < 2 ^ 32 → other < 2 ^ 32 →
       id_of a serial ≡ id_of b other → a ≡ b

@@ -1,0 +1,33 @@
+//! What holds of every run. Each law is the contract of a function that does nothing.
+
+ghost use Rattle.std.specs.Prelude.{ℕ, ◌≤◌, List};
+ghost use Rattle.echo_graph.specs.Walk.{Among};
+ghost use Rattle.echo_graph.specs.Cycle.{NoCycle};
+ghost use Rattle.echo_toss.specs.declared.key.Key.{Key};
+ghost use Rattle.echo_toss.specs.Base.{LinkFile};
+ghost use Rattle.echo_net.specs.Event.{RunEvent};
+ghost use Rattle.echo_net.specs.Run.{System, run_of};
+ghost use Rattle.echo_net.specs.Orderly.{Orderly, count};
+ghost use Rattle.echo_net.specs.Tidy.{Joined, Tidy, lists};
+ghost use Rattle.echo_net.specs.Fits.{EventsFit, FilesFit};
+
+/// Every run of a tidy area is orderly: after any postings, scans, deliveries, stopped tosses and
+/// purges, with losses and repeats and in any order, each system filed each message at most once, was
+/// sent it at most once and never one of its own, and where nothing waits and every packet came, it
+/// filed every posting exactly once, unchanged. Link files that were read, and serials of 32 bits,
+/// meet the two premises on types.
+pub fn every_run_of_a_tidy_area_is_orderly()
+    ensures { (files : List LinkFile) (tag : List ℕ) → Tidy files tag → FilesFit files →
+        (events : List RunEvent) → EventsFit events → Orderly (run_of files events) tag }
+{}
+
+/// On every net, tidy or not, each system filed each message at most once.
+pub fn each_message_is_filed_once()
+    ensures { (files : List LinkFile) → FilesFit files → (events : List RunEvent) →
+        (s : System) → Among s (run_of files events).systems → (key : Key) → count key s.base ≤ 1 }
+{}
+
+/// Where the links of an area have no cycle, what is asked beside the cycles makes it tidy.
+pub fn trees_are_tidy()
+    ensures { (files : List LinkFile) (tag : List ℕ) → Joined files tag → NoCycle (lists files tag) → Tidy files tag }
+{}
