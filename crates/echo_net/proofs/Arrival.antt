@@ -1,13 +1,13 @@
 -- What the invariant says of a message: how often it was sent, and that it came where nothing waits.
-use Rattle.std.proofs.Common.{◌≡◌, ◌≢◌, ◌⊎◌, inl, inr, refl, sym, subst, ap, ◌∙◌, ℕ, ◌+◌, ◌≤◌, arith, Bool, IsTrue, List, [], ◌∷◌, ◌++◌, length, Option, Some, None}
+use Rattle.std.proofs.Common.{◌≡◌, ◌≢◌, inl, inr, refl, sym, subst, ap, ◌∙◌, ℕ, arith, Bool, IsTrue, List, [], ◌∷◌, ◌++◌, length, Option, Some, None}
 use Rattle.echo_graph.specs.Walk.{Among, Reaches}
-use Rattle.echo_graph.specs.Beyond.{Beyond, IsWay}
-use Rattle.echo_graph.proofs.Members.{Among-append_left, Among-append_cases}
+use Rattle.echo_graph.specs.Beyond.{IsWay}
+use Rattle.echo_graph.proofs.Members.{Among-append_cases}
 use Rattle.echo_graph.proofs.Cuts.{along_ways}
-use Rattle.echo_net.proofs.Counts.{Tells-can, count-names_one, count-has}
-use Rattle.echo_net.proofs.View.{Parts, Parcel, View, held, At, times, sent_times, Has, IsNet, Poster, Parent, Source, Good, Sent, Invariant}
+use Rattle.echo_net.proofs.Counts.{count-names_one, count-has}
+use Rattle.echo_net.proofs.View.{Parts, Parcel, View, held, At, times, sent_times, Has, IsNet, Sent, Invariant}
 use Rattle.echo_net.proofs.Targets.{net_can}
-use Rattle.echo_net.proofs.Growth.{Among-in, At-among, Has-key, sent-cases}
+use Rattle.echo_net.proofs.Growth.{Among-in, Has-key, sent-cases}
 
 module _ {A K N C M : Type 0} (parts : Parts A K N C M) (linked : A → A → Bool) (Carrier : A → Type 0) (Wrote : A → K → Type 0)
     (net : IsNet parts linked Carrier Wrote) (v : View A M) (inv : Invariant parts linked Carrier Wrote v) where

@@ -1,15 +1,13 @@
 -- A base and the list of its messages as they were filed.
-use Rattle.std.proofs.Common.{◌≡◌, ◌≢◌, ◌⊎◌, inl, inr, refl, sym, subst, ap, ◌∙◌, ℕ, zero, suc, ◌+◌, ◌<◌, ◌≤◌, arith, List, [], ◌∷◌, ◌++◌, length, take, drop, map, Option, Some, None}
-use Rattle.std.specs.Prelude.{Bool, true, false, bytes_eq, if◌then◌else◌, unwrap_or, option_map}
+use Rattle.std.proofs.Common.{◌≡◌, ◌≢◌, ◌⊎◌, inl, inr, refl, sym, subst, ap, ◌∙◌, ℕ, zero, suc, ◌≤◌, arith, List, [], ◌∷◌, ◌++◌, length, take, drop, map, Option, Some, None}
+use Rattle.std.specs.Prelude.{true, false, bytes_eq, if◌then◌else◌, unwrap_or, option_map}
 use Rattle.std.specs.List.{list_any}
-use Rattle.std.proofs.lemmas.Slice.Eq.{bytes_eq-Decides}
-use Rattle.std.proofs.lemmas.List.{append-nil}
 use Rattle.echo_graph.specs.Walk.{Among}
-use Rattle.echo_graph.proofs.Members.{Among-append_left, Among-append_right, Among-append_cases}
+use Rattle.echo_graph.proofs.Members.{Among-append_cases}
 use Rattle.echo_text.specs.Echo.{IsEcho, msgid_of}
 use Rattle.echo_toss.specs.declared.key.Key.{Key}
 use Rattle.echo_toss.specs.declared.key.Key.TheVariants.{ByContent, ById}
-use Rattle.echo_toss.specs.Base.{Filed, LinkFile, key_of, key_with, same_key, is_known}
+use Rattle.echo_toss.specs.Base.{Filed, key_of, key_with, same_key, is_known}
 use Rattle.echo_toss.specs.Posting.{has_id}
 use Rattle.echo_toss.specs.Purging.{stub_of, stub_with, purged}
 use Rattle.echo_net.specs.Run.{System, filing}
@@ -17,7 +15,7 @@ use Rattle.echo_net.specs.Orderly.{count}
 use Rattle.echo_toss.specs.Base.{IsFile}
 use Rattle.echo_net.proofs.Counts as counts
 use Rattle.echo_net.proofs.Tosser.{Laws}
-use Rattle.echo_net.proofs.Lists.{not_both, yes_or_no, any-to, any-from, and-parts}
+use Rattle.echo_net.proofs.Lists.{any-to, any-from, and-parts}
 
 -- a message of the base is the one that was filed, or what a purge leaves of it
 pub record IsKept (b h : Filed) : Type 0 where
@@ -184,15 +182,24 @@ module _ (laws : Laws) (s : System) (ok : SystemOk s) where
   count_filed : (m : Filed) (key : Key) → ¬ HasKey (key_of m) s.history → count key (s.history ++ m ∷ []) ≤ 1
   count_filed m key fresh =
       elim (counts.Tells-can same_key laws.keys (key_of m) key) [
-        | inl e ↦ omega (arith, count-is key (s.history ++ m ∷ []), counts.count-append key_of same_key key s.history (m ∷ []),
-            counts.count-none key_of same_key laws.keys key s.history (λ n i q. fresh (n, i, q ∙ sym e)),
-            counts.one_if-most (same_key (key_of m) key))
-        | inr other ↦ omega (arith, count-is key (s.history ++ m ∷ []), counts.count-append key_of same_key key s.history (m ∷ []),
-            count-is key s.history, ok.once key,
-            counts.count-none key_of same_key laws.keys key (m ∷ []) (λ n i. elim i [
-              | inl q ↦ (let P : Filed → Type 0 = λ a. key_of a ≢ key in subst P (sym q) other)
-              | inr t ↦ absurd t
-            ]))
+        | inl e ↦ omega (
+          arith,
+          count-is key (s.history ++ m ∷ []),
+          counts.count-append key_of same_key key s.history (m ∷ []),
+          counts.count-none key_of same_key laws.keys key s.history (λ n i q. fresh (n, i, q ∙ sym e)),
+          counts.one_if-most (same_key (key_of m) key),
+        )
+        | inr other ↦ omega (
+          arith,
+          count-is key (s.history ++ m ∷ []),
+          counts.count-append key_of same_key key s.history (m ∷ []),
+          count-is key s.history,
+          ok.once key,
+          counts.count-none key_of same_key laws.keys key (m ∷ []) (λ n i. elim i [
+            | inl q ↦ (let P : Filed → Type 0 = λ a. key_of a ≢ key in subst P (sym q) other)
+            | inr t ↦ absurd t
+          ]),
+        )
       ]
 
   pub filing-ok : (m : Filed) → IsEcho m.echo → ¬ HasKey (key_of m) s.history → SystemOk (filing s (Some m))

@@ -1,23 +1,21 @@
 -- One system of a run changes: what the messages of an area see of it.
-use Rattle.std.proofs.Common.{◌≡◌, ◌≢◌, ◌⊎◌, inl, inr, refl, sym, subst, ap, ◌∙◌, ℕ, zero, suc, ◌+◌, ◌<◌, ◌≤◌, arith, IsTrue, List, [], ◌∷◌, ◌++◌, length, take, drop, map, cond, Option, Some, None, append_assoc}
-use Rattle.std.specs.Prelude.{Bool, true, false, filter}
+use Rattle.std.proofs.Common.{◌≡◌, ◌≢◌, ◌⊎◌, inl, inr, refl, sym, subst, ap, ◌∙◌, ℕ, ◌≤◌, List, [], ◌∷◌, ◌++◌, length, drop, map, Option, Some, None}
+use Rattle.std.specs.Prelude.{true, false, filter}
 use Rattle.std.proofs.lemmas.List.{take-append-le, drop-append-le, append-nil}
 use Rattle.std.proofs.lemmas.List.Elements.{filter-append}
 use Rattle.echo_addr.specs.declared.address.Address.{Address}
 use Rattle.echo_graph.specs.Walk.{Among}
-use Rattle.echo_graph.proofs.Members.{Among-append_left, Among-append_right, Among-append_cases}
-use Rattle.echo_toss.specs.declared.packet.Packet.{Packet}
 use Rattle.echo_toss.specs.declared.key.Key.{Key}
 use Rattle.echo_toss.specs.Base.{Filed, LinkFile, key_of}
-use Rattle.echo_net.specs.Run.{System, Run, filing, scanning_at, purging_at}
+use Rattle.echo_net.specs.Run.{System, Run, filing, purging_at}
 use Rattle.echo_net.specs.Tidy.{Tidy, lists, Carries}
 use Rattle.echo_net.proofs.Counts.{Tells-can}
-use Rattle.echo_net.proofs.View.{Parcel, View, held, At, Has, Invariant, Files, Marks}
+use Rattle.echo_net.proofs.View.{Parcel, held, Has, Invariant, Files}
 use Rattle.echo_net.proofs.Tosser.{Laws}
-use Rattle.echo_net.proofs.Lists.{yes_or_no, filter-yes, filter-no, Among-filter_from, Among-filter_to, Among-middle}
+use Rattle.echo_net.proofs.Lists.{yes_or_no, filter-yes, filter-no, Among-filter_from, Among-filter_to}
 use Rattle.echo_net.proofs.Bases.{Kept-cursor, SystemOk, HasKey}
 use Rattle.echo_net.proofs.Filing.{posting-keeps, tossing-keeps, Marks-keeps}
-use Rattle.echo_net.proofs.Viewing.{parts, part_at, in_area, done_of, waiting_of, parcel_of, view_of, Wrote, address_of, NoneAt, history-parts, part_at-here, part_at-other, in_area-tag, net}
+use Rattle.echo_net.proofs.Viewing.{parts, part_at, in_area, done_of, waiting_of, parcel_of, view_of, Wrote, address_of, NoneAt, history-parts, part_at-here, part_at-other, net}
 
 -- the run with other systems
 abbrev pub with_systems : Run → List System → Run
@@ -62,7 +60,7 @@ module _ (laws : Laws) (files : List LinkFile) (tag : List ℕ) (tidy : Tidy fil
             | inr other ↦ elsewhere part a other
             | inl here ↦ (let P : Address → Type 0 = λ b. part_at part b (before ++ z ∷ after) ≡ part_at part b (before ++ s ∷ after) in
                 subst P (sym here) (
-                  part_at-here laws part (address_of s) before z after none same ∙ (e ∙ sym (part_at-here laws part (address_of s) before s after none refl))
+                part_at-here laws part (address_of s) before z after none same ∙ (e ∙ sym (part_at-here laws part (address_of s) before s after none refl))
                 ))
           ]
 

@@ -1,5 +1,5 @@
 -- What a tosser files, by cases.
-use Rattle.std.proofs.Common.{◌≡◌, ◌≢◌, ◌⊎◌, inl, inr, refl, sym, subst, ap, ◌∙◌, ℕ, List, [], ◌∷◌, Option, Some, None}
+use Rattle.std.proofs.Common.{◌≡◌, ◌≢◌, ◌⊎◌, inl, inr, refl, ap, ℕ, List, Option, Some, None}
 use Rattle.std.specs.Prelude.{Bool, true, false, not, ◌||◌, ◌==◌, length, if◌then◌else◌, is_none}
 use Rattle.std.specs.List.{list_any}
 use Rattle.echo_addr.specs.declared.address.Address.{Address}
@@ -11,7 +11,6 @@ use Rattle.echo_toss.specs.declared.draft.Draft.{Draft}
 use Rattle.echo_toss.specs.declared.stamp.Stamp.{Stamp}
 use Rattle.echo_toss.specs.declared.fault.PostFault.{PostFault}
 use Rattle.echo_toss.specs.declared.fault.PostFault.TheVariants as fault
-use Rattle.echo_toss.specs.declared.outcome.Outcome.{Outcome}
 use Rattle.echo_toss.specs.declared.outcome.Outcome.TheVariants as outcome
 use Rattle.echo_toss.specs.Base.{Filed, LinkFile, has_area, is_link, is_known, key_of}
 use Rattle.echo_toss.specs.Ids.{id_of, is_id}

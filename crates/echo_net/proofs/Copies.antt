@@ -1,32 +1,30 @@
 -- What stands in the packets of a scan.
-use Rattle.std.proofs.Common.{◌≡◌, ◌≢◌, ◌⊎◌, inl, inr, refl, sym, subst, ap, ◌∙◌, ℕ, zero, suc, ◌+◌, ◌<◌, ◌≤◌, arith, IsTrue, List, [], ◌∷◌, ◌++◌, length, take, drop, map, cond, Option, Some, None}
+use Rattle.std.proofs.Common.{◌≡◌, ◌≢◌, inl, inr, refl, sym, subst, ap, ◌∙◌, ℕ, ◌+◌, ◌≤◌, arith, List, [], ◌∷◌, ◌++◌, map, cond, Option, Some, None}
 use Rattle.std.specs.Prelude.{Bool, true, false, filter, not, ◌&&◌, is_none, bytes_eq, unwrap_or, option_map}
-use Rattle.std.specs.List.{list_any, flat_map}
+use Rattle.std.specs.List.{flat_map}
 use Rattle.std.proofs.lemmas.Bool.{cond-true, cond-false}
 use Rattle.echo_addr.specs.declared.address.Address.{Address}
 use Rattle.echo_addr.specs.declared.address.NetNode.{NetNode}
 use Rattle.echo_addr.specs.Address.{net_node_of}
 use Rattle.echo_graph.specs.Walk.{Among, Different}
-use Rattle.echo_graph.proofs.Members.{Among-at, Among-append_left, Among-append_right, Among-append_cases}
+use Rattle.echo_graph.proofs.Members.{Among-at, Among-append_left, Among-append_right}
 use Rattle.echo_packet.specs.Message.{Message}
 use Rattle.echo_text.specs.Echo.{EchoText, IsEcho, msgid_of}
 use Rattle.echo_text.specs.Refusal.{refusal}
 use Rattle.echo_text.specs.declared.fault.TextFault.{TextFault}
-use Rattle.echo_toss.specs.declared.packet.Packet.{Packet}
 use Rattle.echo_toss.specs.declared.stamp.Stamp.{Stamp}
 use Rattle.echo_toss.specs.declared.key.Key.{Key}
 use Rattle.echo_toss.specs.Sets.{same_address, same_entry}
 use Rattle.echo_toss.specs.Base.{Filed, LinkFile, key_of, key_with, same_key, links_of, is_link}
 use Rattle.echo_toss.specs.Tossing.{received}
 use Rattle.echo_toss.specs.Scanning.{packet_to, header_to, copy_to, exported, goes_to, targets, is_sender, is_seen_by, recipients}
-use Rattle.echo_toss.specs.Written.{echo_of, text_of}
 use Rattle.echo_net.specs.Run.{destination}
-use Rattle.echo_net.specs.Orderly.{copies, origin}
+use Rattle.echo_net.specs.Orderly.{copies}
 use Rattle.echo_toss.specs.Base.{IsFile}
 use Rattle.echo_net.proofs.Counts.{one_if, count}
 use Rattle.echo_net.proofs.Tosser.{Laws}
-use Rattle.echo_net.proofs.Lists.{not_both, yes_or_no, and-parts, and-from, any-to, any-from, filter-yes, filter-no, Among-map_to, Among-map_from, Among-filter_from, Among-filter_to}
-use Rattle.echo_net.proofs.Viewing.{parts, content_of, in_area}
+use Rattle.echo_net.proofs.Lists.{not_both, yes_or_no, and-parts, and-from, any-to, any-from, filter-yes, filter-no, Among-filter_from, Among-filter_to}
+use Rattle.echo_net.proofs.Viewing.{content_of, in_area}
 
 -- the copy of a message, as whoever gets it files it
 unfoldable pub copied : LinkFile → Filed → Filed
@@ -195,10 +193,16 @@ module _ (laws : Laws) (file : LinkFile) where
   tally-cons tag k m ms =
       let size : List Filed → ℕ = λ ns. count key_of same_key k ns in
       elim (yes_or_no (in_area tag m)) [
-        | inl t ↦ omega (arith, ap size (filter-yes (in_area tag) m ms t),
-            cond-true (in_area tag m) (one_if (same_key (key_of m) k)) 0 t)
-        | inr f ↦ omega (arith, ap size (filter-no (in_area tag) m ms f),
-            cond-false (in_area tag m) (one_if (same_key (key_of m) k)) 0 f)
+        | inl t ↦ omega (
+          arith,
+          ap size (filter-yes (in_area tag) m ms t),
+          cond-true (in_area tag m) (one_if (same_key (key_of m) k)) 0 t,
+        )
+        | inr f ↦ omega (
+          arith,
+          ap size (filter-no (in_area tag) m ms f),
+          cond-false (in_area tag m) (one_if (same_key (key_of m) k)) 0 f,
+        )
       ]
 
   weight-copied : (tag : List ℕ) (k : Key) (m : Filed) → weight tag k (copied file m) ≡ weight tag k m
@@ -215,7 +219,13 @@ module _ (laws : Laws) (file : LinkFile) where
       let size : List Filed → ℕ = λ ns. count key_of same_key k (filter (in_area tag) (map (copied file) ns)) in
       let later = copies-few tag k address ms in
       elim (yes_or_no (goes_to file address m)) [
-        | inl t ↦ omega (arith, later, ap size (filter-yes (goes_to file address) m ms t), tally-cons tag k m ms,
-            tally-cons tag k (copied file m) (map (copied file) (filter (goes_to file address) ms)), weight-copied tag k m)
+        | inl t ↦ omega (
+          arith,
+          later,
+          ap size (filter-yes (goes_to file address) m ms t),
+          tally-cons tag k m ms,
+          tally-cons tag k (copied file m) (map (copied file) (filter (goes_to file address) ms)),
+          weight-copied tag k m,
+        )
         | inr f ↦ omega (arith, later, ap size (filter-no (goes_to file address) m ms f), tally-cons tag k m ms)
       ]

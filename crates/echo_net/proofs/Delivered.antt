@@ -1,8 +1,8 @@
 -- Packets come to their systems, as the messages of an area see it.
-use Rattle.std.proofs.Common.{◌≡◌, ◌≢◌, ◌⊎◌, inl, inr, refl, sym, subst, ap, ◌∙◌, ℕ, zero, suc, ◌+◌, ◌<◌, ◌≤◌, arith, IsTrue, List, [], ◌∷◌, ◌++◌, length, take, drop, map, cond, Option, Some, None}
-use Rattle.std.specs.Prelude.{Bool, true, false, filter, ◌==◌, is_none}
+use Rattle.std.proofs.Common.{◌≡◌, inl, inr, refl, sym, subst, ap, ◌∙◌, ℕ, arith, IsTrue, List, [], ◌∷◌, ◌++◌, length, map, Option, Some, None}
+use Rattle.std.specs.Prelude.{Bool, true, filter, ◌==◌, is_none}
 use Rattle.std.proofs.lemmas.Bool.{cond-false, ne_eqb}
-use Rattle.std.proofs.lemmas.List.{take_all, map-append}
+use Rattle.std.proofs.lemmas.List.{map-append}
 use Rattle.echo_addr.specs.declared.address.Address.{Address}
 use Rattle.echo_graph.specs.Walk.{Among}
 use Rattle.echo_graph.proofs.Members.{Among-append_left, Among-append_right}
@@ -11,7 +11,6 @@ use Rattle.echo_text.specs.Echo.{IsEcho}
 use Rattle.echo_text.specs.Refusal.{refusal}
 use Rattle.echo_toss.specs.declared.packet.Packet.{Packet}
 use Rattle.echo_toss.specs.declared.key.Key.{Key}
-use Rattle.echo_toss.specs.declared.key.Key.TheVariants.{ByContent, ById}
 use Rattle.echo_toss.specs.Base.{Filed, LinkFile, key_of, key_with, has_area, is_link}
 use Rattle.echo_text.specs.Echo.{msgid_of}
 use Rattle.echo_toss.specs.Tossing.{received, tossing, origin_of}
@@ -19,15 +18,15 @@ use Rattle.echo_toss.specs.Written.{echo_of}
 use Rattle.echo_net.specs.Run.{System, Run, filing, tossing_at, destination}
 use Rattle.echo_net.specs.Orderly.{copies, origin, tag_of}
 use Rattle.echo_net.specs.Tidy.{Tidy, lists, Carries}
-use Rattle.echo_net.proofs.View.{Parcel, View, held, At, Has, Invariant, Marks}
+use Rattle.echo_net.proofs.View.{held, At, Has}
 use Rattle.echo_net.proofs.Tosser.{Laws}
 use Rattle.echo_net.proofs.Lists.{Among-map_to, Among-map_from, Among-filter_from, Among-filter_to, Among-middle}
-use Rattle.echo_net.proofs.Choices.{Filing, NotFiling, tossing-cases}
+use Rattle.echo_net.proofs.Choices.{tossing-cases}
 use Rattle.echo_net.proofs.Bases.{SystemOk, HasKey, known-in_history}
-use Rattle.echo_net.proofs.Running.{PacketOk, tossed-fresh, tossing_one-ok, received-echo}
+use Rattle.echo_net.proofs.Running.{PacketOk, tossed-fresh, tossing_one-ok}
 use Rattle.echo_net.proofs.Filing.{Marks-keeps}
 use Rattle.echo_net.proofs.Viewing.{parts, in_area, parcel_of, view_of, Wrote, address_of, NoneAt, in_area-tag, tag-in_area, link-has_area, net, lists-link}
-use Rattle.echo_net.proofs.Changes.{Watched, with_systems, placed, MayFile, filing-keeps, has-from_view, view-from_has}
+use Rattle.echo_net.proofs.Changes.{Watched, with_systems, MayFile, filing-keeps, view-from_has}
 
 pub filing-file : (s : System) (o : Option Filed) → (filing s o).file ≡ s.file
 filing-file s None = refl
@@ -162,11 +161,11 @@ module _ (laws : Laws) (files : List LinkFile) (tag : List ℕ) (tidy : Tidy fil
       let from : sent.from ≡ origin p = same_some (sym sent.is_sender ∙ (ap (λ (n : Filed). n.sender) e ∙ received-sender (origin p) q)) in
       let P : Address → Type 0 = λ a. IsTrue (lists files tag a sent.from) in
       let link_from : is_link s.file tag sent.from ≡ true =
-          lists-link laws files tag tidy (before ++ s ∷ after) same_files s (Among-middle s before after) sent.from (subst P (sym here) sent.parent.way.link) in
+      lists-link laws files tag tidy (before ++ s ∷ after) same_files s (Among-middle s before after) sent.from (subst P (sym here) sent.parent.way.link) in
       let same_tag : c.echo.tag ≡ tag = in_area-tag laws tag c t in
       let tag_q : (received (origin p) q).echo.tag ≡ tag = ap (λ (n : Filed). n.echo.tag) (sym e) ∙ same_tag in
       let link_q : is_link s.file (received (origin p) q).echo.tag (origin p) ≡ true =
-          ap (λ (g : List ℕ). is_link s.file g (origin p)) tag_q ∙ (ap (λ (a : Address). is_link s.file tag a) (sym from) ∙ link_from) in
+      ap (λ (g : List ℕ). is_link s.file g (origin p)) tag_q ∙ (ap (λ (a : Address). is_link s.file tag a) (sym from) ∙ link_from) in
       let arrived = tossed-arrives laws (origin p) p.messages s ok ok_p.messages q k (link-has_area s.file (received (origin p) q).echo.tag (origin p) link_q) link_q in
       let Q : Filed → Type 0 = λ n. HasKey (key_of n) (tossing_at (origin_of s.file p.header) p.messages s).history in
       let R : Address → Type 0 = λ a. HasKey (key_of (received (origin p) q)) (tossing_at a p.messages s).history in

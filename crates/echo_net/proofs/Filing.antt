@@ -1,10 +1,10 @@
 -- Filing a message keeps the invariant, and so does marking a packet as delivered.
-use Rattle.std.proofs.Common.{◌≡◌, ◌≢◌, ◌⊎◌, inl, inr, refl, sym, subst, ap, ◌∙◌, ℕ, ◌+◌, ◌≤◌, arith, Bool, IsTrue, List, [], ◌∷◌, ◌++◌, append_assoc, Option, Some, None}
+use Rattle.std.proofs.Common.{◌≡◌, ◌≢◌, ◌⊎◌, inl, inr, refl, sym, subst, ◌∙◌, ℕ, ◌+◌, ◌≤◌, arith, Bool, IsTrue, List, [], ◌∷◌, ◌++◌, append_assoc, None}
 use Rattle.echo_graph.specs.Walk.{Among}
 use Rattle.echo_graph.specs.Beyond.{Beyond}
 use Rattle.echo_graph.proofs.Members.{Among-append_left, Among-append_right, Among-append_cases}
 use Rattle.echo_net.proofs.Counts.{Tells-can, count-append, count-none, one_if-most}
-use Rattle.echo_net.proofs.View.{Parts, Parcel, View, held, At, times, sent_times, Has, IsNet, Poster, Parent, Source, Good, Sent, Invariant, Files, Marks}
+use Rattle.echo_net.proofs.View.{Parts, Parcel, View, held, At, times, sent_times, Has, IsNet, Good, Sent, Invariant, Files, Marks}
 use Rattle.echo_net.proofs.Targets.{net_can}
 use Rattle.echo_net.proofs.Growth.{Among-in, Has-in, Grows, Poster-grows, Good-grows, Sent-grows}
 
@@ -77,10 +77,14 @@ module _ {A K N C M : Type 0} (parts : Parts A K N C M) (linked : A → A → Bo
         one_more : times parts k (held v y) + times parts k (m ∷ []) ≤ 1
         one_more = elim (Tells-can parts.same net.tells_keys (parts.key m) k) [
           | inl e ↦ omega (arith, count-none parts.key parts.same net.tells_keys k (held v y) (λ n i q. files.fresh (n, i, q ∙ sym e)), one_if-most (parts.same (parts.key m) k))
-          | inr other ↦ omega (arith, old.once y k, count-none parts.key parts.same net.tells_keys k (m ∷ []) (λ n i. elim i [
-            | inl q ↦ (let P : M → Type 0 = λ a. parts.key a ≢ k in subst P (sym q) other)
-            | inr t ↦ absurd t
-          ]))
+          | inr other ↦ omega (
+            arith,
+            old.once y k,
+            count-none parts.key parts.same net.tells_keys k (m ∷ []) (λ n i. elim i [
+              | inl q ↦ (let P : M → Type 0 = λ a. parts.key a ≢ k in subst P (sym q) other)
+              | inr t ↦ absurd t
+            ]),
+          )
         ]
 
     pub Files-keeps : Good parts linked Carrier Wrote w y m → Invariant parts linked Carrier Wrote w

@@ -1,9 +1,9 @@
 -- What stays true of messages while systems file more.
-use Rattle.std.proofs.Common.{◌≡◌, ◌≢◌, ◌⊎◌, inl, inr, refl, sym, subst, ◌∙◌, ℕ, ◌+◌, ◌≤◌, arith, Bool, IsTrue, List, [], ◌∷◌, ◌++◌, cond, Option, Some, None}
+use Rattle.std.proofs.Common.{◌≡◌, ◌⊎◌, inl, inr, refl, sym, subst, ◌∙◌, ℕ, ◌+◌, arith, Bool, IsTrue, List, [], ◌∷◌, ◌++◌, cond}
 use Rattle.std.specs.Prelude.{true, false}
 use Rattle.echo_graph.specs.Walk.{Among}
 use Rattle.echo_net.proofs.Counts.{Tells, Tells-can, count-cases}
-use Rattle.echo_net.proofs.View.{Parts, Parcel, View, held, At, times, sent_times, Has, IsNet, Poster, Parent, Source, Good, Sent}
+use Rattle.echo_net.proofs.View.{Parts, Parcel, View, held, At, times, sent_times, Has, Poster, Good, Sent}
 
 pub Among-in : {X : Type 0} (x : X) (xs ys : List X) → xs ≡ ys → Among x xs → Among x ys
 Among-in {X} x xs ys e h = let P : List X → Type 0 = λ zs. Among x zs in subst P e h
@@ -46,6 +46,7 @@ module _ {A K N C M : Type 0} (parts : Parts A K N C M) where
       no : (b : Bool) (n : ℕ) → ¬ IsTrue b → cond b n 0 ≡ 0
       no true n h = absurd (h refl)
       no false n h = refl
+
       zero_either : (b : Bool) (n : ℕ) → n ≡ 0 → cond b n 0 ≡ 0
       zero_either true n h = h
       zero_either false n h = refl

@@ -1,7 +1,7 @@
 -- Every run of a tidy area is orderly.
-use Rattle.std.proofs.Common.{◌≡◌, ◌≢◌, ◌⊎◌, inl, inr, refl, sym, subst, ap, ◌∙◌, ℕ, zero, suc, ◌+◌, ◌<◌, ◌≤◌, arith, IsTrue, List, [], ◌∷◌, ◌++◌, length, take, drop, map, cond, Option, Some, None}
-use Rattle.std.specs.Prelude.{Bool, true, false, filter, if◌then◌else◌}
-use Rattle.std.proofs.lemmas.Bool.{cond-true, cond-false}
+use Rattle.std.proofs.Common.{◌≡◌, inl, inr, refl, sym, subst, ap, ◌∙◌, ℕ, ◌≤◌, arith, IsTrue, List, [], ◌∷◌, ◌++◌, length, drop, map, cond}
+use Rattle.std.specs.Prelude.{Bool, true, false, filter}
+use Rattle.std.proofs.lemmas.Bool.{cond-false}
 use Rattle.std.proofs.lemmas.List.{map-append}
 use Rattle.echo_addr.specs.declared.address.Address.{Address}
 use Rattle.echo_graph.specs.Walk.{Among}
@@ -14,17 +14,16 @@ use Rattle.echo_net.specs.Run.{System, Run, destination, run_of}
 use Rattle.echo_net.specs.Orderly.{count, copies, sent_count, tag_of, IsPosting, Settled, SameContent, FiledUnchanged, Orderly}
 use Rattle.echo_net.specs.Tidy.{Tidy, lists, Carries}
 use Rattle.echo_net.specs.Fits.{FilesFit, EventsFit}
-use Rattle.echo_net.proofs.Counts as counts
-use Rattle.echo_net.proofs.View.{Parcel, View, held, At, Has, times, sent_times, Invariant}
+use Rattle.echo_net.proofs.View.{Parcel, View, held, At, times, sent_times}
 use Rattle.echo_net.proofs.Tosser.{Laws}
-use Rattle.echo_net.proofs.Lists.{not_both, yes_or_no, filter-yes, filter-no, Among-map_to, Among-map_from, Among-filter_from, Among-filter_to}
-use Rattle.echo_net.proofs.Bases.{Kept-waiting, Kept-count, Kept-back, SystemOk, HasKey, count-is}
+use Rattle.echo_net.proofs.Lists.{not_both, yes_or_no, filter-yes, filter-no, Among-map_from, Among-filter_from, Among-filter_to}
+use Rattle.echo_net.proofs.Bases.{Kept-waiting, Kept-count, Kept-back}
 use Rattle.echo_net.proofs.Arrival.{AtRest, never-own, arrives, same-content, held-once}
 use Rattle.echo_net.proofs.Running.{RunOk}
 use Rattle.echo_net.proofs.Viewing.{Content, parts, content_of, part_at, in_area, waiting_of, parcel_of, view_of, Wrote, address_of, in_area-tag, tag-in_area, net, area-carries, none-before}
-use Rattle.echo_net.proofs.Changes.{Watched, with_systems, held-is}
+use Rattle.echo_net.proofs.Changes.{with_systems, held-is}
 use Rattle.echo_net.proofs.Delivered.{key-tag}
-use Rattle.echo_net.proofs.Runs.{State, run-ok, run-state}
+use Rattle.echo_net.proofs.Runs.{State, run-state}
 
 pub among-split : {X : Type 0} (x : X) (xs : List X) → Among x xs → (before : List X) × (after : List X) × (xs ≡ before ++ x ∷ after)
 among-split x [] h = absurd h
@@ -65,10 +64,10 @@ module _ (laws : Laws) where
       elim (yes_or_no (in_area tag m)) [
         | inl t ↦ omega (arith, ap size (filter-yes (in_area tag) m ms t), count-area tag key e ms)
         | inr f ↦ (let other : same_key (key_of m) key ≡ false = elim (yes_or_no (same_key (key_of m) key)) [
-              | inr g ↦ g
-              | inl t ↦ absurd (not_both (in_area tag m)
-                  (tag-in_area laws tag m (sym (key-tag m) ∙ (ap tag_of (laws.keys.sound (key_of m) key t) ∙ e))) f)
-            ] in
+          | inr g ↦ g
+          | inl t ↦ absurd (not_both (in_area tag m)
+              (tag-in_area laws tag m (sym (key-tag m) ∙ (ap tag_of (laws.keys.sound (key_of m) key t) ∙ e))) f)
+        ] in
             omega (arith, ap size (filter-no (in_area tag) m ms f), count-area tag key e ms, cond-false {A = ℕ} (same_key (key_of m) key) 1 0 other))
       ]
 

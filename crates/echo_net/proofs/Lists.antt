@@ -1,9 +1,9 @@
 -- Items of lists by their index, and members of lists that were made of others.
-use Rattle.std.proofs.Common.{◌≡◌, ◌≢◌, ◌⊎◌, inl, inr, refl, sym, subst, ap, ◌∙◌, ℕ, zero, suc, ◌+◌, ◌<◌, ◌≤◌, arith, IsTrue, List, [], ◌∷◌, ◌++◌, length, take, drop, map, cond, Option, Some, None}
+use Rattle.std.proofs.Common.{◌≡◌, ◌⊎◌, inl, inr, refl, sym, subst, ap, ◌∙◌, ℕ, zero, suc, ◌+◌, arith, List, [], ◌∷◌, ◌++◌, length, take, drop, map, Option, Some, None}
 use Rattle.std.specs.Prelude.{Bool, true, false, filter, not, ◌&&◌, ◌||◌}
-use Rattle.std.specs.List.{list_any, position_or_len, flat_map}
+use Rattle.std.specs.List.{list_any, position_or_len}
 use Rattle.std.proofs.lemmas.Bool.{cond-true, cond-false}
-use Rattle.echo_graph.specs.Walk.{Among, Different}
+use Rattle.echo_graph.specs.Walk.{Among}
 use Rattle.echo_net.specs.Run.{nth, change}
 
 -- a test says yes or no
@@ -81,6 +81,7 @@ first_passes {X} p x (y ∷ xs) h =
   where
     negated-true : {b : Bool} → b ≡ true → not b ≡ false
     negated-true e = ap not e
+
     negated-false : {b : Bool} → b ≡ false → not b ≡ true
     negated-false e = ap not e
 

@@ -1,5 +1,5 @@
 -- What is true of every run, on every net.
-use Rattle.std.proofs.Common.{◌≡◌, ◌≢◌, ◌⊎◌, inl, inr, refl, sym, subst, ap, ◌∙◌, ℕ, zero, suc, ◌+◌, ◌<◌, ◌≤◌, arith, List, [], ◌∷◌, ◌++◌, length, take, drop, map, Option, Some, None}
+use Rattle.std.proofs.Common.{◌≡◌, ◌≢◌, inl, inr, refl, sym, subst, ◌∙◌, ℕ, zero, suc, arith, List, [], ◌∷◌, ◌++◌, length, take, drop, map, Option, Some, None}
 use Rattle.std.specs.Prelude.{Bool, true, false, filter, if◌then◌else◌}
 use Rattle.std.specs.List.{list_any}
 use Rattle.echo_addr.specs.declared.address.Address.{Address}
@@ -11,24 +11,22 @@ use Rattle.echo_text.specs.Refusal.{refusal}
 use Rattle.echo_toss.specs.declared.packet.Packet.{Packet}
 use Rattle.echo_toss.specs.declared.draft.Draft.{Draft}
 use Rattle.echo_toss.specs.declared.stamp.Stamp.{Stamp}
-use Rattle.echo_toss.specs.declared.key.Key.{Key}
-use Rattle.echo_toss.specs.declared.key.Key.TheVariants.{ByContent, ById}
+use Rattle.echo_toss.specs.declared.key.Key.TheVariants.{ById}
 use Rattle.echo_toss.specs.Base.{Filed, LinkFile, key_of, is_known}
 use Rattle.echo_toss.specs.Ids.{id_of}
 use Rattle.echo_toss.specs.Posting.{posted, posting, upper, has_id}
 use Rattle.echo_toss.specs.Tossing.{received, tossing, origin_of}
 use Rattle.echo_toss.specs.Scanning.{scanned, packets_of, packet_to, header_to, copy_to, exported, recipients, goes_to}
 use Rattle.echo_toss.specs.Stamps.{is_stamp}
-use Rattle.echo_toss.specs.Written.{echo_of, text_of}
+use Rattle.echo_toss.specs.Written.{echo_of}
 use Rattle.echo_net.specs.Event.{RunEvent, Posting, Scanning, Delivery, PartDelivery, Purging}
-use Rattle.echo_net.specs.Run.{System, Run, fresh, filing, posting_at, tossing_at, scanning_at, purging_at, nth, change, receiver, changing, scanning, taking, coming, delivery, part_delivery, after_event, after_events, run_of}
-use Rattle.echo_net.specs.Orderly.{count}
+use Rattle.echo_net.specs.Run.{System, Run, fresh, filing, posting_at, tossing_at, scanning_at, purging_at, nth, change, receiver, changing, scanning, taking, coming, delivery, part_delivery, after_event}
 use Rattle.echo_toss.specs.Base.{IsFile}
 use Rattle.echo_net.specs.Fits.{FilesFit}
 use Rattle.echo_net.proofs.Tosser.{Laws}
-use Rattle.echo_net.proofs.Lists.{not_both, yes_or_no, nth-cases, Among-map_from, Among-filter_from, Among-take, Among-drop, Among-change}
-use Rattle.echo_net.proofs.Choices.{posting-cases, tossing-cases, Filing, NotFiling}
-use Rattle.echo_net.proofs.Bases.{Kept, Kept-scanned, Kept-purged, Kept-waiting, SystemOk, HasKey, known-from_history, id-from_history, filing-ok}
+use Rattle.echo_net.proofs.Lists.{not_both, Among-map_from, Among-filter_from, Among-take, Among-drop, Among-change}
+use Rattle.echo_net.proofs.Choices.{posting-cases, tossing-cases}
+use Rattle.echo_net.proofs.Bases.{Kept-scanned, Kept-purged, Kept-waiting, SystemOk, HasKey, known-from_history, id-from_history, filing-ok}
 
 -- of a packet at any time
 pub record PacketOk (p : Packet) : Type 0 where

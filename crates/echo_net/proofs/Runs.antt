@@ -1,5 +1,5 @@
 -- Every run keeps what is true of the messages of a tidy area.
-use Rattle.std.proofs.Common.{◌≡◌, ◌≢◌, ◌⊎◌, inl, inr, refl, sym, subst, ap, ◌∙◌, ℕ, zero, suc, ◌+◌, ◌<◌, ◌≤◌, ◌^◌, arith, IsTrue, List, [], ◌∷◌, ◌++◌, length, take, drop, map, cond, Option, Some, None}
+use Rattle.std.proofs.Common.{◌≡◌, inl, inr, refl, sym, subst, ap, ◌∙◌, ℕ, ◌<◌, ◌≤◌, ◌^◌, arith, List, [], ◌∷◌, ◌++◌, length, take, map, cond, Option, Some, None}
 use Rattle.std.specs.Prelude.{Bool, true, false, if◌then◌else◌}
 use Rattle.std.proofs.lemmas.List.{take_all}
 use Rattle.echo_addr.specs.declared.address.Address.{Address}
@@ -8,8 +8,7 @@ use Rattle.echo_packet.specs.Message.{Message}
 use Rattle.echo_toss.specs.declared.packet.Packet.{Packet}
 use Rattle.echo_toss.specs.declared.draft.Draft.{Draft}
 use Rattle.echo_toss.specs.declared.stamp.Stamp.{Stamp}
-use Rattle.echo_toss.specs.declared.key.Key.{Key}
-use Rattle.echo_toss.specs.declared.key.Key.TheVariants.{ByContent, ById}
+use Rattle.echo_toss.specs.declared.key.Key.TheVariants.{ById}
 use Rattle.echo_toss.specs.Sets.{same_address}
 use Rattle.echo_toss.specs.Base.{Filed, LinkFile, key_of, has_area}
 use Rattle.echo_toss.specs.Ids.{id_of}
@@ -18,19 +17,17 @@ use Rattle.echo_toss.specs.Tossing.{origin_of}
 use Rattle.echo_toss.specs.Scanning.{scanned}
 use Rattle.echo_toss.specs.Stamps.{is_stamp}
 use Rattle.echo_net.specs.Event.{RunEvent, Posting, Scanning, Delivery, PartDelivery, Purging}
-use Rattle.echo_net.specs.Run.{System, Run, fresh, filing, posting_at, tossing_at, scanning_at, purging_at, nth, change, receiver, destination, changing, scanning, taking, coming, delivery, part_delivery, after_event, after_events, run_of}
-use Rattle.echo_net.specs.Orderly.{origin}
-use Rattle.echo_net.specs.Tidy.{Tidy, lists, Carries}
-use Rattle.echo_toss.specs.Base.{IsFile}
+use Rattle.echo_net.specs.Run.{System, Run, fresh, posting_at, tossing_at, scanning_at, purging_at, nth, change, receiver, destination, changing, scanning, taking, coming, delivery, part_delivery, after_event, after_events, run_of}
+use Rattle.echo_net.specs.Tidy.{Tidy, Carries}
 use Rattle.echo_net.specs.Fits.{FilesFit, EventFits, EventsFit}
-use Rattle.echo_net.proofs.View.{At, Invariant, held, times}
+use Rattle.echo_net.proofs.View.{At, held, times}
 use Rattle.echo_net.proofs.Tosser.{Laws}
 use Rattle.echo_net.proofs.Lists.{Split, nth-cases, nth-split, change-none, first_passes, map-change, Among-middle, Among-take}
 use Rattle.echo_net.proofs.Choices.{posting-cases}
 use Rattle.echo_net.proofs.Bases.{SystemOk, HasKey}
-use Rattle.echo_net.proofs.Running.{RunOk, PacketOk, posted-fresh, tossing-ok, event-ok, start-ok}
-use Rattle.echo_net.proofs.Viewing.{in_area, in_area-tag, parcel_of, parts, part_at, done_of, waiting_of, view_of, Wrote, address_of, NoneAt, area-carries, none-before, map-map}
-use Rattle.echo_net.proofs.Changes.{Watched, with_systems, placed, MayFile, filing-keeps, purging-keeps}
+use Rattle.echo_net.proofs.Running.{RunOk, PacketOk, posted-fresh, event-ok, start-ok}
+use Rattle.echo_net.proofs.Viewing.{in_area, in_area-tag, parcel_of, parts, part_at, done_of, waiting_of, view_of, Wrote, address_of, NoneAt, area-carries, none-before}
+use Rattle.echo_net.proofs.Changes.{Watched, with_systems, MayFile, filing-keeps, purging-keeps}
 use Rattle.echo_net.proofs.Scanned.{scanning-keeps}
 use Rattle.echo_net.proofs.Delivered as delivered
 use Rattle.echo_net.proofs.Delivered.{filing-file, tossing-file, origin-is}
@@ -103,7 +100,7 @@ module _ (laws : Laws) (files : List LinkFile) (tag : List ℕ) (tidy : Tidy fil
         | inl none ↦ absurd (none_some (sym none ∙ e))
         | inr some ↦ (let same : posted s.file g draft serial stamp ≡ m = same_some (sym some.0 ∙ e) in
             let P : Filed → Type 0 = λ n. (¬ HasKey (key_of n) s.history) ×
-                (in_area tag n ≡ true → MayFile laws files tag tidy run at.split.before s at.split.after at.none n) in
+            (in_area tag n ≡ true → MayFile laws files tag tidy run at.split.before s at.split.after at.none n) in
             subst P same (
               posted-fresh laws s at.ok g draft serial stamp some.3,
               λ t. inl (own some.2 t),
@@ -116,7 +113,7 @@ module _ (laws : Laws) (files : List LinkFile) (tag : List ℕ) (tidy : Tidy fil
       own has t =
           let e : upper g ≡ tag = sym (posted-tag s.file g draft serial stamp) ∙ (in_area-tag laws tag (posted s.file g draft serial stamp) t) in (
             area-carries laws files tag tidy (at.split.before ++ s ∷ at.split.after) at.files_around s (Among-middle s at.split.before at.split.after)
-            (ap (λ (h : List ℕ). has_area s.file h) (sym e) ∙ has),
+                (ap (λ (h : List ℕ). has_area s.file h) (sym e) ∙ has),
             (at.ok.file.address, (serial, bound, laws.posted_key s.file g draft serial stamp at.ok.file ∙ ap (λ (h : List ℕ). ById h (id_of s.file.system serial)) e)),
             posted-sender s.file g draft serial stamp,
             posted-seen s.file g draft serial stamp,
@@ -187,8 +184,8 @@ module _ (laws : Laws) (files : List LinkFile) (tag : List ℕ) (tidy : Tidy fil
   coming-watched run state k p h at_k (Some s) e =
       let R : List System → Type 0 = λ ss. Watched laws files tag tidy (record { systems = ss; packets = run.packets; delivered = k ∷ run.delivered }) in
       subst R (sym (at.split.changed (taking p (length p.messages)))) (
-        delivered.delivered-keeps laws files tag tidy run at.split.before at.split.after p ok_p h s z none_z (same ∙ here) known k at_k
-        (taking-watched run state p h (length p.messages) s at here)
+      delivered.delivered-keeps laws files tag tidy run at.split.before at.split.after p ok_p h s z none_z (same ∙ here) known k at_k
+      (taking-watched run state p h (length p.messages) s at here)
       )
     where
       at : Place run (receiver run p) s

@@ -1,33 +1,31 @@
 -- A scan, as the messages of an area see it.
-use Rattle.std.proofs.Common.{◌≡◌, ◌≢◌, ◌⊎◌, inl, inr, refl, sym, subst, ap, ◌∙◌, ℕ, zero, suc, ◌+◌, ◌<◌, ◌≤◌, arith, IsTrue, List, [], ◌∷◌, ◌++◌, length, take, drop, map, cond, Option, Some, None}
-use Rattle.std.specs.Prelude.{Bool, true, false, filter}
+use Rattle.std.proofs.Common.{◌≡◌, ◌≢◌, inl, inr, refl, sym, subst, ap, ◌∙◌, ℕ, ◌≤◌, arith, IsTrue, List, [], ◌∷◌, ◌++◌, length, drop, map}
+use Rattle.std.specs.Prelude.{true, false, filter}
 use Rattle.std.proofs.lemmas.Bool.{cond-true, cond-false}
 use Rattle.std.proofs.lemmas.List.{take_all, map-append}
 use Rattle.echo_addr.specs.declared.address.Address.{Address}
-use Rattle.echo_addr.specs.declared.address.NetNode.{NetNode}
 use Rattle.echo_addr.specs.Address.{net_node_of}
 use Rattle.echo_graph.specs.Walk.{Among, Different}
-use Rattle.echo_graph.proofs.Members.{Among-append_left, Among-append_right, Among-append_cases}
+use Rattle.echo_graph.proofs.Members.{Among-append_right, Among-append_cases}
 use Rattle.echo_text.specs.Echo.{IsEcho}
 use Rattle.echo_toss.specs.declared.packet.Packet.{Packet}
 use Rattle.echo_toss.specs.declared.stamp.Stamp.{Stamp}
 use Rattle.echo_toss.specs.declared.key.Key.{Key}
-use Rattle.echo_toss.specs.Base.{Filed, LinkFile, key_of, same_key, is_link, links_of}
+use Rattle.echo_toss.specs.Base.{Filed, LinkFile, key_of, is_link, links_of}
 use Rattle.echo_toss.specs.Sets.{same_address}
 use Rattle.echo_toss.specs.Scanning.{scanned, packets_of, packet_to, goes_to, recipients}
-use Rattle.echo_net.specs.Run.{System, Run, scanning_at, destination}
+use Rattle.echo_net.specs.Run.{System, Run, scanning_at}
 use Rattle.echo_net.specs.Orderly.{copies}
-use Rattle.echo_toss.specs.Base.{IsFile}
 use Rattle.echo_net.specs.Tidy.{Tidy, lists, Carries}
-use Rattle.echo_net.proofs.Counts.{Tells-can, count}
+use Rattle.echo_net.proofs.Counts.{Tells-can}
 use Rattle.echo_net.proofs.View.{Parcel, View, Has, sent_times, times, IsTarget, IsCopy, Scans}
 use Rattle.echo_net.proofs.Tosser.{Laws}
 use Rattle.echo_net.proofs.Lists.{yes_or_no, any-to, any-from, Among-map_to, Among-map_from, Among-filter_from, Among-filter_to, Among-middle}
 use Rattle.echo_net.proofs.Bases.{Kept-waiting, Kept-length, SystemOk}
 use Rattle.echo_net.proofs.Running.{waiting-valid}
 use Rattle.echo_net.proofs.Sending.{Scans-keeps}
-use Rattle.echo_net.proofs.Viewing.{parts, part_at, in_area, done_of, waiting_of, parcel_of, view_of, Wrote, address_of, NoneAt, history-parts, in_area-tag, tag-in_area, net, lists-link, link-lists}
-use Rattle.echo_net.proofs.Changes.{Watched, with_systems, placed, elsewhere, at_s, at_z}
+use Rattle.echo_net.proofs.Viewing.{parts, in_area, done_of, waiting_of, parcel_of, view_of, Wrote, address_of, NoneAt, history-parts, in_area-tag, tag-in_area, net, lists-link, link-lists}
+use Rattle.echo_net.proofs.Changes.{Watched, placed, elsewhere, at_s, at_z}
 use Rattle.echo_net.proofs.Copies.{copied, copied-key, copied-tag, copied-content, copied-sender, copied-seen, seen-copied, copies-are, packet-destination, Targeted, goes-from, goes-to, target-recipient, recipients-differ, copies-few}
 
 drop_length : {X : Type 0} (xs : List X) → drop (length xs) xs ≡ []
@@ -182,8 +180,8 @@ module _ (laws : Laws) (files : List LinkFile) (tag : List ℕ) (tidy : Tidy fil
         (
           copied s.file m,
           subst P (sym (parcel-copies a)) (Among-filter_to (in_area tag) (copied s.file m) (map (copied s.file) (filter (goes_to s.file a) waits))
-          (Among-map_to (copied s.file) m (filter (goes_to s.file a) waits) (Among-filter_to (goes_to s.file a) m waits i (goes-to laws s.file m a targeted)))
-          (area-copied m ∙ t)),
+              (Among-map_to (copied s.file) m (filter (goes_to s.file a) waits) (Among-filter_to (goes_to s.file a) m waits i (goes-to laws s.file m a targeted)))
+              (area-copied m ∙ t)),
           copied-key s.file m,
         ),
       )
@@ -215,7 +213,7 @@ module _ (laws : Laws) (files : List LinkFile) (tag : List ℕ) (tidy : Tidy fil
       let (i, has) = to-packet m h x target in (
         parcel_to x,
         Among-map_to (parcel_of tag) (packet_to s.file stamp waits x) made_packets
-        (Among-map_to (packet_to s.file stamp waits) x (recipients s.file waits) i),
+            (Among-map_to (packet_to s.file stamp waits) x (recipients s.file waits) i),
         parcel-address x,
         has,
       )

@@ -1,12 +1,12 @@
 -- A scan keeps the invariant.
-use Rattle.std.proofs.Common.{◌≡◌, ◌≢◌, ◌⊎◌, inl, inr, refl, sym, subst, ap, ◌∙◌, ℕ, ◌+◌, ◌≤◌, arith, Bool, IsTrue, List, [], ◌∷◌, ◌++◌, append_assoc, Option, Some, None}
+use Rattle.std.proofs.Common.{◌≡◌, ◌⊎◌, inl, inr, refl, sym, subst, ◌∙◌, ℕ, ◌+◌, ◌≤◌, arith, Bool, IsTrue, List, ◌∷◌, ◌++◌, append_assoc}
 use Rattle.std.proofs.lemmas.List.{append-nil}
 use Rattle.echo_graph.specs.Walk.{Among}
 use Rattle.echo_graph.specs.Beyond.{Beyond, IsWay}
 use Rattle.echo_graph.proofs.Members.{Among-append_left, Among-append_right, Among-append_cases}
 use Rattle.echo_graph.proofs.Cuts.{one_way}
-use Rattle.echo_net.proofs.Counts.{Tells-can, count-append, count-has}
-use Rattle.echo_net.proofs.View.{Parts, Parcel, View, held, At, times, sent_times, Has, IsNet, Poster, Parent, Source, Good, Sent, Invariant, IsTarget, IsCopy, Scans}
+use Rattle.echo_net.proofs.Counts.{count-append, count-has}
+use Rattle.echo_net.proofs.View.{Parts, Parcel, View, held, At, times, sent_times, Has, IsNet, Sent, Invariant, IsTarget, IsCopy, Scans}
 use Rattle.echo_net.proofs.Targets.{net_can, carriers_to, beyond-target, copy-parent}
 use Rattle.echo_net.proofs.Growth.{Among-in, Has-in, Has-key, sent_times-append, sent-cases, Grows, Poster-grows, Good-grows, Sent-grows}
 
@@ -108,9 +108,13 @@ module _ {A K N C M : Type 0} (parts : Parts A K N C M) (linked : A → A → Bo
       let S : A → Type 0 = λ a. Has parts (parts.key c') (v.done a) in
       let done : S y = subst S one_sender sent.is_done in
       let once = old.once y (parts.key m) in
-      omega (arith, once, count-append parts.key parts.same (parts.key m) (v.done y) (v.waiting y),
+      omega (
+        arith,
+        once,
+        count-append parts.key parts.same (parts.key m) (v.done y) (v.waiting y),
         count-has parts.key parts.same net.tells_keys (parts.key m) (v.done y) done.0 done.1 (done.2 ∙ same),
-        count-has parts.key parts.same net.tells_keys (parts.key m) (v.waiting y) m waits refl)
+        count-has parts.key parts.same net.tells_keys (parts.key m) (v.waiting y) m waits refl,
+      )
 
   few-new : (x : A) (k : K) → sent_times parts x k new ≤ 1
   few-new x k = omega (arith, scans.few x k, old.once y k, count-append parts.key parts.same k (v.done y) (v.waiting y))

@@ -1,12 +1,12 @@
 -- The targets of a message are the links that lead away from its poster.
-use Rattle.std.proofs.Common.{◌≡◌, ◌≢◌, ◌⊎◌, inl, inr, refl, sym, subst, ◌∙◌, Bool, IsTrue, List, [], ◌∷◌, Option, Some, None}
-use Rattle.echo_graph.specs.Walk.{Among, Walk, Reaches}
-use Rattle.echo_graph.specs.Beyond.{Beyond, IsWay}
+use Rattle.std.proofs.Common.{◌≡◌, ◌≢◌, inl, inr, sym, subst, ◌∙◌, Bool, IsTrue, List, ◌∷◌, Option, Some, None}
+use Rattle.echo_graph.specs.Walk.{Among}
+use Rattle.echo_graph.specs.Beyond.{Beyond}
 use Rattle.echo_graph.proofs.Members.{CanTell, Among-at}
 use Rattle.echo_graph.proofs.Walks.{linked_differ, walk_ends}
 use Rattle.echo_graph.proofs.Cuts.{Beyond-trans, way-not_beyond, link_cases, further}
 use Rattle.echo_net.proofs.Counts.{Tells-can}
-use Rattle.echo_net.proofs.View.{Parts, Parcel, View, held, IsNet, Poster, Parent, Source, Good, IsTarget, IsCopy}
+use Rattle.echo_net.proofs.View.{Parts, IsNet, Parent, Source, IsTarget, IsCopy}
 
 module _ {A K N C M : Type 0} (parts : Parts A K N C M) (linked : A → A → Bool) (Carrier : A → Type 0) (Wrote : A → K → Type 0)
     (net : IsNet parts linked Carrier Wrote) where
@@ -58,6 +58,7 @@ module _ {A K N C M : Type 0} (parts : Parts A K N C M) (linked : A → A → Bo
       where
         none_some : {a : A} → (let left : Option A = None in left ≡ Some a) → ⊥
         none_some e = cc
+
         same_some : {a b : A} → Some a ≡ Some b → a ≡ b
         same_some e = cc
 

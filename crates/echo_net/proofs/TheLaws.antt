@@ -1,21 +1,19 @@
 -- The laws of one tosser, proved.
-use Rattle.std.proofs.Common.{◌≡◌, ◌≢◌, ◌⊎◌, inl, inr, refl, sym, subst, ap, ◌∙◌, ℕ, ◌+◌, ◌<◌, ◌^◌, arith, List, [], ◌∷◌, ◌++◌, length, take, map, codes, Option, Some, None}
-use Rattle.std.specs.Prelude.{Bool, true, false, Contains}
+use Rattle.std.proofs.Common.{◌≡◌, inl, inr, refl, sym, ap, ◌∙◌, ℕ, arith, List, [], ◌∷◌, ◌++◌, length, take, codes, Option}
+use Rattle.std.specs.Prelude.{Bool, true}
 use Rattle.std.specs.List.{AllByRecursion}
 use Rattle.std.proofs.Math.Seq.{take-append_seam}
 use Rattle.std.proofs.lemmas.List.{length-append}
 use Rattle.echo_addr.specs.declared.address.Address.{Address}
-use Rattle.echo_addr.specs.declared.address.NetNode.{NetNode}
 use Rattle.echo_addr.specs.Address.{IsAddress, address_text, address_in}
 use Rattle.echo_addr.proofs.Outcomes.{AddressOf-address_text, address_in-written}
 use Rattle.echo_graph.specs.Walk.{Among, Different}
 use Rattle.echo_graph.proofs.Members.{Contains-from_Among, Among-from_Contains}
-use Rattle.echo_text.specs.Echo.{msgid_of}
-use Rattle.echo_toss.specs.declared.key.Key.TheVariants.{ByContent, ById}
+use Rattle.echo_toss.specs.declared.key.Key.TheVariants.{ById}
 use Rattle.echo_toss.specs.declared.draft.Draft.{Draft}
 use Rattle.echo_toss.specs.declared.stamp.Stamp.{Stamp}
 use Rattle.echo_toss.specs.Sets.{address_before, address_set, entry_set, set_of}
-use Rattle.echo_toss.specs.Base.{Filed, IsFile, LinkFile, key_of, key_with}
+use Rattle.echo_toss.specs.Base.{IsFile, LinkFile, key_of, key_with}
 use Rattle.echo_toss.specs.Ids.{id_of, serial_text}
 use Rattle.echo_toss.specs.Posting.{posted, upper}
 use Rattle.echo_toss.proofs.Choices.{IsIn}
@@ -38,11 +36,11 @@ ids-differ a b serial other at_a at_b e =
     let long_a : length tail_a ≡ 9 = refl in
     let long_b : length tail_b ≡ 9 = refl in
     let same : length (address_text a) ≡ length (address_text b) =
-        omega (arith, whole, long_a, long_b, length-append (address_text a) tail_a, length-append (address_text b) tail_b) in
+    omega (arith, whole, long_a, long_b, length-append (address_text a) tail_a, length-append (address_text b) tail_b) in
     let texts : address_text a ≡ address_text b =
-        sym (take-append_seam (address_text a) tail_a)
-        ∙ (ap (λ (n : ℕ). take n (address_text a ++ tail_a)) same
-        ∙ (ap (λ (bytes : List ℕ). take (length (address_text b)) bytes) e ∙ take-append_seam (address_text b) tail_b)) in
+    sym (take-append_seam (address_text a) tail_a)
+    ∙ (ap (λ (n : ℕ). take n (address_text a ++ tail_a)) same
+    ∙ (ap (λ (bytes : List ℕ). take (length (address_text b)) bytes) e ∙ take-append_seam (address_text b) tail_b)) in
     sym (address_in-written (address_text a) a (AddressOf-address_text a at_a))
     ∙ (ap (λ (bytes : List ℕ). address_in bytes) texts ∙ address_in-written (address_text b) b (AddressOf-address_text b at_b))
 

@@ -1,5 +1,5 @@
 -- What the run of a net rests on: the laws of one tosser.
-use Rattle.std.proofs.Common.{◌≡◌, ℕ, ◌<◌, ◌^◌, ◌⊎◌, Bool, List, [], ◌∷◌, ◌++◌, Option, Some, None, map}
+use Rattle.std.proofs.Common.{◌≡◌, ℕ, ◌<◌, ◌^◌, List, None}
 use Rattle.echo_addr.specs.declared.address.Address.{Address}
 use Rattle.echo_addr.specs.declared.address.NetNode.{NetNode}
 use Rattle.echo_addr.specs.Address.{IsAddress}
@@ -8,8 +8,7 @@ use Rattle.echo_text.specs.Echo.{EchoText, IsEcho}
 use Rattle.echo_text.specs.Refusal.{refusal}
 use Rattle.echo_toss.specs.declared.draft.Draft.{Draft}
 use Rattle.echo_toss.specs.declared.stamp.Stamp.{Stamp}
-use Rattle.echo_toss.specs.declared.key.Key.{Key}
-use Rattle.echo_toss.specs.declared.key.Key.TheVariants.{ByContent, ById}
+use Rattle.echo_toss.specs.declared.key.Key.TheVariants.{ById}
 use Rattle.echo_toss.specs.Sets.{address_set, entry_set, same_address, same_entry}
 use Rattle.echo_toss.specs.Base.{Filed, LinkFile, key_of, same_key}
 use Rattle.echo_toss.specs.Ids.{id_of}

@@ -1,6 +1,6 @@
 -- What the messages of one area see of a run, and what is true of it at all times.
-use Rattle.std.proofs.Common.{◌≡◌, ◌≢◌, ◌⊎◌, ℕ, ◌+◌, ◌<◌, ◌≤◌, Bool, IsTrue, List, [], ◌∷◌, ◌++◌, cond, length, Option, Some, None}
-use Rattle.echo_graph.specs.Walk.{Among, Simple, Walk, Connected}
+use Rattle.std.proofs.Common.{◌≡◌, ◌≢◌, ◌⊎◌, ℕ, ◌+◌, ◌≤◌, Bool, IsTrue, List, [], ◌∷◌, ◌++◌, cond, length, Option, Some, None}
+use Rattle.echo_graph.specs.Walk.{Among, Simple, Connected}
 use Rattle.echo_graph.specs.Beyond.{Beyond, Parted, IsWay}
 use Rattle.echo_net.proofs.Counts.{Tells, count}
 

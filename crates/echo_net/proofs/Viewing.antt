@@ -1,31 +1,29 @@
 -- What the messages of one area see of a run.
-use Rattle.std.proofs.Common.{◌≡◌, ◌≢◌, ◌⊎◌, inl, inr, refl, sym, subst, ap, ◌∙◌, ℕ, zero, suc, ◌+◌, ◌<◌, ◌≤◌, ◌^◌, arith, IsTrue, List, [], ◌∷◌, ◌++◌, length, take, drop, map, cond, Option, Some, None}
+use Rattle.std.proofs.Common.{◌≡◌, ◌≢◌, inl, inr, refl, sym, subst, ap, ◌∙◌, ℕ, ◌<◌, ◌^◌, IsTrue, List, [], ◌∷◌, ◌++◌, take, drop, map, cond, Option, Some, None}
 use Rattle.std.specs.Prelude.{Bool, true, false, filter, bytes_eq, option_map, unwrap_or, is_some, ◌&&◌}
 use Rattle.std.specs.List.{list_any}
 use Rattle.std.proofs.lemmas.Bool.{cond-true, cond-false}
-use Rattle.std.proofs.lemmas.List.{take-append-le, drop-append-le, take-append-drop}
+use Rattle.std.proofs.lemmas.List.{take-append-drop}
 use Rattle.std.proofs.lemmas.List.Elements.{filter-append}
 use Rattle.echo_addr.specs.declared.address.Address.{Address}
 use Rattle.echo_addr.specs.declared.address.NetNode.{NetNode}
 use Rattle.echo_addr.specs.Address.{IsAddress, net_node_of}
 use Rattle.echo_graph.specs.Walk.{Among, Different, Simple}
-use Rattle.echo_graph.specs.Cycle.{Polygons}
-use Rattle.echo_graph.proofs.Members.{Among-at, Among-append_cases}
+use Rattle.echo_graph.proofs.Members.{Among-at}
 use Rattle.echo_graph.proofs.Cycles.{Parted-from_Polygons}
 use Rattle.echo_toss.specs.declared.packet.Packet.{Packet}
 use Rattle.echo_toss.specs.declared.key.Key.{Key}
-use Rattle.echo_toss.specs.declared.key.Key.TheVariants.{ByContent, ById}
+use Rattle.echo_toss.specs.declared.key.Key.TheVariants.{ById}
 use Rattle.echo_toss.specs.Sets.{same_address}
 use Rattle.echo_toss.specs.Base.{Area, Filed, LinkFile, key_of, same_key, area_of, has_area, is_link, links_of}
 use Rattle.echo_toss.specs.Ids.{id_of}
 use Rattle.echo_net.specs.Run.{System, Run, destination}
 use Rattle.echo_net.specs.Orderly.{copies}
-use Rattle.echo_net.specs.Tidy.{Tidy, Joined, carries, lists, Carries}
+use Rattle.echo_net.specs.Tidy.{Tidy, lists, Carries}
 use Rattle.echo_net.proofs.Counts.{Tells-can}
-use Rattle.echo_net.proofs.View.{Parts, Parcel, View, held, Has, IsNet}
+use Rattle.echo_net.proofs.View.{Parts, Parcel, View, IsNet}
 use Rattle.echo_net.proofs.Tosser.{Laws}
-use Rattle.echo_net.proofs.Lists.{not_both, yes_or_no, and-parts, and-from, any-to, any-from, Among-middle, Among-map_to, Among-map_from, Among-filter_from, Among-filter_to}
-use Rattle.echo_net.proofs.Bases.{HasKey}
+use Rattle.echo_net.proofs.Lists.{not_both, yes_or_no, and-parts, and-from, any-to, any-from, Among-middle, Among-map_to, Among-map_from}
 
 -- what stays of a message on its way
 pub record Content : Type 0 where
@@ -123,6 +121,7 @@ module _ (laws : Laws) where
     where
       ids : (and_tag : (bytes_eq m.echo.tag tag && bytes_eq [] []) ≡ true) → ById m.echo.tag [] ≡ ById tag []
       ids h = laws.keys.sound (ById m.echo.tag []) (ById tag []) h
+
       same_bytes : m.echo.tag ≡ tag
       same_bytes = let e = ids (and-from (bytes_eq m.echo.tag tag) (bytes_eq [] []) t refl) in cc
 

@@ -1,8 +1,8 @@
 -- What every link file that was read, and every event of the program's types, meets.
-use Rattle.std.specs.Prelude.{ℕ, ◌<◌, ◌^◌, List}
+use Rattle.std.specs.Prelude.{◌<◌, ◌^◌, List}
 use Rattle.echo_graph.specs.Walk.{Among}
 use Rattle.echo_toss.specs.Base.{IsFile, LinkFile}
-use Rattle.echo_net.specs.Event.{RunEvent, Posting, Scanning, Delivery, PartDelivery, Purging}
+use Rattle.echo_net.specs.Event.{RunEvent, Posting}
 
 -- the serial of a posting has 32 bits
 abbrev pub EventFits : RunEvent → Type 0

@@ -1,7 +1,6 @@
 -- What a run is to keep of an area.
-use Rattle.std.specs.Prelude.{◌≡◌, ◌≢◌, ℕ, ◌+◌, ◌≤◌, ◌&&◌, Bool, IsTrue, List, [], ◌∷◌, ◌++◌, map, filter, count_by, length, drop, is_none, bytes_eq, Option, None, if◌then◌else◌}
+use Rattle.std.specs.Prelude.{◌≡◌, ◌≢◌, ℕ, ◌+◌, ◌≤◌, IsTrue, List, [], ◌∷◌, ◌++◌, map, filter, length, drop, is_none, None, if◌then◌else◌}
 use Rattle.echo_addr.specs.declared.address.Address.{Address}
-use Rattle.echo_packet.specs.Message.{Message}
 use Rattle.echo_text.specs.Refusal.{refusal}
 use Rattle.echo_graph.specs.Walk.{Among}
 use Rattle.echo_toss.specs.declared.packet.Packet.{Packet}
@@ -10,7 +9,7 @@ use Rattle.echo_toss.specs.declared.key.Key.TheVariants.{ByContent, ById}
 use Rattle.echo_toss.specs.Sets.{same_address}
 use Rattle.echo_toss.specs.Base.{Filed, has_area, key_of, same_key}
 use Rattle.echo_toss.specs.Tossing.{received}
-use Rattle.echo_net.specs.Run.{System, Run, destination, nth}
+use Rattle.echo_net.specs.Run.{System, Run, destination}
 
 -- the area of a key
 abbrev pub tag_of : Key → List ℕ

@@ -1,10 +1,10 @@
 -- Which nets are tidy in an area.
-use Rattle.std.specs.Prelude.{◌≡◌, ◌&&◌, ◌<◌, ◌^◌, ℕ, Bool, IsTrue, List, [], ◌∷◌, map}
+use Rattle.std.specs.Prelude.{◌≡◌, ◌&&◌, ℕ, Bool, IsTrue, List, map}
 use Rattle.std.specs.List.{list_any}
 use Rattle.echo_addr.specs.declared.address.Address.{Address}
 use Rattle.echo_addr.specs.Address.{net_node_of}
 use Rattle.echo_graph.specs.Walk.{Different, Connected}
-use Rattle.echo_graph.specs.Cycle.{Polygons, NoCycle}
+use Rattle.echo_graph.specs.Cycle.{Polygons}
 use Rattle.echo_toss.specs.Sets.{same_address}
 use Rattle.echo_toss.specs.Base.{LinkFile, has_area, is_link}
 
