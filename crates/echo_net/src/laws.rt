@@ -1,10 +1,11 @@
 //! What holds of every run. Each law is the contract of a function that does nothing.
 
-ghost use Rattle.std.specs.Prelude.{ℕ, ◌≤◌, List};
+ghost use Rattle.std.specs.Prelude.{◌≡◌, ◌⊎◌, ℕ, ◌≤◌, List, drop, length};
 ghost use Rattle.echo_graph.specs.Walk.{Among};
 ghost use Rattle.echo_graph.specs.Cycle.{NoCycle};
 ghost use Rattle.echo_toss.specs.declared.key.Key.{Key};
-ghost use Rattle.echo_toss.specs.Base.{LinkFile};
+ghost use Rattle.echo_toss.specs.Base.{Filed, LinkFile};
+ghost use Rattle.echo_toss.specs.Purging.{stub_of};
 ghost use Rattle.echo_net.specs.Event.{RunEvent};
 ghost use Rattle.echo_net.specs.Run.{System, run_of};
 ghost use Rattle.echo_net.specs.Orderly.{Orderly, count};
@@ -25,6 +26,18 @@ pub fn every_run_of_a_tidy_area_is_orderly()
 pub fn each_message_is_filed_once()
     ensures { (files : List LinkFile) → FilesFit files → (events : List RunEvent) →
         (s : System) → Among s (run_of files events).systems → (key : Key) → count key s.base ≤ 1 }
+{}
+
+/// On every net the base of a system is the list of its messages as they were filed, but that messages
+/// before the cursor may be what a purge leaves of them.
+pub fn bases_are_what_was_filed()
+    ensures members { (files : List LinkFile) → FilesFit files → (events : List RunEvent) →
+        (s : System) → Among s (run_of files events).systems → (m : Filed) → Among m s.base →
+        (filed : Filed) × Among filed s.history × ((m ≡ filed) ⊎ (m ≡ stub_of filed)) }
+    ensures number { (files : List LinkFile) → FilesFit files → (events : List RunEvent) →
+        (s : System) → Among s (run_of files events).systems → length s.base ≡ length s.history }
+    ensures waiting { (files : List LinkFile) → FilesFit files → (events : List RunEvent) →
+        (s : System) → Among s (run_of files events).systems → drop s.cursor s.base ≡ drop s.cursor s.history }
 {}
 
 /// Where the links of an area have no cycle, what is asked beside the cycles makes it tidy.

@@ -7,4 +7,7 @@
 
 mod laws;
 
-pub use laws::{each_message_is_filed_once, every_run_of_a_tidy_area_is_orderly, trees_are_tidy};
+pub use laws::{
+    bases_are_what_was_filed, each_message_is_filed_once, every_run_of_a_tidy_area_is_orderly,
+    trees_are_tidy,
+};
