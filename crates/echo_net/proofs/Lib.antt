@@ -18,3 +18,4 @@ pub mod Delivered
 pub mod Runs
 pub mod Headline
 pub mod TheLaws
+pub mod Exports

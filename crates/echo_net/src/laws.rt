@@ -4,11 +4,15 @@ ghost use Rattle.std.specs.Prelude.{◌≡◌, ◌⊎◌, ℕ, ◌≤◌, List, 
 ghost use Rattle.echo_graph.specs.Walk.{Among};
 ghost use Rattle.echo_graph.specs.Cycle.{NoCycle};
 ghost use Rattle.echo_toss.specs.declared.key.Key.{Key};
-ghost use Rattle.echo_toss.specs.Base.{Filed, LinkFile};
+ghost use Rattle.echo_toss.specs.Base.{Filed, LinkFile, key_of};
+ghost use Rattle.echo_addr.specs.Address.{net_node_of};
+ghost use Rattle.echo_toss.specs.declared.packet.Packet.{Packet};
+ghost use Rattle.echo_toss.specs.declared.stamp.Stamp.{Stamp};
+ghost use Rattle.echo_toss.specs.Scanning.{scanned, targets};
 ghost use Rattle.echo_toss.specs.Purging.{stub_of};
 ghost use Rattle.echo_net.specs.Event.{RunEvent};
-ghost use Rattle.echo_net.specs.Run.{System, run_of};
-ghost use Rattle.echo_net.specs.Orderly.{Orderly, count};
+ghost use Rattle.echo_net.specs.Run.{System, destination, run_of};
+ghost use Rattle.echo_net.specs.Orderly.{Orderly, copies, count};
 ghost use Rattle.echo_net.specs.Tidy.{Joined, Tidy, lists};
 ghost use Rattle.echo_net.specs.Fits.{EventsFit, FilesFit};
 
@@ -38,6 +42,16 @@ pub fn bases_are_what_was_filed()
         (s : System) → Among s (run_of files events).systems → length s.base ≡ length s.history }
     ensures waiting { (files : List LinkFile) → FilesFit files → (events : List RunEvent) →
         (s : System) → Among s (run_of files events).systems → drop s.cursor s.base ≡ drop s.cursor s.history }
+{}
+
+/// On every net a scan sends each message that waits to its targets only: what stands in a
+/// packet is a copy of such a message, and its SEEN-BY does not list the net and node that it goes to.
+pub fn scans_send_to_targets()
+    ensures { (files : List LinkFile) → FilesFit files → (events : List RunEvent) →
+        (s : System) → Among s (run_of files events).systems →
+        (stamp : Stamp) (p : Packet) → Among p (scanned s.file s.base s.cursor stamp) → (c : Filed) → Among c (copies p) →
+        (m : Filed) × Among m (drop s.cursor s.history) × (key_of c ≡ key_of m) × Among (destination p) (targets s.file m) ×
+        (¬ Among (net_node_of (destination p)) m.echo.seen) }
 {}
 
 /// Where the links of an area have no cycle, what is asked beside the cycles makes it tidy.

@@ -9,5 +9,5 @@ mod laws;
 
 pub use laws::{
     bases_are_what_was_filed, each_message_is_filed_once, every_run_of_a_tidy_area_is_orderly,
-    trees_are_tidy,
+    scans_send_to_targets, trees_are_tidy,
 };
