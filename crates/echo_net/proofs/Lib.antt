@@ -19,3 +19,4 @@ pub mod Runs
 pub mod Headline
 pub mod TheLaws
 pub mod Exports
+pub mod Tracing

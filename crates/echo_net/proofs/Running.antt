@@ -162,7 +162,7 @@ module _ (laws : Laws) where
   taking-ok : (p : Packet) → PacketOk p → (n : ℕ) (s : System) → SystemOk s → SystemOk (taking p n s)
   taking-ok p ok n s at_s = tossing-ok (origin_of s.file p.header) (take n p.messages) s at_s (λ q h. (ok.messages q (Among-take n q p.messages h)).1)
 
-  nth-among : {X : Type 0} (i : ℕ) (x : X) (xs : List X) → nth i xs ≡ Some x → Among x xs
+  pub nth-among : {X : Type 0} (i : ℕ) (x : X) (xs : List X) → nth i xs ≡ Some x → Among x xs
   nth-among i x [] h = absurd (none_some h)
   nth-among zero x (y ∷ xs) h = inl (same_some (sym h))
   nth-among (suc i) x (y ∷ xs) h = inr (nth-among i x xs h)
