@@ -129,9 +129,17 @@ module _ (laws : Laws) where
       let R : List Filed → Type 0 = λ ms. Among m ms in
       let held = Among-drop s.cursor m s.history (subst R (Kept-waiting s.cursor s.base s.history ok.kept) k) in
       let (f, at_f, rest) = traced.systems s at_s m held in
-      let (o, at_o, own, key, content) = rest in
-      (f, at_f, (o, at_o, own, key ∙ (sym (copied-key s.file m) ∙ ap key_of (sym is_copy)),
-        content ∙ (sym (copied-content s.file m) ∙ ap content_of (sym is_copy))))
+      let (o, at_o, own, key, content) = rest in (
+        f,
+        at_f,
+        (
+          o,
+          at_o,
+          own,
+          key ∙ (sym (copied-key s.file m) ∙ ap key_of (sym is_copy)),
+          content ∙ (sym (copied-content s.file m) ∙ ap content_of (sym is_copy)),
+        ),
+      )
 
   posting-new : (tag : List ℕ) (draft : Draft) (serial : ℕ) (stamp : Stamp) (ss : List System) (t : System) →
       Among (posting_at tag draft serial stamp t) ss → (m : Filed) → Among m (posting_at tag draft serial stamp t).history →
@@ -200,6 +208,7 @@ module _ (laws : Laws) where
     where
       keeps : Keeps scanning_at
       keeps t m j = j
+
       scans : (b : Bool) → Traced (if b then record {
         systems = change i scanning_at run.systems;
         packets = run.packets ++ scanned s.file s.base s.cursor stamp;

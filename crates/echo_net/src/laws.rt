@@ -12,7 +12,7 @@ ghost use Rattle.echo_toss.specs.Scanning.{scanned, targets};
 ghost use Rattle.echo_toss.specs.Purging.{stub_of};
 ghost use Rattle.echo_net.specs.Event.{RunEvent};
 ghost use Rattle.echo_net.specs.Run.{System, destination, run_of};
-ghost use Rattle.echo_net.specs.Orderly.{Orderly, copies, count};
+ghost use Rattle.echo_net.specs.Orderly.{IsPosting, Orderly, SameContent, copies, count};
 ghost use Rattle.echo_net.specs.Tidy.{Joined, Tidy, lists};
 ghost use Rattle.echo_net.specs.Fits.{EventsFit, FilesFit};
 
@@ -52,6 +52,14 @@ pub fn scans_send_to_targets()
         (stamp : Stamp) (p : Packet) → Among p (scanned s.file s.base s.cursor stamp) → (c : Filed) → Among c (copies p) →
         (m : Filed) × Among m (drop s.cursor s.history) × (key_of c ≡ key_of m) × Among (destination p) (targets s.file m) ×
         (¬ Among (net_node_of (destination p)) m.echo.seen) }
+{}
+
+/// On every net each filed message has the DateTime, names, subject and kept lines of a posting that
+/// was accepted in its area.
+pub fn each_message_was_posted()
+    ensures { (files : List LinkFile) → FilesFit files → (events : List RunEvent) →
+        (s : System) → Among s (run_of files events).systems → (m : Filed) → Among m s.history →
+        (f : System) × Among f (run_of files events).systems × ((o : Filed) × Among o f.history × IsPosting m.echo.tag o × SameContent m o) }
 {}
 
 /// Where the links of an area have no cycle, what is asked beside the cycles makes it tidy.

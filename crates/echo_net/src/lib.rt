@@ -8,6 +8,6 @@
 mod laws;
 
 pub use laws::{
-    bases_are_what_was_filed, each_message_is_filed_once, every_run_of_a_tidy_area_is_orderly,
-    scans_send_to_targets, trees_are_tidy,
+    bases_are_what_was_filed, each_message_is_filed_once, each_message_was_posted,
+    every_run_of_a_tidy_area_is_orderly, scans_send_to_targets, trees_are_tidy,
 };
