@@ -1,0 +1,5 @@
+pub mod Event
+pub mod Run
+pub mod Orderly
+pub mod Tidy
+pub mod Fits
