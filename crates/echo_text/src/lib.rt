@@ -5,24 +5,16 @@
 //!
 //! Modules in reading order: `fault` (why a text is refused), `words` (what lines begin with), `lines`
 //! (cutting a text), `area` (the tag), `tail` (the control tail), `listed` (its entries), `found` (ids,
-//! tear and origin lines), `echo` (a text taken apart), `copying`, `reading`, `writing`, and `laws`
-//! (what holds of the definitions).
+//! tear and origin lines), `echo` (a text taken apart), `copying`, `reading`, `writing`, `msgid`
+//! (message ids), and `laws` and `id_laws` (what holds of the definitions).
 #![tactic(auto)]
 
 mod area;
 mod copying;
 mod echo;
 mod fault;
-<<<<<<< HEAD
-<<<<<<< HEAD
-mod found;
-=======
-mod id_laws;
->>>>>>> text-ids
-=======
 mod found;
 mod id_laws;
->>>>>>> toss-model
 mod laws;
 mod lines;
 mod listed;
@@ -34,24 +26,11 @@ mod writing;
 
 pub use echo::{Echo, EchoView};
 pub use fault::TextFault;
-<<<<<<< HEAD
-<<<<<<< HEAD
-=======
-pub use id_laws::{doubled_quotes_undone, ids_differ, written_id_read_back};
->>>>>>> toss-model
+pub use id_laws::{doubled_quotes_undone, ids_differ, one_id_is_spelled, written_id_read_back};
 pub use laws::{one_reading, one_writing, written_text_read_back};
 pub use msgid::MsgId;
 pub use reading::{read_text, view_text};
 pub use writing::write_text;
-<<<<<<< HEAD
 
 #[cfg(test)]
 mod tests;
-=======
-pub use id_laws::{doubled_quotes_undone, ids_differ, one_id_is_spelled, written_id_read_back};
-pub use laws::written_text_read_back;
-pub use msgid::MsgId;
-pub use reading::view_text;
->>>>>>> text-ids
-=======
->>>>>>> toss-model
