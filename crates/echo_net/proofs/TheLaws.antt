@@ -14,7 +14,7 @@ use Rattle.echo_toss.specs.declared.draft.Draft.{Draft}
 use Rattle.echo_toss.specs.declared.stamp.Stamp.{Stamp}
 use Rattle.echo_toss.specs.Sets.{address_before, address_set, entry_set, set_of}
 use Rattle.echo_toss.specs.Base.{IsFile, LinkFile, key_of, key_with}
-use Rattle.echo_toss.specs.Ids.{id_of, serial_text}
+use Rattle.echo_text.specs.Ids.{id_of, serial_text}
 use Rattle.echo_toss.specs.Posting.{posted, upper}
 use Rattle.echo_toss.proofs.Choices.{IsIn}
 use Rattle.echo_toss.proofs.Sets.{IsOrder, Ascending, set_ascending, set_only, set_keeps}
