@@ -61,7 +61,8 @@ fn shows_messages_before_a_fault(rt: HostRuntime) -> Result<(), Fail> {
             "echonet: P1 Truncated at 103\n",
         ),
     ] {
-        let (ended, out, errors) = shown(alloc, false, &bytes[..count]);
+        let front = bytes.get(..count).ok_or("the packet has 212 bytes")?;
+        let (ended, out, errors) = shown(alloc, false, front);
         assert_eq!(rt; ended, status);
         assert!(rt; is_text(&out, printed), "printed at {count}");
         assert!(rt; is_text(&errors, line), "fault at {count}");
@@ -73,7 +74,9 @@ fn shows_messages_before_a_fault(rt: HostRuntime) -> Result<(), Fail> {
 fn refuses_a_long_name(rt: HostRuntime) -> Result<(), Fail> {
     let alloc = rt.alloc();
     let mut bytes = bytes_of(alloc, FIRST)?;
-    bytes[92..128].fill(b'A');
+    for byte in bytes.iter_mut().skip(92).take(36) {
+        *byte = b'A';
+    }
     let (status, out, errors) = shown(alloc, false, &bytes);
     assert_eq!(rt; status, Status::Refused);
     assert!(rt; is_text(&out, HEADER));
