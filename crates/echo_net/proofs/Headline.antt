@@ -13,10 +13,10 @@ use Rattle.echo_net.specs.Event.{RunEvent}
 use Rattle.echo_net.specs.Run.{System, Run, destination, run_of}
 use Rattle.echo_net.specs.Orderly.{count, copies, sent_count, tag_of, IsPosting, Settled, SameContent, FiledUnchanged, Orderly}
 use Rattle.echo_net.specs.Tidy.{Tidy, lists, Carries}
-use Rattle.echo_net.specs.Fits.{FilesFit, EventsFit}
+use Rattle.echo_net.specs.Fits.{FilesFit}
 use Rattle.echo_net.proofs.View.{Parcel, View, held, At, times, sent_times}
 use Rattle.echo_net.proofs.Tosser.{Laws}
-use Rattle.echo_net.proofs.Lists.{not_both, yes_or_no, filter-yes, filter-no, Among-map_from, Among-filter_from, Among-filter_to}
+use Rattle.echo_net.proofs.Lists.{not_both, yes_or_no, filter-yes, filter-no, filter-none, Among-map_from, Among-filter_from, Among-filter_to}
 use Rattle.echo_net.proofs.Bases.{Kept-waiting, Kept-count, Kept-back}
 use Rattle.echo_net.proofs.Arrival.{AtRest, never-own, arrives, same-content, held-once}
 use Rattle.echo_net.proofs.Running.{RunOk}
@@ -36,10 +36,6 @@ among-split x (y ∷ xs) h =
 mapped-length : {X Y : Type 0} (g : X → Y) (xs : List X) → length (map g xs) ≡ length xs
 mapped-length g [] = refl
 mapped-length g (x ∷ xs) = omega (arith, mapped-length g xs)
-
-filter-none : {X : Type 0} (p : X → Bool) (xs : List X) → ((x : X) → Among x xs → p x ≡ false) → filter p xs ≡ []
-filter-none p [] h = refl
-filter-none p (x ∷ xs) h = filter-no p x xs (h x (inl refl)) ∙ filter-none p xs (λ y i. h y (inr i))
 
 part_at-none : (part : System → List Filed) (a : Address) (ss : List System) → ((s : System) → Among s ss → part s ≡ []) → part_at part a ss ≡ []
 part_at-none part a [] h = refl
@@ -171,7 +167,6 @@ module _ (laws : Laws) where
       all_came = came;
     }
 
-  pub every_run-orderly : (files : List LinkFile) (tag : List ℕ) → Tidy files tag → FilesFit files → (events : List RunEvent) → EventsFit events →
+  pub every_run-orderly : (files : List LinkFile) (tag : List ℕ) → Tidy files tag → FilesFit files → (events : List RunEvent) →
       Orderly (run_of files events) tag
-  every_run-orderly files tag tidy fit events event_fit =
-      orderly files tag tidy (run_of files events) (run-state laws files fit events event_fit tag tidy)
+  every_run-orderly files tag tidy fit events = orderly files tag tidy (run_of files events) (run-state laws files fit events tag tidy)

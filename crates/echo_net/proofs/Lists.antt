@@ -1,5 +1,5 @@
 -- Items of lists by their index, and members of lists that were made of others.
-use Rattle.std.proofs.Common.{◌≡◌, ◌⊎◌, inl, inr, refl, sym, subst, ap, ◌∙◌, ℕ, zero, suc, ◌+◌, arith, List, [], ◌∷◌, ◌++◌, length, take, drop, map, Option, Some, None}
+use Rattle.std.proofs.Common.{◌≡◌, ◌≢◌, ◌⊎◌, inl, inr, refl, sym, subst, ap, ◌∙◌, ℕ, zero, suc, ◌+◌, arith, List, [], ◌∷◌, ◌++◌, length, take, drop, map, Option, Some, None}
 use Rattle.std.specs.Prelude.{Bool, true, false, filter, not, ◌&&◌, ◌||◌}
 use Rattle.std.specs.List.{list_any, position_or_len}
 use Rattle.std.proofs.lemmas.Bool.{cond-true, cond-false}
@@ -59,6 +59,46 @@ nth-split (suc i) x (y ∷ xs) h =
       changed = λ f. (let e = s.changed f in cc);
       index = (let e = s.index in omega arith);
     }
+
+pub nth-among : {X : Type 0} (i : ℕ) (x : X) (xs : List X) → nth i xs ≡ Some x → Among x xs
+nth-among {X} i x [] h = absurd (none_some h)
+  where
+    none_some : {x : X} → (let none : Option X = None in none ≡ Some x) → ⊥
+    none_some e = cc
+nth-among zero x (y ∷ xs) h = inl (let e : Some y ≡ Some x = h in cc)
+nth-among (suc i) x (y ∷ xs) h = inr (nth-among i x xs h)
+
+-- where an item is changed: what is at an index was there before, or is the changed item
+pub nth-change : {X : Type 0} (i j : ℕ) (f : X → X) (z : X) (xs : List X) → nth j (change i f xs) ≡ Some z →
+    ((i ≢ j) × (nth j xs ≡ Some z)) ⊎ ((i ≡ j) × ((x : X) × (nth j xs ≡ Some x) × (z ≡ f x)))
+nth-change {X} i j f z [] h = absurd (none_some h)
+  where
+    none_some : {x : X} → (let none : Option X = None in none ≡ Some x) → ⊥
+    none_some e = cc
+nth-change zero zero f z (x ∷ xs) h = inr (refl, (x, refl, (let e : Some (f x) ≡ Some z = h in cc)))
+nth-change zero (suc j) f z (x ∷ xs) h = inl (λ e. absurd (omega (arith, e)), h)
+nth-change (suc i) zero f z (x ∷ xs) h = inl (λ e. absurd (omega (arith, e)), h)
+nth-change (suc i) (suc j) f z (x ∷ xs) h =
+    elim (nth-change i j f z xs h) [
+      | inl k ↦ inl (λ e. k.0 (omega (arith, e)), k.1)
+      | inr k ↦ inr (ap suc k.0, k.1)
+    ]
+
+-- and what was there is there yet, or changed
+pub nth-changed : {X : Type 0} (i j : ℕ) (f : X → X) (x : X) (xs : List X) → nth j xs ≡ Some x →
+    ((i ≢ j) × (nth j (change i f xs) ≡ Some x)) ⊎ ((i ≡ j) × (nth j (change i f xs) ≡ Some (f x)))
+nth-changed {X} i j f x [] h = absurd (none_some h)
+  where
+    none_some : {x : X} → (let none : Option X = None in none ≡ Some x) → ⊥
+    none_some e = cc
+nth-changed {X} zero zero f x (y ∷ xs) h = inr (refl, (let same : y ≡ x = (let e : Some y ≡ Some x = h in cc) in ap (λ (z : X). Some (f z)) same))
+nth-changed zero (suc j) f x (y ∷ xs) h = inl (λ e. absurd (omega (arith, e)), h)
+nth-changed (suc i) zero f x (y ∷ xs) h = inl (λ e. absurd (omega (arith, e)), h)
+nth-changed (suc i) (suc j) f x (y ∷ xs) h =
+    elim (nth-changed i j f x xs h) [
+      | inl k ↦ inl (λ e. k.0 (omega (arith, e)), k.1)
+      | inr k ↦ inr (ap suc k.0, k.1)
+    ]
 
 -- the first item that passes does
 pub first_passes : {X : Type 0} (p : X → Bool) (x : X) (xs : List X) → nth (position_or_len p xs) xs ≡ Some x → p x ≡ true
@@ -120,6 +160,16 @@ filter-yes p x xs t = cond-true (p x) (x ∷ filter p xs) (filter p xs) t
 
 pub filter-no : {X : Type 0} (p : X → Bool) (x : X) (xs : List X) → p x ≡ false → filter p (x ∷ xs) ≡ filter p xs
 filter-no p x xs f = cond-false (p x) (x ∷ filter p xs) (filter p xs) f
+
+-- none passes, or all do
+pub filter-none : {X : Type 0} (p : X → Bool) (xs : List X) → ((x : X) → Among x xs → p x ≡ false) → filter p xs ≡ []
+filter-none p [] h = refl
+filter-none p (x ∷ xs) h = filter-no p x xs (h x (inl refl)) ∙ filter-none p xs (λ y i. h y (inr i))
+
+pub filter-all : {X : Type 0} (p : X → Bool) (xs : List X) → ((x : X) → Among x xs → p x ≡ true) → filter p xs ≡ xs
+filter-all p [] h = refl
+filter-all p (x ∷ xs) h =
+    filter-yes p x xs (h x (inl refl)) ∙ ap (λ (ys : List _). x ∷ ys) (filter-all p xs (λ y i. h y (inr i)))
 
 same_list : {X : Type 0} (x : X) (xs ys : List X) → xs ≡ ys → Among x xs → Among x ys
 same_list {X} x xs ys e h = let P : List X → Type 0 = λ zs. Among x zs in subst P e h

@@ -20,11 +20,11 @@ use Rattle.echo_toss.specs.Scanning.{scanned, packets_of, packet_to, header_to, 
 use Rattle.echo_toss.specs.Stamps.{is_stamp}
 use Rattle.echo_toss.specs.Written.{echo_of}
 use Rattle.echo_net.specs.Event.{RunEvent, Posting, Scanning, Delivery, PartDelivery, Purging}
-use Rattle.echo_net.specs.Run.{System, Run, fresh, filing, posting_at, tossing_at, scanning_at, purging_at, nth, change, receiver, changing, scanning, taking, coming, delivery, part_delivery, after_event}
+use Rattle.echo_net.specs.Run.{System, Run, fresh, filing, posting_at, tossing_at, scanning_at, purging_at, nth, change, receiver, changing, scanning, taking, coming, delivery, part_delivery, after_event, start}
 use Rattle.echo_toss.specs.Base.{IsFile}
 use Rattle.echo_net.specs.Fits.{FilesFit}
 use Rattle.echo_net.proofs.Tosser.{Laws}
-use Rattle.echo_net.proofs.Lists.{not_both, Among-map_from, Among-filter_from, Among-take, Among-drop, Among-change}
+use Rattle.echo_net.proofs.Lists.{not_both, Among-map_from, Among-filter_from, Among-take, Among-drop, Among-change, nth-among}
 use Rattle.echo_net.proofs.Choices.{posting-cases, tossing-cases}
 use Rattle.echo_net.proofs.Bases.{Kept-scanned, Kept-purged, Kept-waiting, SystemOk, HasKey, known-from_history, id-from_history, filing-ok}
 
@@ -162,11 +162,6 @@ module _ (laws : Laws) where
   taking-ok : (p : Packet) → PacketOk p → (n : ℕ) (s : System) → SystemOk s → SystemOk (taking p n s)
   taking-ok p ok n s at_s = tossing-ok (origin_of s.file p.header) (take n p.messages) s at_s (λ q h. (ok.messages q (Among-take n q p.messages h)).1)
 
-  pub nth-among : {X : Type 0} (i : ℕ) (x : X) (xs : List X) → nth i xs ≡ Some x → Among x xs
-  nth-among i x [] h = absurd (none_some h)
-  nth-among zero x (y ∷ xs) h = inl (same_some (sym h))
-  nth-among (suc i) x (y ∷ xs) h = inr (nth-among i x xs h)
-
   scanning-step : (run : Run) (i : ℕ) (stamp : Stamp) (found : Option System) → ((s : System) → found ≡ Some s → SystemOk s) →
       RunOk run → RunOk (scanning run i stamp found)
   scanning-step run i stamp None h ok = ok
@@ -209,7 +204,7 @@ module _ (laws : Laws) where
   event-ok run (PartDelivery k n) ok = part-step run n (nth k run.packets) (λ p e. ok.packets p (nth-among k p run.packets e)) ok
   event-ok run (Purging i) ok = changing-ok run i purging_at purging-ok ok
 
-  pub start-ok : (files : List LinkFile) → FilesFit files → RunOk (record { systems = map fresh files; packets = []; delivered = [] })
+  pub start-ok : (files : List LinkFile) → FilesFit files → RunOk (start files)
   start-ok files fits = record {
     systems = λ s h.
         let (file, i, e) = Among-map_from fresh s files h in

@@ -1,5 +1,5 @@
 -- Every run keeps what is true of the messages of a tidy area.
-use Rattle.std.proofs.Common.{◌≡◌, inl, inr, refl, sym, subst, ap, ◌∙◌, ℕ, ◌<◌, ◌≤◌, ◌^◌, arith, List, [], ◌∷◌, ◌++◌, length, take, map, cond, Option, Some, None}
+use Rattle.std.proofs.Common.{◌≡◌, inl, inr, refl, sym, subst, ap, ◌∙◌, ℕ, ◌≤◌, arith, List, [], ◌∷◌, ◌++◌, length, take, map, cond, Option, Some, None}
 use Rattle.std.specs.Prelude.{Bool, true, false, if◌then◌else◌}
 use Rattle.std.proofs.lemmas.List.{take_all}
 use Rattle.echo_addr.specs.declared.address.Address.{Address}
@@ -17,9 +17,9 @@ use Rattle.echo_toss.specs.Tossing.{origin_of}
 use Rattle.echo_toss.specs.Scanning.{scanned}
 use Rattle.echo_toss.specs.Stamps.{is_stamp}
 use Rattle.echo_net.specs.Event.{RunEvent, Posting, Scanning, Delivery, PartDelivery, Purging}
-use Rattle.echo_net.specs.Run.{System, Run, fresh, posting_at, tossing_at, scanning_at, purging_at, nth, change, receiver, destination, changing, scanning, taking, coming, delivery, part_delivery, after_event, after_events, run_of}
+use Rattle.echo_net.specs.Run.{System, Run, fresh, posting_at, tossing_at, scanning_at, purging_at, nth, change, receiver, destination, changing, scanning, taking, coming, delivery, part_delivery, after_event, after_events, run_of, start}
 use Rattle.echo_net.specs.Tidy.{Tidy, Carries}
-use Rattle.echo_net.specs.Fits.{FilesFit, EventFits, EventsFit}
+use Rattle.echo_net.specs.Fits.{FilesFit}
 use Rattle.echo_net.proofs.View.{At, held, times}
 use Rattle.echo_net.proofs.Tosser.{Laws}
 use Rattle.echo_net.proofs.Lists.{Split, nth-cases, nth-split, change-none, first_passes, map-change, Among-middle, Among-take}
@@ -92,10 +92,10 @@ module _ (laws : Laws) (files : List LinkFile) (tag : List ℕ) (tidy : Tidy fil
   none_some e = cc
 
   -- a posting has an id of its own
-  may-post : (run : Run) (state : State run) (i : ℕ) (g : List ℕ) (draft : Draft) (serial : ℕ) (stamp : Stamp) → serial < 2 ^ 32 →
+  may-post : (run : Run) (state : State run) (i : ℕ) (g : List ℕ) (draft : Draft) (serial : ℕ) (stamp : Stamp) →
       (s : System) (at : Place run i s) (m : Filed) → posting s.file s.base g draft serial stamp ≡ Some m →
       (¬ HasKey (key_of m) s.history) × (in_area tag m ≡ true → MayFile laws files tag tidy run at.split.before s at.split.after at.none m)
-  may-post run state i g draft serial stamp bound s at m e =
+  may-post run state i g draft serial stamp s at m e =
       elim (posting-cases s.file s.base g draft serial stamp) [
         | inl none ↦ absurd (none_some (sym none ∙ e))
         | inr some ↦ (let same : posted s.file g draft serial stamp ≡ m = same_some (sym some.0 ∙ e) in
@@ -114,16 +114,16 @@ module _ (laws : Laws) (files : List LinkFile) (tag : List ℕ) (tidy : Tidy fil
           let e : upper g ≡ tag = sym (posted-tag s.file g draft serial stamp) ∙ (in_area-tag laws tag (posted s.file g draft serial stamp) t) in (
             area-carries laws files tag tidy (at.split.before ++ s ∷ at.split.after) at.files_around s (Among-middle s at.split.before at.split.after)
                 (ap (λ (h : List ℕ). has_area s.file h) (sym e) ∙ has),
-            (at.ok.file.address, (serial, bound, laws.posted_key s.file g draft serial stamp at.ok.file ∙ ap (λ (h : List ℕ). ById h (id_of s.file.system serial)) e)),
+            (at.ok.file.address, (serial, laws.posted_key s.file g draft serial stamp at.ok.file ∙ ap (λ (h : List ℕ). ById h (id_of s.file.system serial)) e)),
             posted-sender s.file g draft serial stamp,
             posted-seen s.file g draft serial stamp,
           )
 
-  posting-watched : (run : Run) → State run → (i : ℕ) (g : List ℕ) (draft : Draft) (serial : ℕ) (stamp : Stamp) → serial < 2 ^ 32 →
+  posting-watched : (run : Run) → State run → (i : ℕ) (g : List ℕ) (draft : Draft) (serial : ℕ) (stamp : Stamp) →
       Watched laws files tag tidy (changing run i (posting_at g draft serial stamp))
-  posting-watched run state i g draft serial stamp bound = change-watched run state i (posting_at g draft serial stamp) (λ s at.
+  posting-watched run state i g draft serial stamp = change-watched run state i (posting_at g draft serial stamp) (λ s at.
       filing-keeps laws files tag tidy run at.split.before s at.split.after at.none at.ok (posting s.file s.base g draft serial stamp)
-      (may-post run state i g draft serial stamp bound s at) at.watched)
+      (may-post run state i g draft serial stamp s at) at.watched)
 
   purging-watched : (run : Run) → State run → (i : ℕ) → Watched laws files tag tidy (changing run i purging_at)
   purging-watched run state i = change-watched run state i purging_at (λ s at.
@@ -225,13 +225,13 @@ module _ (laws : Laws) (files : List LinkFile) (tag : List ℕ) (tidy : Tidy fil
       let (h, at) = found-among k p run.packets e in
       coming-watched run state k p h at (nth (receiver run p) run.systems) refl
 
-  event-watched : (run : Run) → State run → (event : RunEvent) → EventFits event → Watched laws files tag tidy (after_event run event)
-  event-watched run state (Posting i g draft serial stamp) fits = posting-watched run state i g draft serial stamp fits
-  event-watched run state (Scanning i stamp) fits = scanning-watched run state i stamp (nth i run.systems) refl
-  event-watched run state (Delivery k) fits = delivery-watched run state k (nth k run.packets) refl
-  event-watched run state (PartDelivery k n) fits =
+  event-watched : (run : Run) → State run → (event : RunEvent) → Watched laws files tag tidy (after_event run event)
+  event-watched run state (Posting i g draft serial stamp) = posting-watched run state i g draft serial stamp
+  event-watched run state (Scanning i stamp) = scanning-watched run state i stamp (nth i run.systems) refl
+  event-watched run state (Delivery k) = delivery-watched run state k (nth k run.packets) refl
+  event-watched run state (PartDelivery k n) =
       part-watched run state n (nth k run.packets) (λ p e. (found-among k p run.packets e).0)
-  event-watched run state (Purging i) fits = purging-watched run state i
+  event-watched run state (Purging i) = purging-watched run state i
 
 -- the files stay
 abbrev pub files_of : Run → List LinkFile
@@ -279,30 +279,21 @@ fresh-files : (files : List LinkFile) → map (λ (s : System). s.file) (map fre
 fresh-files [] = refl
 fresh-files (file ∷ files) = ap (λ (fs : List LinkFile). file ∷ fs) (fresh-files files)
 
-abbrev start : List LinkFile → Run
-start files = record { systems = map fresh files; packets = []; delivered = [] }
-
 -- what each event keeps holds after all of them
-along : (P : Run → Type 0) → ((run : Run) (event : RunEvent) → P run → EventFits event → P (after_event run event)) →
-    (events : List RunEvent) → EventsFit events → (run : Run) → P run → P (after_events run events)
-along P keeps [] fits run at = at
-along P keeps (event ∷ later) fits run at =
-    along P keeps later (λ e h. fits e (inr h)) (after_event run event) (keeps run event at (fits event (inl refl)))
+pub along : (P : Run → Type 0) → ((run : Run) (event : RunEvent) → P run → P (after_event run event)) →
+    (events : List RunEvent) → (run : Run) → P run → P (after_events run events)
+along P keeps [] run at = at
+along P keeps (event ∷ later) run at = along P keeps later (after_event run event) (keeps run event at)
 
 module _ (laws : Laws) (files : List LinkFile) (fit : FilesFit files) (events : List RunEvent) where
-  any_event : (P : Run → Type 0) → ((run : Run) (event : RunEvent) → P run → P (after_event run event)) → (later : List RunEvent) → (run : Run) →
-      P run → P (after_events run later)
-  any_event P keeps [] run at = at
-  any_event P keeps (event ∷ later) run at = any_event P keeps later (after_event run event) (keeps run event at)
-
   -- on every net
   pub run-ok : RunOk (run_of files events)
-  run-ok = any_event (λ run. RunOk run) (λ run event. event-ok laws run event) events (start files) (start-ok laws files fit)
+  run-ok = along (λ run. RunOk run) (λ run event. event-ok laws run event) events (start files) (start-ok laws files fit)
 
   pub run-files : files_of (run_of files events) ≡ files
-  run-files = any_event (λ run. files_of run ≡ files) (λ run event e. event-files run event ∙ e) events (start files) (fresh-files files)
+  run-files = along (λ run. files_of run ≡ files) (λ run event e. event-files run event ∙ e) events (start files) (fresh-files files)
 
-  module _ (event_fit : EventsFit events) (tag : List ℕ) (tidy : Tidy files tag) where
+  module _ (tag : List ℕ) (tidy : Tidy files tag) where
     nothing-at : (part : System → List Filed) → ((file : LinkFile) → part (fresh file) ≡ []) → (a : Address) (fs : List LinkFile) →
         part_at part a (map fresh fs) ≡ []
     nothing-at part none a [] = refl
@@ -333,8 +324,8 @@ module _ (laws : Laws) (files : List LinkFile) (fit : FilesFit files) (events : 
 
     -- on a tidy net
     pub run-state : State laws files tag tidy (run_of files events)
-    run-state = along (λ run. State laws files tag tidy run) (λ run event state fits. record {
+    run-state = along (λ run. State laws files tag tidy run) (λ run event state. record {
       ok = event-ok laws run event state.ok;
       same_files = event-files run event ∙ state.same_files;
-      watched = event-watched laws files tag tidy run state event fits;
-    }) events event_fit (start files) (record { ok = start-ok laws files fit; same_files = fresh-files files; watched = start-watched })
+      watched = event-watched laws files tag tidy run state event;
+    }) events (start files) (record { ok = start-ok laws files fit; same_files = fresh-files files; watched = start-watched })

@@ -120,6 +120,10 @@ abbrev pub after_events : Run → List RunEvent → Run
 after_events run [] = run
 after_events run (event ∷ later) = after_events (after_event run event) later
 
+-- systems of these files that have nothing yet
+abbrev pub start : List LinkFile → Run
+start files = record { systems = map fresh files; packets = []; delivered = [] }
+
 -- the run of these events, on systems of these files that begin with nothing
 abbrev pub run_of : List LinkFile → List RunEvent → Run
-run_of files events = after_events (record { systems = map fresh files; packets = []; delivered = [] }) events
+run_of files events = after_events (start files) events

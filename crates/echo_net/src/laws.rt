@@ -14,16 +14,15 @@ ghost use Rattle.echo_net.specs.Event.{RunEvent};
 ghost use Rattle.echo_net.specs.Run.{System, destination, run_of};
 ghost use Rattle.echo_net.specs.Orderly.{IsPosting, Orderly, SameContent, copies, count};
 ghost use Rattle.echo_net.specs.Tidy.{Joined, Tidy, lists};
-ghost use Rattle.echo_net.specs.Fits.{EventsFit, FilesFit};
+ghost use Rattle.echo_net.specs.Fits.{FilesFit};
 
 /// Every run of a tidy area is orderly: after any postings, scans, deliveries, stopped tosses and
 /// purges, with losses and repeats and in any order, each system filed each message at most once, was
 /// sent it at most once and never one of its own, and where nothing waits and every packet came, it
-/// filed every posting exactly once, unchanged. Link files that were read, and serials of 32 bits,
-/// meet the two premises on types.
+/// filed every posting exactly once, unchanged. Link files that were read meet the premise on files.
 pub fn every_run_of_a_tidy_area_is_orderly()
     ensures { (files : List LinkFile) (tag : List ℕ) → Tidy files tag → FilesFit files →
-        (events : List RunEvent) → EventsFit events → Orderly (run_of files events) tag }
+        (events : List RunEvent) → Orderly (run_of files events) tag }
 {}
 
 /// On every net, tidy or not, each system filed each message at most once.
