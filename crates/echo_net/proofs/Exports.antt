@@ -1,5 +1,5 @@
 -- What one scan makes, on every net.
-use Rattle.std.proofs.Common.{◌≡◌, ◌≢◌, inl, inr, refl, sym, subst, ap, ◌∙◌, ℕ, arith, List, [], ◌∷◌, ◌++◌, drop, map, cond}
+use Rattle.std.proofs.Common.{◌≡◌, ◌≢◌, inl, inr, refl, sym, subst, ap, ◌∙◌, ℕ, arith, List, [], ◌∷◌, drop, map}
 use Rattle.std.specs.Prelude.{true, false, filter, if◌then◌else◌, Some}
 use Rattle.std.specs.List.{list_any}
 use Rattle.std.proofs.lemmas.Bool.{cond-true, cond-false}
@@ -10,8 +10,8 @@ use Rattle.echo_toss.specs.declared.key.Key.{Key}
 use Rattle.echo_toss.specs.declared.packet.Packet.{Packet}
 use Rattle.echo_toss.specs.declared.stamp.Stamp.{Stamp}
 use Rattle.echo_toss.specs.Sets.{same_address}
-use Rattle.echo_toss.specs.Base.{Filed, LinkFile, key_of, same_key}
-use Rattle.echo_toss.specs.Scanning.{exported, goes_to, header_to, packet_to, packets_of, recipients, scanned, targets}
+use Rattle.echo_toss.specs.Base.{Filed, LinkFile, same_key}
+use Rattle.echo_toss.specs.Scanning.{exported, goes_to, header_to, packet_to, packets_of, recipients, scanned}
 use Rattle.echo_net.specs.Run.{System, destination}
 use Rattle.echo_net.specs.Orderly.{SameContent, copies, count, origin, sent_count}
 use Rattle.echo_net.specs.Exports.{IsSentCopy}

@@ -19,4 +19,6 @@ pub mod Runs
 pub mod Headline
 pub mod TheLaws
 pub mod Exports
+pub mod SentBy
+pub mod Exporting
 pub mod Tracing

@@ -1,9 +1,9 @@
 -- On every net each message has the content of a posting.
-use Rattle.std.proofs.Common.{◌≡◌, ◌≢◌, ◌⊎◌, inl, inr, refl, sym, subst, ap, ◌∙◌, ℕ, zero, suc, List, [], ◌∷◌, ◌++◌, length, take, drop, map, Option, Some, None}
+use Rattle.std.proofs.Common.{◌≡◌, ◌⊎◌, inl, inr, refl, sym, subst, ap, ◌∙◌, ℕ, zero, suc, List, [], ◌∷◌, ◌++◌, length, take, drop, Option, Some, None}
 use Rattle.std.specs.Prelude.{Bool, true, false, filter, is_none, if◌then◌else◌}
 use Rattle.echo_addr.specs.declared.address.Address.{Address}
 use Rattle.echo_graph.specs.Walk.{Among}
-use Rattle.echo_graph.proofs.Members.{Among-append_left, Among-append_right, Among-append_cases}
+use Rattle.echo_graph.proofs.Members.{Among-append_left, Among-append_cases}
 use Rattle.echo_packet.specs.Message.{Message}
 use Rattle.echo_text.specs.Refusal.{refusal}
 use Rattle.echo_toss.specs.declared.packet.Packet.{Packet}
@@ -12,7 +12,7 @@ use Rattle.echo_toss.specs.declared.stamp.Stamp.{Stamp}
 use Rattle.echo_toss.specs.Base.{Filed, LinkFile, key_of}
 use Rattle.echo_toss.specs.Posting.{posted, posting}
 use Rattle.echo_toss.specs.Tossing.{received, tossing, origin_of}
-use Rattle.echo_toss.specs.Scanning.{goes_to, packet_to, scanned}
+use Rattle.echo_toss.specs.Scanning.{goes_to, scanned}
 use Rattle.echo_net.specs.Run.{System, Run, fresh, filing, posting_at, tossing_at, scanning_at, purging_at, nth, change, receiver, changing, scanning, taking, coming, delivery, part_delivery, after_event, after_events, run_of, start}
 use Rattle.echo_net.specs.Event.{RunEvent, Posting, Scanning, Delivery, PartDelivery, Purging}
 use Rattle.echo_net.specs.Fits.{FilesFit}
@@ -22,7 +22,7 @@ use Rattle.echo_net.proofs.Tosser.{Laws}
 use Rattle.echo_net.proofs.Lists.{Among-change, Among-map_from, Among-map_to, Among-filter_from, Among-filter_to, Among-drop, Among-take, nth-among}
 use Rattle.echo_net.proofs.Choices.{posting-cases, tossing-cases}
 use Rattle.echo_net.proofs.Bases.{Kept-waiting, SystemOk}
-use Rattle.echo_net.proofs.Running.{PacketOk, RunOk, event-ok, start-ok, scanned-from, waiting-valid}
+use Rattle.echo_net.proofs.Running.{RunOk, event-ok, start-ok, scanned-from, waiting-valid}
 use Rattle.echo_net.proofs.Viewing.{content_of}
 use Rattle.echo_net.proofs.Copies.{copied, copied-content, copied-key, copies-are}
 use Rattle.echo_net.proofs.Delivered.{origin-is}

@@ -12,6 +12,7 @@ mod laws;
 
 pub use event::Event;
 pub use laws::{
-    bases_are_what_was_filed, each_message_is_filed_once, each_message_was_posted,
-    every_run_of_a_tidy_area_is_orderly, scans_send_to_targets, trees_are_tidy,
+    bases_are_what_was_filed, each_message_is_exported_by_one_scan, each_message_is_filed_once,
+    each_message_was_posted, every_run_of_a_tidy_area_is_orderly, exports_go_to_targets,
+    packets_are_exports, trees_are_tidy,
 };

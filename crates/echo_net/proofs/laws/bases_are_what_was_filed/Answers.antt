@@ -1,4 +1,3 @@
-use Rattle.echo_net.specs.Run.{run_of}
 use Rattle.echo_net.proofs.TheLaws.{the_laws}
 use Rattle.echo_net.proofs.Bases.{Kept-back, Kept-length, Kept-waiting}
 use Rattle.echo_net.proofs.Runs.{run-ok}
