@@ -22,3 +22,5 @@ pub mod Exports
 pub mod SentBy
 pub mod Exporting
 pub mod Tracing
+pub mod Examples
+pub mod TidyExamples

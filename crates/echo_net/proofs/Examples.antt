@@ -1,0 +1,136 @@
+-- Worked runs, by computation.
+use Rattle.std.proofs.Common.{◌≡◌, ℕ, ◌+◌, List, [], ◌∷◌, refl, codes, length, drop, map}
+use Rattle.std.specs.Prelude.{count_by, bytes_eq, ◌==◌, if◌then◌else◌}
+use Rattle.std.specs.List.{list_any}
+use Rattle.std.specs.Fmt.{digits}
+use Rattle.echo_addr.specs.declared.address.Address.{Address}
+use Rattle.echo_addr.specs.Entries.{entries, pair_of, tokens}
+use Rattle.echo_text.specs.Lines.{lines, trimmed, begins, after_word}
+use Rattle.echo_text.specs.Tail.{kept_of, path_lists, seen_lists}
+use Rattle.echo_text.specs.Echo.{msgid_of}
+use Rattle.echo_text.specs.Ids.{id_of}
+use Rattle.echo_text.specs.Refusal.{refusal}
+use Rattle.echo_toss.specs.declared.draft.Draft.{Draft}
+use Rattle.echo_toss.specs.declared.key.Key.{Key}
+use Rattle.echo_toss.specs.declared.key.Key.TheVariants.{ById}
+use Rattle.echo_toss.specs.declared.stamp.Stamp.{Stamp}
+use Rattle.echo_toss.specs.declared.packet.Packet.{Packet}
+use Rattle.echo_toss.specs.Sets.{address_set, entry_set}
+use Rattle.echo_toss.specs.Stamps.{date_of}
+use Rattle.echo_toss.specs.Written.{echo_of, short_lines, text_of}
+use Rattle.echo_toss.specs.Base.{Filed, LinkFile, key_of, links_of}
+use Rattle.echo_toss.specs.Posting.{post_refusal, posted, posted_lines, posting}
+use Rattle.echo_toss.specs.Purging.{purged, stub_of}
+use Rattle.echo_toss.specs.Scanning.{copy_to, exported, header_to, packet_to, packets_of, recipients, scanned, targets}
+use Rattle.echo_toss.specs.Tossing.{received, toss_outcome, tossing}
+use Rattle.echo_net.specs.Event.{RunEvent, Posting, Scanning, Delivery, Purging}
+use Rattle.echo_net.specs.Run.{Run, run_of}
+use Rattle.echo_net.specs.Orderly.{sent_count}
+
+abbrev pub address : ℕ → Address
+address node = record { zone = 1; net = 10; node = node }
+
+-- a system of the area TEST with these links
+abbrev pub file : ℕ → List ℕ → LinkFile
+file node links = record { system = address node; name = codes "echonet"; areas = record { tag = codes "TEST"; links = map address links } ∷ [] }
+
+abbrev stamp : Stamp
+stamp = record { year = 2000; month = 1; day = 1; hour = 0; minute = 0; second = 0 }
+
+abbrev draft : Draft
+draft = record { to_name = codes "All"; from_name = codes "Sysop"; subject = codes "00000001"; reply = []; body = codes "Hello" }
+
+-- the events of a script
+abbrev post : ℕ → RunEvent
+post i = Posting i (codes "TEST") draft 1 stamp
+
+abbrev scan : ℕ → RunEvent
+scan i = Scanning i stamp
+
+-- how many messages of the area a system has, and how many of them wait
+abbrev of_area : List Filed → ℕ
+of_area ms = count_by (λ m. bytes_eq m.echo.tag (codes "TEST")) ms
+
+abbrev filed : Run → List ℕ
+filed run = map (λ s. of_area s.base) run.systems
+
+abbrev waiting : Run → List ℕ
+waiting run = map (λ s. of_area (drop s.cursor s.base)) run.systems
+
+-- how many packets from this index on did not come
+abbrev missing : List ℕ → ℕ → List Packet → ℕ
+missing delivered k [] = 0
+missing delivered k (p ∷ later) = (if list_any (λ d. d == k) delivered then 0 else 1) + missing delivered (k + 1) later
+
+record Shown : Type 0 where
+  filed_there : List ℕ
+  waiting_there : List ℕ
+  packets : ℕ
+  undelivered : ℕ
+
+abbrev shown : Run → Shown
+shown run = record {
+  filed_there = filed run;
+  waiting_there = waiting run;
+  packets = length run.packets;
+  undelivered = missing run.delivered 0 run.packets;
+}
+
+-- files 0 to 2, and in the ring 0 to 3, are 1:10/1 and those after it
+abbrev pub chain : List LinkFile
+chain = file 1 (2 ∷ []) ∷ (file 2 (1 ∷ 3 ∷ []) ∷ (file 3 (2 ∷ []) ∷ []))
+
+abbrev star : List LinkFile
+star = file 1 (2 ∷ (3 ∷ (4 ∷ []))) ∷ (file 2 (1 ∷ []) ∷ (file 3 (1 ∷ []) ∷ (file 4 (1 ∷ []) ∷ [])))
+
+abbrev pub triangle : List LinkFile
+triangle = file 1 (2 ∷ 3 ∷ []) ∷ (file 2 (1 ∷ 3 ∷ []) ∷ (file 3 (1 ∷ 2 ∷ []) ∷ []))
+
+abbrev pub ring : List LinkFile
+ring = file 1 (3 ∷ 4 ∷ []) ∷ (file 2 (3 ∷ 4 ∷ []) ∷ (file 3 (1 ∷ 2 ∷ []) ∷ (file 4 (1 ∷ 2 ∷ []) ∷ [])))
+
+abbrev chain_run : Run
+chain_run = run_of chain (post 0 ∷ (scan 0 ∷ (Delivery 0 ∷ (scan 1 ∷ (Delivery 1 ∷ (Delivery 1 ∷ (scan 2 ∷ [])))))))
+
+abbrev star_run : Run
+star_run = run_of star (post 0 ∷ (scan 0 ∷ (Delivery 0 ∷ (Delivery 2 ∷ (scan 1 ∷ (scan 3 ∷ []))))))
+
+abbrev triangle_run : Run
+triangle_run = run_of triangle (post 0 ∷ (scan 0 ∷ (Delivery 0 ∷ (Delivery 1 ∷ (scan 1 ∷ (scan 2 ∷ []))))))
+
+abbrev ring_run : Run
+ring_run =
+    run_of ring (post 0 ∷ (scan 0 ∷ (Delivery 0 ∷ (Delivery 1 ∷ (scan 2 ∷ (scan 3 ∷ (Delivery 2 ∷ (Delivery 3 ∷ (scan 1 ∷ [])))))))))
+
+abbrev purged_run : Run
+purged_run = run_of chain (
+    post 0 ∷ (scan 0 ∷ (Purging 0 ∷ (Delivery 0 ∷ (Purging 1 ∷ (scan 1 ∷ (Purging 1 ∷ (Delivery 1 ∷ (Delivery 0 ∷ (post 0 ∷ [])))))))))
+    )
+
+-- the id of the one posting
+abbrev first_key : Key
+first_key = ById (codes "TEST") (codes "1:10/1 00000001")
+
+-- On the chain and on the triangle all have the message, and nothing waits; on the star the packet to
+-- 1:10/3 was lost. On the ring, which is not tidy, 1:10/2 was sent the message twice and filed it once. On
+-- the purged chain, where ids alone are left, what comes again is known, and a known serial is refused.
+record Runs : Type 0 where
+  chain_shown : shown chain_run ≡ record { filed_there = 1 ∷ (1 ∷ (1 ∷ [])); waiting_there = 0 ∷ (0 ∷ (0 ∷ [])); packets = 2; undelivered = 0 }
+  star_shown : shown star_run ≡ record { filed_there = 1 ∷ (1 ∷ (0 ∷ (1 ∷ []))); waiting_there = 0 ∷ (0 ∷ (0 ∷ (0 ∷ []))); packets = 3; undelivered = 1 }
+  triangle_shown : shown triangle_run ≡ record { filed_there = 1 ∷ (1 ∷ (1 ∷ [])); waiting_there = 0 ∷ (0 ∷ (0 ∷ [])); packets = 2; undelivered = 0 }
+  triangle_once : sent_count (address 2) first_key triangle_run.packets ≡ 1
+  ring_shown : shown ring_run ≡ record { filed_there = 1 ∷ (1 ∷ (1 ∷ (1 ∷ []))); waiting_there = 0 ∷ (0 ∷ (0 ∷ (0 ∷ []))); packets = 4; undelivered = 0 }
+  ring_twice : sent_count (address 2) first_key ring_run.packets ≡ 2
+  purged_shown : shown purged_run ≡ record { filed_there = 1 ∷ (1 ∷ (1 ∷ [])); waiting_there = 0 ∷ (0 ∷ (1 ∷ [])); packets = 2; undelivered = 0 }
+
+runs : Runs
+unfolding posted posted_lines posting post_refusal id_of trimmed lines digits date_of scanned packets_of recipients packet_to targets links_of address_set header_to copy_to exported entry_set text_of short_lines received toss_outcome tossing refusal echo_of kept_of path_lists seen_lists begins after_word entries tokens pair_of key_of msgid_of purged stub_of
+runs = record {
+  chain_shown = refl;
+  star_shown = refl;
+  triangle_shown = refl;
+  triangle_once = refl;
+  ring_shown = refl;
+  ring_twice = refl;
+  purged_shown = refl;
+}
