@@ -16,6 +16,7 @@ pub mod Copies
 pub mod Scanned
 pub mod Delivered
 pub mod Runs
+pub mod Keeping
 pub mod Headline
 pub mod TheLaws
 pub mod Exports

@@ -261,3 +261,12 @@ pub map-change : {X Y : Type 0} (g : X → Y) (i : ℕ) (f : X → X) → ((x : 
 map-change g i f same [] = refl
 map-change g zero f same (x ∷ xs) = (let e = same x in cc)
 map-change g (suc i) f same (x ∷ xs) = (let e = map-change g i f same xs in cc)
+
+-- what holds of each item, and of what it is changed to, holds of each item after the change
+pub change-all : {X : Type 0} (P : X → Type 0) (i : ℕ) (f : X → X) → ((x : X) → P x → P (f x)) → (xs : List X) →
+    ((x : X) → Among x xs → P x) → (z : X) → Among z (change i f xs) → P z
+change-all P i f keeps xs all z h =
+    elim (Among-change i f z xs h) [
+      | inl old ↦ all z old
+      | inr new ↦ (let (x, j, e) = new in subst P (sym e) (keeps x (all x j)))
+    ]

@@ -24,7 +24,7 @@ use Rattle.echo_net.specs.Run.{System, Run, fresh, filing, posting_at, tossing_a
 use Rattle.echo_toss.specs.Base.{IsFile}
 use Rattle.echo_net.specs.Fits.{FilesFit}
 use Rattle.echo_net.proofs.Tosser.{Laws}
-use Rattle.echo_net.proofs.Lists.{not_both, Among-map_from, Among-filter_from, Among-take, Among-drop, Among-change, nth-among}
+use Rattle.echo_net.proofs.Lists.{not_both, Among-map_from, Among-filter_from, Among-take, Among-drop, change-all, nth-among}
 use Rattle.echo_net.proofs.Choices.{posting-cases, tossing-cases}
 use Rattle.echo_net.proofs.Bases.{Kept-scanned, Kept-purged, Kept-waiting, SystemOk, HasKey, known-from_history, id-from_history, filing-ok}
 
@@ -146,18 +146,8 @@ module _ (laws : Laws) where
       let P : Packet → Type 0 = λ q. PacketOk q in
       subst P (sym e) (packet-ok s.file stamp (drop s.cursor s.base) address ok.file (waiting-valid s ok))
 
-  changed-ok : (run : Run) (i : ℕ) (f : System → System) → ((s : System) → SystemOk s → SystemOk (f s)) →
-      ((s : System) → Among s run.systems → SystemOk s) → (z : System) → Among z (change i f run.systems) → SystemOk z
-  changed-ok run i f keeps ok z h =
-      elim (Among-change i f z run.systems h) [
-        | inl old ↦ ok z old
-        | inr new ↦ (let (s, j, e) = new in
-            let P : System → Type 0 = λ t. SystemOk t in
-            subst P (sym e) (keeps s (ok s j)))
-      ]
-
   changing-ok : (run : Run) (i : ℕ) (f : System → System) → ((s : System) → SystemOk s → SystemOk (f s)) → RunOk run → RunOk (changing run i f)
-  changing-ok run i f keeps ok = record { systems = changed-ok run i f keeps ok.systems; packets = ok.packets }
+  changing-ok run i f keeps ok = record { systems = change-all (λ s. SystemOk s) i f keeps run.systems ok.systems; packets = ok.packets }
 
   taking-ok : (p : Packet) → PacketOk p → (n : ℕ) (s : System) → SystemOk s → SystemOk (taking p n s)
   taking-ok p ok n s at_s = tossing-ok (origin_of s.file p.header) (take n p.messages) s at_s (λ q h. (ok.messages q (Among-take n q p.messages h)).1)
@@ -173,7 +163,7 @@ module _ (laws : Laws) where
         delivered = run.delivered;
       } else run)
       scans true = record {
-        systems = changed-ok run i scanning_at scanning-ok ok.systems;
+        systems = change-all (λ t. SystemOk t) i scanning_at scanning-ok run.systems ok.systems;
         packets = λ p j. elim (Among-append_cases p run.packets (scanned s.file s.base s.cursor stamp) j) [
           | inl old ↦ ok.packets p old
           | inr new ↦ scanned-ok s (h s refl) stamp p new
@@ -184,7 +174,7 @@ module _ (laws : Laws) where
   coming-step : (run : Run) (k : ℕ) (p : Packet) (found : Option System) → PacketOk p → RunOk run → RunOk (coming run k p found)
   coming-step run k p None at_p ok = ok
   coming-step run k p (Some s) at_p ok = record {
-    systems = changed-ok run (receiver run p) (taking p (length p.messages)) (taking-ok p at_p (length p.messages)) ok.systems;
+    systems = change-all (λ t. SystemOk t) (receiver run p) (taking p (length p.messages)) (taking-ok p at_p (length p.messages)) run.systems ok.systems;
     packets = ok.packets;
   }
 

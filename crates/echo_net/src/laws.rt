@@ -33,12 +33,12 @@ pub fn each_message_is_filed_once()
 /// On every net the base of a system is the list of its messages as they were filed, but that messages
 /// before the cursor may be what a purge leaves of them.
 pub fn bases_are_what_was_filed()
-    ensures members { (files : List LinkFile) → FilesFit files → (events : List RunEvent) →
+    ensures members { (files : List LinkFile) (events : List RunEvent) →
         (s : System) → Among s (run_of files events).systems → (m : Filed) → Among m s.base →
         (filed : Filed) × Among filed s.history × ((m ≡ filed) ⊎ (m ≡ stub_of filed)) }
-    ensures number { (files : List LinkFile) → FilesFit files → (events : List RunEvent) →
+    ensures number { (files : List LinkFile) (events : List RunEvent) →
         (s : System) → Among s (run_of files events).systems → length s.base ≡ length s.history }
-    ensures waiting { (files : List LinkFile) → FilesFit files → (events : List RunEvent) →
+    ensures waiting { (files : List LinkFile) (events : List RunEvent) →
         (s : System) → Among s (run_of files events).systems → drop s.cursor s.base ≡ drop s.cursor s.history }
 {}
 
