@@ -30,9 +30,13 @@ use Rattle.echo_net.specs.Orderly.{sent_count}
 abbrev pub address : ℕ → Address
 address node = record { zone = 1; net = 10; node = node }
 
--- a system of the area TEST with these links
+-- a system with the area TEST, by its address and those of its links
+abbrev pub carrier : Address → List Address → LinkFile
+carrier own links = record { system = own; name = codes "echonet"; areas = record { tag = codes "TEST"; links = links } ∷ [] }
+
+-- the same for systems of one net
 abbrev pub file : ℕ → List ℕ → LinkFile
-file node links = record { system = address node; name = codes "echonet"; areas = record { tag = codes "TEST"; links = map address links } ∷ [] }
+file node links = carrier (address node) (map address links)
 
 abbrev stamp : Stamp
 stamp = record { year = 2000; month = 1; day = 1; hour = 0; minute = 0; second = 0 }
@@ -112,15 +116,14 @@ abbrev first_key : Key
 first_key = ById (codes "TEST") (codes "1:10/1 00000001")
 
 -- On the chain and on the triangle all have the message, and nothing waits; on the star the packet to
--- 1:10/3 was lost. On the ring, which is not tidy, 1:10/2 was sent the message twice and filed it once. On
--- the purged chain, where ids alone are left, what comes again is known, and a known serial is refused.
+-- 1:10/3 was lost. On the ring, which is not tidy, each filed the message once. On the purged chain, where
+-- ids alone are left, what comes again is known, and a known serial is refused.
 record Runs : Type 0 where
   chain_shown : shown chain_run ≡ record { filed_there = 1 ∷ (1 ∷ (1 ∷ [])); waiting_there = 0 ∷ (0 ∷ (0 ∷ [])); packets = 2; undelivered = 0 }
   star_shown : shown star_run ≡ record { filed_there = 1 ∷ (1 ∷ (0 ∷ (1 ∷ []))); waiting_there = 0 ∷ (0 ∷ (0 ∷ (0 ∷ []))); packets = 3; undelivered = 1 }
   triangle_shown : shown triangle_run ≡ record { filed_there = 1 ∷ (1 ∷ (1 ∷ [])); waiting_there = 0 ∷ (0 ∷ (0 ∷ [])); packets = 2; undelivered = 0 }
   triangle_once : sent_count (address 2) first_key triangle_run.packets ≡ 1
   ring_shown : shown ring_run ≡ record { filed_there = 1 ∷ (1 ∷ (1 ∷ (1 ∷ []))); waiting_there = 0 ∷ (0 ∷ (0 ∷ (0 ∷ []))); packets = 4; undelivered = 0 }
-  ring_twice : sent_count (address 2) first_key ring_run.packets ≡ 2
   purged_shown : shown purged_run ≡ record { filed_there = 1 ∷ (1 ∷ (1 ∷ [])); waiting_there = 0 ∷ (0 ∷ (1 ∷ [])); packets = 2; undelivered = 0 }
 
 runs : Runs
@@ -131,6 +134,55 @@ runs = record {
   triangle_shown = refl;
   triangle_once = refl;
   ring_shown = refl;
-  ring_twice = refl;
   purged_shown = refl;
+}
+
+-- nets that miss one clause of `Tidy`
+abbrev pub two_files : List LinkFile
+two_files = file 1 (2 ∷ []) ∷ (file 2 (1 ∷ []) ∷ (file 2 (1 ∷ []) ∷ []))
+
+abbrev pub own_link : List LinkFile
+own_link = file 1 (1 ∷ []) ∷ []
+
+abbrev pub one_sided : List LinkFile
+one_sided = file 1 (2 ∷ []) ∷ (file 2 [] ∷ [])
+
+-- in another zone, with the net and node of 1:10/1
+abbrev pub far : Address
+far = record { zone = 2; net = 10; node = 1 }
+
+abbrev pub over_zones : List LinkFile
+over_zones = file 1 (5 ∷ []) ∷ (carrier (address 5) (address 1 ∷ (far ∷ [])) ∷ (carrier far (address 5 ∷ []) ∷ []))
+
+abbrev pub beside : List LinkFile
+beside = file 4 [] ∷ triangle
+
+-- a posting at the first system, and then all scans and deliveries
+abbrev all_done : List LinkFile → Run
+all_done files = run_of files (post 0 ∷ (scan 0 ∷ (Delivery 0 ∷ (scan 1 ∷ (Delivery 1 ∷ (scan 2 ∷ []))))))
+
+-- what becomes of them once nothing waits and every packet came: none is orderly
+record Untidy : Type 0 where
+  -- clause 2: the second of two files of one address gets nothing
+  not_served : shown (all_done two_files) ≡ record { filed_there = 1 ∷ (1 ∷ (0 ∷ [])); waiting_there = 0 ∷ (0 ∷ (0 ∷ [])); packets = 1; undelivered = 0 }
+  -- clause 3: a system that lists itself is sent its own message
+  own_sent : sent_count (address 1) first_key (all_done own_link).packets ≡ 1
+  -- clause 5: what a system gets from one that it does not list it does not file
+  not_linked : shown (all_done one_sided) ≡ record { filed_there = 1 ∷ (0 ∷ []); waiting_there = 0 ∷ (0 ∷ []); packets = 1; undelivered = 0 }
+  -- clause 6: a system with the poster's net and node is taken for served
+  taken_for_served : shown (all_done over_zones) ≡ record { filed_there = 1 ∷ (1 ∷ (0 ∷ [])); waiting_there = 0 ∷ (0 ∷ (0 ∷ [])); packets = 1; undelivered = 0 }
+  -- clause 7: there is no way to the others
+  no_way : shown (all_done beside) ≡ record { filed_there = 1 ∷ (0 ∷ (0 ∷ (0 ∷ []))); waiting_there = 0 ∷ (0 ∷ (0 ∷ (0 ∷ []))); packets = 0; undelivered = 0 }
+  -- clause 8: on a ring two send the message to one
+  twice : sent_count (address 2) first_key ring_run.packets ≡ 2
+
+untidy : Untidy
+unfolding posted posted_lines posting post_refusal id_of trimmed lines digits date_of scanned packets_of recipients packet_to targets links_of address_set header_to copy_to exported entry_set text_of short_lines received toss_outcome tossing refusal echo_of kept_of path_lists seen_lists begins after_word entries tokens pair_of key_of msgid_of purged stub_of
+untidy = record {
+  not_served = refl;
+  own_sent = refl;
+  not_linked = refl;
+  taken_for_served = refl;
+  no_way = refl;
+  twice = refl;
 }

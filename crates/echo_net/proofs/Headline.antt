@@ -1,8 +1,8 @@
 -- Every run of a tidy area is orderly.
 use Rattle.std.proofs.Common.{◌≡◌, inl, inr, refl, sym, subst, ap, ◌∙◌, ℕ, ◌≤◌, arith, IsTrue, List, [], ◌∷◌, ◌++◌, length, drop, map, cond}
-use Rattle.std.specs.Prelude.{Bool, true, false, filter}
+use Rattle.std.specs.Prelude.{false, filter}
 use Rattle.std.proofs.lemmas.Bool.{cond-false}
-use Rattle.std.proofs.lemmas.List.{map-append}
+use Rattle.std.proofs.lemmas.List.{length-map, map-append}
 use Rattle.echo_addr.specs.declared.address.Address.{Address}
 use Rattle.echo_graph.specs.Walk.{Among}
 use Rattle.echo_toss.specs.declared.packet.Packet.{Packet}
@@ -20,7 +20,7 @@ use Rattle.echo_net.proofs.Lists.{not_both, yes_or_no, filter-yes, filter-no, fi
 use Rattle.echo_net.proofs.Bases.{Kept-waiting, Kept-count, Kept-back}
 use Rattle.echo_net.proofs.Arrival.{AtRest, never-own, arrives, same-content, held-once}
 use Rattle.echo_net.proofs.Running.{RunOk}
-use Rattle.echo_net.proofs.Viewing.{Content, parts, content_of, part_at, in_area, waiting_of, parcel_of, view_of, Wrote, address_of, in_area-tag, tag-in_area, net, area-carries, none-before}
+use Rattle.echo_net.proofs.Viewing.{Content, parts, content_of, part_at-none, in_area, waiting_of, parcel_of, view_of, Wrote, address_of, in_area-tag, tag-in_area, net, area-carries, none-before}
 use Rattle.echo_net.proofs.Changes.{with_systems, held-is}
 use Rattle.echo_net.proofs.Delivered.{key-tag}
 use Rattle.echo_net.proofs.Runs.{State, run-state}
@@ -32,18 +32,6 @@ among-split x (y ∷ xs) h =
       | inl e ↦ ([], xs, ap (λ (z : _). z ∷ xs) (sym e))
       | inr t ↦ (let (before, after, e) = among-split x xs t in (y ∷ before, after, ap (λ (zs : List _). y ∷ zs) e))
     ]
-
-mapped-length : {X Y : Type 0} (g : X → Y) (xs : List X) → length (map g xs) ≡ length xs
-mapped-length g [] = refl
-mapped-length g (x ∷ xs) = omega (arith, mapped-length g xs)
-
-part_at-none : (part : System → List Filed) (a : Address) (ss : List System) → ((s : System) → Among s ss → part s ≡ []) → part_at part a ss ≡ []
-part_at-none part a [] h = refl
-part_at-none part a (s ∷ ss) h = either (same_address (address_of s) a) (h s (inl refl)) (part_at-none part a ss (λ t i. h t (inr i)))
-  where
-    either : (b : Bool) {xs ys : List Filed} → xs ≡ [] → ys ≡ [] → cond b xs ys ≡ []
-    either true e q = e
-    either false e q = q
 
 module _ (laws : Laws) where
   -- on every net each system has filed each message at most once
@@ -124,7 +112,7 @@ module _ (laws : Laws) where
               map (parcel_of tag) before,
               map (parcel_of tag) after,
               ap (λ (ps : List Packet). map (parcel_of tag) ps) whole ∙ map-append (parcel_of tag) before (q ∷ after),
-              mapped-length (parcel_of tag) before,
+              length-map before (parcel_of tag),
             ),
             settled.delivered before q after whole c k (in_area-tag laws tag c t),
           );

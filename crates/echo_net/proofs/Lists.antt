@@ -17,6 +17,13 @@ not_both b t f = absurd (bad (sym t ∙ f))
     bad : (let yea : Bool = true in yea ≡ false) → ⊥
     bad e = cc
 
+-- of an option that is there, and of one that is not
+pub some_same : {X : Type 0} {x y : X} → Some x ≡ Some y → x ≡ y
+some_same e = cc
+
+pub none_some : {X : Type 0} {x : X} → (let none : Option X = None in none ≡ Some x) → ⊥
+none_some e = cc
+
 -- a list around one of its items
 pub record Split {X : Type 0} (i : ℕ) (x : X) (xs : List X) : Type 0 where
   pub before : List X
@@ -40,9 +47,6 @@ change-none (suc i) f (x ∷ xs) h = ap (λ (ys : List _). x ∷ ys) (change-non
 
 pub nth-split : {X : Type 0} (i : ℕ) (x : X) (xs : List X) → nth i xs ≡ Some x → Split i x xs
 nth-split {X} i x [] h = absurd (none_some h)
-  where
-    none_some : {x : X} → (let none : Option X = None in none ≡ Some x) → ⊥
-    none_some e = cc
 nth-split zero x (y ∷ xs) h = record {
   before = [];
   after = xs;
@@ -62,9 +66,6 @@ nth-split (suc i) x (y ∷ xs) h =
 
 pub nth-among : {X : Type 0} (i : ℕ) (x : X) (xs : List X) → nth i xs ≡ Some x → Among x xs
 nth-among {X} i x [] h = absurd (none_some h)
-  where
-    none_some : {x : X} → (let none : Option X = None in none ≡ Some x) → ⊥
-    none_some e = cc
 nth-among zero x (y ∷ xs) h = inl (let e : Some y ≡ Some x = h in cc)
 nth-among (suc i) x (y ∷ xs) h = inr (nth-among i x xs h)
 
@@ -72,9 +73,6 @@ nth-among (suc i) x (y ∷ xs) h = inr (nth-among i x xs h)
 pub nth-change : {X : Type 0} (i j : ℕ) (f : X → X) (z : X) (xs : List X) → nth j (change i f xs) ≡ Some z →
     ((i ≢ j) × (nth j xs ≡ Some z)) ⊎ ((i ≡ j) × ((x : X) × (nth j xs ≡ Some x) × (z ≡ f x)))
 nth-change {X} i j f z [] h = absurd (none_some h)
-  where
-    none_some : {x : X} → (let none : Option X = None in none ≡ Some x) → ⊥
-    none_some e = cc
 nth-change zero zero f z (x ∷ xs) h = inr (refl, (x, refl, (let e : Some (f x) ≡ Some z = h in cc)))
 nth-change zero (suc j) f z (x ∷ xs) h = inl (λ e. absurd (omega (arith, e)), h)
 nth-change (suc i) zero f z (x ∷ xs) h = inl (λ e. absurd (omega (arith, e)), h)
@@ -88,9 +86,6 @@ nth-change (suc i) (suc j) f z (x ∷ xs) h =
 pub nth-changed : {X : Type 0} (i j : ℕ) (f : X → X) (x : X) (xs : List X) → nth j xs ≡ Some x →
     ((i ≢ j) × (nth j (change i f xs) ≡ Some x)) ⊎ ((i ≡ j) × (nth j (change i f xs) ≡ Some (f x)))
 nth-changed {X} i j f x [] h = absurd (none_some h)
-  where
-    none_some : {x : X} → (let none : Option X = None in none ≡ Some x) → ⊥
-    none_some e = cc
 nth-changed {X} zero zero f x (y ∷ xs) h = inr (refl, (let same : y ≡ x = (let e : Some y ≡ Some x = h in cc) in ap (λ (z : X). Some (f z)) same))
 nth-changed zero (suc j) f x (y ∷ xs) h = inl (λ e. absurd (omega (arith, e)), h)
 nth-changed (suc i) zero f x (y ∷ xs) h = inl (λ e. absurd (omega (arith, e)), h)
@@ -103,9 +98,6 @@ nth-changed (suc i) (suc j) f x (y ∷ xs) h =
 -- the first item that passes does
 pub first_passes : {X : Type 0} (p : X → Bool) (x : X) (xs : List X) → nth (position_or_len p xs) xs ≡ Some x → p x ≡ true
 first_passes {X} p x [] h = absurd (none_some h)
-  where
-    none_some : {x : X} → (let none : Option X = None in none ≡ Some x) → ⊥
-    none_some e = cc
 first_passes {X} p x (y ∷ xs) h =
     elim (yes_or_no (p y)) [
       | inl t ↦ (let here : position_or_len p (y ∷ xs) ≡ 0 = cond-false (not (p y)) (1 + position_or_len p xs) 0 (negated-true t) in
@@ -128,20 +120,6 @@ first_passes {X} p x (y ∷ xs) h =
 pub Among-middle : {X : Type 0} (x : X) (before after : List X) → Among x (before ++ x ∷ after)
 Among-middle x [] after = inl refl
 Among-middle x (y ∷ before) after = inr (Among-middle x before after)
-
--- another item in the middle: each member is it, or was there before
-pub Among-changed : {X : Type 0} (x y z : X) (before after : List X) → Among z (before ++ y ∷ after) → (z ≡ y) ⊎ Among z (before ++ x ∷ after)
-Among-changed x y z [] after h = elim h [ inl e ↦ inl e | inr t ↦ inr (inr t) ]
-Among-changed x y z (b ∷ before) after h =
-    elim h [
-      | inl e ↦ inr (inl e)
-      | inr t ↦ elim (Among-changed x y z before after t) [ inl e ↦ inl e | inr k ↦ inr (inr k) ]
-    ]
-
-pub map-changed : {X Y : Type 0} (g : X → Y) (x y : X) (before after : List X) → g x ≡ g y →
-    map g (before ++ x ∷ after) ≡ map g (before ++ y ∷ after)
-map-changed g x y [] after e = (cc)
-map-changed g x y (b ∷ before) after e = (let h = map-changed g x y before after e in cc)
 
 pub Among-map_to : {X Y : Type 0} (g : X → Y) (x : X) (xs : List X) → Among x xs → Among (g x) (map g xs)
 Among-map_to g x [] h = h

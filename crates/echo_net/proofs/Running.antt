@@ -24,7 +24,7 @@ use Rattle.echo_net.specs.Run.{System, Run, fresh, filing, posting_at, tossing_a
 use Rattle.echo_toss.specs.Base.{IsFile}
 use Rattle.echo_net.specs.Fits.{FilesFit}
 use Rattle.echo_net.proofs.Tosser.{Laws}
-use Rattle.echo_net.proofs.Lists.{not_both, Among-map_from, Among-filter_from, Among-take, Among-drop, change-all, nth-among}
+use Rattle.echo_net.proofs.Lists.{not_both, Among-map_from, Among-filter_from, Among-take, Among-drop, change-all, nth-among, none_some, some_same}
 use Rattle.echo_net.proofs.Choices.{posting-cases, tossing-cases}
 use Rattle.echo_net.proofs.Bases.{Kept-scanned, Kept-purged, Kept-waiting, SystemOk, HasKey, known-from_history, id-from_history, filing-ok}
 
@@ -50,18 +50,12 @@ module _ (laws : Laws) where
       let by_id : HasKey (ById (upper tag) id) s.history = (has.0, has.1, has.2 ∙ laws.posted_key s.file tag draft serial stamp ok.file) in
       not_both (list_any (has_id id) s.base) (id-from_history laws s ok (upper tag) id by_id) new
 
-  same_some : {X : Type 0} {x y : X} → Some x ≡ Some y → x ≡ y
-  same_some e = cc
-
-  none_some : {X : Type 0} {x : X} → (let none : Option X = None in none ≡ Some x) → ⊥
-  none_some e = cc
-
   pub posting-ok : (tag : List ℕ) (draft : Draft) (serial : ℕ) (stamp : Stamp) (s : System) → SystemOk s → SystemOk (posting_at tag draft serial stamp s)
   posting-ok tag draft serial stamp s ok = filed_ok s (posting s.file s.base tag draft serial stamp) ok (λ m e.
       elim (posting-cases s.file s.base tag draft serial stamp) [
         | inl none ↦ absurd (none_some (sym none ∙ e))
         | inr some ↦ (let P : Filed → Type 0 = λ n. IsEcho n.echo × (¬ HasKey (key_of n) s.history) in
-            subst P (same_some (sym some.0 ∙ e)) (
+            subst P (some_same (sym some.0 ∙ e)) (
               laws.posted_text s.file s.base tag draft serial stamp ok.file some.1,
               posted-fresh s ok tag draft serial stamp some.3,
             ))
@@ -81,7 +75,7 @@ module _ (laws : Laws) where
         | inl none ↦ absurd (none_some (sym none.not_filed ∙ e))
         | inr some ↦ (let P : Filed → Type 0 = λ n. IsEcho n.echo × (¬ HasKey (key_of n) s.history) in
             let Q : EchoText → Type 0 = λ e. IsEcho e in
-            subst P (same_some (sym some.filed ∙ e)) (
+            subst P (some_same (sym some.filed ∙ e)) (
               subst Q (sym (received-echo sender q)) echo,
               tossed-fresh s ok (received sender q) some.unknown,
             ))

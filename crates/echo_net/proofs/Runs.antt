@@ -1,5 +1,5 @@
 -- Every run keeps what is true of the messages of a tidy area.
-use Rattle.std.proofs.Common.{◌≡◌, inl, inr, refl, sym, subst, ap, ◌∙◌, ℕ, ◌≤◌, arith, List, [], ◌∷◌, ◌++◌, length, take, map, cond, Option, Some, None}
+use Rattle.std.proofs.Common.{◌≡◌, inl, inr, refl, sym, subst, ap, ◌∙◌, ℕ, ◌≤◌, arith, List, [], ◌∷◌, ◌++◌, length, take, map, Option, Some, None}
 use Rattle.std.specs.Prelude.{Bool, true, false, if◌then◌else◌}
 use Rattle.std.proofs.lemmas.List.{take_all}
 use Rattle.echo_addr.specs.declared.address.Address.{Address}
@@ -22,11 +22,11 @@ use Rattle.echo_net.specs.Tidy.{Tidy, Carries}
 use Rattle.echo_net.specs.Fits.{FilesFit}
 use Rattle.echo_net.proofs.View.{At, held, times}
 use Rattle.echo_net.proofs.Tosser.{Laws}
-use Rattle.echo_net.proofs.Lists.{Split, nth-cases, nth-split, change-none, first_passes, map-change, Among-middle, Among-take}
+use Rattle.echo_net.proofs.Lists.{Among-map_from, Split, nth-cases, nth-split, change-none, first_passes, map-change, Among-middle, Among-take, none_some, some_same}
 use Rattle.echo_net.proofs.Choices.{posting-cases}
 use Rattle.echo_net.proofs.Bases.{SystemOk, HasKey}
 use Rattle.echo_net.proofs.Running.{RunOk, PacketOk, posted-fresh, event-ok, start-ok}
-use Rattle.echo_net.proofs.Viewing.{in_area, in_area-tag, parcel_of, parts, part_at, done_of, waiting_of, view_of, Wrote, address_of, NoneAt, area-carries, none-before}
+use Rattle.echo_net.proofs.Viewing.{in_area, in_area-tag, parcel_of, parts, part_at, part_at-none, done_of, waiting_of, view_of, Wrote, address_of, NoneAt, area-carries, none-before}
 use Rattle.echo_net.proofs.Changes.{Watched, with_systems, MayFile, filing-keeps, purging-keeps}
 use Rattle.echo_net.proofs.Scanned.{scanning-keeps}
 use Rattle.echo_net.proofs.Delivered as delivered
@@ -85,12 +85,6 @@ module _ (laws : Laws) (files : List LinkFile) (tag : List ℕ) (tidy : Tidy fil
             subst R (sym (at.split.changed f)) (keeps some.0 at))
       ]
 
-  same_some : {X : Type 0} {x y : X} → Some x ≡ Some y → x ≡ y
-  same_some e = cc
-
-  none_some : {X : Type 0} {x : X} → (let none : Option X = None in none ≡ Some x) → ⊥
-  none_some e = cc
-
   -- a posting has an id of its own
   may-post : (run : Run) (state : State run) (i : ℕ) (g : List ℕ) (draft : Draft) (serial : ℕ) (stamp : Stamp) →
       (s : System) (at : Place run i s) (m : Filed) → posting s.file s.base g draft serial stamp ≡ Some m →
@@ -98,7 +92,7 @@ module _ (laws : Laws) (files : List LinkFile) (tag : List ℕ) (tidy : Tidy fil
   may-post run state i g draft serial stamp s at m e =
       elim (posting-cases s.file s.base g draft serial stamp) [
         | inl none ↦ absurd (none_some (sym none ∙ e))
-        | inr some ↦ (let same : posted s.file g draft serial stamp ≡ m = same_some (sym some.0 ∙ e) in
+        | inr some ↦ (let same : posted s.file g draft serial stamp ≡ m = some_same (sym some.0 ∙ e) in
             let P : Filed → Type 0 = λ n. (¬ HasKey (key_of n) s.history) ×
             (in_area tag n ≡ true → MayFile laws files tag tidy run at.split.before s at.split.after at.none n) in
             subst P same (
@@ -136,9 +130,6 @@ module _ (laws : Laws) (files : List LinkFile) (tag : List ℕ) (tidy : Tidy fil
     where
       at : Place run i s
       at = place run state i s e
-
-      with_new : List System → Run
-      with_new ss = record { systems = ss; packets = run.packets ++ scanned s.file s.base s.cursor stamp; delivered = run.delivered }
 
       scans : (b : Bool) → Watched laws files tag tidy (if b then record {
         systems = change i scanning_at run.systems;
@@ -290,23 +281,16 @@ module _ (laws : Laws) (files : List LinkFile) (fit : FilesFit files) (events : 
   pub run-ok : RunOk (run_of files events)
   run-ok = along (λ run. RunOk run) (λ run event. event-ok laws run event) events (start files) (start-ok laws files fit)
 
-  pub run-files : files_of (run_of files events) ≡ files
-  run-files = along (λ run. files_of run ≡ files) (λ run event e. event-files run event ∙ e) events (start files) (fresh-files files)
-
   module _ (tag : List ℕ) (tidy : Tidy files tag) where
-    nothing-at : (part : System → List Filed) → ((file : LinkFile) → part (fresh file) ≡ []) → (a : Address) (fs : List LinkFile) →
-        part_at part a (map fresh fs) ≡ []
-    nothing-at part none a [] = refl
-    nothing-at part none a (file ∷ fs) = either (same_address file.system a) (none file) (nothing-at part none a fs)
-      where
-        either : (b : Bool) {xs ys : List Filed} → xs ≡ [] → ys ≡ [] → cond b xs ys ≡ []
-        either true e q = e
-        either false e q = q
+    nothing-at : (part : System → List Filed) → ((file : LinkFile) → part (fresh file) ≡ []) → (a : Address) → part_at part a (map fresh files) ≡ []
+    nothing-at part none a = part_at-none part a (map fresh files) (λ s h.
+        let (file, i, e) = Among-map_from fresh s files h in
+        ap part e ∙ none file)
 
     start-held : (a : Address) → held (view_of tag (start files)) a ≡ []
     start-held a =
-        let d = nothing-at (done_of tag) (λ file. refl) a files in
-        let w = nothing-at (waiting_of tag) (λ file. refl) a files in
+        let d = nothing-at (done_of tag) (λ file. refl) a in
+        let w = nothing-at (waiting_of tag) (λ file. refl) a in
         ap (λ (ms : List Filed). ms ++ part_at (waiting_of tag) a (map fresh files)) d ∙ w
 
     no_member : (m : Filed) (ms : List Filed) → ms ≡ [] → Among m ms → ⊥
@@ -318,7 +302,7 @@ module _ (laws : Laws) (files : List LinkFile) (fit : FilesFit files) (events : 
       good = λ a m h. absurd (no_member m (held (view_of tag (start files)) a) (start-held a) h);
       sent = λ p h c i. absurd h;
       sent_once = λ a k. omega arith;
-      passed_on = λ a m h f wrote d link beyond. absurd (no_member m (part_at (done_of tag) a (map fresh files)) (nothing-at (done_of tag) (λ file. refl) a files) h);
+      passed_on = λ a m h f wrote d link beyond. absurd (no_member m (part_at (done_of tag) a (map fresh files)) (nothing-at (done_of tag) (λ file. refl) a) h);
       came = λ k h. absurd h;
     }
 

@@ -12,7 +12,7 @@ use Rattle.echo_net.specs.Tidy.{Carries, Tidy, lists}
 use Rattle.echo_net.proofs.TheLaws.{the_laws}
 use Rattle.echo_graph.proofs.Members.{Among-at}
 use Rattle.echo_net.proofs.Lists.{and-parts, any-from, not_both, Among-map_to}
-use Rattle.echo_net.proofs.Examples.{address, file, ring, triangle}
+use Rattle.echo_net.proofs.Examples.{address, beside, far, file, one_sided, over_zones, own_link, ring, triangle, two_files}
 
 abbrev test : List ℕ
 test = codes "TEST"
@@ -24,17 +24,17 @@ one_node : (i j : ℕ) → address i ≡ address j → i ≡ j
 one_node i j e = ap (λ (a : Address). a.node) e
 
 -- clause 1: no file has the area
-no_area : ¬ Tidy (file 1 [] ∷ []) (codes "OTHER")
-no_area t = is_false t.joined.some
+no_carrier : ¬ Tidy (file 1 [] ∷ []) (codes "OTHER")
+no_carrier t = is_false t.joined.some
 
--- clause 2: two files of one address, of which one has no areas
-two_files : ¬ Tidy (file 1 [] ∷ (record { system = address 1; name = []; areas = [] } ∷ [])) test
-two_files t = t.joined.one_file.0 (inl refl)
+-- clause 2: two files of one address
+same_address_twice : ¬ Tidy two_files test
+same_address_twice t = t.joined.one_file.1.0 (inl refl)
 
 -- clause 3: a system that lists itself
-self_link : ¬ Tidy (file 1 (1 ∷ []) ∷ []) test
+lists_itself : ¬ Tidy own_link test
 unfolding links_of
-self_link t = t.joined.no_self (address 1) refl
+lists_itself t = t.joined.no_self (address 1) refl
 
 -- clause 4: a link that has no file
 unknown_link : ¬ Tidy (file 1 (9 ∷ []) ∷ []) test
@@ -42,32 +42,20 @@ unfolding links_of
 unknown_link t = is_false (t.joined.known (address 1) (address 9) refl)
 
 -- clause 5: a link that stands in one file
-one_sided : ¬ Tidy (file 1 (2 ∷ []) ∷ (file 2 [] ∷ [])) test
+in_one_file : ¬ Tidy one_sided test
 unfolding links_of
-one_sided t = is_false (t.joined.both (address 1) (address 2) refl)
+in_one_file t = is_false (t.joined.both (address 1) (address 2) refl)
 
 -- clause 6: a chain over two zones, whose ends have one net and node
-abbrev far : Address
-far = record { zone = 2; net = 10; node = 1 }
-
-abbrev over_zones : List LinkFile
-over_zones =
-    file 1 (5 ∷ [])
-    ∷ (record { system = address 5; name = []; areas = record { tag = test; links = address 1 ∷ (far ∷ []) } ∷ [] }
-    ∷ (record { system = far; name = []; areas = record { tag = test; links = address 5 ∷ [] } ∷ [] } ∷ []))
-
 same_net_node : ¬ Tidy over_zones test
 same_net_node t =
     let e = t.joined.apart (address 1) far refl refl refl in
     absurd (omega (arith, ap (λ (a : Address). a.zone) e))
 
 -- clause 7: a triangle beside a lone system
-abbrev beside : List LinkFile
-beside = file 4 [] ∷ triangle
-
-apart_from : ¬ Tidy beside test
+no_walk : ¬ Tidy beside test
 unfolding links_of
-apart_from t = stuck (t.joined.connected (address 4) (address 1) refl refl)
+no_walk t = stuck (t.joined.connected (address 4) (address 1) refl refl)
   where
     stuck : ¬ Reaches (lists beside test) (address 4) (address 1)
     stuck ([], e) = absurd (omega (arith, one_node 4 1 e))

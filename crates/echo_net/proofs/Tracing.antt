@@ -19,7 +19,7 @@ use Rattle.echo_net.specs.Fits.{FilesFit}
 use Rattle.echo_toss.specs.Stamps.{is_stamp}
 use Rattle.echo_net.specs.Orderly.{copies, origin}
 use Rattle.echo_net.proofs.Tosser.{Laws}
-use Rattle.echo_net.proofs.Lists.{Among-change, Among-map_from, Among-map_to, Among-filter_from, Among-filter_to, Among-drop, Among-take, nth-among}
+use Rattle.echo_net.proofs.Lists.{Among-change, Among-map_from, Among-map_to, Among-filter_from, Among-filter_to, Among-drop, Among-take, nth-among, none_some, some_same}
 use Rattle.echo_net.proofs.Choices.{posting-cases, tossing-cases}
 use Rattle.echo_net.proofs.Bases.{Kept-waiting, SystemOk}
 use Rattle.echo_net.proofs.Running.{RunOk, event-ok, start-ok, scanned-from, waiting-valid}
@@ -73,12 +73,6 @@ pub tossing-kept : (sender : Address) (ms : List Message) → Keeps (tossing_at 
 tossing-kept sender [] s m h = h
 tossing-kept sender (q ∷ ms) s m h =
     tossing-kept sender ms (filing s (tossing s.file s.base sender q)) m (filing-kept s (tossing s.file s.base sender q) m h)
-
-some_same : {X : Type 0} {x y : X} → Some x ≡ Some y → x ≡ y
-some_same e = cc
-
-none_some : {X : Type 0} {x : X} → (let none : Option X = None in none ≡ Some x) → ⊥
-none_some e = cc
 
 pub tossing-new : (sender : Address) (ms : List Message) (s : System) (m : Filed) → Among m (tossing_at sender ms s).history →
     Among m s.history ⊎ ((q : Message) × Among q ms × (m ≡ received sender q))

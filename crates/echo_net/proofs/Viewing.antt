@@ -52,6 +52,15 @@ abbrev pub part_at : (System → List Filed) → Address → List System → Lis
 part_at part a [] = []
 part_at part a (s ∷ ss) = cond (same_address s.file.system a) (part s) (part_at part a ss)
 
+-- no system has something of it
+pub part_at-none : (part : System → List Filed) (a : Address) (ss : List System) → ((s : System) → Among s ss → part s ≡ []) → part_at part a ss ≡ []
+part_at-none part a [] h = refl
+part_at-none part a (s ∷ ss) h = either (same_address s.file.system a) (h s (inl refl)) (part_at-none part a ss (λ t i. h t (inr i)))
+  where
+    either : (b : Bool) {xs ys : List Filed} → xs ≡ [] → ys ≡ [] → cond b xs ys ≡ []
+    either true e q = e
+    either false e q = q
+
 abbrev pub in_area : List ℕ → Filed → Bool
 in_area tag m = bytes_eq m.echo.tag tag
 
