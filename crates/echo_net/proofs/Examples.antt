@@ -1,6 +1,6 @@
 -- Worked runs, by computation.
-use Rattle.std.proofs.Common.{◌≡◌, ℕ, ◌+◌, List, [], ◌∷◌, refl, codes, length, drop, map}
-use Rattle.std.specs.Prelude.{count_by, bytes_eq, ◌==◌, if◌then◌else◌}
+use Rattle.std.proofs.Common.{◌≡◌, Some, None, ℕ, ◌+◌, List, [], ◌∷◌, refl, codes, length, drop, map}
+use Rattle.std.specs.Prelude.{false, count_by, bytes_eq, ◌==◌, if◌then◌else◌}
 use Rattle.std.specs.List.{list_any}
 use Rattle.std.specs.Fmt.{digits}
 use Rattle.echo_addr.specs.declared.address.Address.{Address}
@@ -18,7 +18,7 @@ use Rattle.echo_toss.specs.declared.packet.Packet.{Packet}
 use Rattle.echo_toss.specs.Sets.{address_set, entry_set}
 use Rattle.echo_toss.specs.Stamps.{date_of}
 use Rattle.echo_toss.specs.Written.{echo_of, short_lines, text_of}
-use Rattle.echo_toss.specs.Base.{Filed, LinkFile, key_of, links_of}
+use Rattle.echo_toss.specs.Base.{Filed, LinkFile, is_known, key_of, links_of}
 use Rattle.echo_toss.specs.Posting.{post_refusal, posted, posted_lines, posting}
 use Rattle.echo_toss.specs.Purging.{purged, stub_of}
 use Rattle.echo_toss.specs.Scanning.{copy_to, exported, header_to, packet_to, packets_of, recipients, scanned, targets}
@@ -185,4 +185,42 @@ untidy = record {
   taken_for_served = refl;
   no_way = refl;
   twice = refl;
+}
+
+-- what no run of these systems shows, since ids of theirs differ and SEEN-BY lists a sender
+abbrev two_areas : LinkFile
+two_areas = record {
+  system = address 1;
+  name = codes "echonet";
+  areas = record { tag = codes "TEST"; links = [] } ∷ (record { tag = codes "OTHER"; links = [] } ∷ []);
+}
+
+abbrev posted_in : List ℕ → Filed
+posted_in tag = posted two_areas tag draft 1 stamp
+
+-- a message from 1:10/2 whose SEEN-BY lists no one
+abbrev unlisted : Filed
+unlisted = record {
+  sender = Some (address 2);
+  date = [];
+  to_name = [];
+  from_name = [];
+  subject = [];
+  echo = record { tag = codes "TEST"; kept = []; seen = []; path = [] };
+}
+
+record Steps : Type 0 where
+  -- a known serial is refused in another area too
+  known_serial : posting two_areas (posted_in (codes "TEST") ∷ []) (codes "OTHER") draft 1 stamp ≡ None
+  -- one id in two areas is that of two messages
+  other_area : is_known (posted_in (codes "TEST") ∷ []) (key_of (posted_in (codes "OTHER"))) ≡ false
+  -- a message does not go back to its sender, whatever its SEEN-BY says
+  sender_left_out : targets (file 1 (2 ∷ (3 ∷ []))) unlisted ≡ address 3 ∷ []
+
+steps : Steps
+unfolding posted posted_lines posting post_refusal id_of trimmed lines digits date_of targets links_of begins after_word key_of msgid_of
+steps = record {
+  known_serial = refl;
+  other_area = refl;
+  sender_left_out = refl;
 }
