@@ -18,6 +18,7 @@ pub record Export : Type 0 where
   pub system : ℕ
   pub packet : Packet
 
+-- a packet that the scan of this place made
 abbrev pub export_of : ℕ → ℕ → Packet → Export
 export_of n i packet = record { event = n; system = i; packet = packet }
 
@@ -27,11 +28,12 @@ scan_exports n i stamp None = []
 scan_exports n i stamp (Some s) =
     if is_stamp stamp then map (export_of n i) (scanned s.file s.base s.cursor stamp) else []
 
--- what an event makes
+-- what the event of this place makes
 abbrev pub event_exports : Run → ℕ → RunEvent → List Export
 event_exports run n (Scanning i stamp) = scan_exports n i stamp (nth i run.systems)
 event_exports run n other = []
 
+-- what events make, of which the first has this place
 abbrev pub exports_after : Run → ℕ → List RunEvent → List Export
 exports_after run n [] = []
 exports_after run n (event ∷ later) = event_exports run n event ++ exports_after (after_event run event) (n + 1) later
