@@ -76,6 +76,12 @@ filing-kept : (s : System) (o : Option Filed) → IsBaseKept s → IsBaseKept (f
 filing-kept s None k = k
 filing-kept s (Some m) k = Kept-filed s.cursor s.base s.history m k
 
+abbrev pub AllKept : Run → Type 0
+AllKept run = (s : System) → Among s run.systems → Kept s.cursor s.base s.history
+
+pub event-kept : Laws → (run : Run) (event : RunEvent) → AllKept run → AllKept (after_event run event)
+event-kept laws = event-each IsBaseKept filing-kept (λ s k. Kept-scanned s.cursor s.base s.history k) (λ s k. Kept-purged laws s.cursor s.base s.history k)
+
 pub run-kept : Laws → (files : List LinkFile) (events : List RunEvent) → (s : System) → Among s (run_of files events).systems →
     Kept s.cursor s.base s.history
 run-kept laws = run-each IsBaseKept filing-kept (λ s k. Kept-scanned s.cursor s.base s.history k) (λ s k. Kept-purged laws s.cursor s.base s.history k)

@@ -17,6 +17,7 @@ pub mod Scanned
 pub mod Delivered
 pub mod Runs
 pub mod Keeping
+pub mod Lasting
 pub mod Headline
 pub mod TheLaws
 pub mod Exports

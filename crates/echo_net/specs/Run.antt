@@ -1,5 +1,5 @@
 -- Systems, and what events do to them.
-use Rattle.std.specs.Prelude.{ℕ, zero, suc, List, [], ◌∷◌, ◌++◌, map, length, take, Option, Some, None, if◌then◌else◌}
+use Rattle.std.specs.Prelude.{◌≡◌, ◌≤◌, ℕ, zero, suc, List, [], ◌∷◌, ◌++◌, map, length, take, Option, Some, None, if◌then◌else◌}
 use Rattle.std.specs.List.{position_or_len}
 use Rattle.echo_addr.specs.declared.address.Address.{Address}
 use Rattle.echo_packet.specs.Message.{Message}
@@ -27,6 +27,13 @@ pub record Run : Type 0 where
   pub systems : List System
   pub packets : List Packet
   pub delivered : List ℕ
+
+-- the same system at a later time: its file stays, its cursor has not fallen, and what it filed stands
+-- where it stood, before what it filed since
+pub record IsLater (s z : System) : Type 0 where
+  pub file : z.file ≡ s.file
+  pub cursor : s.cursor ≤ z.cursor
+  pub filed : (since : List Filed) × (z.history ≡ s.history ++ since)
 
 -- a system that has nothing yet
 abbrev pub fresh : LinkFile → System

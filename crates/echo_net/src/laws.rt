@@ -1,6 +1,6 @@
 //! What holds of every run. Each law is the contract of a function that does nothing.
 
-ghost use Rattle.std.specs.Prelude.{◌≡◌, ◌⊎◌, ℕ, ◌≤◌, List, map, drop, length, take, Some};
+ghost use Rattle.std.specs.Prelude.{◌≡◌, ◌⊎◌, ℕ, ◌≤◌, ◌++◌, List, map, drop, length, take, Some};
 ghost use Rattle.echo_addr.specs.declared.address.Address.{Address};
 ghost use Rattle.echo_graph.specs.Walk.{Among};
 ghost use Rattle.echo_graph.specs.Cycle.{NoCycle};
@@ -9,7 +9,7 @@ ghost use Rattle.echo_toss.specs.Base.{Filed, LinkFile, key_of};
 ghost use Rattle.echo_toss.specs.Scanning.{targets};
 ghost use Rattle.echo_toss.specs.Purging.{stub_of};
 ghost use Rattle.echo_net.specs.Event.{RunEvent};
-ghost use Rattle.echo_net.specs.Run.{System, destination, nth, run_of};
+ghost use Rattle.echo_net.specs.Run.{IsLater, System, destination, nth, run_of};
 ghost use Rattle.echo_net.specs.Orderly.{IsPosting, Orderly, SameContent, copies, count, origin, sent_count};
 ghost use Rattle.echo_net.specs.Exports.{Export, IsSentCopy, exports, sent_by};
 ghost use Rattle.echo_net.specs.Tidy.{Joined, Tidy, lists};
@@ -40,6 +40,14 @@ pub fn bases_are_what_was_filed()
         (s : System) → Among s (run_of files events).systems → length s.base ≡ length s.history }
     ensures waiting { (files : List LinkFile) (events : List RunEvent) →
         (s : System) → Among s (run_of files events).systems → drop s.cursor s.base ≡ drop s.cursor s.history }
+{}
+
+/// On every net, whatever happens later, a system keeps its file, its cursor never falls, and what it filed
+/// stays as it was filed, in its order.
+pub fn what_is_filed_stays()
+    ensures { (files : List LinkFile) (events later : List RunEvent) (i : ℕ) (s : System) →
+        nth i (run_of files events).systems ≡ Some s →
+        (z : System) × (nth i (run_of files (events ++ later)).systems ≡ Some z) × IsLater s z }
 {}
 
 /// On every net the packets of a run are those that its scans made, in order.

@@ -14,5 +14,5 @@ pub use event::Event;
 pub use laws::{
     bases_are_what_was_filed, each_message_is_exported_by_one_scan, each_message_is_filed_once,
     each_message_was_posted, every_run_of_a_tidy_area_is_orderly, exports_go_to_targets,
-    packets_are_exports, trees_are_tidy,
+    packets_are_exports, trees_are_tidy, what_is_filed_stays,
 };
