@@ -1,5 +1,5 @@
 -- Worked runs, by computation.
-use Rattle.std.proofs.Common.{◌≡◌, Some, None, ℕ, ◌+◌, List, [], ◌∷◌, refl, codes, length, drop, map}
+use Rattle.std.proofs.Common.{◌≡◌, Some, None, ℕ, ◌+◌, List, [], ◌∷◌, ◌++◌, refl, codes, length, drop, map}
 use Rattle.std.specs.Prelude.{false, count_by, bytes_eq, ◌==◌, if◌then◌else◌}
 use Rattle.std.specs.List.{list_any}
 use Rattle.std.specs.Fmt.{digits}
@@ -23,7 +23,8 @@ use Rattle.echo_toss.specs.Posting.{post_refusal, posted, posted_lines, posting}
 use Rattle.echo_toss.specs.Purging.{purged, stub_of}
 use Rattle.echo_toss.specs.Scanning.{copy_to, exported, header_to, packet_to, packets_of, recipients, scanned, targets}
 use Rattle.echo_toss.specs.Tossing.{received, toss_outcome, tossing}
-use Rattle.echo_net.specs.Event.{RunEvent, Posting, Scanning, Delivery, Purging}
+use Rattle.echo_net.specs.declared.event.Event.TheVariants.{Deliver, Post, Purge, Scan}
+use Rattle.echo_net.specs.Event.{RunEvent, Posting, Scanning, Delivery, PartDelivery, Purging, run_event}
 use Rattle.echo_net.specs.Run.{Run, run_of}
 use Rattle.echo_net.specs.Orderly.{sent_count}
 
@@ -111,6 +112,16 @@ purged_run = run_of chain (
     post 0 ∷ (scan 0 ∷ (Purging 0 ∷ (Delivery 0 ∷ (Purging 1 ∷ (scan 1 ∷ (Purging 1 ∷ (Delivery 1 ∷ (Delivery 0 ∷ (post 0 ∷ [])))))))))
     )
 
+-- two messages in one packet, whose toss stops after the first, and then comes whole
+abbrev two_posted : List RunEvent
+two_posted = post 0 ∷ (Posting 0 (codes "TEST") draft 2 stamp ∷ (scan 0 ∷ []))
+
+abbrev stopped_run : Run
+stopped_run = run_of chain (two_posted ++ PartDelivery 0 1 ∷ [])
+
+abbrev tossed_again_run : Run
+tossed_again_run = run_of chain (two_posted ++ PartDelivery 0 1 ∷ (Delivery 0 ∷ []))
+
 -- the id of the one posting
 abbrev first_key : Key
 first_key = ById (codes "TEST") (codes "1:10/1 00000001")
@@ -124,6 +135,8 @@ record Runs : Type 0 where
   triangle_shown : shown triangle_run ≡ record { filed_there = 1 ∷ (1 ∷ (1 ∷ [])); waiting_there = 0 ∷ (0 ∷ (0 ∷ [])); packets = 2; undelivered = 0 }
   triangle_once : sent_count (address 2) first_key triangle_run.packets ≡ 1
   ring_shown : shown ring_run ≡ record { filed_there = 1 ∷ (1 ∷ (1 ∷ (1 ∷ []))); waiting_there = 0 ∷ (0 ∷ (0 ∷ (0 ∷ []))); packets = 4; undelivered = 0 }
+  stopped_shown : shown stopped_run ≡ record { filed_there = 2 ∷ (1 ∷ (0 ∷ [])); waiting_there = 0 ∷ (1 ∷ (0 ∷ [])); packets = 1; undelivered = 1 }
+  tossed_again_shown : shown tossed_again_run ≡ record { filed_there = 2 ∷ (2 ∷ (0 ∷ [])); waiting_there = 0 ∷ (2 ∷ (0 ∷ [])); packets = 1; undelivered = 0 }
   purged_shown : shown purged_run ≡ record { filed_there = 1 ∷ (1 ∷ (1 ∷ [])); waiting_there = 0 ∷ (0 ∷ (1 ∷ [])); packets = 2; undelivered = 0 }
 
 runs : Runs
@@ -134,8 +147,16 @@ runs = record {
   triangle_shown = refl;
   triangle_once = refl;
   ring_shown = refl;
+  stopped_shown = refl;
+  tossed_again_shown = refl;
   purged_shown = refl;
 }
+
+-- the same events as a program has them
+program_events : map run_event (
+    Post 0 (codes "TEST") draft 1 stamp ∷ (Scan 0 stamp ∷ (Deliver 0 ∷ (Purge 0 ∷ [])))
+    ) ≡ post 0 ∷ (scan 0 ∷ (Delivery 0 ∷ (Purging 0 ∷ [])))
+program_events = refl
 
 -- nets that miss one clause of `Tidy`
 abbrev pub two_files : List LinkFile
