@@ -1,7 +1,6 @@
 -- Worked runs, by computation.
-use Rattle.std.proofs.Common.{◌≡◌, Some, None, ℕ, ◌+◌, List, [], ◌∷◌, ◌++◌, refl, codes, length, drop, map}
-use Rattle.std.specs.Prelude.{false, count_by, bytes_eq, ◌==◌, if◌then◌else◌}
-use Rattle.std.specs.List.{list_any}
+use Rattle.std.proofs.Common.{◌≡◌, Some, None, ℕ, List, [], ◌∷◌, ◌++◌, refl, codes, length, drop, map}
+use Rattle.std.specs.Prelude.{Bool, true, false}
 use Rattle.std.specs.Fmt.{digits}
 use Rattle.echo_addr.specs.declared.address.Address.{Address}
 use Rattle.echo_addr.specs.Entries.{entries, pair_of, tokens}
@@ -14,7 +13,6 @@ use Rattle.echo_toss.specs.declared.draft.Draft.{Draft}
 use Rattle.echo_toss.specs.declared.key.Key.{Key}
 use Rattle.echo_toss.specs.declared.key.Key.TheVariants.{ById}
 use Rattle.echo_toss.specs.declared.stamp.Stamp.{Stamp}
-use Rattle.echo_toss.specs.declared.packet.Packet.{Packet}
 use Rattle.echo_toss.specs.Sets.{address_set, entry_set}
 use Rattle.echo_toss.specs.Stamps.{date_of}
 use Rattle.echo_toss.specs.Written.{echo_of, short_lines, text_of}
@@ -27,6 +25,7 @@ use Rattle.echo_net.specs.declared.event.Event.TheVariants.{Deliver, Post, Purge
 use Rattle.echo_net.specs.Event.{RunEvent, Posting, Scanning, Delivery, PartDelivery, Purging, run_event}
 use Rattle.echo_net.specs.Run.{Run, run_of}
 use Rattle.echo_net.specs.Orderly.{sent_count}
+use Rattle.echo_net.specs.World.{filed_at, area_count, is_settled, undelivered, waiting_at}
 
 abbrev pub address : ℕ → Address
 address node = record { zone = 1; net = 10; node = node }
@@ -52,33 +51,22 @@ post i = Posting i (codes "TEST") draft 1 stamp
 abbrev scan : ℕ → RunEvent
 scan i = Scanning i stamp
 
--- how many messages of the area a system has, and how many of them wait
-abbrev of_area : List Filed → ℕ
-of_area ms = count_by (λ m. bytes_eq m.echo.tag (codes "TEST")) ms
-
-abbrev filed : Run → List ℕ
-filed run = map (λ s. of_area s.base) run.systems
-
-abbrev waiting : Run → List ℕ
-waiting run = map (λ s. of_area (drop s.cursor s.base)) run.systems
-
--- how many packets from this index on did not come
-abbrev missing : List ℕ → ℕ → List Packet → ℕ
-missing delivered k [] = 0
-missing delivered k (p ∷ later) = (if list_any (λ d. d == k) delivered then 0 else 1) + missing delivered (k + 1) later
-
+-- what is printed of a run: messages of the area filed and waiting, system by system, packets, and packets
+-- that did not come
 record Shown : Type 0 where
   filed_there : List ℕ
   waiting_there : List ℕ
   packets : ℕ
-  undelivered : ℕ
+  not_delivered : ℕ
+  settled : Bool
 
 abbrev shown : Run → Shown
 shown run = record {
-  filed_there = filed run;
-  waiting_there = waiting run;
+  filed_there = map (λ s. area_count (codes "TEST") s.base) run.systems;
+  waiting_there = map (λ s. area_count (codes "TEST") (drop s.cursor s.base)) run.systems;
   packets = length run.packets;
-  undelivered = missing run.delivered 0 run.packets;
+  not_delivered = undelivered run;
+  settled = is_settled run;
 }
 
 -- files 0 to 2, and in the ring 0 to 3, are 1:10/1 and those after it
@@ -130,14 +118,15 @@ first_key = ById (codes "TEST") (codes "1:10/1 00000001")
 -- 1:10/3 was lost. On the ring, which is not tidy, each filed the message once. On the purged chain, where
 -- ids alone are left, what comes again is known, and a known serial is refused.
 record Runs : Type 0 where
-  chain_shown : shown chain_run ≡ record { filed_there = 1 ∷ (1 ∷ (1 ∷ [])); waiting_there = 0 ∷ (0 ∷ (0 ∷ [])); packets = 2; undelivered = 0 }
-  star_shown : shown star_run ≡ record { filed_there = 1 ∷ (1 ∷ (0 ∷ (1 ∷ []))); waiting_there = 0 ∷ (0 ∷ (0 ∷ (0 ∷ []))); packets = 3; undelivered = 1 }
-  triangle_shown : shown triangle_run ≡ record { filed_there = 1 ∷ (1 ∷ (1 ∷ [])); waiting_there = 0 ∷ (0 ∷ (0 ∷ [])); packets = 2; undelivered = 0 }
+  chain_shown : shown chain_run ≡ record { filed_there = 1 ∷ (1 ∷ (1 ∷ [])); waiting_there = 0 ∷ (0 ∷ (0 ∷ [])); packets = 2; not_delivered = 0; settled = true }
+  star_shown : shown star_run ≡ record { filed_there = 1 ∷ (1 ∷ (0 ∷ (1 ∷ []))); waiting_there = 0 ∷ (0 ∷ (0 ∷ (0 ∷ []))); packets = 3; not_delivered = 1; settled = false }
+  triangle_shown : shown triangle_run ≡ record { filed_there = 1 ∷ (1 ∷ (1 ∷ [])); waiting_there = 0 ∷ (0 ∷ (0 ∷ [])); packets = 2; not_delivered = 0; settled = true }
   triangle_once : sent_count (address 2) first_key triangle_run.packets ≡ 1
-  ring_shown : shown ring_run ≡ record { filed_there = 1 ∷ (1 ∷ (1 ∷ (1 ∷ []))); waiting_there = 0 ∷ (0 ∷ (0 ∷ (0 ∷ []))); packets = 4; undelivered = 0 }
-  stopped_shown : shown stopped_run ≡ record { filed_there = 2 ∷ (1 ∷ (0 ∷ [])); waiting_there = 0 ∷ (1 ∷ (0 ∷ [])); packets = 1; undelivered = 1 }
-  tossed_again_shown : shown tossed_again_run ≡ record { filed_there = 2 ∷ (2 ∷ (0 ∷ [])); waiting_there = 0 ∷ (2 ∷ (0 ∷ [])); packets = 1; undelivered = 0 }
-  purged_shown : shown purged_run ≡ record { filed_there = 1 ∷ (1 ∷ (1 ∷ [])); waiting_there = 0 ∷ (0 ∷ (1 ∷ [])); packets = 2; undelivered = 0 }
+  ring_shown : shown ring_run ≡ record { filed_there = 1 ∷ (1 ∷ (1 ∷ (1 ∷ []))); waiting_there = 0 ∷ (0 ∷ (0 ∷ (0 ∷ []))); packets = 4; not_delivered = 0; settled = true }
+  stopped_shown : shown stopped_run ≡ record { filed_there = 2 ∷ (1 ∷ (0 ∷ [])); waiting_there = 0 ∷ (1 ∷ (0 ∷ [])); packets = 1; not_delivered = 1; settled = false }
+  tossed_again_shown : shown tossed_again_run ≡ record { filed_there = 2 ∷ (2 ∷ (0 ∷ [])); waiting_there = 0 ∷ (2 ∷ (0 ∷ [])); packets = 1; not_delivered = 0; settled = false }
+  purged_at : (filed_at purged_run 2 (codes "TEST") ≡ 1) × (waiting_at purged_run 2 (codes "TEST") ≡ 1) × (filed_at purged_run 3 (codes "TEST") ≡ 0) × (filed_at purged_run 2 (codes "OTHER") ≡ 0)
+  purged_shown : shown purged_run ≡ record { filed_there = 1 ∷ (1 ∷ (1 ∷ [])); waiting_there = 0 ∷ (0 ∷ (1 ∷ [])); packets = 2; not_delivered = 0; settled = false }
 
 runs : Runs
 unfolding posted posted_lines posting post_refusal id_of trimmed lines digits date_of scanned packets_of recipients packet_to targets links_of address_set header_to copy_to exported entry_set text_of short_lines received toss_outcome tossing refusal echo_of kept_of path_lists seen_lists begins after_word entries tokens pair_of key_of msgid_of purged stub_of
@@ -149,6 +138,7 @@ runs = record {
   ring_shown = refl;
   stopped_shown = refl;
   tossed_again_shown = refl;
+  purged_at = (refl, refl, refl, refl);
   purged_shown = refl;
 }
 
@@ -185,15 +175,15 @@ all_done files = run_of files (post 0 ∷ (scan 0 ∷ (Delivery 0 ∷ (scan 1 �
 -- what becomes of them once nothing waits and every packet came: none is orderly
 record Untidy : Type 0 where
   -- clause 2: the second of two files of one address gets nothing
-  not_served : shown (all_done two_files) ≡ record { filed_there = 1 ∷ (1 ∷ (0 ∷ [])); waiting_there = 0 ∷ (0 ∷ (0 ∷ [])); packets = 1; undelivered = 0 }
+  not_served : shown (all_done two_files) ≡ record { filed_there = 1 ∷ (1 ∷ (0 ∷ [])); waiting_there = 0 ∷ (0 ∷ (0 ∷ [])); packets = 1; not_delivered = 0; settled = true }
   -- clause 3: a system that lists itself is sent its own message
   own_sent : sent_count (address 1) first_key (all_done own_link).packets ≡ 1
   -- clause 5: what a system gets from one that it does not list it does not file
-  not_linked : shown (all_done one_sided) ≡ record { filed_there = 1 ∷ (0 ∷ []); waiting_there = 0 ∷ (0 ∷ []); packets = 1; undelivered = 0 }
+  not_linked : shown (all_done one_sided) ≡ record { filed_there = 1 ∷ (0 ∷ []); waiting_there = 0 ∷ (0 ∷ []); packets = 1; not_delivered = 0; settled = true }
   -- clause 6: a system with the poster's net and node is taken for served
-  taken_for_served : shown (all_done over_zones) ≡ record { filed_there = 1 ∷ (1 ∷ (0 ∷ [])); waiting_there = 0 ∷ (0 ∷ (0 ∷ [])); packets = 1; undelivered = 0 }
+  taken_for_served : shown (all_done over_zones) ≡ record { filed_there = 1 ∷ (1 ∷ (0 ∷ [])); waiting_there = 0 ∷ (0 ∷ (0 ∷ [])); packets = 1; not_delivered = 0; settled = true }
   -- clause 7: there is no way to the others
-  no_way : shown (all_done beside) ≡ record { filed_there = 1 ∷ (0 ∷ (0 ∷ (0 ∷ []))); waiting_there = 0 ∷ (0 ∷ (0 ∷ (0 ∷ []))); packets = 0; undelivered = 0 }
+  no_way : shown (all_done beside) ≡ record { filed_there = 1 ∷ (0 ∷ (0 ∷ (0 ∷ []))); waiting_there = 0 ∷ (0 ∷ (0 ∷ (0 ∷ []))); packets = 0; not_delivered = 0; settled = true }
   -- clause 8: on a ring two send the message to one
   twice : sent_count (address 2) first_key ring_run.packets ≡ 2
 

@@ -16,6 +16,7 @@ pub mod Copies
 pub mod Scanned
 pub mod Delivered
 pub mod Runs
+pub mod Settling
 pub mod Keeping
 pub mod Lasting
 pub mod Headline

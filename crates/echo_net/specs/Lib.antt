@@ -4,3 +4,4 @@ pub mod Orderly
 pub mod Exports
 pub mod Tidy
 pub mod Fits
+pub mod World

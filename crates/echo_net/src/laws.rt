@@ -1,6 +1,6 @@
 //! What holds of every run. Each law is the contract of a function that does nothing.
 
-ghost use Rattle.std.specs.Prelude.{◌≡◌, ◌⊎◌, ℕ, ◌≤◌, ◌++◌, List, map, drop, length, take, Some};
+ghost use Rattle.std.specs.Prelude.{◌≡◌, ◌⊎◌, ℕ, ◌≤◌, ◌++◌, IsTrue, List, map, drop, length, take, Some};
 ghost use Rattle.echo_addr.specs.declared.address.Address.{Address};
 ghost use Rattle.echo_graph.specs.Walk.{Among};
 ghost use Rattle.echo_graph.specs.Cycle.{NoCycle};
@@ -9,9 +9,10 @@ ghost use Rattle.echo_toss.specs.Base.{Filed, LinkFile, key_of};
 ghost use Rattle.echo_toss.specs.Scanning.{targets};
 ghost use Rattle.echo_toss.specs.Purging.{stub_of};
 ghost use Rattle.echo_net.specs.Event.{RunEvent};
-ghost use Rattle.echo_net.specs.Run.{IsLater, System, destination, nth, run_of};
-ghost use Rattle.echo_net.specs.Orderly.{IsPosting, Orderly, SameContent, copies, count, origin, sent_count};
+ghost use Rattle.echo_net.specs.Run.{IsLater, Run, System, destination, nth, run_of};
+ghost use Rattle.echo_net.specs.Orderly.{IsPosting, Orderly, SameContent, Settled, copies, count, origin, sent_count};
 ghost use Rattle.echo_net.specs.Exports.{Export, IsSentCopy, exports, sent_by};
+ghost use Rattle.echo_net.specs.World.{is_settled};
 ghost use Rattle.echo_net.specs.Tidy.{Joined, Tidy, lists};
 ghost use Rattle.echo_net.specs.Fits.{FilesFit};
 
@@ -91,6 +92,11 @@ pub fn each_message_was_posted()
     ensures { (files : List LinkFile) → FilesFit files → (events : List RunEvent) →
         (s : System) → Among s (run_of files events).systems → (m : Filed) → Among m s.history →
         (f : System) × Among f (run_of files events).systems × ((o : Filed) × Among o f.history × IsPosting m.echo.tag o × SameContent m o) }
+{}
+
+/// Where no message waits for a scan and every packet was delivered, each area has settled.
+pub fn settled_runs_settle_each_area()
+    ensures { (run : Run) → IsTrue (is_settled run) → (tag : List ℕ) → Settled run tag }
 {}
 
 /// Where the links of an area have no cycle, what is asked beside the cycles makes it tidy.
