@@ -31,12 +31,12 @@ pub fn each_message_is_filed_once()
         (s : System) → Among s (run_of files events).systems → (key : Key) → count key s.base ≤ 1 }
 {}
 
-/// On every net the base of a system is the list of its messages as they were filed, but that messages
-/// before the cursor may be what a purge leaves of them.
+/// On every net the base of a system is the list of its messages as they were filed, place by place, but
+/// that messages before the cursor may be what a purge leaves of them.
 pub fn bases_are_what_was_filed()
-    ensures members { (files : List LinkFile) (events : List RunEvent) →
-        (s : System) → Among s (run_of files events).systems → (m : Filed) → Among m s.base →
-        (filed : Filed) × Among filed s.history × ((m ≡ filed) ⊎ (m ≡ stub_of filed)) }
+    ensures places { (files : List LinkFile) (events : List RunEvent) →
+        (s : System) → Among s (run_of files events).systems → (i : ℕ) (m filed : Filed) →
+        nth i s.base ≡ Some m → nth i s.history ≡ Some filed → (m ≡ filed) ⊎ (m ≡ stub_of filed) }
     ensures number { (files : List LinkFile) (events : List RunEvent) →
         (s : System) → Among s (run_of files events).systems → length s.base ≡ length s.history }
     ensures waiting { (files : List LinkFile) (events : List RunEvent) →
