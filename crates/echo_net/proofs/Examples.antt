@@ -51,14 +51,17 @@ post i = Posting i (codes "TEST") draft 1 stamp
 abbrev scan : ℕ → RunEvent
 scan i = Scanning i stamp
 
--- what is printed of a run: messages of the area filed and waiting, system by system, packets, and packets
--- that did not come
+-- what is printed of a run: messages of the area filed and waiting, system by system; packets, and packets
+-- that did not come; whether all has settled
 record Shown : Type 0 where
   filed_there : List ℕ
   waiting_there : List ℕ
   packets : ℕ
   not_delivered : ℕ
   settled : Bool
+
+abbrev line : List ℕ → List ℕ → ℕ → ℕ → Bool → Shown
+line filed waiting count missed all = record { filed_there = filed; waiting_there = waiting; packets = count; not_delivered = missed; settled = all }
 
 abbrev shown : Run → Shown
 shown run = record {
@@ -118,15 +121,15 @@ first_key = ById (codes "TEST") (codes "1:10/1 00000001")
 -- 1:10/3 was lost. On the ring, which is not tidy, each filed the message once. On the purged chain, where
 -- ids alone are left, what comes again is known, and a known serial is refused.
 record Runs : Type 0 where
-  chain_shown : shown chain_run ≡ record { filed_there = 1 ∷ (1 ∷ (1 ∷ [])); waiting_there = 0 ∷ (0 ∷ (0 ∷ [])); packets = 2; not_delivered = 0; settled = true }
-  star_shown : shown star_run ≡ record { filed_there = 1 ∷ (1 ∷ (0 ∷ (1 ∷ []))); waiting_there = 0 ∷ (0 ∷ (0 ∷ (0 ∷ []))); packets = 3; not_delivered = 1; settled = false }
-  triangle_shown : shown triangle_run ≡ record { filed_there = 1 ∷ (1 ∷ (1 ∷ [])); waiting_there = 0 ∷ (0 ∷ (0 ∷ [])); packets = 2; not_delivered = 0; settled = true }
+  chain_shown : shown chain_run ≡ line (1 ∷ (1 ∷ (1 ∷ []))) (0 ∷ (0 ∷ (0 ∷ []))) 2 0 true
+  star_shown : shown star_run ≡ line (1 ∷ (1 ∷ (0 ∷ (1 ∷ [])))) (0 ∷ (0 ∷ (0 ∷ (0 ∷ [])))) 3 1 false
+  triangle_shown : shown triangle_run ≡ line (1 ∷ (1 ∷ (1 ∷ []))) (0 ∷ (0 ∷ (0 ∷ []))) 2 0 true
   triangle_once : sent_count (address 2) first_key triangle_run.packets ≡ 1
-  ring_shown : shown ring_run ≡ record { filed_there = 1 ∷ (1 ∷ (1 ∷ (1 ∷ []))); waiting_there = 0 ∷ (0 ∷ (0 ∷ (0 ∷ []))); packets = 4; not_delivered = 0; settled = true }
-  stopped_shown : shown stopped_run ≡ record { filed_there = 2 ∷ (1 ∷ (0 ∷ [])); waiting_there = 0 ∷ (1 ∷ (0 ∷ [])); packets = 1; not_delivered = 1; settled = false }
-  tossed_again_shown : shown tossed_again_run ≡ record { filed_there = 2 ∷ (2 ∷ (0 ∷ [])); waiting_there = 0 ∷ (2 ∷ (0 ∷ [])); packets = 1; not_delivered = 0; settled = false }
+  ring_shown : shown ring_run ≡ line (1 ∷ (1 ∷ (1 ∷ (1 ∷ [])))) (0 ∷ (0 ∷ (0 ∷ (0 ∷ [])))) 4 0 true
+  stopped_shown : shown stopped_run ≡ line (2 ∷ (1 ∷ (0 ∷ []))) (0 ∷ (1 ∷ (0 ∷ []))) 1 1 false
+  tossed_again_shown : shown tossed_again_run ≡ line (2 ∷ (2 ∷ (0 ∷ []))) (0 ∷ (2 ∷ (0 ∷ []))) 1 0 false
   purged_at : (filed_at purged_run 2 (codes "TEST") ≡ 1) × (waiting_at purged_run 2 (codes "TEST") ≡ 1) × (filed_at purged_run 3 (codes "TEST") ≡ 0) × (filed_at purged_run 2 (codes "OTHER") ≡ 0)
-  purged_shown : shown purged_run ≡ record { filed_there = 1 ∷ (1 ∷ (1 ∷ [])); waiting_there = 0 ∷ (0 ∷ (1 ∷ [])); packets = 2; not_delivered = 0; settled = false }
+  purged_shown : shown purged_run ≡ line (1 ∷ (1 ∷ (1 ∷ []))) (0 ∷ (0 ∷ (1 ∷ []))) 2 0 false
 
 runs : Runs
 unfolding posted posted_lines posting post_refusal id_of trimmed lines digits date_of scanned packets_of recipients packet_to targets links_of address_set header_to copy_to exported entry_set text_of short_lines received toss_outcome tossing refusal echo_of kept_of path_lists seen_lists begins after_word entries tokens pair_of key_of msgid_of purged stub_of
@@ -175,15 +178,15 @@ all_done files = run_of files (post 0 ∷ (scan 0 ∷ (Delivery 0 ∷ (scan 1 �
 -- what becomes of them once nothing waits and every packet came: none is orderly
 record Untidy : Type 0 where
   -- clause 2: the second of two files of one address gets nothing
-  not_served : shown (all_done two_files) ≡ record { filed_there = 1 ∷ (1 ∷ (0 ∷ [])); waiting_there = 0 ∷ (0 ∷ (0 ∷ [])); packets = 1; not_delivered = 0; settled = true }
+  not_served : shown (all_done two_files) ≡ line (1 ∷ (1 ∷ (0 ∷ []))) (0 ∷ (0 ∷ (0 ∷ []))) 1 0 true
   -- clause 3: a system that lists itself is sent its own message
   own_sent : sent_count (address 1) first_key (all_done own_link).packets ≡ 1
   -- clause 5: what a system gets from one that it does not list it does not file
-  not_linked : shown (all_done one_sided) ≡ record { filed_there = 1 ∷ (0 ∷ []); waiting_there = 0 ∷ (0 ∷ []); packets = 1; not_delivered = 0; settled = true }
+  not_linked : shown (all_done one_sided) ≡ line (1 ∷ (0 ∷ [])) (0 ∷ (0 ∷ [])) 1 0 true
   -- clause 6: a system with the poster's net and node is taken for served
-  taken_for_served : shown (all_done over_zones) ≡ record { filed_there = 1 ∷ (1 ∷ (0 ∷ [])); waiting_there = 0 ∷ (0 ∷ (0 ∷ [])); packets = 1; not_delivered = 0; settled = true }
+  taken_for_served : shown (all_done over_zones) ≡ line (1 ∷ (1 ∷ (0 ∷ []))) (0 ∷ (0 ∷ (0 ∷ []))) 1 0 true
   -- clause 7: there is no way to the others
-  no_way : shown (all_done beside) ≡ record { filed_there = 1 ∷ (0 ∷ (0 ∷ (0 ∷ []))); waiting_there = 0 ∷ (0 ∷ (0 ∷ (0 ∷ []))); packets = 0; not_delivered = 0; settled = true }
+  no_way : shown (all_done beside) ≡ line (1 ∷ (0 ∷ (0 ∷ (0 ∷ [])))) (0 ∷ (0 ∷ (0 ∷ (0 ∷ [])))) 0 0 true
   -- clause 8: on a ring two send the message to one
   twice : sent_count (address 2) first_key ring_run.packets ≡ 2
 
