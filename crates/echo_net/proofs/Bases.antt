@@ -10,12 +10,12 @@ use Rattle.echo_toss.specs.declared.key.Key.TheVariants.{ByContent, ById}
 use Rattle.echo_toss.specs.Base.{Filed, key_of, key_with, same_key, is_known}
 use Rattle.echo_toss.specs.Posting.{has_id}
 use Rattle.echo_toss.specs.Purging.{stub_of, stub_with, purged}
-use Rattle.echo_net.specs.Run.{System, filing}
+use Rattle.echo_net.specs.Run.{System, filing, nth}
 use Rattle.echo_net.specs.Orderly.{count}
 use Rattle.echo_toss.specs.Base.{IsFile}
 use Rattle.echo_net.proofs.Counts as counts
 use Rattle.echo_net.proofs.Tosser.{Laws}
-use Rattle.echo_net.proofs.Lists.{any-to, any-from, and-parts}
+use Rattle.echo_net.proofs.Lists.{any-to, any-from, and-parts, some_same}
 
 -- a message of the base is the one that was filed, or what a purge leaves of it
 pub record IsKept (b h : Filed) : Type 0 where
@@ -100,6 +100,21 @@ Kept-back (suc c) (b ∷ base) (h ∷ history) k m i =
       | inl e ↦ (h, inl refl, (let P : Filed → Type 0 = λ n. IsKept n h in subst P (sym e) k.0))
       | inr t ↦ (let (n, j, e) = Kept-back c base history k.1 m t in (n, inr j, e))
     ]
+
+-- what stands at one place of both
+pub Kept-at : (c : ℕ) (base history : List Filed) → Kept c base history → (i : ℕ) (b h : Filed) →
+    nth i base ≡ Some b → nth i history ≡ Some h → IsKept b h
+Kept-at zero base history k i b h e f =
+    let same : b ≡ h = some_same (sym e ∙ (ap (λ (ms : List Filed). nth i ms) k ∙ f)) in
+    let P : Filed → Type 0 = λ n. IsKept b n in
+    subst P same (IsKept-itself b)
+Kept-at (suc c) [] history k i b h e f = absurd k
+Kept-at (suc c) (b' ∷ base) [] k i b h e f = absurd k
+Kept-at (suc c) (b' ∷ base) (h' ∷ history) k zero b h e f =
+    let P : Filed → Type 0 = λ n. IsKept n h' in
+    let Q : Filed → Type 0 = λ n. IsKept b n in
+    subst Q (some_same f) (subst P (some_same e) k.0)
+Kept-at (suc c) (b' ∷ base) (h' ∷ history) k (suc i) b h e f = Kept-at c base history k.1 i b h e f
 
 stub-sender : (m : Filed) → (stub_of m).sender ≡ m.sender
 unfolding stub_of

@@ -1,8 +1,8 @@
 -- Packets come to their systems, as the messages of an area see it.
-use Rattle.std.proofs.Common.{◌≡◌, inl, inr, refl, sym, subst, ap, ◌∙◌, ℕ, arith, IsTrue, List, [], ◌∷◌, ◌++◌, length, map, Option, Some, None}
-use Rattle.std.specs.Prelude.{Bool, true, filter, ◌==◌, is_none}
+use Rattle.std.proofs.Common.{◌≡◌, inl, inr, refl, sym, subst, ap, ◌∙◌, ℕ, IsTrue, List, [], ◌∷◌, ◌++◌, map, Option, Some, None}
+use Rattle.std.specs.Prelude.{true, filter, ◌==◌, is_none}
 use Rattle.std.proofs.lemmas.Bool.{cond-false, ne_eqb}
-use Rattle.std.proofs.lemmas.List.{map-append}
+use Rattle.std.proofs.lemmas.List.{length-map, map-append}
 use Rattle.echo_addr.specs.declared.address.Address.{Address}
 use Rattle.echo_graph.specs.Walk.{Among}
 use Rattle.echo_graph.proofs.Members.{Among-append_left, Among-append_right}
@@ -20,7 +20,7 @@ use Rattle.echo_net.specs.Orderly.{copies, origin, tag_of}
 use Rattle.echo_net.specs.Tidy.{Tidy, lists, Carries}
 use Rattle.echo_net.proofs.View.{held, At, Has}
 use Rattle.echo_net.proofs.Tosser.{Laws}
-use Rattle.echo_net.proofs.Lists.{Among-map_to, Among-map_from, Among-filter_from, Among-filter_to, Among-middle}
+use Rattle.echo_net.proofs.Lists.{Among-map_to, Among-map_from, Among-filter_from, Among-filter_to, Among-middle, none_some, some_same}
 use Rattle.echo_net.proofs.Choices.{tossing-cases}
 use Rattle.echo_net.proofs.Bases.{SystemOk, HasKey, known-in_history}
 use Rattle.echo_net.proofs.Running.{PacketOk, tossed-fresh, tossing_one-ok}
@@ -100,18 +100,9 @@ module _ (laws : Laws) (files : List LinkFile) (tag : List ℕ) (tidy : Tidy fil
   abbrev around : System → Run
   around z = with_systems run (before ++ z ∷ after)
 
-  echomail : Message → Bool
-  echomail packed = is_none (refusal packed.text)
-
   copy-in : (q : Message) → Among q p.messages → Among (received (origin p) q) (copies p)
   copy-in q h = Among-map_to (received (origin p)) q (filter (λ packed. is_none (refusal packed.text)) p.messages)
       (Among-filter_to (λ packed. is_none (refusal packed.text)) q p.messages h (ap (λ (o : Option _). is_none o) (ok_p.messages q h).0))
-
-  same_some : {X : Type 0} {x y : X} → Some x ≡ Some y → x ≡ y
-  same_some e = cc
-
-  none_some : {X : Type 0} {x : X} → (let none : Option X = None in none ≡ Some x) → ⊥
-  none_some e = cc
 
   -- what a toss may file
   may-file : (sender : Address) → sender ≡ origin p → (q : Message) → Among q p.messages →
@@ -121,7 +112,7 @@ module _ (laws : Laws) (files : List LinkFile) (tag : List ℕ) (tidy : Tidy fil
   may-file sender from q h s none here ok m e =
       elim (tossing-cases s.file s.base sender q) [
         | inl nothing ↦ absurd (none_some (sym nothing.not_filed ∙ e))
-        | inr done ↦ (let same : received sender q ≡ m = same_some (sym done.filed ∙ e) in
+        | inr done ↦ (let same : received sender q ≡ m = some_same (sym done.filed ∙ e) in
             let P : Filed → Type 0 = λ n. ¬ HasKey (key_of n) s.history in
             let Q : Filed → Type 0 = λ n. Among n (copies p) in
             let R : Address → Type 0 = λ a. Among (received a q) (copies p) in (
@@ -158,7 +149,7 @@ module _ (laws : Laws) (files : List LinkFile) (tag : List ℕ) (tidy : Tidy fil
       let (q, j, e) = Among-map_from (received (origin p)) c (filter (λ packed. is_none (refusal packed.text)) p.messages) i in
       let (k, read) = Among-filter_from (λ packed. is_none (refusal packed.text)) q p.messages j in
       let sent = inv.sent (parcel_of tag p) (Among-map_to (parcel_of tag) p run.packets in_run) c h in
-      let from : sent.from ≡ origin p = same_some (sym sent.is_sender ∙ (ap (λ (n : Filed). n.sender) e ∙ received-sender (origin p) q)) in
+      let from : sent.from ≡ origin p = some_same (sym sent.is_sender ∙ (ap (λ (n : Filed). n.sender) e ∙ received-sender (origin p) q)) in
       let P : Address → Type 0 = λ a. IsTrue (lists files tag a sent.from) in
       let link_from : is_link s.file tag sent.from ≡ true =
       lists-link laws files tag tidy (before ++ s ∷ after) same_files s (Among-middle s before after) sent.from (subst P (sym here) sent.parent.way.link) in
@@ -192,16 +183,12 @@ module _ (laws : Laws) (files : List LinkFile) (tag : List ℕ) (tidy : Tidy fil
         ];
       })
     where
-      mapped-length : (ps : List Packet) → length (map (parcel_of tag) ps) ≡ length ps
-      mapped-length [] = refl
-      mapped-length (q ∷ ps) = omega (arith, mapped-length ps)
-
       at_parcel : At (map (parcel_of tag) run.packets) k (parcel_of tag p)
       at_parcel = (
         map (parcel_of tag) at.0,
         map (parcel_of tag) at.1,
         ap (λ (ps : List Packet). map (parcel_of tag) ps) at.2 ∙ map-append (parcel_of tag) at.0 (p ∷ at.1),
-        mapped-length at.0 ∙ at.3,
+        length-map at.0 (parcel_of tag) ∙ at.3,
       )
 
       known_view : (c : Filed) → Among c (parcel_of tag p).copies → Has parts (key_of c) (held (view_of tag (around z)) (destination p))

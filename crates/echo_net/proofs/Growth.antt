@@ -1,19 +1,12 @@
 -- What stays true of messages while systems file more.
-use Rattle.std.proofs.Common.{◌≡◌, ◌⊎◌, inl, inr, refl, sym, subst, ◌∙◌, ℕ, ◌+◌, arith, Bool, IsTrue, List, [], ◌∷◌, ◌++◌, cond}
+use Rattle.std.proofs.Common.{◌≡◌, ◌⊎◌, inl, inr, refl, subst, ◌∙◌, ℕ, ◌+◌, arith, Bool, IsTrue, List, [], ◌∷◌, ◌++◌, cond}
 use Rattle.std.specs.Prelude.{true, false}
 use Rattle.echo_graph.specs.Walk.{Among}
 use Rattle.echo_net.proofs.Counts.{Tells, Tells-can, count-cases}
-use Rattle.echo_net.proofs.View.{Parts, Parcel, View, held, At, times, sent_times, Has, Poster, Good, Sent}
+use Rattle.echo_net.proofs.View.{Parts, Parcel, View, held, times, sent_times, Has, Poster, Good, Sent}
 
 pub Among-in : {X : Type 0} (x : X) (xs ys : List X) → xs ≡ ys → Among x xs → Among x ys
 Among-in {X} x xs ys e h = let P : List X → Type 0 = λ zs. Among x zs in subst P e h
-
-pub At-among : {X : Type 0} (xs : List X) (k : ℕ) (x : X) → At xs k x → Among x xs
-At-among {X} xs k x at = Among-in x (at.0 ++ x ∷ at.1) xs (sym at.2) (there at.0)
-  where
-    there : (before : List X) → Among x (before ++ x ∷ at.1)
-    there [] = inl refl
-    there (y ∷ before) = inr (there before)
 
 module _ {A K N C M : Type 0} (parts : Parts A K N C M) where
   pub sent_times-append : (x : A) (k : K) (ps qs : List (Parcel A M)) →

@@ -1,8 +1,8 @@
 -- Every run of a tidy area is orderly.
 use Rattle.std.proofs.Common.{◌≡◌, inl, inr, refl, sym, subst, ap, ◌∙◌, ℕ, ◌≤◌, arith, IsTrue, List, [], ◌∷◌, ◌++◌, length, drop, map, cond}
-use Rattle.std.specs.Prelude.{Bool, true, false, filter}
+use Rattle.std.specs.Prelude.{false, filter}
 use Rattle.std.proofs.lemmas.Bool.{cond-false}
-use Rattle.std.proofs.lemmas.List.{map-append}
+use Rattle.std.proofs.lemmas.List.{length-map, map-append}
 use Rattle.echo_addr.specs.declared.address.Address.{Address}
 use Rattle.echo_graph.specs.Walk.{Among}
 use Rattle.echo_toss.specs.declared.packet.Packet.{Packet}
@@ -13,14 +13,14 @@ use Rattle.echo_net.specs.Event.{RunEvent}
 use Rattle.echo_net.specs.Run.{System, Run, destination, run_of}
 use Rattle.echo_net.specs.Orderly.{count, copies, sent_count, tag_of, IsPosting, Settled, SameContent, FiledUnchanged, Orderly}
 use Rattle.echo_net.specs.Tidy.{Tidy, lists, Carries}
-use Rattle.echo_net.specs.Fits.{FilesFit, EventsFit}
+use Rattle.echo_net.specs.Fits.{FilesFit}
 use Rattle.echo_net.proofs.View.{Parcel, View, held, At, times, sent_times}
 use Rattle.echo_net.proofs.Tosser.{Laws}
-use Rattle.echo_net.proofs.Lists.{not_both, yes_or_no, filter-yes, filter-no, Among-map_from, Among-filter_from, Among-filter_to}
+use Rattle.echo_net.proofs.Lists.{not_both, yes_or_no, filter-yes, filter-no, filter-none, Among-map_from, Among-filter_from, Among-filter_to}
 use Rattle.echo_net.proofs.Bases.{Kept-waiting, Kept-count, Kept-back}
 use Rattle.echo_net.proofs.Arrival.{AtRest, never-own, arrives, same-content, held-once}
 use Rattle.echo_net.proofs.Running.{RunOk}
-use Rattle.echo_net.proofs.Viewing.{Content, parts, content_of, part_at, in_area, waiting_of, parcel_of, view_of, Wrote, address_of, in_area-tag, tag-in_area, net, area-carries, none-before}
+use Rattle.echo_net.proofs.Viewing.{Content, parts, content_of, part_at-none, in_area, waiting_of, parcel_of, view_of, Wrote, address_of, in_area-tag, tag-in_area, net, area-carries, none-before}
 use Rattle.echo_net.proofs.Changes.{with_systems, held-is}
 use Rattle.echo_net.proofs.Delivered.{key-tag}
 use Rattle.echo_net.proofs.Runs.{State, run-state}
@@ -32,22 +32,6 @@ among-split x (y ∷ xs) h =
       | inl e ↦ ([], xs, ap (λ (z : _). z ∷ xs) (sym e))
       | inr t ↦ (let (before, after, e) = among-split x xs t in (y ∷ before, after, ap (λ (zs : List _). y ∷ zs) e))
     ]
-
-mapped-length : {X Y : Type 0} (g : X → Y) (xs : List X) → length (map g xs) ≡ length xs
-mapped-length g [] = refl
-mapped-length g (x ∷ xs) = omega (arith, mapped-length g xs)
-
-filter-none : {X : Type 0} (p : X → Bool) (xs : List X) → ((x : X) → Among x xs → p x ≡ false) → filter p xs ≡ []
-filter-none p [] h = refl
-filter-none p (x ∷ xs) h = filter-no p x xs (h x (inl refl)) ∙ filter-none p xs (λ y i. h y (inr i))
-
-part_at-none : (part : System → List Filed) (a : Address) (ss : List System) → ((s : System) → Among s ss → part s ≡ []) → part_at part a ss ≡ []
-part_at-none part a [] h = refl
-part_at-none part a (s ∷ ss) h = either (same_address (address_of s) a) (h s (inl refl)) (part_at-none part a ss (λ t i. h t (inr i)))
-  where
-    either : (b : Bool) {xs ys : List Filed} → xs ≡ [] → ys ≡ [] → cond b xs ys ≡ []
-    either true e q = e
-    either false e q = q
 
 module _ (laws : Laws) where
   -- on every net each system has filed each message at most once
@@ -128,7 +112,7 @@ module _ (laws : Laws) where
               map (parcel_of tag) before,
               map (parcel_of tag) after,
               ap (λ (ps : List Packet). map (parcel_of tag) ps) whole ∙ map-append (parcel_of tag) before (q ∷ after),
-              mapped-length (parcel_of tag) before,
+              length-map before (parcel_of tag),
             ),
             settled.delivered before q after whole c k (in_area-tag laws tag c t),
           );
@@ -171,7 +155,6 @@ module _ (laws : Laws) where
       all_came = came;
     }
 
-  pub every_run-orderly : (files : List LinkFile) (tag : List ℕ) → Tidy files tag → FilesFit files → (events : List RunEvent) → EventsFit events →
+  pub every_run-orderly : (files : List LinkFile) (tag : List ℕ) → Tidy files tag → FilesFit files → (events : List RunEvent) →
       Orderly (run_of files events) tag
-  every_run-orderly files tag tidy fit events event_fit =
-      orderly files tag tidy (run_of files events) (run-state laws files fit events event_fit tag tidy)
+  every_run-orderly files tag tidy fit events = orderly files tag tidy (run_of files events) (run-state laws files fit events tag tidy)

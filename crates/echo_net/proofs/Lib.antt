@@ -16,7 +16,14 @@ pub mod Copies
 pub mod Scanned
 pub mod Delivered
 pub mod Runs
+pub mod Settling
+pub mod Keeping
+pub mod Lasting
 pub mod Headline
 pub mod TheLaws
 pub mod Exports
+pub mod SentBy
+pub mod Exporting
 pub mod Tracing
+pub mod Examples
+pub mod TidyExamples

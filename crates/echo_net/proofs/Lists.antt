@@ -1,5 +1,5 @@
 -- Items of lists by their index, and members of lists that were made of others.
-use Rattle.std.proofs.Common.{◌≡◌, ◌⊎◌, inl, inr, refl, sym, subst, ap, ◌∙◌, ℕ, zero, suc, ◌+◌, arith, List, [], ◌∷◌, ◌++◌, length, take, drop, map, Option, Some, None}
+use Rattle.std.proofs.Common.{◌≡◌, ◌≢◌, ◌⊎◌, inl, inr, refl, sym, subst, ap, ◌∙◌, ℕ, zero, suc, ◌+◌, arith, List, [], ◌∷◌, ◌++◌, length, take, drop, map, Option, Some, None}
 use Rattle.std.specs.Prelude.{Bool, true, false, filter, not, ◌&&◌, ◌||◌}
 use Rattle.std.specs.List.{list_any, position_or_len}
 use Rattle.std.proofs.lemmas.Bool.{cond-true, cond-false}
@@ -16,6 +16,13 @@ not_both b t f = absurd (bad (sym t ∙ f))
   where
     bad : (let yea : Bool = true in yea ≡ false) → ⊥
     bad e = cc
+
+-- of an option that is there, and of one that is not
+pub some_same : {X : Type 0} {x y : X} → Some x ≡ Some y → x ≡ y
+some_same e = cc
+
+pub none_some : {X : Type 0} {x : X} → (let none : Option X = None in none ≡ Some x) → ⊥
+none_some e = cc
 
 -- a list around one of its items
 pub record Split {X : Type 0} (i : ℕ) (x : X) (xs : List X) : Type 0 where
@@ -40,9 +47,6 @@ change-none (suc i) f (x ∷ xs) h = ap (λ (ys : List _). x ∷ ys) (change-non
 
 pub nth-split : {X : Type 0} (i : ℕ) (x : X) (xs : List X) → nth i xs ≡ Some x → Split i x xs
 nth-split {X} i x [] h = absurd (none_some h)
-  where
-    none_some : {x : X} → (let none : Option X = None in none ≡ Some x) → ⊥
-    none_some e = cc
 nth-split zero x (y ∷ xs) h = record {
   before = [];
   after = xs;
@@ -60,12 +64,40 @@ nth-split (suc i) x (y ∷ xs) h =
       index = (let e = s.index in omega arith);
     }
 
+pub nth-among : {X : Type 0} (i : ℕ) (x : X) (xs : List X) → nth i xs ≡ Some x → Among x xs
+nth-among {X} i x [] h = absurd (none_some h)
+nth-among zero x (y ∷ xs) h = inl (let e : Some y ≡ Some x = h in cc)
+nth-among (suc i) x (y ∷ xs) h = inr (nth-among i x xs h)
+
+-- where an item is changed: what is at an index was there before, or is the changed item
+pub nth-change : {X : Type 0} (i j : ℕ) (f : X → X) (z : X) (xs : List X) → nth j (change i f xs) ≡ Some z →
+    ((i ≢ j) × (nth j xs ≡ Some z)) ⊎ ((i ≡ j) × ((x : X) × (nth j xs ≡ Some x) × (z ≡ f x)))
+nth-change {X} i j f z [] h = absurd (none_some h)
+nth-change zero zero f z (x ∷ xs) h = inr (refl, (x, refl, (let e : Some (f x) ≡ Some z = h in cc)))
+nth-change zero (suc j) f z (x ∷ xs) h = inl (λ e. absurd (omega (arith, e)), h)
+nth-change (suc i) zero f z (x ∷ xs) h = inl (λ e. absurd (omega (arith, e)), h)
+nth-change (suc i) (suc j) f z (x ∷ xs) h =
+    elim (nth-change i j f z xs h) [
+      | inl k ↦ inl (λ e. k.0 (omega (arith, e)), k.1)
+      | inr k ↦ inr (ap suc k.0, k.1)
+    ]
+
+-- and what was there is there yet, or changed
+pub nth-changed : {X : Type 0} (i j : ℕ) (f : X → X) (x : X) (xs : List X) → nth j xs ≡ Some x →
+    ((i ≢ j) × (nth j (change i f xs) ≡ Some x)) ⊎ ((i ≡ j) × (nth j (change i f xs) ≡ Some (f x)))
+nth-changed {X} i j f x [] h = absurd (none_some h)
+nth-changed {X} zero zero f x (y ∷ xs) h = inr (refl, (let same : y ≡ x = (let e : Some y ≡ Some x = h in cc) in ap (λ (z : X). Some (f z)) same))
+nth-changed zero (suc j) f x (y ∷ xs) h = inl (λ e. absurd (omega (arith, e)), h)
+nth-changed (suc i) zero f x (y ∷ xs) h = inl (λ e. absurd (omega (arith, e)), h)
+nth-changed (suc i) (suc j) f x (y ∷ xs) h =
+    elim (nth-changed i j f x xs h) [
+      | inl k ↦ inl (λ e. k.0 (omega (arith, e)), k.1)
+      | inr k ↦ inr (ap suc k.0, k.1)
+    ]
+
 -- the first item that passes does
 pub first_passes : {X : Type 0} (p : X → Bool) (x : X) (xs : List X) → nth (position_or_len p xs) xs ≡ Some x → p x ≡ true
 first_passes {X} p x [] h = absurd (none_some h)
-  where
-    none_some : {x : X} → (let none : Option X = None in none ≡ Some x) → ⊥
-    none_some e = cc
 first_passes {X} p x (y ∷ xs) h =
     elim (yes_or_no (p y)) [
       | inl t ↦ (let here : position_or_len p (y ∷ xs) ≡ 0 = cond-false (not (p y)) (1 + position_or_len p xs) 0 (negated-true t) in
@@ -89,20 +121,6 @@ pub Among-middle : {X : Type 0} (x : X) (before after : List X) → Among x (bef
 Among-middle x [] after = inl refl
 Among-middle x (y ∷ before) after = inr (Among-middle x before after)
 
--- another item in the middle: each member is it, or was there before
-pub Among-changed : {X : Type 0} (x y z : X) (before after : List X) → Among z (before ++ y ∷ after) → (z ≡ y) ⊎ Among z (before ++ x ∷ after)
-Among-changed x y z [] after h = elim h [ inl e ↦ inl e | inr t ↦ inr (inr t) ]
-Among-changed x y z (b ∷ before) after h =
-    elim h [
-      | inl e ↦ inr (inl e)
-      | inr t ↦ elim (Among-changed x y z before after t) [ inl e ↦ inl e | inr k ↦ inr (inr k) ]
-    ]
-
-pub map-changed : {X Y : Type 0} (g : X → Y) (x y : X) (before after : List X) → g x ≡ g y →
-    map g (before ++ x ∷ after) ≡ map g (before ++ y ∷ after)
-map-changed g x y [] after e = (cc)
-map-changed g x y (b ∷ before) after e = (let h = map-changed g x y before after e in cc)
-
 pub Among-map_to : {X Y : Type 0} (g : X → Y) (x : X) (xs : List X) → Among x xs → Among (g x) (map g xs)
 Among-map_to g x [] h = h
 Among-map_to g x (y ∷ xs) h = elim h [ inl e ↦ inl (ap g e) | inr t ↦ inr (Among-map_to g x xs t) ]
@@ -120,6 +138,16 @@ filter-yes p x xs t = cond-true (p x) (x ∷ filter p xs) (filter p xs) t
 
 pub filter-no : {X : Type 0} (p : X → Bool) (x : X) (xs : List X) → p x ≡ false → filter p (x ∷ xs) ≡ filter p xs
 filter-no p x xs f = cond-false (p x) (x ∷ filter p xs) (filter p xs) f
+
+-- none passes, or all do
+pub filter-none : {X : Type 0} (p : X → Bool) (xs : List X) → ((x : X) → Among x xs → p x ≡ false) → filter p xs ≡ []
+filter-none p [] h = refl
+filter-none p (x ∷ xs) h = filter-no p x xs (h x (inl refl)) ∙ filter-none p xs (λ y i. h y (inr i))
+
+pub filter-all : {X : Type 0} (p : X → Bool) (xs : List X) → ((x : X) → Among x xs → p x ≡ true) → filter p xs ≡ xs
+filter-all p [] h = refl
+filter-all p (x ∷ xs) h =
+    filter-yes p x xs (h x (inl refl)) ∙ ap (λ (ys : List _). x ∷ ys) (filter-all p xs (λ y i. h y (inr i)))
 
 same_list : {X : Type 0} (x : X) (xs ys : List X) → xs ≡ ys → Among x xs → Among x ys
 same_list {X} x xs ys e h = let P : List X → Type 0 = λ zs. Among x zs in subst P e h
@@ -211,3 +239,12 @@ pub map-change : {X Y : Type 0} (g : X → Y) (i : ℕ) (f : X → X) → ((x : 
 map-change g i f same [] = refl
 map-change g zero f same (x ∷ xs) = (let e = same x in cc)
 map-change g (suc i) f same (x ∷ xs) = (let e = map-change g i f same xs in cc)
+
+-- what holds of each item, and of what it is changed to, holds of each item after the change
+pub change-all : {X : Type 0} (P : X → Type 0) (i : ℕ) (f : X → X) → ((x : X) → P x → P (f x)) → (xs : List X) →
+    ((x : X) → Among x xs → P x) → (z : X) → Among z (change i f xs) → P z
+change-all P i f keeps xs all z h =
+    elim (Among-change i f z xs h) [
+      | inl old ↦ all z old
+      | inr new ↦ (let (x, j, e) = new in subst P (sym e) (keeps x (all x j)))
+    ]

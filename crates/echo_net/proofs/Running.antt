@@ -1,5 +1,5 @@
 -- What is true of every run, on every net.
-use Rattle.std.proofs.Common.{◌≡◌, ◌≢◌, inl, inr, refl, sym, subst, ◌∙◌, ℕ, zero, suc, arith, List, [], ◌∷◌, ◌++◌, length, take, drop, map, Option, Some, None}
+use Rattle.std.proofs.Common.{◌≡◌, ◌≢◌, inl, inr, refl, sym, subst, ◌∙◌, ℕ, arith, List, [], ◌∷◌, ◌++◌, length, take, drop, Option, Some, None}
 use Rattle.std.specs.Prelude.{Bool, true, false, filter, if◌then◌else◌}
 use Rattle.std.specs.List.{list_any}
 use Rattle.echo_addr.specs.declared.address.Address.{Address}
@@ -20,11 +20,11 @@ use Rattle.echo_toss.specs.Scanning.{scanned, packets_of, packet_to, header_to, 
 use Rattle.echo_toss.specs.Stamps.{is_stamp}
 use Rattle.echo_toss.specs.Written.{echo_of}
 use Rattle.echo_net.specs.Event.{RunEvent, Posting, Scanning, Delivery, PartDelivery, Purging}
-use Rattle.echo_net.specs.Run.{System, Run, fresh, filing, posting_at, tossing_at, scanning_at, purging_at, nth, change, receiver, changing, scanning, taking, coming, delivery, part_delivery, after_event}
+use Rattle.echo_net.specs.Run.{System, Run, fresh, filing, posting_at, tossing_at, scanning_at, purging_at, nth, change, receiver, changing, scanning, taking, coming, delivery, part_delivery, after_event, start}
 use Rattle.echo_toss.specs.Base.{IsFile}
 use Rattle.echo_net.specs.Fits.{FilesFit}
 use Rattle.echo_net.proofs.Tosser.{Laws}
-use Rattle.echo_net.proofs.Lists.{not_both, Among-map_from, Among-filter_from, Among-take, Among-drop, Among-change}
+use Rattle.echo_net.proofs.Lists.{not_both, Among-map_from, Among-filter_from, Among-take, Among-drop, change-all, nth-among, none_some, some_same}
 use Rattle.echo_net.proofs.Choices.{posting-cases, tossing-cases}
 use Rattle.echo_net.proofs.Bases.{Kept-scanned, Kept-purged, Kept-waiting, SystemOk, HasKey, known-from_history, id-from_history, filing-ok}
 
@@ -50,18 +50,12 @@ module _ (laws : Laws) where
       let by_id : HasKey (ById (upper tag) id) s.history = (has.0, has.1, has.2 ∙ laws.posted_key s.file tag draft serial stamp ok.file) in
       not_both (list_any (has_id id) s.base) (id-from_history laws s ok (upper tag) id by_id) new
 
-  same_some : {X : Type 0} {x y : X} → Some x ≡ Some y → x ≡ y
-  same_some e = cc
-
-  none_some : {X : Type 0} {x : X} → (let none : Option X = None in none ≡ Some x) → ⊥
-  none_some e = cc
-
   pub posting-ok : (tag : List ℕ) (draft : Draft) (serial : ℕ) (stamp : Stamp) (s : System) → SystemOk s → SystemOk (posting_at tag draft serial stamp s)
   posting-ok tag draft serial stamp s ok = filed_ok s (posting s.file s.base tag draft serial stamp) ok (λ m e.
       elim (posting-cases s.file s.base tag draft serial stamp) [
         | inl none ↦ absurd (none_some (sym none ∙ e))
         | inr some ↦ (let P : Filed → Type 0 = λ n. IsEcho n.echo × (¬ HasKey (key_of n) s.history) in
-            subst P (same_some (sym some.0 ∙ e)) (
+            subst P (some_same (sym some.0 ∙ e)) (
               laws.posted_text s.file s.base tag draft serial stamp ok.file some.1,
               posted-fresh s ok tag draft serial stamp some.3,
             ))
@@ -81,7 +75,7 @@ module _ (laws : Laws) where
         | inl none ↦ absurd (none_some (sym none.not_filed ∙ e))
         | inr some ↦ (let P : Filed → Type 0 = λ n. IsEcho n.echo × (¬ HasKey (key_of n) s.history) in
             let Q : EchoText → Type 0 = λ e. IsEcho e in
-            subst P (same_some (sym some.filed ∙ e)) (
+            subst P (some_same (sym some.filed ∙ e)) (
               subst Q (sym (received-echo sender q)) echo,
               tossed-fresh s ok (received sender q) some.unknown,
             ))
@@ -146,26 +140,11 @@ module _ (laws : Laws) where
       let P : Packet → Type 0 = λ q. PacketOk q in
       subst P (sym e) (packet-ok s.file stamp (drop s.cursor s.base) address ok.file (waiting-valid s ok))
 
-  changed-ok : (run : Run) (i : ℕ) (f : System → System) → ((s : System) → SystemOk s → SystemOk (f s)) →
-      ((s : System) → Among s run.systems → SystemOk s) → (z : System) → Among z (change i f run.systems) → SystemOk z
-  changed-ok run i f keeps ok z h =
-      elim (Among-change i f z run.systems h) [
-        | inl old ↦ ok z old
-        | inr new ↦ (let (s, j, e) = new in
-            let P : System → Type 0 = λ t. SystemOk t in
-            subst P (sym e) (keeps s (ok s j)))
-      ]
-
   changing-ok : (run : Run) (i : ℕ) (f : System → System) → ((s : System) → SystemOk s → SystemOk (f s)) → RunOk run → RunOk (changing run i f)
-  changing-ok run i f keeps ok = record { systems = changed-ok run i f keeps ok.systems; packets = ok.packets }
+  changing-ok run i f keeps ok = record { systems = change-all (λ s. SystemOk s) i f keeps run.systems ok.systems; packets = ok.packets }
 
   taking-ok : (p : Packet) → PacketOk p → (n : ℕ) (s : System) → SystemOk s → SystemOk (taking p n s)
   taking-ok p ok n s at_s = tossing-ok (origin_of s.file p.header) (take n p.messages) s at_s (λ q h. (ok.messages q (Among-take n q p.messages h)).1)
-
-  pub nth-among : {X : Type 0} (i : ℕ) (x : X) (xs : List X) → nth i xs ≡ Some x → Among x xs
-  nth-among i x [] h = absurd (none_some h)
-  nth-among zero x (y ∷ xs) h = inl (same_some (sym h))
-  nth-among (suc i) x (y ∷ xs) h = inr (nth-among i x xs h)
 
   scanning-step : (run : Run) (i : ℕ) (stamp : Stamp) (found : Option System) → ((s : System) → found ≡ Some s → SystemOk s) →
       RunOk run → RunOk (scanning run i stamp found)
@@ -178,7 +157,7 @@ module _ (laws : Laws) where
         delivered = run.delivered;
       } else run)
       scans true = record {
-        systems = changed-ok run i scanning_at scanning-ok ok.systems;
+        systems = change-all (λ t. SystemOk t) i scanning_at scanning-ok run.systems ok.systems;
         packets = λ p j. elim (Among-append_cases p run.packets (scanned s.file s.base s.cursor stamp) j) [
           | inl old ↦ ok.packets p old
           | inr new ↦ scanned-ok s (h s refl) stamp p new
@@ -189,7 +168,7 @@ module _ (laws : Laws) where
   coming-step : (run : Run) (k : ℕ) (p : Packet) (found : Option System) → PacketOk p → RunOk run → RunOk (coming run k p found)
   coming-step run k p None at_p ok = ok
   coming-step run k p (Some s) at_p ok = record {
-    systems = changed-ok run (receiver run p) (taking p (length p.messages)) (taking-ok p at_p (length p.messages)) ok.systems;
+    systems = change-all (λ t. SystemOk t) (receiver run p) (taking p (length p.messages)) (taking-ok p at_p (length p.messages)) run.systems ok.systems;
     packets = ok.packets;
   }
 
@@ -209,7 +188,7 @@ module _ (laws : Laws) where
   event-ok run (PartDelivery k n) ok = part-step run n (nth k run.packets) (λ p e. ok.packets p (nth-among k p run.packets e)) ok
   event-ok run (Purging i) ok = changing-ok run i purging_at purging-ok ok
 
-  pub start-ok : (files : List LinkFile) → FilesFit files → RunOk (record { systems = map fresh files; packets = []; delivered = [] })
+  pub start-ok : (files : List LinkFile) → FilesFit files → RunOk (start files)
   start-ok files fits = record {
     systems = λ s h.
         let (file, i, e) = Among-map_from fresh s files h in

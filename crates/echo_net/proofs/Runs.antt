@@ -1,5 +1,5 @@
 -- Every run keeps what is true of the messages of a tidy area.
-use Rattle.std.proofs.Common.{◌≡◌, inl, inr, refl, sym, subst, ap, ◌∙◌, ℕ, ◌<◌, ◌≤◌, ◌^◌, arith, List, [], ◌∷◌, ◌++◌, length, take, map, cond, Option, Some, None}
+use Rattle.std.proofs.Common.{◌≡◌, inl, inr, refl, sym, subst, ap, ◌∙◌, ℕ, ◌≤◌, arith, List, [], ◌∷◌, ◌++◌, length, take, map, Option, Some, None}
 use Rattle.std.specs.Prelude.{Bool, true, false, if◌then◌else◌}
 use Rattle.std.proofs.lemmas.List.{take_all}
 use Rattle.echo_addr.specs.declared.address.Address.{Address}
@@ -17,16 +17,16 @@ use Rattle.echo_toss.specs.Tossing.{origin_of}
 use Rattle.echo_toss.specs.Scanning.{scanned}
 use Rattle.echo_toss.specs.Stamps.{is_stamp}
 use Rattle.echo_net.specs.Event.{RunEvent, Posting, Scanning, Delivery, PartDelivery, Purging}
-use Rattle.echo_net.specs.Run.{System, Run, fresh, posting_at, tossing_at, scanning_at, purging_at, nth, change, receiver, destination, changing, scanning, taking, coming, delivery, part_delivery, after_event, after_events, run_of}
+use Rattle.echo_net.specs.Run.{System, Run, fresh, posting_at, tossing_at, scanning_at, purging_at, nth, change, receiver, destination, changing, scanning, taking, coming, delivery, part_delivery, after_event, after_events, run_of, start}
 use Rattle.echo_net.specs.Tidy.{Tidy, Carries}
-use Rattle.echo_net.specs.Fits.{FilesFit, EventFits, EventsFit}
+use Rattle.echo_net.specs.Fits.{FilesFit}
 use Rattle.echo_net.proofs.View.{At, held, times}
 use Rattle.echo_net.proofs.Tosser.{Laws}
-use Rattle.echo_net.proofs.Lists.{Split, nth-cases, nth-split, change-none, first_passes, map-change, Among-middle, Among-take}
+use Rattle.echo_net.proofs.Lists.{Among-map_from, Split, nth-cases, nth-split, change-none, first_passes, map-change, Among-middle, Among-take, none_some, some_same}
 use Rattle.echo_net.proofs.Choices.{posting-cases}
 use Rattle.echo_net.proofs.Bases.{SystemOk, HasKey}
 use Rattle.echo_net.proofs.Running.{RunOk, PacketOk, posted-fresh, event-ok, start-ok}
-use Rattle.echo_net.proofs.Viewing.{in_area, in_area-tag, parcel_of, parts, part_at, done_of, waiting_of, view_of, Wrote, address_of, NoneAt, area-carries, none-before}
+use Rattle.echo_net.proofs.Viewing.{in_area, in_area-tag, parcel_of, parts, part_at, part_at-none, done_of, waiting_of, view_of, Wrote, address_of, NoneAt, area-carries, none-before}
 use Rattle.echo_net.proofs.Changes.{Watched, with_systems, MayFile, filing-keeps, purging-keeps}
 use Rattle.echo_net.proofs.Scanned.{scanning-keeps}
 use Rattle.echo_net.proofs.Delivered as delivered
@@ -85,20 +85,14 @@ module _ (laws : Laws) (files : List LinkFile) (tag : List ℕ) (tidy : Tidy fil
             subst R (sym (at.split.changed f)) (keeps some.0 at))
       ]
 
-  same_some : {X : Type 0} {x y : X} → Some x ≡ Some y → x ≡ y
-  same_some e = cc
-
-  none_some : {X : Type 0} {x : X} → (let none : Option X = None in none ≡ Some x) → ⊥
-  none_some e = cc
-
   -- a posting has an id of its own
-  may-post : (run : Run) (state : State run) (i : ℕ) (g : List ℕ) (draft : Draft) (serial : ℕ) (stamp : Stamp) → serial < 2 ^ 32 →
+  may-post : (run : Run) (state : State run) (i : ℕ) (g : List ℕ) (draft : Draft) (serial : ℕ) (stamp : Stamp) →
       (s : System) (at : Place run i s) (m : Filed) → posting s.file s.base g draft serial stamp ≡ Some m →
       (¬ HasKey (key_of m) s.history) × (in_area tag m ≡ true → MayFile laws files tag tidy run at.split.before s at.split.after at.none m)
-  may-post run state i g draft serial stamp bound s at m e =
+  may-post run state i g draft serial stamp s at m e =
       elim (posting-cases s.file s.base g draft serial stamp) [
         | inl none ↦ absurd (none_some (sym none ∙ e))
-        | inr some ↦ (let same : posted s.file g draft serial stamp ≡ m = same_some (sym some.0 ∙ e) in
+        | inr some ↦ (let same : posted s.file g draft serial stamp ≡ m = some_same (sym some.0 ∙ e) in
             let P : Filed → Type 0 = λ n. (¬ HasKey (key_of n) s.history) ×
             (in_area tag n ≡ true → MayFile laws files tag tidy run at.split.before s at.split.after at.none n) in
             subst P same (
@@ -114,16 +108,16 @@ module _ (laws : Laws) (files : List LinkFile) (tag : List ℕ) (tidy : Tidy fil
           let e : upper g ≡ tag = sym (posted-tag s.file g draft serial stamp) ∙ (in_area-tag laws tag (posted s.file g draft serial stamp) t) in (
             area-carries laws files tag tidy (at.split.before ++ s ∷ at.split.after) at.files_around s (Among-middle s at.split.before at.split.after)
                 (ap (λ (h : List ℕ). has_area s.file h) (sym e) ∙ has),
-            (at.ok.file.address, (serial, bound, laws.posted_key s.file g draft serial stamp at.ok.file ∙ ap (λ (h : List ℕ). ById h (id_of s.file.system serial)) e)),
+            (at.ok.file.address, (serial, laws.posted_key s.file g draft serial stamp at.ok.file ∙ ap (λ (h : List ℕ). ById h (id_of s.file.system serial)) e)),
             posted-sender s.file g draft serial stamp,
             posted-seen s.file g draft serial stamp,
           )
 
-  posting-watched : (run : Run) → State run → (i : ℕ) (g : List ℕ) (draft : Draft) (serial : ℕ) (stamp : Stamp) → serial < 2 ^ 32 →
+  posting-watched : (run : Run) → State run → (i : ℕ) (g : List ℕ) (draft : Draft) (serial : ℕ) (stamp : Stamp) →
       Watched laws files tag tidy (changing run i (posting_at g draft serial stamp))
-  posting-watched run state i g draft serial stamp bound = change-watched run state i (posting_at g draft serial stamp) (λ s at.
+  posting-watched run state i g draft serial stamp = change-watched run state i (posting_at g draft serial stamp) (λ s at.
       filing-keeps laws files tag tidy run at.split.before s at.split.after at.none at.ok (posting s.file s.base g draft serial stamp)
-      (may-post run state i g draft serial stamp bound s at) at.watched)
+      (may-post run state i g draft serial stamp s at) at.watched)
 
   purging-watched : (run : Run) → State run → (i : ℕ) → Watched laws files tag tidy (changing run i purging_at)
   purging-watched run state i = change-watched run state i purging_at (λ s at.
@@ -136,9 +130,6 @@ module _ (laws : Laws) (files : List LinkFile) (tag : List ℕ) (tidy : Tidy fil
     where
       at : Place run i s
       at = place run state i s e
-
-      with_new : List System → Run
-      with_new ss = record { systems = ss; packets = run.packets ++ scanned s.file s.base s.cursor stamp; delivered = run.delivered }
 
       scans : (b : Bool) → Watched laws files tag tidy (if b then record {
         systems = change i scanning_at run.systems;
@@ -225,13 +216,13 @@ module _ (laws : Laws) (files : List LinkFile) (tag : List ℕ) (tidy : Tidy fil
       let (h, at) = found-among k p run.packets e in
       coming-watched run state k p h at (nth (receiver run p) run.systems) refl
 
-  event-watched : (run : Run) → State run → (event : RunEvent) → EventFits event → Watched laws files tag tidy (after_event run event)
-  event-watched run state (Posting i g draft serial stamp) fits = posting-watched run state i g draft serial stamp fits
-  event-watched run state (Scanning i stamp) fits = scanning-watched run state i stamp (nth i run.systems) refl
-  event-watched run state (Delivery k) fits = delivery-watched run state k (nth k run.packets) refl
-  event-watched run state (PartDelivery k n) fits =
+  event-watched : (run : Run) → State run → (event : RunEvent) → Watched laws files tag tidy (after_event run event)
+  event-watched run state (Posting i g draft serial stamp) = posting-watched run state i g draft serial stamp
+  event-watched run state (Scanning i stamp) = scanning-watched run state i stamp (nth i run.systems) refl
+  event-watched run state (Delivery k) = delivery-watched run state k (nth k run.packets) refl
+  event-watched run state (PartDelivery k n) =
       part-watched run state n (nth k run.packets) (λ p e. (found-among k p run.packets e).0)
-  event-watched run state (Purging i) fits = purging-watched run state i
+  event-watched run state (Purging i) = purging-watched run state i
 
 -- the files stay
 abbrev pub files_of : Run → List LinkFile
@@ -279,43 +270,27 @@ fresh-files : (files : List LinkFile) → map (λ (s : System). s.file) (map fre
 fresh-files [] = refl
 fresh-files (file ∷ files) = ap (λ (fs : List LinkFile). file ∷ fs) (fresh-files files)
 
-abbrev start : List LinkFile → Run
-start files = record { systems = map fresh files; packets = []; delivered = [] }
-
 -- what each event keeps holds after all of them
-along : (P : Run → Type 0) → ((run : Run) (event : RunEvent) → P run → EventFits event → P (after_event run event)) →
-    (events : List RunEvent) → EventsFit events → (run : Run) → P run → P (after_events run events)
-along P keeps [] fits run at = at
-along P keeps (event ∷ later) fits run at =
-    along P keeps later (λ e h. fits e (inr h)) (after_event run event) (keeps run event at (fits event (inl refl)))
+pub along : (P : Run → Type 0) → ((run : Run) (event : RunEvent) → P run → P (after_event run event)) →
+    (events : List RunEvent) → (run : Run) → P run → P (after_events run events)
+along P keeps [] run at = at
+along P keeps (event ∷ later) run at = along P keeps later (after_event run event) (keeps run event at)
 
 module _ (laws : Laws) (files : List LinkFile) (fit : FilesFit files) (events : List RunEvent) where
-  any_event : (P : Run → Type 0) → ((run : Run) (event : RunEvent) → P run → P (after_event run event)) → (later : List RunEvent) → (run : Run) →
-      P run → P (after_events run later)
-  any_event P keeps [] run at = at
-  any_event P keeps (event ∷ later) run at = any_event P keeps later (after_event run event) (keeps run event at)
-
   -- on every net
   pub run-ok : RunOk (run_of files events)
-  run-ok = any_event (λ run. RunOk run) (λ run event. event-ok laws run event) events (start files) (start-ok laws files fit)
+  run-ok = along (λ run. RunOk run) (λ run event. event-ok laws run event) events (start files) (start-ok laws files fit)
 
-  pub run-files : files_of (run_of files events) ≡ files
-  run-files = any_event (λ run. files_of run ≡ files) (λ run event e. event-files run event ∙ e) events (start files) (fresh-files files)
-
-  module _ (event_fit : EventsFit events) (tag : List ℕ) (tidy : Tidy files tag) where
-    nothing-at : (part : System → List Filed) → ((file : LinkFile) → part (fresh file) ≡ []) → (a : Address) (fs : List LinkFile) →
-        part_at part a (map fresh fs) ≡ []
-    nothing-at part none a [] = refl
-    nothing-at part none a (file ∷ fs) = either (same_address file.system a) (none file) (nothing-at part none a fs)
-      where
-        either : (b : Bool) {xs ys : List Filed} → xs ≡ [] → ys ≡ [] → cond b xs ys ≡ []
-        either true e q = e
-        either false e q = q
+  module _ (tag : List ℕ) (tidy : Tidy files tag) where
+    nothing-at : (part : System → List Filed) → ((file : LinkFile) → part (fresh file) ≡ []) → (a : Address) → part_at part a (map fresh files) ≡ []
+    nothing-at part none a = part_at-none part a (map fresh files) (λ s h.
+        let (file, i, e) = Among-map_from fresh s files h in
+        ap part e ∙ none file)
 
     start-held : (a : Address) → held (view_of tag (start files)) a ≡ []
     start-held a =
-        let d = nothing-at (done_of tag) (λ file. refl) a files in
-        let w = nothing-at (waiting_of tag) (λ file. refl) a files in
+        let d = nothing-at (done_of tag) (λ file. refl) a in
+        let w = nothing-at (waiting_of tag) (λ file. refl) a in
         ap (λ (ms : List Filed). ms ++ part_at (waiting_of tag) a (map fresh files)) d ∙ w
 
     no_member : (m : Filed) (ms : List Filed) → ms ≡ [] → Among m ms → ⊥
@@ -327,14 +302,14 @@ module _ (laws : Laws) (files : List LinkFile) (fit : FilesFit files) (events : 
       good = λ a m h. absurd (no_member m (held (view_of tag (start files)) a) (start-held a) h);
       sent = λ p h c i. absurd h;
       sent_once = λ a k. omega arith;
-      passed_on = λ a m h f wrote d link beyond. absurd (no_member m (part_at (done_of tag) a (map fresh files)) (nothing-at (done_of tag) (λ file. refl) a files) h);
+      passed_on = λ a m h f wrote d link beyond. absurd (no_member m (part_at (done_of tag) a (map fresh files)) (nothing-at (done_of tag) (λ file. refl) a) h);
       came = λ k h. absurd h;
     }
 
     -- on a tidy net
     pub run-state : State laws files tag tidy (run_of files events)
-    run-state = along (λ run. State laws files tag tidy run) (λ run event state fits. record {
+    run-state = along (λ run. State laws files tag tidy run) (λ run event state. record {
       ok = event-ok laws run event state.ok;
       same_files = event-files run event ∙ state.same_files;
-      watched = event-watched laws files tag tidy run state event fits;
-    }) events event_fit (start files) (record { ok = start-ok laws files fit; same_files = fresh-files files; watched = start-watched })
+      watched = event-watched laws files tag tidy run state event;
+    }) events (start files) (record { ok = start-ok laws files fit; same_files = fresh-files files; watched = start-watched })

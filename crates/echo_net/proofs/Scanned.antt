@@ -2,7 +2,7 @@
 use Rattle.std.proofs.Common.{◌≡◌, ◌≢◌, inl, inr, refl, sym, subst, ap, ◌∙◌, ℕ, ◌≤◌, arith, IsTrue, List, [], ◌∷◌, ◌++◌, length, drop, map}
 use Rattle.std.specs.Prelude.{true, false, filter}
 use Rattle.std.proofs.lemmas.Bool.{cond-true, cond-false}
-use Rattle.std.proofs.lemmas.List.{take_all, map-append}
+use Rattle.std.proofs.lemmas.List.{drop_all, take_all, map-append}
 use Rattle.echo_addr.specs.declared.address.Address.{Address}
 use Rattle.echo_addr.specs.Address.{net_node_of}
 use Rattle.echo_graph.specs.Walk.{Among, Different}
@@ -27,13 +27,6 @@ use Rattle.echo_net.proofs.Sending.{Scans-keeps}
 use Rattle.echo_net.proofs.Viewing.{parts, in_area, done_of, waiting_of, parcel_of, view_of, Wrote, address_of, NoneAt, history-parts, in_area-tag, tag-in_area, net, lists-link, link-lists}
 use Rattle.echo_net.proofs.Changes.{Watched, placed, elsewhere, at_s, at_z}
 use Rattle.echo_net.proofs.Copies.{copied, copied-key, copied-tag, copied-content, copied-sender, copied-seen, seen-copied, copies-are, packet-destination, Targeted, goes-from, goes-to, target-recipient, recipients-differ, copies-few}
-
-drop_length : {X : Type 0} (xs : List X) → drop (length xs) xs ≡ []
-drop_length [] = refl
-drop_length (x ∷ xs) = drop_length xs
-
-drop_whole : {X : Type 0} (n : ℕ) (xs : List X) → n ≡ length xs → drop n xs ≡ []
-drop_whole n xs e = ap (λ (i : ℕ). drop i xs) e ∙ drop_length xs
 
 module _ (laws : Laws) (files : List LinkFile) (tag : List ℕ) (tidy : Tidy files tag) (run : Run)
     (before : List System) (s : System) (after : List System) (none : NoneAt (address_of s) before)
@@ -268,7 +261,7 @@ module _ (laws : Laws) (files : List LinkFile) (tag : List ℕ) (tidy : Tidy fil
         cc));
     waiting =
         at_z laws files tag tidy run before s after none (scanning_at s) refl (waiting_of tag)
-        ∙ ap (λ (ms : List Filed). filter (in_area tag) ms) (drop_whole (length s.base) s.history length-kept);
+        ∙ ap (λ (ms : List Filed). filter (in_area tag) ms) (drop_all (length s.base) s.history (omega (arith, length-kept)));
     packets =
         map-append (parcel_of tag) run.packets (scanned s.file s.base s.cursor stamp)
         ∙ ap (λ (ps : List Packet). map (parcel_of tag) run.packets ++ map (parcel_of tag) ps) made-are;

@@ -95,7 +95,7 @@ the_laws = record {
       posted_is_echo file base tag draft serial stamp fits (allowed file base tag draft serial stamp none);
   exported_text = λ file e fits echo. exported_is_echo file fits e echo;
   read_back = λ e echo. (written_accepted e echo, written_back e echo);
-  ids = λ a b serial other at_a at_b _ _. ids-differ a b serial other at_a at_b;
+  ids = ids-differ;
   set_only = λ n all h. Among-from_Contains n all (((entry_set_is_set all).members n).0 (Contains-from_Among n (entry_set all) h));
   set_all = λ n all h. Among-from_Contains n (entry_set all) (((entry_set_is_set all).members n).1 (Contains-from_Among n all h));
   addresses_only = addresses-only;

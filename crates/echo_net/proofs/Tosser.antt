@@ -1,5 +1,5 @@
 -- What the run of a net rests on: the laws of one tosser.
-use Rattle.std.proofs.Common.{◌≡◌, ℕ, ◌<◌, ◌^◌, List, None}
+use Rattle.std.proofs.Common.{◌≡◌, ℕ, List, None}
 use Rattle.echo_addr.specs.declared.address.Address.{Address}
 use Rattle.echo_addr.specs.declared.address.NetNode.{NetNode}
 use Rattle.echo_addr.specs.Address.{IsAddress}
@@ -31,8 +31,7 @@ pub record Laws : Type 0 where
       post_refusal file base tag draft serial stamp ≡ None → IsEcho (posted file tag draft serial stamp).echo
   pub exported_text : (file : LinkFile) (e : EchoText) → IsFile file → IsEcho e → IsEcho (exported file e)
   pub read_back : (e : EchoText) → IsEcho e → (refusal (text_of e) ≡ None) × (echo_of (text_of e) ≡ e)
-  pub ids : (a b : Address) (serial other : ℕ) → IsAddress a → IsAddress b → serial < 2 ^ 32 → other < 2 ^ 32 →
-      id_of a serial ≡ id_of b other → a ≡ b
+  pub ids : (a b : Address) (serial other : ℕ) → IsAddress a → IsAddress b → id_of a serial ≡ id_of b other → a ≡ b
   pub set_only : (n : NetNode) (all : List NetNode) → Among n (entry_set all) → Among n all
   pub set_all : (n : NetNode) (all : List NetNode) → Among n all → Among n (entry_set all)
   pub addresses_only : (a : Address) (all : List Address) → Among a (address_set all) → Among a all

@@ -1,9 +1,9 @@
 -- On every net each message has the content of a posting.
-use Rattle.std.proofs.Common.{◌≡◌, ◌≢◌, ◌⊎◌, inl, inr, refl, sym, subst, ap, ◌∙◌, ℕ, zero, suc, List, [], ◌∷◌, ◌++◌, length, take, drop, map, Option, Some, None}
+use Rattle.std.proofs.Common.{◌≡◌, ◌⊎◌, inl, inr, refl, sym, subst, ap, ◌∙◌, ℕ, zero, suc, List, [], ◌∷◌, ◌++◌, length, take, drop, Option, Some, None}
 use Rattle.std.specs.Prelude.{Bool, true, false, filter, is_none, if◌then◌else◌}
 use Rattle.echo_addr.specs.declared.address.Address.{Address}
 use Rattle.echo_graph.specs.Walk.{Among}
-use Rattle.echo_graph.proofs.Members.{Among-append_left, Among-append_right, Among-append_cases}
+use Rattle.echo_graph.proofs.Members.{Among-append_left, Among-append_cases}
 use Rattle.echo_packet.specs.Message.{Message}
 use Rattle.echo_text.specs.Refusal.{refusal}
 use Rattle.echo_toss.specs.declared.packet.Packet.{Packet}
@@ -12,17 +12,17 @@ use Rattle.echo_toss.specs.declared.stamp.Stamp.{Stamp}
 use Rattle.echo_toss.specs.Base.{Filed, LinkFile, key_of}
 use Rattle.echo_toss.specs.Posting.{posted, posting}
 use Rattle.echo_toss.specs.Tossing.{received, tossing, origin_of}
-use Rattle.echo_toss.specs.Scanning.{goes_to, packet_to, scanned}
-use Rattle.echo_net.specs.Run.{System, Run, fresh, filing, posting_at, tossing_at, scanning_at, purging_at, nth, change, receiver, changing, scanning, taking, coming, delivery, part_delivery, after_event, after_events, run_of}
+use Rattle.echo_toss.specs.Scanning.{goes_to, scanned}
+use Rattle.echo_net.specs.Run.{System, Run, fresh, filing, posting_at, tossing_at, scanning_at, purging_at, nth, change, receiver, changing, scanning, taking, coming, delivery, part_delivery, after_event, after_events, run_of, start}
 use Rattle.echo_net.specs.Event.{RunEvent, Posting, Scanning, Delivery, PartDelivery, Purging}
 use Rattle.echo_net.specs.Fits.{FilesFit}
 use Rattle.echo_toss.specs.Stamps.{is_stamp}
 use Rattle.echo_net.specs.Orderly.{copies, origin}
 use Rattle.echo_net.proofs.Tosser.{Laws}
-use Rattle.echo_net.proofs.Lists.{Among-change, Among-map_from, Among-map_to, Among-filter_from, Among-filter_to, Among-drop, Among-take}
+use Rattle.echo_net.proofs.Lists.{Among-change, Among-map_from, Among-map_to, Among-filter_from, Among-filter_to, Among-drop, Among-take, nth-among, none_some, some_same}
 use Rattle.echo_net.proofs.Choices.{posting-cases, tossing-cases}
 use Rattle.echo_net.proofs.Bases.{Kept-waiting, SystemOk}
-use Rattle.echo_net.proofs.Running.{PacketOk, RunOk, nth-among, event-ok, start-ok, scanned-from, waiting-valid}
+use Rattle.echo_net.proofs.Running.{RunOk, event-ok, start-ok, scanned-from, waiting-valid}
 use Rattle.echo_net.proofs.Viewing.{content_of}
 use Rattle.echo_net.proofs.Copies.{copied, copied-content, copied-key, copies-are}
 use Rattle.echo_net.proofs.Delivered.{origin-is}
@@ -73,12 +73,6 @@ pub tossing-kept : (sender : Address) (ms : List Message) → Keeps (tossing_at 
 tossing-kept sender [] s m h = h
 tossing-kept sender (q ∷ ms) s m h =
     tossing-kept sender ms (filing s (tossing s.file s.base sender q)) m (filing-kept s (tossing s.file s.base sender q) m h)
-
-some_same : {X : Type 0} {x y : X} → Some x ≡ Some y → x ≡ y
-some_same e = cc
-
-none_some : {X : Type 0} {x : X} → (let none : Option X = None in none ≡ Some x) → ⊥
-none_some e = cc
 
 pub tossing-new : (sender : Address) (ms : List Message) (s : System) (m : Filed) → Among m (tossing_at sender ms s).history →
     Among m s.history ⊎ ((q : Message) × Among q ms × (m ≡ received sender q))
@@ -228,9 +222,9 @@ module _ (laws : Laws) where
   event-traced run ok traced (Posting i tag draft serial stamp) = changing-traced run traced i (posting_at tag draft serial stamp)
       (λ s m j. filing-kept s (posting s.file s.base tag draft serial stamp) m j)
       (λ s _ h m j. posting-new tag draft serial stamp (change i (posting_at tag draft serial stamp) run.systems) s h m j)
-  event-traced run ok traced (Scanning i stamp) = scanning-traced run traced ok i stamp (nth i run.systems) (λ s e. nth-among laws i s run.systems e)
-  event-traced run ok traced (Delivery k) = delivery-traced run traced ok k (nth k run.packets) (λ p e. nth-among laws k p run.packets e)
-  event-traced run ok traced (PartDelivery k n) = part-traced run traced ok n (nth k run.packets) (λ p e. nth-among laws k p run.packets e)
+  event-traced run ok traced (Scanning i stamp) = scanning-traced run traced ok i stamp (nth i run.systems) (λ s e. nth-among i s run.systems e)
+  event-traced run ok traced (Delivery k) = delivery-traced run traced ok k (nth k run.packets) (λ p e. nth-among k p run.packets e)
+  event-traced run ok traced (PartDelivery k n) = part-traced run traced ok n (nth k run.packets) (λ p e. nth-among k p run.packets e)
   event-traced run ok traced (Purging i) = changing-traced run traced i purging_at (λ s m j. j) (λ s _ _ m j. inl j)
 
   events-traced : (events : List RunEvent) (run : Run) → RunOk run → Traced run → Traced (after_events run events)
@@ -238,7 +232,7 @@ module _ (laws : Laws) where
   events-traced (event ∷ later) run ok traced = events-traced later (after_event run event) (event-ok laws run event ok) (event-traced run ok traced event)
 
   pub run-traced : (files : List LinkFile) → FilesFit files → (events : List RunEvent) → Traced (run_of files events)
-  run-traced files fit events = events-traced events (record { systems = map fresh files; packets = []; delivered = [] }) (start-ok laws files fit) (record {
+  run-traced files fit events = events-traced events (start files) (start-ok laws files fit) (record {
     systems = λ s h m j.
         let (file, i, e) = Among-map_from fresh s files h in
         let P : System → Type 0 = λ t. Among m t.history in

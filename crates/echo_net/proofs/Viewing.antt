@@ -1,5 +1,5 @@
 -- What the messages of one area see of a run.
-use Rattle.std.proofs.Common.{◌≡◌, ◌≢◌, inl, inr, refl, sym, subst, ap, ◌∙◌, ℕ, ◌<◌, ◌^◌, IsTrue, List, [], ◌∷◌, ◌++◌, take, drop, map, cond, Option, Some, None}
+use Rattle.std.proofs.Common.{◌≡◌, ◌≢◌, inl, inr, refl, sym, subst, ap, ◌∙◌, ℕ, IsTrue, List, [], ◌∷◌, ◌++◌, take, drop, map, cond, Option, Some, None}
 use Rattle.std.specs.Prelude.{Bool, true, false, filter, bytes_eq, option_map, unwrap_or, is_some, ◌&&◌}
 use Rattle.std.specs.List.{list_any}
 use Rattle.std.proofs.lemmas.Bool.{cond-true, cond-false}
@@ -52,6 +52,15 @@ abbrev pub part_at : (System → List Filed) → Address → List System → Lis
 part_at part a [] = []
 part_at part a (s ∷ ss) = cond (same_address s.file.system a) (part s) (part_at part a ss)
 
+-- no system has something of it
+pub part_at-none : (part : System → List Filed) (a : Address) (ss : List System) → ((s : System) → Among s ss → part s ≡ []) → part_at part a ss ≡ []
+part_at-none part a [] h = refl
+part_at-none part a (s ∷ ss) h = either (same_address s.file.system a) (h s (inl refl)) (part_at-none part a ss (λ t i. h t (inr i)))
+  where
+    either : (b : Bool) {xs ys : List Filed} → xs ≡ [] → ys ≡ [] → cond b xs ys ≡ []
+    either true e q = e
+    either false e q = q
+
 abbrev pub in_area : List ℕ → Filed → Bool
 in_area tag m = bytes_eq m.echo.tag tag
 
@@ -74,7 +83,7 @@ view_of tag run = record {
 
 -- the key of an own id in the area
 abbrev pub Wrote : List ℕ → Address → Key → Type 0
-Wrote tag a k = IsAddress a × ((serial : ℕ) × (serial < 2 ^ 32) × (k ≡ ById tag (id_of a serial)))
+Wrote tag a k = IsAddress a × ((serial : ℕ) × (k ≡ ById tag (id_of a serial)))
 
 abbrev pub address_of : System → Address
 address_of s = s.file.system
@@ -191,10 +200,10 @@ module _ (laws : Laws) (files : List LinkFile) (tag : List ℕ) (tidy : Tidy fil
     connected = tidy.joined.connected;
     apart = tidy.joined.apart;
     one_writer = λ f g k wrote_f wrote_g.
-        let (serial, lt, e) = wrote_f.1 in
-        let (other, lt', e') = wrote_g.1 in
+        let (serial, e) = wrote_f.1 in
+        let (other, e') = wrote_g.1 in
         let same : id_of f serial ≡ id_of g other = cc in
-        laws.ids f g serial other wrote_f.0 wrote_g.0 lt lt' same;
+        laws.ids f g serial other wrote_f.0 wrote_g.0 same;
   }
 
   -- the systems of a run with these files

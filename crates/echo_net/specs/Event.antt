@@ -2,6 +2,8 @@
 use Rattle.std.specs.Prelude.{ℕ, List}
 use Rattle.echo_toss.specs.declared.draft.Draft.{Draft}
 use Rattle.echo_toss.specs.declared.stamp.Stamp.{Stamp}
+use Rattle.echo_net.specs.declared.event.Event.{Event}
+use Rattle.echo_net.specs.declared.event.Event.TheVariants.{Deliver, Post, Purge, Scan}
 
 -- A system posts, scans or purges; a packet comes, or its toss stops after its first messages. Systems
 -- go by their index in the list of files, packets by their order of export.
@@ -11,3 +13,10 @@ pub data RunEvent : Type 0 where
   Delivery : (packet : ℕ) → RunEvent
   PartDelivery : (packet messages : ℕ) → RunEvent
   Purging : (system : ℕ) → RunEvent
+
+-- what an event of the program is in a run
+abbrev pub run_event : Event → RunEvent
+run_event (Post system tag draft serial stamp) = Posting system tag draft serial stamp
+run_event (Scan system stamp) = Scanning system stamp
+run_event (Deliver packet) = Delivery packet
+run_event (Purge system) = Purging system

@@ -1,5 +1,5 @@
 -- Systems, and what events do to them.
-use Rattle.std.specs.Prelude.{ℕ, zero, suc, List, [], ◌∷◌, ◌++◌, map, length, take, Option, Some, None, if◌then◌else◌}
+use Rattle.std.specs.Prelude.{◌≡◌, ◌≤◌, ℕ, zero, suc, List, [], ◌∷◌, ◌++◌, map, length, take, Option, Some, None, if◌then◌else◌}
 use Rattle.std.specs.List.{position_or_len}
 use Rattle.echo_addr.specs.declared.address.Address.{Address}
 use Rattle.echo_packet.specs.Message.{Message}
@@ -28,6 +28,13 @@ pub record Run : Type 0 where
   pub packets : List Packet
   pub delivered : List ℕ
 
+-- the same system at a later time: its file stays, its cursor has not fallen, and what it filed stands
+-- where it stood, before what it filed since
+pub record IsLater (s z : System) : Type 0 where
+  pub file : z.file ≡ s.file
+  pub cursor : s.cursor ≤ z.cursor
+  pub filed : (since : List Filed) × (z.history ≡ s.history ++ since)
+
 -- a system that has nothing yet
 abbrev pub fresh : LinkFile → System
 fresh file = record { file = file; base = []; cursor = 0; history = [] }
@@ -37,17 +44,20 @@ abbrev pub filing : System → Option Filed → System
 filing s None = s
 filing s (Some m) = record { file = s.file; base = s.base ++ m ∷ []; cursor = s.cursor; history = s.history ++ m ∷ [] }
 
--- what one system does
+-- a system posts: the message is filed, where nothing refuses it
 abbrev pub posting_at : List ℕ → Draft → ℕ → Stamp → System → System
 posting_at tag draft serial stamp s = filing s (posting s.file s.base tag draft serial stamp)
 
+-- a system tosses messages of one sender, in order
 abbrev pub tossing_at : Address → List Message → System → System
 tossing_at sender [] s = s
 tossing_at sender (packed ∷ later) s = tossing_at sender later (filing s (tossing s.file s.base sender packed))
 
+-- a system has scanned: its cursor is at the end
 abbrev pub scanning_at : System → System
 scanning_at s = record { file = s.file; base = s.base; cursor = length s.base; history = s.history }
 
+-- a system is purged: of what stands before the cursor the ids are left
 abbrev pub purging_at : System → System
 purging_at s = record { file = s.file; base = purged s.base s.cursor; cursor = s.cursor; history = s.history }
 
@@ -63,10 +73,11 @@ change i f [] = []
 change zero f (x ∷ xs) = f x ∷ xs
 change (suc i) f (x ∷ xs) = x ∷ change i f xs
 
--- whom a packet is for, and the first system that has this address
+-- whom a packet is for
 abbrev pub destination : Packet → Address
 destination packet = record { zone = packet.header.dest_zone; net = packet.header.dest_net; node = packet.header.dest_node }
 
+-- the index of the first system of this address, the number of systems where there is none
 abbrev pub receiver : Run → Packet → ℕ
 receiver run packet = position_or_len (λ s. same_address s.file.system (destination packet)) run.systems
 
@@ -90,7 +101,7 @@ scanning run i stamp (Some s) =
 abbrev pub taking : Packet → ℕ → System → System
 taking packet messages s = tossing_at (origin_of s.file packet.header) (take messages packet.messages) s
 
--- a packet comes to a system that is there
+-- the packet of this index comes, where the system is there
 abbrev pub coming : Run → ℕ → Packet → Option System → Run
 coming run k packet None = run
 coming run k packet (Some s) = record {
@@ -99,6 +110,7 @@ coming run k packet (Some s) = record {
   delivered = k ∷ run.delivered;
 }
 
+-- the packet comes, if there is one
 abbrev pub delivery : Run → ℕ → Option Packet → Run
 delivery run k None = run
 delivery run k (Some packet) = coming run k packet (nth (receiver run packet) run.systems)
@@ -116,10 +128,15 @@ after_event run (Delivery k) = delivery run k (nth k run.packets)
 after_event run (PartDelivery k messages) = part_delivery run messages (nth k run.packets)
 after_event run (Purging i) = changing run i purging_at
 
+-- what events do, one after another
 abbrev pub after_events : Run → List RunEvent → Run
 after_events run [] = run
 after_events run (event ∷ later) = after_events (after_event run event) later
 
+-- systems of these files that have nothing yet
+abbrev pub start : List LinkFile → Run
+start files = record { systems = map fresh files; packets = []; delivered = [] }
+
 -- the run of these events, on systems of these files that begin with nothing
 abbrev pub run_of : List LinkFile → List RunEvent → Run
-run_of files events = after_events (record { systems = map fresh files; packets = []; delivered = [] }) events
+run_of files events = after_events (start files) events

@@ -20,7 +20,7 @@ lists files tag a b = list_any (λ file. same_address file.system a && is_link f
 abbrev pub Carries : List LinkFile → List ℕ → Address → Type 0
 Carries files tag a = IsTrue (carries files tag a)
 
--- what is asked beside the cycles
+-- the net is tidy but for its cycles
 pub record Joined (files : List LinkFile) (tag : List ℕ) : Type 0 where
   -- V1: some file has the tag
   pub some : IsTrue (list_any (λ file. has_area file tag) files)

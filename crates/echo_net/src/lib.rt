@@ -1,13 +1,18 @@
 //! Nets of systems that exchange echomail (FTS-0004).
 //!
 //! The definitions stand in specs/: `Event` and `Run` (what may happen, and what comes of it), `Tidy`
-//! (which nets are in order), `Orderly` (what runs are to keep) and `Fits` (what values of the
-//! program's types meet). The laws of runs are in `laws`.
+//! (which nets are in order), `Orderly` (what runs are to keep), `Exports` (which scan made which
+//! packet), `World` (what one reads off a run) and `Fits` (what link files that were read meet).
+//!
+//! Modules in reading order: `event` (what happens to a net), `laws` (what holds of every run).
 #![tactic(auto)]
 
+mod event;
 mod laws;
 
+pub use event::Event;
 pub use laws::{
-    bases_are_what_was_filed, each_message_is_filed_once, each_message_was_posted,
-    every_run_of_a_tidy_area_is_orderly, scans_send_to_targets, trees_are_tidy,
+    bases_are_what_was_filed, each_message_is_exported_by_one_scan, each_message_is_filed_once,
+    each_message_was_posted, every_run_of_a_tidy_area_is_orderly, exports_go_to_targets,
+    packets_are_exports, settled_runs_settle_each_area, trees_are_tidy, what_is_filed_stays,
 };
