@@ -15,11 +15,10 @@ use Rattle.echo_text.specs.Refusal.{refusal}
 use Rattle.echo_toss.specs.declared.draft.Draft.{Draft}
 use Rattle.echo_toss.specs.declared.key.Key.TheVariants.{ById}
 use Rattle.echo_toss.specs.declared.stamp.Stamp.{Stamp}
-use Rattle.echo_toss.specs.Base.{Filed, IsFile, LinkFile, is_known, key_of, key_with, same_key}
+use Rattle.echo_toss.specs.Base.{AreNew, Filed, HasSmallSender, IsBase, IsFile, IsFiled, LinkFile, is_known, key_of, key_with, same_key}
 use Rattle.echo_toss.specs.Stamps.{date_of, is_stamp, month_name, two_digits}
 use Rattle.echo_toss.specs.Posting.{has_id, posted, posting}
 use Rattle.echo_toss.specs.Tossing.{received, tossing}
-use Rattle.echo_toss.specs.BaseFile.{AreNew, HasSmallSender, IsBase, IsFiled}
 use Rattle.echo_text.proofs.Reread.{read_is_echo}
 use Rattle.echo_toss.specs.Written.{echo_of}
 use Rattle.echo_toss.proofs.Received.{tossing_received}

@@ -10,10 +10,9 @@ use Rattle.echo_text.specs.Tail.{tail}
 use Rattle.echo_text.specs.Echo.{IsEcho, IsLine, is_shed, msgid_of}
 use Rattle.echo_addr.specs.Entries.{is_blank}
 use Rattle.echo_toss.specs.declared.key.Key.{Key}
-use Rattle.echo_toss.specs.Base.{Filed, is_known, key_of, same_key}
+use Rattle.echo_toss.specs.Base.{AreNew, Filed, IsBase, IsFiled, is_known, key_of, same_key}
 use Rattle.echo_toss.specs.Posting.{id_line}
 use Rattle.echo_toss.specs.Purging.{bare, purged, stub_of, stub_with}
-use Rattle.echo_toss.specs.BaseFile.{AreNew, IsBase, IsFiled}
 use Rattle.echo_toss.proofs.Choices.{all_weaker}
 use Rattle.echo_toss.proofs.Keys.{stub_keeps_key}
 use Rattle.echo_toss.proofs.LinkFiles.{plain_drop, plain_take}

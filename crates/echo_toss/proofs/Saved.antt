@@ -13,10 +13,10 @@ use Rattle.echo_text.specs.Echo.{EchoText, IsEcho, IsLine, msgid_of}
 use Rattle.echo_text.specs.Refusal.{refusal}
 use Rattle.echo_text.specs.Ids.{is_line_byte, is_zero}
 use Rattle.echo_toss.specs.Written.{echo_of, text_of}
-use Rattle.echo_toss.specs.Base.{Filed, is_known, key_of}
+use Rattle.echo_toss.specs.Base.{AreNew, Filed, HasSmallSender, IsBase, IsFiled, is_known, key_of}
 use Rattle.echo_toss.specs.Posting.{id_line}
 use Rattle.echo_toss.specs.Purging.{bare, is_stub, is_stub_with}
-use Rattle.echo_toss.specs.BaseFile.{Second, AreNew, AreSound, BaseOf, HasSmallSender, IsBase, IsFiled, IsStored, echo_in, has_tag, has_wrong_form, has_wrong_last, has_wrong_sender, has_wrong_string, head_bytes, is_countable, is_damaged, is_no_string, is_other_kind, is_posted, is_short, is_short_enough, is_wrong_id, is_wrong_text, kind_of, message_in, saved_bytes, sender_in, sender_or_zeros, stored_as, stored_at, stored_bytes, stored_from}
+use Rattle.echo_toss.specs.BaseFile.{Second, AreSound, BaseOf, IsStored, echo_in, has_tag, has_wrong_form, has_wrong_last, has_wrong_sender, has_wrong_string, head_bytes, is_countable, is_damaged, is_no_string, is_other_kind, is_posted, is_short, is_short_enough, is_wrong_id, is_wrong_text, kind_of, message_in, saved_bytes, sender_in, sender_or_zeros, stored_as, stored_at, stored_bytes, stored_from}
 use Rattle.echo_toss.proofs.Keys.{lines_decide, msgid_is_id}
 use Rattle.echo_toss.proofs.Trims.{trimmed_same}
 use Rattle.echo_toss.proofs.Plain.{IsLineByte, Plain}

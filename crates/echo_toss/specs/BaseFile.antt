@@ -3,9 +3,8 @@ use Rattle.std.specs.Prelude.{◌≡◌, ℕ, ◌+◌, ◌*◌, ◌/◌, ◌%◌
 use Rattle.std.specs.List.{AllByRecursion, flat_map, list_all, list_any, starts_with}
 use Rattle.echo_addr.specs.declared.address.Address.{Address}
 use Rattle.echo_packet.specs.Header.{number_at, word}
-use Rattle.echo_packet.specs.Message.{HasNoZero}
 use Rattle.echo_text.specs.Lines.{is_tag, trimmed}
-use Rattle.echo_text.specs.Echo.{EchoText, IsEcho, msgid_of}
+use Rattle.echo_text.specs.Echo.{EchoText, msgid_of}
 use Rattle.echo_text.specs.Refusal.{refusal}
 use Rattle.echo_toss.specs.declared.fault.BaseFault.{BaseFault}
 use Rattle.echo_toss.specs.declared.fault.BaseFault.TheVariants as fault
@@ -266,31 +265,3 @@ is_short_enough s = nat_lt (length s.last) (2 ^ 32)
 
 unfoldable pub is_countable : List Filed → ℕ → Bool
 is_countable base cursor = nat_lt (length base) (2 ^ 32) && list_all is_short_enough (stored_from cursor 0 base)
-
--- each part of a sender is a number of two bytes
-abbrev pub HasSmallSender : Option Address → Type 0
-HasSmallSender None = ⊤
-HasSmallSender (Some a) = (a.zone < 2 ^ 16) × (a.net < 2 ^ 16) × (a.node < 2 ^ 16)
-
--- what holds of each message of a base
-pub record IsFiled (m : Filed) : Type 0 where
-  pub small_sender : HasSmallSender m.sender
-  pub date_len : length m.date ≡ 20
-  pub to_room : length m.to_name ≤ 35
-  pub to_bytes : HasNoZero m.to_name
-  pub from_room : length m.from_name ≤ 35
-  pub from_bytes : HasNoZero m.from_name
-  pub subject_room : length m.subject ≤ 71
-  pub subject_bytes : HasNoZero m.subject
-  pub is_echo : IsEcho m.echo
-
--- no message has a key that one before it has
-abbrev pub AreNew : List Filed → List Filed → Type 0
-AreNew earlier [] = ⊤
-AreNew earlier (m ∷ later) = (is_known earlier (key_of m) ≡ false) × AreNew (earlier ++ m ∷ []) later
-
--- what holds of each base and its cursor
-pub record IsBase (base : List Filed) (cursor : ℕ) : Type 0 where
-  pub each : AllByRecursion IsFiled base
-  pub new : AreNew [] base
-  pub within : cursor ≤ length base

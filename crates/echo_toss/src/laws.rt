@@ -13,13 +13,13 @@ ghost use Rattle.echo_toss.specs.declared.stamp.Stamp.{Stamp};
 ghost use Rattle.echo_text.specs.Ids.{id_of};
 ghost use Rattle.echo_toss.specs.Sets.{entry_set};
 ghost use Rattle.echo_toss.specs.Written.{echo_of, text_of};
-ghost use Rattle.echo_toss.specs.Base.{Filed, IsFile, LinkFile, has_area, key_of, same_key};
+ghost use Rattle.echo_toss.specs.Base.{Filed, HasSmallSender, IsBase, IsFile, LinkFile, has_area, key_of, same_key};
 ghost use Rattle.echo_toss.specs.Posting.{has_id, posting};
 ghost use Rattle.echo_toss.specs.Tossing.{IsToBeFiled, received, tossing};
 ghost use Rattle.echo_toss.specs.Scanning.{copy_to, exported};
 ghost use Rattle.echo_toss.specs.Purging.{purged, stub_of};
 ghost use Rattle.echo_toss.specs.LinkLines.{LinksOf};
-ghost use Rattle.echo_toss.specs.BaseFile.{BaseOf, HasSmallSender, IsBase, is_countable, saved_bytes};
+ghost use Rattle.echo_toss.specs.BaseFile.{BaseOf, is_countable, saved_bytes};
 
 /// The test of keys passes exactly where they are the same.
 pub fn key_law()
