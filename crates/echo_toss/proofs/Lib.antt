@@ -12,6 +12,8 @@ pub mod Posted
 pub mod Received
 pub mod Bytes
 pub mod Saved
+pub mod Layouts
+pub mod StoredFields
 pub mod LinkFiles
 pub mod Kept
 pub mod Purged
