@@ -84,7 +84,7 @@ date_long s h =
     omega (arith, month_long s.month month.0 month.1, length-append (month_name s.month) (after_month s))
 
 -- bytes of which none is 00
-some_bytes : (bytes : List ℕ) → list_any is_zero bytes ≡ false → HasNoZero bytes
+pub some_bytes : (bytes : List ℕ) → list_any is_zero bytes ≡ false → HasNoZero bytes
 some_bytes bytes h = λ i inside. All-from_recursion (λ b. b ≢ 0) bytes (no_zero bytes h) i 0 inside
 
 posted_filed : (file : LinkFile) (base : List Filed) (tag : List ℕ) (draft : Draft) (serial : ℕ) (stamp : Stamp) → IsFile file → IsAllowed file base tag draft serial stamp

@@ -4,7 +4,7 @@ use Rattle.std.proofs.lemmas.Bool.{cases_Bool, cond-false, cond-true, le-ltb, lt
 use Rattle.std.proofs.lemmas.List.{append_assoc, append-nil, drop_at, length-append, length-replicate, length-take-le, take-append-drop, take_at}
 use Rattle.echo_packet.specs.Header.{AreBytes, word}
 use Rattle.echo_packet.proofs.Headers.{AreBytes-drop}
-use Rattle.echo_toss.specs.BaseFile.{long}
+use Rattle.echo_toss.specs.BaseFile.{long, long_at}
 
 -- a value of the field and what follows it
 pub record Took (X : Type 0) (Fits : X → Type 0) (write : X → List ℕ) (bytes : List ℕ) (found : X × List ℕ) : Type 0 where
@@ -136,6 +136,25 @@ long_is a b c d ha hb hc hd =
 long_size : (a b c d : ℕ) → a < 256 → b < 256 → c < 256 → d < 256 → a + 256 * b + 65536 * (c + 256 * d) < 2 ^ 32
 long_size a b c d ha hb hc hd = omega arith
 
+-- the number that the first four bytes are
+pub long_front : (bytes : List ℕ) → AreBytes bytes → 4 ≤ length bytes → (bytes ≡ long (long_at 0 bytes) ++ drop 4 bytes) × (long_at 0 bytes < 2 ^ 32)
+long_front [] are h = absurd (omega arith)
+long_front (a ∷ []) are h = absurd (omega arith)
+long_front (a ∷ (b ∷ [])) are h = absurd (omega arith)
+long_front (a ∷ (b ∷ (c ∷ []))) are h = absurd (omega arith)
+long_front (a ∷ (b ∷ (c ∷ (d ∷ rest)))) are h = (
+  ap (λ bs. bs ++ rest) (long_is a b c d (are 0) (are 1) (are 2) (are 3)),
+  long_size a b c d (are 0) (are 1) (are 2) (are 3),
+)
+
+-- the number whose four bytes these are
+pub long_value : (n : ℕ) → n % 65536 % 256 + 256 * (n % 65536 / 256) + 65536 * (n / 65536 % 256 + 256 * (n / 65536 / 256)) ≡ n
+long_value n =
+    let low : n % 65536 % 256 + 256 * (n % 65536 / 256) ≡ n % 65536 = omega arith in
+    let high : n / 65536 % 256 + 256 * (n / 65536 / 256) ≡ n / 65536 = omega arith in
+    let same : n % 65536 + 65536 * (n / 65536) ≡ n = omega arith in
+    (λ i. low i + 65536 * high i) ∙ same
+
 pub long_field : Layout ℕ IsLong long
 unfolding read_long
 long_field = record { read = read_long; takes = takes; again = again; cuts = cuts; any = 0; any_fits = lit< tt }
@@ -154,11 +173,7 @@ long_field = record { read = read_long; takes = takes; again = again; cuts = cut
         })
 
     again : (n : ℕ) (rest : List ℕ) → IsLong n → read_long (long n ++ rest) ≡ Some (n, rest)
-    again n rest h =
-        let low : n % 65536 % 256 + 256 * (n % 65536 / 256) ≡ n % 65536 = omega arith in
-        let high : n / 65536 % 256 + 256 * (n / 65536 / 256) ≡ n / 65536 = omega arith in
-        let same : n % 65536 + 65536 * (n / 65536) ≡ n = omega arith in
-        (λ i. Some (low i + 65536 * high i, rest)) ∙ ap (λ (k : ℕ). Some (k, rest)) same
+    again n rest h = ap (λ (k : ℕ). Some (k, rest)) (long_value n)
 
     inside : (a b c d : ℕ) → a < 256 → b < 256 → c < 256 → d < 256 → (bytes missing : List ℕ) → 0 < length missing
         → a ∷ (b ∷ (c ∷ (d ∷ []))) ≡ bytes ++ missing → EndsIn ℕ IsLong long bytes

@@ -14,7 +14,10 @@ pub mod Bytes
 pub mod Saved
 pub mod Layouts
 pub mod StoredFields
+pub mod Loading
 pub mod LinkFiles
+pub mod LinkAnswers
 pub mod Kept
 pub mod Purged
+pub mod Loaded
 mod Examples

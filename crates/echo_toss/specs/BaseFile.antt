@@ -1,5 +1,5 @@
 -- Base files. Numbers of several bytes have the low byte first.
-use Rattle.std.specs.Prelude.{◌≡◌, ℕ, ◌+◌, ◌*◌, ◌/◌, ◌%◌, ◌^◌, ◌<◌, ◌≤◌, ◌⊎◌, ⊤, ◌==◌, ◌||◌, ◌&&◌, not, nat_eq, nat_lt, Bool, true, false, List, [], ◌∷◌, ◌++◌, map, length, take, codes, if◌then◌else◌, Option, Some, None, is_some, is_none, unwrap_or, bytes_eq}
+use Rattle.std.specs.Prelude.{◌≡◌, ℕ, ◌+◌, ◌*◌, ◌/◌, ◌%◌, ◌^◌, ◌<◌, ◌≤◌, ◌⊎◌, ⊤, ◌==◌, ◌||◌, ◌&&◌, not, nat_eq, nat_lt, Bool, true, false, List, [], ◌∷◌, ◌++◌, map, length, take, codes, if◌then◌else◌, Option, Some, None, is_some, is_none, unwrap_or, Result, Ok, Err, bytes_eq}
 use Rattle.std.specs.List.{AllByRecursion, flat_map, list_all, list_any, starts_with}
 use Rattle.echo_addr.specs.declared.address.Address.{Address}
 use Rattle.echo_packet.specs.Header.{number_at, word}
@@ -222,6 +222,15 @@ BaseFaultOf bytes (fault.Truncated n) =
     ((n ≡ 0) × (is_front bytes ≡ true) × (length bytes < 16)) ⊎ EndsInside n bytes
 BaseFaultOf bytes (fault.Damaged n) = IsDamagedAt n bytes
 BaseFaultOf bytes _ = ⊥
+
+-- what a base file says: the messages, the cursor, and how many bytes these take
+abbrev pub Loaded : Type 0
+Loaded = List Filed × ℕ × ℕ
+
+-- what reading a base is to answer: the first bytes are this base, or the bytes have this fault
+abbrev pub LoadOf : List ℕ → Result Loaded BaseFault → Type 0
+LoadOf bytes (Ok found) = (found.2 ≤ length bytes) × BaseOf found.0 found.1 (take found.2 bytes)
+LoadOf bytes (Err refused) = BaseFaultOf bytes refused
 
 -- how the second version stores a message, in short or not
 abbrev pub kind_of : Bool → Option Address → ℕ
