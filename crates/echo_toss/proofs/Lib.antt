@@ -20,4 +20,8 @@ pub mod LinkAnswers
 pub mod Kept
 pub mod Purged
 pub mod Loaded
-mod Examples
+pub mod Examples
+mod LinkExamples
+mod PostExamples
+mod TossExamples
+mod BaseExamples
