@@ -10,6 +10,7 @@ pub mod Plain
 pub mod OwnIds
 pub mod Posted
 pub mod Received
+pub mod FirstRefusals
 pub mod Bytes
 pub mod Saved
 pub mod Layouts

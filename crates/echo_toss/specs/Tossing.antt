@@ -57,6 +57,18 @@ pub record IsToBeFiled (file : LinkFile) (base : List Filed) (from : Address) (p
   pub link : is_link file (echo_of packed.text).tag from ≡ true
   pub new : is_known base (key_of (received from packed)) ≡ false
 
+-- this is what becomes of a message, and no outcome before it applies
+abbrev pub IsOutcome : LinkFile → List Filed → Address → Message → Outcome → Type 0
+IsOutcome file base from packed outcome.NotEcho = refusal packed.text ≡ Some text.NotEcho
+IsOutcome file base from packed outcome.BadTag = refusal packed.text ≡ Some text.BadTag
+IsOutcome file base from packed outcome.NoArea = (refusal packed.text ≡ None) × (has_area file (echo_of packed.text).tag ≡ false)
+IsOutcome file base from packed outcome.NotLinked =
+    (refusal packed.text ≡ None) × (has_area file (echo_of packed.text).tag ≡ true) × (is_link file (echo_of packed.text).tag from ≡ false)
+IsOutcome file base from packed outcome.Known =
+    (refusal packed.text ≡ None) × (has_area file (echo_of packed.text).tag ≡ true) × (is_link file (echo_of packed.text).tag from ≡ true)
+    × (is_known base (key_of (received from packed)) ≡ true)
+IsOutcome file base from packed outcome.Filed = IsToBeFiled file base from packed
+
 -- a toss: the message put at the end of the base where it is filed, else the base as it was
 abbrev pub TossStep : LinkFile → List Filed → Address → Message → Outcome → List Filed → Type 0
 TossStep file base sender packed answer after =

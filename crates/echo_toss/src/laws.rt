@@ -12,14 +12,16 @@ ghost use Rattle.echo_toss.specs.declared.draft.Draft.{Draft};
 ghost use Rattle.echo_toss.specs.declared.fault.BaseFault.{BaseFault};
 ghost use Rattle.echo_toss.specs.declared.fault.LinkFault.{LinkFault};
 ghost use Rattle.echo_toss.specs.declared.fault.LinkFault.TheVariants as link;
+ghost use Rattle.echo_toss.specs.declared.fault.PostFault.{PostFault};
 ghost use Rattle.echo_toss.specs.declared.key.Key.{Key};
+ghost use Rattle.echo_toss.specs.declared.outcome.Outcome.{Outcome};
 ghost use Rattle.echo_toss.specs.declared.stamp.Stamp.{Stamp};
 ghost use Rattle.echo_text.specs.Ids.{id_of};
 ghost use Rattle.echo_toss.specs.Sets.{entry_set};
 ghost use Rattle.echo_toss.specs.Written.{echo_of, text_of};
 ghost use Rattle.echo_toss.specs.Base.{Filed, HasSmallSender, IsBase, IsFile, LinkFile, has_area, key_of, same_key};
-ghost use Rattle.echo_toss.specs.Posting.{has_id, posting};
-ghost use Rattle.echo_toss.specs.Tossing.{IsToBeFiled, received, tossing};
+ghost use Rattle.echo_toss.specs.Posting.{IsAllowed, IsFirstRefusal, has_id, post_refusal, posting};
+ghost use Rattle.echo_toss.specs.Tossing.{IsOutcome, IsToBeFiled, received, toss_outcome, tossing};
 ghost use Rattle.echo_toss.specs.Scanning.{copy_to, exported};
 ghost use Rattle.echo_toss.specs.Purging.{purged, stub_of};
 ghost use Rattle.echo_toss.specs.LinkLines.{LinksOf};
@@ -71,6 +73,21 @@ pub fn posting_laws()
         IsFile file → posting file base tag draft serial stamp ≡ Some m → msgid_of m.echo.kept ≡ Some (id_of file.system serial) }
     ensures new { (file : LinkFile) (base : List Filed) (tag : List ℕ) (draft : Draft) (serial : ℕ) (stamp : Stamp) (m : Filed) →
         posting file base tag draft serial stamp ≡ Some m → list_any (has_id (id_of file.system serial)) base ≡ false }
+{}
+
+/// A posting is refused for a reason exactly where that is the first that applies, and is filed exactly
+/// where none does.
+pub fn posting_refusals()
+    ensures refused { (file : LinkFile) (base : List Filed) (tag : List ℕ) (draft : Draft) (serial : ℕ) (stamp : Stamp) (reason : PostFault) →
+        (post_refusal file base tag draft serial stamp ≡ Some reason) ↔ IsFirstRefusal file base tag draft serial stamp reason }
+    ensures filed { (file : LinkFile) (base : List Filed) (tag : List ℕ) (draft : Draft) (serial : ℕ) (stamp : Stamp) →
+        (post_refusal file base tag draft serial stamp ≡ None) ↔ IsAllowed file base tag draft serial stamp }
+{}
+
+/// What becomes of a tossed message is the first outcome that applies.
+pub fn toss_outcomes()
+    ensures { (file : LinkFile) (base : List Filed) (sender : Address) (packed : Message) (outcome : Outcome) →
+        (toss_outcome file base sender packed ≡ outcome) ↔ IsOutcome file base sender packed outcome }
 {}
 
 /// A message is filed by a toss exactly where its text is echomail, its area is in the link file, the
