@@ -25,4 +25,5 @@ pub mod Examples
 mod LinkExamples
 mod PostExamples
 mod TossExamples
+mod StepExamples
 mod BaseExamples
