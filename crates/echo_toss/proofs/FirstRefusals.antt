@@ -19,10 +19,8 @@ use Rattle.echo_toss.specs.Base.{Filed, LinkFile, has_area, is_known, is_link, k
 use Rattle.echo_toss.specs.Stamps.{is_stamp}
 use Rattle.echo_toss.specs.Posting.{IsAllowed, IsFirstRefusal, has_id, holds_zero, is_too_long, post_refusal, upper}
 use Rattle.echo_toss.specs.Tossing.{IsOutcome, outcome_after, received, toss_outcome}
+use Rattle.echo_toss.proofs.Choices.{same_some}
 use Rattle.echo_toss.proofs.Posted.{allowed}
-
-same_some : {A : Type 0} (x y : A) → Some x ≡ Some y → x ≡ y
-same_some x y h = cc
 
 -- the refusals of a posting in order, by what each test answered
 abbrev chain : Bool → Bool → Bool → Bool → Bool → Bool → Option PostFault

@@ -5,6 +5,7 @@ use Rattle.std.proofs.lemmas.List.{append_assoc, append-nil, drop_at, length-app
 use Rattle.echo_packet.specs.Header.{AreBytes, word}
 use Rattle.echo_packet.proofs.Headers.{AreBytes-drop}
 use Rattle.echo_toss.specs.BaseFile.{long, long_at}
+use Rattle.echo_toss.proofs.Choices.{same_some}
 
 -- a value of the field and what follows it
 pub record Took (X : Type 0) (Fits : X → Type 0) (write : X → List ℕ) (bytes : List ℕ) (found : X × List ℕ) : Type 0 where
@@ -28,9 +29,6 @@ pub record Layout (X : Type 0) (Fits : X → Type 0) (write : X → List ℕ) : 
   pub cuts : (bytes : List ℕ) → AreBytes bytes → read bytes ≡ None → EndsIn X Fits write bytes
   pub any : X
   pub any_fits : Fits any
-
-same_some : {A : Type 0} (x y : A) → Some x ≡ Some y → x ≡ y
-same_some x y h = cc
 
 -- bytes that end inside a field have no value of it in front
 pub inside_unread : (X : Type 0) (Fits : X → Type 0) (write : X → List ℕ) (field : Layout X Fits write) (bytes : List ℕ) → AreBytes bytes

@@ -1,5 +1,5 @@
 -- Steps by computation: what each call may answer, and what it leaves.
-use Rattle.std.proofs.Common.{◌≡◌, ℕ, List, [], ◌∷◌, ◌++◌, refl, Some, None, Ok, Err, codes, inl, inr}
+use Rattle.std.proofs.Common.{[], ◌∷◌, refl, Ok, Err, codes, inr}
 use Rattle.std.specs.Fmt.{digits}
 use Rattle.echo_addr.specs.Entries.{entries, pair_of, tokens}
 use Rattle.echo_text.specs.Lines.{after_word, begins, lines, trimmed}
@@ -10,10 +10,9 @@ use Rattle.echo_text.specs.Refusal.{refusal}
 use Rattle.echo_toss.specs.declared.fault.PostFault.TheVariants as post
 use Rattle.echo_toss.specs.declared.fault.ScanFault.TheVariants as scan
 use Rattle.echo_toss.specs.declared.outcome.Outcome.TheVariants as outcome
-use Rattle.echo_toss.specs.declared.packet.Packet.{Packet}
 use Rattle.echo_toss.specs.Sets.{entry_set}
 use Rattle.echo_toss.specs.Written.{echo_of}
-use Rattle.echo_toss.specs.Base.{Filed, key_of, links_of}
+use Rattle.echo_toss.specs.Base.{key_of, links_of}
 use Rattle.echo_toss.specs.Posting.{PostStep, post_refusal, posted, posted_lines}
 use Rattle.echo_toss.specs.Tossing.{TossStep, received, toss_outcome, tossing}
 use Rattle.echo_toss.specs.Scanning.{ScanStep, scanned}

@@ -40,6 +40,7 @@ pub record IsFile (file : LinkFile) : Type 0 where
 abbrev pub area_of : LinkFile → List ℕ → Option Area
 area_of file tag = find (λ area. bytes_eq area.tag tag) file.areas
 
+-- whether there is such an area
 abbrev pub has_area : LinkFile → List ℕ → Bool
 has_area file tag = is_some (area_of file tag)
 
@@ -47,6 +48,7 @@ has_area file tag = is_some (area_of file tag)
 unfoldable pub links_of : LinkFile → List ℕ → List Address
 links_of file tag = unwrap_or (option_map (λ area. area.links) (area_of file tag)) []
 
+-- whether the address is one of these links
 abbrev pub is_link : LinkFile → List ℕ → Address → Bool
 is_link file tag address = list_any (same_address address) (links_of file tag)
 

@@ -91,9 +91,10 @@ outcomes file base sender (packed ∷ later) =
 abbrev pub zone_of : LinkFile → ℕ → ℕ
 zone_of file zone = if zone == 0 then file.system.zone else zone
 
--- who sent a packet, and whom it is for
+-- who sent a packet
 abbrev pub origin_of : LinkFile → Header → Address
 origin_of file header = record { zone = zone_of file header.orig_zone; net = header.orig_net; node = header.orig_node }
 
+-- whom a packet is for
 abbrev pub destination_of : LinkFile → Header → Address
 destination_of file header = record { zone = zone_of file header.dest_zone; net = header.dest_net; node = header.dest_node }

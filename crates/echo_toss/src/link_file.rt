@@ -1,4 +1,4 @@
-ghost use Rattle.std.specs.Prelude.{◌≡◌, length, slice_get, option_copied, option_map, find, bytes_eq};
+ghost use Rattle.std.specs.Prelude.{◌≡◌, ◌∷◌, [], length, slice_get, option_copied, option_map, find, bytes_eq, IfOk};
 ghost use Rattle.echo_toss.specs.Base.{IsFile, area_of};
 
 use echo_addr::{Address, Items};
@@ -83,5 +83,65 @@ impl LinkFile {
     {
         let area = area_with(self.areas.as_slice(), tag)?;
         Some(area.links.as_slice())
+    }
+}
+
+#[cfg(test)]
+mod tests {
+    use super::*;
+    use std::alloc::{AllocError, Global};
+    use std::test::Fail;
+
+    fn one<T: Drop>(alloc: Global, item: T) -> Result<Items<T>, AllocError>
+        ensures { IfOk result (λ items. items ≡ item ∷ []) }
+    {
+        let mut all = Vec::new(alloc);
+        all.push(item)?;
+        Ok(Items::new(all))
+    }
+
+    fn bytes(alloc: Global, text: &[u8]) -> Result<Items<u8>, AllocError>
+        ensures { IfOk result (λ items. items ≡ text.now) }
+    {
+        Ok(Items::new(Vec::from_slice(alloc, text)?))
+    }
+
+    const OWN: Address = Address {
+        zone: 1,
+        net: 10,
+        node: 1,
+    };
+
+    const LINK: Address = Address {
+        zone: 1,
+        net: 10,
+        node: 2,
+    };
+
+    // The system 1:10/1 of the name Alpha, with the area TEST that 1:10/2 links.
+    fn alpha(alloc: Global) -> Result<LinkFile, AllocError> {
+        let tag = bytes(alloc, b"TEST")?;
+        let links = one(alloc, LINK)?;
+        let areas = one(alloc, Area { tag, links })?;
+        let name = bytes(alloc, b"Alpha")?;
+        Ok(LinkFile {
+            system: OWN,
+            name,
+            areas,
+        })
+    }
+
+    #[test]
+    fn gives_its_parts(rt: HostRuntime) -> Result<(), Fail> {
+        if let Ok(file) = alpha(rt.alloc()) {
+            assert_eq!(rt; file.system(), OWN);
+            assert_eq!(rt; file.name(), b"Alpha".as_slice());
+            assert_eq!(rt; file.areas(), 1);
+            assert!(rt; file.area(0) == Some(b"TEST".as_slice()));
+            assert!(rt; file.area(1).is_none());
+            assert!(rt; file.links(b"TEST") == Some([LINK].as_slice()));
+            assert!(rt; file.links(b"test").is_none());
+        }
+        Ok(())
     }
 }
