@@ -3,6 +3,7 @@ pub mod Sets
 pub mod Orders
 pub mod Trims
 pub mod Keys
+pub mod DerivedKeys
 pub mod Runs
 pub mod Texts
 pub mod Copies
