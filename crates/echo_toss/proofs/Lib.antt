@@ -17,6 +17,7 @@ pub mod Saved
 pub mod Layouts
 pub mod StoredFields
 pub mod Loading
+pub mod OneBase
 pub mod LinkFiles
 pub mod LinkAnswers
 pub mod Kept

@@ -1,4 +1,5 @@
-use Rattle.echo_toss.proofs.Loading.{load_outcome, no_other_fault, one_fault, only_base, only_length, only_outcome, outcome_loads}
+use Rattle.echo_toss.proofs.Loading.{load_outcome, only_outcome, outcome_loads}
+use Rattle.echo_toss.proofs.OneBase.{no_other_fault, one_fault, only_base, only_length}
 use Rattle.echo_toss.proofs.laws.one_base_or_fault.Goals as goal
 
 pub returns-clause-answered : goal.returns-clause-answered
