@@ -1,5 +1,5 @@
 -- Cases of tests, and lists by their first element.
-use Rattle.std.proofs.Common.{◌≡◌, ℕ, suc, zero, ◌<◌, Bool, true, false, if◌then◌else◌, List, [], ◌∷◌, length, get_or, refl, sym, subst, ◌⊎◌, inl, inr, arith}
+use Rattle.std.proofs.Common.{◌≡◌, ℕ, suc, zero, ◌<◌, Bool, true, false, if◌then◌else◌, List, [], ◌∷◌, length, get_or, refl, sym, subst, ◌⊎◌, inl, inr, arith, Some}
 use Rattle.std.specs.Prelude.{Contains}
 use Rattle.std.specs.List.{AllByRecursion}
 
@@ -10,6 +10,9 @@ pub of_three : {A : Type 0} (P : A → Type 0) (p q : Bool) (a b c : A)
 of_three P true q a b c f g h = f refl
 of_three P false true a b c f g h = g refl refl
 of_three P false false a b c f g h = h refl refl
+
+pub same_some : {A : Type 0} (x y : A) → Some x ≡ Some y → x ≡ y
+same_some x y h = cc
 
 -- a member of a list
 abbrev pub IsIn : {X : Type 0} → X → List X → Type 0

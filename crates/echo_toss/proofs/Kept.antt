@@ -15,17 +15,16 @@ use Rattle.echo_text.specs.Refusal.{refusal}
 use Rattle.echo_toss.specs.declared.draft.Draft.{Draft}
 use Rattle.echo_toss.specs.declared.key.Key.TheVariants.{ById}
 use Rattle.echo_toss.specs.declared.stamp.Stamp.{Stamp}
-use Rattle.echo_toss.specs.Base.{Filed, IsFile, LinkFile, is_known, key_of, key_with, same_key}
+use Rattle.echo_toss.specs.Base.{AreNew, Filed, HasSmallSender, IsBase, IsFile, IsFiled, LinkFile, is_known, key_of, key_with, same_key}
 use Rattle.echo_toss.specs.Stamps.{date_of, is_stamp, month_name, two_digits}
-use Rattle.echo_toss.specs.Posting.{has_id, posted, posting}
+use Rattle.echo_toss.specs.Posting.{IsAllowed, has_id, posted, posting}
 use Rattle.echo_toss.specs.Tossing.{received, tossing}
-use Rattle.echo_toss.specs.BaseFile.{AreNew, HasSmallSender, IsBase, IsFiled}
 use Rattle.echo_text.proofs.Reread.{read_is_echo}
 use Rattle.echo_toss.specs.Written.{echo_of}
 use Rattle.echo_toss.proofs.Received.{tossing_received}
 use Rattle.echo_toss.proofs.Texts.{says_read}
 use Rattle.echo_toss.proofs.Plain.{all_append, no_zero}
-use Rattle.echo_toss.proofs.Posted.{IsAllowed, posted_id, posted_is_echo, posting_posted}
+use Rattle.echo_toss.proofs.Posted.{posted_id, posted_is_echo, posting_posted}
 
 -- one more message that is new
 one_more_new : (earlier base : List Filed) (m : Filed) → AreNew earlier base → is_known (earlier ++ base) (key_of m) ≡ false → AreNew earlier (base ++ m ∷ [])
@@ -85,7 +84,7 @@ date_long s h =
     omega (arith, month_long s.month month.0 month.1, length-append (month_name s.month) (after_month s))
 
 -- bytes of which none is 00
-some_bytes : (bytes : List ℕ) → list_any is_zero bytes ≡ false → HasNoZero bytes
+pub some_bytes : (bytes : List ℕ) → list_any is_zero bytes ≡ false → HasNoZero bytes
 some_bytes bytes h = λ i inside. All-from_recursion (λ b. b ≢ 0) bytes (no_zero bytes h) i 0 inside
 
 posted_filed : (file : LinkFile) (base : List Filed) (tag : List ℕ) (draft : Draft) (serial : ℕ) (stamp : Stamp) → IsFile file → IsAllowed file base tag draft serial stamp

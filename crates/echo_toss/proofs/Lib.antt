@@ -3,6 +3,7 @@ pub mod Sets
 pub mod Orders
 pub mod Trims
 pub mod Keys
+pub mod DerivedKeys
 pub mod Runs
 pub mod Texts
 pub mod Copies
@@ -10,9 +11,21 @@ pub mod Plain
 pub mod OwnIds
 pub mod Posted
 pub mod Received
+pub mod FirstRefusals
 pub mod Bytes
 pub mod Saved
+pub mod Layouts
+pub mod StoredFields
+pub mod Loading
+pub mod OneBase
 pub mod LinkFiles
+pub mod LinkAnswers
 pub mod Kept
 pub mod Purged
-mod Examples
+pub mod Loaded
+pub mod Examples
+mod LinkExamples
+mod PostExamples
+mod TossExamples
+mod StepExamples
+mod BaseExamples

@@ -16,20 +16,11 @@ use Rattle.echo_toss.specs.declared.fault.PostFault.TheVariants as fault
 use Rattle.echo_text.specs.Ids.{id_of, is_id, is_zero, is_line_byte}
 use Rattle.echo_toss.specs.Base.{Area, Filed, IsArea, IsFile, LinkFile, has_area}
 use Rattle.echo_toss.specs.Stamps.{is_stamp}
-use Rattle.echo_toss.specs.Posting.{has_id, holds_zero, id_line, is_too_long, origin_line, post_refusal, posted, posted_lines, posting, reply_lines, upper}
+use Rattle.echo_toss.specs.Posting.{IsAllowed, has_id, holds_zero, id_line, is_too_long, origin_line, post_refusal, posted, posted_lines, posting, reply_lines, upper}
 use Rattle.echo_toss.proofs.Choices.{all_weaker}
 use Rattle.echo_toss.proofs.Keys.{msgid_first}
 use Rattle.echo_toss.proofs.OwnIds.{own_id_is_id, plain_id}
 use Rattle.echo_toss.proofs.Plain.{IsLineByte, Plain, all_append, lines_plain, no_zero, plain_address, plain_if, plain_line}
-
--- no refusal applies
-pub record IsAllowed (file : LinkFile) (base : List Filed) (tag : List ℕ) (draft : Draft) (serial : ℕ) (stamp : Stamp) : Type 0 where
-  pub area : has_area file (upper tag) ≡ true
-  pub zero : holds_zero draft ≡ false
-  pub short : is_too_long draft ≡ false
-  pub moment : is_stamp stamp ≡ true
-  pub reply : ((length draft.reply == 0) || is_id draft.reply) ≡ true
-  pub new : list_any (has_id (id_of file.system serial)) base ≡ false
 
 passed : {F : Type 0} (b : Bool) (f : F) (rest : Option F) → cond b (Some f) rest ≡ None → (b ≡ false) × (rest ≡ None)
 passed true f rest h = absurd (cc)

@@ -5,15 +5,14 @@ use Rattle.std.specs.List.{AllByRecursion, list_any, prefix_len}
 use Rattle.std.proofs.lemmas.Bool.{cases_Bool, cond-false, cond-true}
 use Rattle.std.proofs.lemmas.List.{length-append, length-drop, length-map, length-take}
 use Rattle.std.proofs.lemmas.List.Elements.{All-from_recursion, recursion_from_All}
-use Rattle.echo_text.specs.Lines.{after_feeds, after_word, begins, is_feed, msgid_word, trimmed}
+use Rattle.echo_text.specs.Lines.{after_feeds, after_word, begins, is_feed, is_tag, msgid_word, trimmed}
 use Rattle.echo_text.specs.Tail.{tail}
 use Rattle.echo_text.specs.Echo.{IsEcho, IsLine, is_shed, msgid_of}
 use Rattle.echo_addr.specs.Entries.{is_blank}
 use Rattle.echo_toss.specs.declared.key.Key.{Key}
-use Rattle.echo_toss.specs.Base.{Filed, is_known, key_of, same_key}
+use Rattle.echo_toss.specs.Base.{AreNew, Filed, IsBase, IsFiled, is_known, key_of, same_key}
 use Rattle.echo_toss.specs.Posting.{id_line}
 use Rattle.echo_toss.specs.Purging.{bare, purged, stub_of, stub_with}
-use Rattle.echo_toss.specs.BaseFile.{AreNew, IsBase, IsFiled}
 use Rattle.echo_toss.proofs.Choices.{all_weaker}
 use Rattle.echo_toss.proofs.Keys.{stub_keeps_key}
 use Rattle.echo_toss.proofs.LinkFiles.{plain_drop, plain_take}
@@ -59,19 +58,24 @@ id_line_stays : (id : List ℕ) → AllByRecursion (λ line. not (is_shed line) 
 unfolding begins
 id_line_stays id = (refl, tt)
 
-bare_is_echo : (m : Filed) (id : List ℕ) → IsEcho m.echo → msgid_of m.echo.kept ≡ Some id → IsEcho (bare m.echo.tag id)
-bare_is_echo m id is h =
-    let plain = id_is_plain m.echo.kept (all_weaker IsLine Plain line_is_plain m.echo.kept (recursion_from_All IsLine m.echo.kept is.kept_lines)) id h in
+-- a tag and an id of a line are echomail
+pub bare_echo : (area_tag id : List ℕ) → is_tag area_tag ≡ true → Plain id → IsEcho (bare area_tag id)
+bare_echo area_tag id tagged plain =
     let line : Plain (id_line msgid_word id) =
     all_append IsLineByte msgid_word (codes " " ++ id) (plain_if msgid_word refl) ((λ e. omega arith, λ e. omega arith), plain) in
     record {
-      tag_bytes = is.tag_bytes;
+      tag_bytes = tagged;
       kept_lines = All-from_recursion IsLine (id_line msgid_word id ∷ []) (plain_line (id_line msgid_word id) line, tt);
       ending = All-from_recursion (λ l. not (is_shed l) ≡ true) (tail (id_line msgid_word id ∷ [])) (id_line_stays id);
       ascending = λ i j d less inside. absurd (omega arith);
       seen_entries = λ k d inside. absurd (omega arith);
       path_entries = λ k d inside. absurd (omega arith);
     }
+
+bare_is_echo : (m : Filed) (id : List ℕ) → IsEcho m.echo → msgid_of m.echo.kept ≡ Some id → IsEcho (bare m.echo.tag id)
+bare_is_echo m id is h =
+    bare_echo m.echo.tag id is.tag_bytes
+    (id_is_plain m.echo.kept (all_weaker IsLine Plain line_is_plain m.echo.kept (recursion_from_All IsLine m.echo.kept is.kept_lines)) id h)
 
 stub_filed_with : (m : Filed) (id : Option (List ℕ)) → msgid_of m.echo.kept ≡ id → IsFiled m → IsFiled (stub_with m id)
 stub_filed_with m None e h = h

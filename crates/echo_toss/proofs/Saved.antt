@@ -1,11 +1,11 @@
 -- What is saved of a base is a base file of it.
-use Rattle.std.proofs.Common.{◌≡◌, ◌≢◌, ℕ, suc, codes, ◌+◌, ◌^◌, ◌<◌, ◌≤◌, ◌==◌, ◌&&◌, ◌||◌, not, nat_lt, nat_le, Bool, true, false, cond, List, [], ◌∷◌, ◌++◌, length, map, refl, sym, ap, subst, ◌∙◌, Option, Some, None, arith, lit<}
+use Rattle.std.proofs.Common.{◌≡◌, ◌≢◌, ℕ, suc, codes, ◌+◌, ◌^◌, ◌<◌, ◌≤◌, ◌==◌, ◌&&◌, ◌||◌, not, nat_lt, nat_le, Bool, true, false, cond, List, [], ◌∷◌, ◌++◌, length, map, refl, sym, ap, subst, ◌∙◌, Option, Some, None, Ok, arith, lit<}
 use Rattle.std.specs.Prelude.{bytes_eq, is_some, is_none, unwrap_or, ⊤}
 use Rattle.std.specs.Cmp.Lexicographic.{pointwise, bytes_decides}
 use Rattle.std.specs.List.{AllByRecursion, flat_map, list_all, list_any}
 use Rattle.std.proofs.lemmas.Bool.{and_from, and_parts, cond-false, cond-true, eqb-true, le-ltb, leb-true, ltb-true, true≢false, ne_eqb, not_from_true, not_from_false, or_from}
 use Rattle.std.proofs.lemmas.List.Elements.{recursion_from_All}
-use Rattle.std.proofs.lemmas.List.{append-nil, length-append, nil_from_length}
+use Rattle.std.proofs.lemmas.List.{append-nil, length-append, nil_from_length, take_at}
 use Rattle.echo_addr.specs.declared.address.Address.{Address}
 use Rattle.echo_packet.specs.Message.{HasNoZero}
 use Rattle.echo_text.specs.Lines.{is_tag, is_tag_byte, msgid_word, trimmed}
@@ -13,10 +13,10 @@ use Rattle.echo_text.specs.Echo.{EchoText, IsEcho, IsLine, msgid_of}
 use Rattle.echo_text.specs.Refusal.{refusal}
 use Rattle.echo_text.specs.Ids.{is_line_byte, is_zero}
 use Rattle.echo_toss.specs.Written.{echo_of, text_of}
-use Rattle.echo_toss.specs.Base.{Filed, is_known, key_of}
+use Rattle.echo_toss.specs.Base.{AreNew, Filed, HasSmallSender, IsBase, IsFiled, is_known, key_of}
 use Rattle.echo_toss.specs.Posting.{id_line}
 use Rattle.echo_toss.specs.Purging.{bare, is_stub, is_stub_with}
-use Rattle.echo_toss.specs.BaseFile.{Second, AreNew, AreSound, BaseOf, HasSmallSender, IsBase, IsFiled, IsStored, echo_in, has_tag, has_wrong_form, has_wrong_last, has_wrong_sender, has_wrong_string, head_bytes, is_countable, is_damaged, is_no_string, is_other_kind, is_posted, is_short, is_short_enough, is_wrong_id, is_wrong_text, kind_of, message_in, saved_bytes, sender_in, sender_or_zeros, stored_as, stored_at, stored_bytes, stored_from}
+use Rattle.echo_toss.specs.BaseFile.{Second, AreSound, BaseOf, IsStored, LoadOf, echo_in, has_tag, has_wrong_form, has_wrong_last, has_wrong_sender, has_wrong_string, head_bytes, is_countable, is_damaged, is_no_string, is_other_kind, is_posted, is_short, is_short_enough, is_wrong_id, is_wrong_text, kind_of, message_in, saved_bytes, sender_in, sender_or_zeros, stored_as, stored_at, stored_bytes, stored_from}
 use Rattle.echo_toss.proofs.Keys.{lines_decide, msgid_is_id}
 use Rattle.echo_toss.proofs.Trims.{trimmed_same}
 use Rattle.echo_toss.proofs.Plain.{IsLineByte, Plain}
@@ -304,3 +304,12 @@ saved_is_base base cursor h few =
       };
       messages = all_say cursor 0 base h.each;
     }
+
+-- and whatever follows it
+pub saved_loads : (base : List Filed) (cursor : ℕ) (rest : List ℕ) → IsBase base cursor → is_countable base cursor ≡ true
+    → LoadOf (saved_bytes base cursor ++ rest) (Ok (base, cursor, length (saved_bytes base cursor)))
+saved_loads base cursor rest h few =
+    let P : List ℕ → Type 0 = BaseOf base cursor in (
+      omega (arith, length-append (saved_bytes base cursor) rest),
+      subst P (sym (take_at (saved_bytes base cursor) rest (length (saved_bytes base cursor)) refl)) (saved_is_base base cursor h few),
+    )

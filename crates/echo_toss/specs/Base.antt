@@ -1,11 +1,12 @@
--- Link files, filed messages and their keys.
-use Rattle.std.specs.Prelude.{◌≡◌, ◌≢◌, ◌≤◌, ℕ, ◌&&◌, AllPairs, length, Bool, true, false, List, [], Option, Some, None, option_map, unwrap_or, is_some, bytes_eq, find}
+-- Link files, filed messages and their keys, and bases.
+use Rattle.std.specs.Prelude.{◌≡◌, ◌≢◌, ◌^◌, ◌<◌, ◌≤◌, ⊤, ℕ, ◌∷◌, ◌++◌, ◌&&◌, AllPairs, length, Bool, true, false, List, [], Option, Some, None, option_map, unwrap_or, is_some, bytes_eq, find}
 use Rattle.std.specs.Cmp.Lexicographic.{pointwise}
 use Rattle.std.specs.List.{AllByRecursion, list_any}
 use Rattle.echo_addr.specs.declared.address.Address.{Address}
 use Rattle.echo_addr.specs.Address.{IsAddress}
 use Rattle.echo_text.specs.Lines.{is_tag}
-use Rattle.echo_text.specs.Echo.{EchoText, IsLine, msgid_of}
+use Rattle.echo_packet.specs.Message.{HasNoZero}
+use Rattle.echo_text.specs.Echo.{EchoText, IsEcho, IsLine, msgid_of}
 use Rattle.echo_toss.specs.declared.key.Key.{Key}
 use Rattle.echo_toss.specs.declared.key.Key.TheVariants.{ByContent, ById}
 use Rattle.echo_toss.specs.Sets.{same_address}
@@ -39,6 +40,7 @@ pub record IsFile (file : LinkFile) : Type 0 where
 abbrev pub area_of : LinkFile → List ℕ → Option Area
 area_of file tag = find (λ area. bytes_eq area.tag tag) file.areas
 
+-- whether there is such an area
 abbrev pub has_area : LinkFile → List ℕ → Bool
 has_area file tag = is_some (area_of file tag)
 
@@ -46,6 +48,7 @@ has_area file tag = is_some (area_of file tag)
 unfoldable pub links_of : LinkFile → List ℕ → List Address
 links_of file tag = unwrap_or (option_map (λ area. area.links) (area_of file tag)) []
 
+-- whether the address is one of these links
 abbrev pub is_link : LinkFile → List ℕ → Address → Bool
 is_link file tag address = list_any (same_address address) (links_of file tag)
 
@@ -80,3 +83,31 @@ same_key (ByContent tag date to from subject kept) (ById tag' msgid) = false
 -- whether a message of the base has the key
 abbrev pub is_known : List Filed → Key → Bool
 is_known base key = list_any (λ m. same_key (key_of m) key) base
+
+-- each part of a sender is a number of two bytes
+abbrev pub HasSmallSender : Option Address → Type 0
+HasSmallSender None = ⊤
+HasSmallSender (Some a) = (a.zone < 2 ^ 16) × (a.net < 2 ^ 16) × (a.node < 2 ^ 16)
+
+-- what holds of each message of a base
+pub record IsFiled (m : Filed) : Type 0 where
+  pub small_sender : HasSmallSender m.sender
+  pub date_len : length m.date ≡ 20
+  pub to_room : length m.to_name ≤ 35
+  pub to_bytes : HasNoZero m.to_name
+  pub from_room : length m.from_name ≤ 35
+  pub from_bytes : HasNoZero m.from_name
+  pub subject_room : length m.subject ≤ 71
+  pub subject_bytes : HasNoZero m.subject
+  pub is_echo : IsEcho m.echo
+
+-- no message has a key that one before it has
+abbrev pub AreNew : List Filed → List Filed → Type 0
+AreNew earlier [] = ⊤
+AreNew earlier (m ∷ later) = (is_known earlier (key_of m) ≡ false) × AreNew (earlier ++ m ∷ []) later
+
+-- what holds of each base and its cursor
+pub record IsBase (base : List Filed) (cursor : ℕ) : Type 0 where
+  pub each : AllByRecursion IsFiled base
+  pub new : AreNew [] base
+  pub within : cursor ≤ length base

@@ -1,11 +1,10 @@
 -- Base files. Numbers of several bytes have the low byte first.
-use Rattle.std.specs.Prelude.{◌≡◌, ℕ, ◌+◌, ◌*◌, ◌/◌, ◌%◌, ◌^◌, ◌<◌, ◌≤◌, ◌⊎◌, ⊤, ◌==◌, ◌||◌, ◌&&◌, not, nat_eq, nat_lt, Bool, true, false, List, [], ◌∷◌, ◌++◌, map, length, take, codes, if◌then◌else◌, Option, Some, None, is_some, is_none, unwrap_or, bytes_eq}
+use Rattle.std.specs.Prelude.{◌≡◌, ℕ, ◌+◌, ◌*◌, ◌/◌, ◌%◌, ◌^◌, ◌<◌, ◌≤◌, ◌⊎◌, ⊤, ◌==◌, ◌||◌, ◌&&◌, not, nat_eq, nat_lt, Bool, true, false, List, [], ◌∷◌, ◌++◌, map, length, take, codes, if◌then◌else◌, Option, Some, None, is_some, is_none, unwrap_or, Result, Ok, Err, bytes_eq}
 use Rattle.std.specs.List.{AllByRecursion, flat_map, list_all, list_any, starts_with}
 use Rattle.echo_addr.specs.declared.address.Address.{Address}
 use Rattle.echo_packet.specs.Header.{number_at, word}
-use Rattle.echo_packet.specs.Message.{HasNoZero}
 use Rattle.echo_text.specs.Lines.{is_tag, trimmed}
-use Rattle.echo_text.specs.Echo.{EchoText, IsEcho, msgid_of}
+use Rattle.echo_text.specs.Echo.{EchoText, msgid_of}
 use Rattle.echo_text.specs.Refusal.{refusal}
 use Rattle.echo_toss.specs.declared.fault.BaseFault.{BaseFault}
 use Rattle.echo_toss.specs.declared.fault.BaseFault.TheVariants as fault
@@ -24,17 +23,19 @@ abbrev pub magic : Version → List ℕ
 magic First = codes "ECHOBAS1"
 magic Second = codes "ECHOBAS2"
 
--- a number of four bytes, and the one at a place
+-- the bytes of a number of four bytes
 abbrev pub long : ℕ → List ℕ
 long n = word (n % 65536) ++ word (n / 65536)
 
+-- the number of four bytes at a place
 abbrev pub long_at : ℕ → List ℕ → ℕ
 long_at at bytes = number_at at bytes + 65536 * number_at (at + 2) bytes
 
--- bytes after their length, of one byte or of four
+-- bytes after their length, of one byte
 abbrev pub after_length : List ℕ → List ℕ
 after_length s = length s ∷ s
 
+-- and of four bytes
 abbrev pub after_long_length : List ℕ → List ℕ
 after_long_length s = long (length s) ++ s
 
@@ -85,10 +86,11 @@ pub record IsStored (version : Version) (s : Stored) : Type 0 where
 abbrev pub is_posted : ℕ → Bool
 is_posted kind = (kind == 0) || (kind == 2)
 
--- what the message says of its sender and its text
+-- what the message says of its sender
 abbrev pub sender_in : Stored → Option Address
 sender_in s = if is_posted s.kind then None else Some (record { zone = s.zone; net = s.net; node = s.node })
 
+-- and of its text
 abbrev pub echo_in : Version → Stored → EchoText
 echo_in version s = if has_tag version s.kind then bare s.tag s.last else echo_of s.last
 
@@ -116,6 +118,7 @@ has_wrong_sender s = is_posted s.kind && not ((s.zone == 0) && ((s.net == 0) && 
 abbrev pub is_no_string : ℕ → List ℕ → Bool
 is_no_string most s = nat_lt most (length s) || list_any is_zero s
 
+-- a name or the subject is no such string
 abbrev pub has_wrong_string : Stored → Bool
 has_wrong_string s = is_no_string 35 s.to_name || (is_no_string 35 s.from_name || is_no_string 71 s.subject)
 
@@ -139,6 +142,7 @@ abbrev pub is_short : Version → ℕ → ℕ → Filed → Bool
 is_short First cursor place m = false
 is_short Second cursor place m = nat_lt place cursor && (is_some (msgid_of m.echo.kept) && is_stub m)
 
+-- the message has the text where tag and id are to stand, or the other way round
 abbrev pub has_wrong_form : Version → ℕ → ℕ → Stored → Bool
 has_wrong_form version cursor place s =
     if has_tag version s.kind then not (is_short version cursor place (message_in version s))
@@ -224,15 +228,26 @@ BaseFaultOf bytes (fault.Truncated n) =
 BaseFaultOf bytes (fault.Damaged n) = IsDamagedAt n bytes
 BaseFaultOf bytes _ = ⊥
 
--- how the second version stores a message, in short or not
+-- what a base file says: the messages, the cursor, and how many bytes these take
+abbrev pub Loaded : Type 0
+Loaded = List Filed × ℕ × ℕ
+
+-- what reading a base is to answer: the first bytes are this base, or the bytes have this fault
+abbrev pub LoadOf : List ℕ → Result Loaded BaseFault → Type 0
+LoadOf bytes (Ok found) = (found.2 ≤ length bytes) × BaseOf found.0 found.1 (take found.2 bytes)
+LoadOf bytes (Err refused) = BaseFaultOf bytes refused
+
+-- the first byte of a message, in short or not
 abbrev pub kind_of : Bool → Option Address → ℕ
 kind_of short None = if short then 2 else 0
 kind_of short (Some sender) = if short then 3 else 1
 
+-- the sender as it is stored, zeros where there is none
 abbrev pub sender_or_zeros : Option Address → Address
 sender_or_zeros None = record { zone = 0; net = 0; node = 0 }
 sender_or_zeros (Some sender) = sender
 
+-- a message as it is stored, in short or not
 abbrev pub stored_as : Bool → Filed → Stored
 stored_as short m = record {
   kind = kind_of short m.sender;
@@ -247,6 +262,7 @@ stored_as short m = record {
   last = if short then unwrap_or (msgid_of m.echo.kept) [] else text_of m.echo;
 }
 
+-- a message as it is stored at this place
 unfoldable pub stored_at : ℕ → ℕ → Filed → Stored
 stored_at cursor place m = stored_as (is_short Second cursor place m) m
 
@@ -260,37 +276,10 @@ unfoldable pub saved_bytes : List Filed → ℕ → List ℕ
 saved_bytes base cursor =
     head_bytes Second cursor (length base) ++ flat_map (stored_bytes Second) (stored_from cursor 0 base)
 
--- a base that four bytes of each number count
+-- four bytes count the bytes of the text, or of the id
 abbrev pub is_short_enough : Stored → Bool
 is_short_enough s = nat_lt (length s.last) (2 ^ 32)
 
+-- and so of each message, and four bytes count the messages
 unfoldable pub is_countable : List Filed → ℕ → Bool
 is_countable base cursor = nat_lt (length base) (2 ^ 32) && list_all is_short_enough (stored_from cursor 0 base)
-
--- each part of a sender is a number of two bytes
-abbrev pub HasSmallSender : Option Address → Type 0
-HasSmallSender None = ⊤
-HasSmallSender (Some a) = (a.zone < 2 ^ 16) × (a.net < 2 ^ 16) × (a.node < 2 ^ 16)
-
--- what holds of each message of a base
-pub record IsFiled (m : Filed) : Type 0 where
-  pub small_sender : HasSmallSender m.sender
-  pub date_len : length m.date ≡ 20
-  pub to_room : length m.to_name ≤ 35
-  pub to_bytes : HasNoZero m.to_name
-  pub from_room : length m.from_name ≤ 35
-  pub from_bytes : HasNoZero m.from_name
-  pub subject_room : length m.subject ≤ 71
-  pub subject_bytes : HasNoZero m.subject
-  pub is_echo : IsEcho m.echo
-
--- no message has a key that one before it has
-abbrev pub AreNew : List Filed → List Filed → Type 0
-AreNew earlier [] = ⊤
-AreNew earlier (m ∷ later) = (is_known earlier (key_of m) ≡ false) × AreNew (earlier ++ m ∷ []) later
-
--- what holds of each base and its cursor
-pub record IsBase (base : List Filed) (cursor : ℕ) : Type 0 where
-  pub each : AllByRecursion IsFiled base
-  pub new : AreNew [] base
-  pub within : cursor ≤ length base

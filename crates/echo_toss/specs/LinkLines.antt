@@ -41,11 +41,12 @@ is_control_byte b = nat_lt b 32 && not (b == 9)
 unfoldable pub words : List ℕ → List (List ℕ)
 words line = filter (λ word. nat_lt 0 (length word)) (slice_split is_space line)
 
--- the first of some words, and those after it
+-- the first of some words
 abbrev pub first_of : List (List ℕ) → List ℕ
 first_of [] = []
 first_of (word ∷ more) = word
 
+-- the words after it
 abbrev pub after_first_of : List (List ℕ) → List (List ℕ)
 after_first_of [] = []
 after_first_of (word ∷ more) = more
@@ -54,19 +55,23 @@ after_first_of (word ∷ more) = more
 abbrev pub has_word : List ℕ → List ℕ → Bool
 has_word word line = bytes_eq (first_of (words line)) word
 
+-- a line of the own address
 abbrev pub is_system_line : List ℕ → Bool
 is_system_line line = has_word (codes "SYSTEM") line
 
+-- a line of the name
 abbrev pub is_name_line : List ℕ → Bool
 is_name_line line = has_word (codes "NAME") line
 
+-- a line of an area
 abbrev pub is_area_line : List ℕ → Bool
 is_area_line line = has_word (codes "AREA") line
 
--- bytes without the blanks at the front, and at both ends
+-- bytes without the blanks at the front
 abbrev pub without_front_spaces : List ℕ → List ℕ
 without_front_spaces bytes = drop (prefix_len is_space bytes) bytes
 
+-- and without those at both ends
 abbrev pub without_spaces : List ℕ → List ℕ
 without_spaces bytes =
     take (length (without_front_spaces bytes) - suffix_len is_space (without_front_spaces bytes)) (without_front_spaces bytes)
@@ -79,10 +84,11 @@ system_in line = address_in (first_of (after_first_of (words line)))
 abbrev pub name_in : List ℕ → List ℕ
 name_in line = without_spaces (drop 4 (without_front_spaces line))
 
--- the tag of an AREA line, and the words after it
+-- the tag of an AREA line, in upper case
 abbrev pub tag_in : List ℕ → List ℕ
 tag_in line = upper (first_of (after_first_of (words line)))
 
+-- the words after it
 abbrev pub links_in : List ℕ → List (List ℕ)
 links_in line = after_first_of (after_first_of (words line))
 

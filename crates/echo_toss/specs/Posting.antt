@@ -1,5 +1,5 @@
 -- Posting: what is filed for a draft, and why a draft is refused.
-use Rattle.std.specs.Prelude.{◌≡◌, ℕ, ◌⊎◌, ◌==◌, ◌||◌, not, nat_lt, Bool, false, List, [], ◌∷◌, ◌++◌, map, length, codes, if◌then◌else◌, Option, Some, None, is_none, option_map, unwrap_or, bytes_eq, Result, Ok, Err}
+use Rattle.std.specs.Prelude.{◌≡◌, ℕ, ◌⊎◌, ◌==◌, ◌||◌, not, nat_lt, Bool, true, false, List, [], ◌∷◌, ◌++◌, map, length, codes, if◌then◌else◌, Option, Some, None, is_none, option_map, unwrap_or, bytes_eq, Result, Ok, Err}
 use Rattle.std.specs.Char.{to_ascii_uppercase}
 use Rattle.std.specs.List.{list_any}
 use Rattle.echo_addr.specs.Address.{address_text}
@@ -72,6 +72,31 @@ post_refusal file base tag draft serial stamp =
     else if not ((length draft.reply == 0) || is_id draft.reply) then Some fault.BadReply
     else if list_any (has_id (id_of file.system serial)) base then Some fault.KnownSerial
     else None
+
+-- no refusal applies to a posting
+pub record IsAllowed (file : LinkFile) (base : List Filed) (tag : List ℕ) (draft : Draft) (serial : ℕ) (stamp : Stamp) : Type 0 where
+  pub area : has_area file (upper tag) ≡ true
+  pub zero : holds_zero draft ≡ false
+  pub short : is_too_long draft ≡ false
+  pub moment : is_stamp stamp ≡ true
+  pub reply : ((length draft.reply == 0) || is_id draft.reply) ≡ true
+  pub new : list_any (has_id (id_of file.system serial)) base ≡ false
+
+-- this refusal applies, and none that comes before it: B1, B2, B3, B5, B6, B4
+abbrev pub IsFirstRefusal : LinkFile → List Filed → List ℕ → Draft → ℕ → Stamp → PostFault → Type 0
+IsFirstRefusal file base tag draft serial stamp fault.NoArea = has_area file (upper tag) ≡ false
+IsFirstRefusal file base tag draft serial stamp fault.ByteZero = (has_area file (upper tag) ≡ true) × (holds_zero draft ≡ true)
+IsFirstRefusal file base tag draft serial stamp fault.FieldTooLong =
+    (has_area file (upper tag) ≡ true) × (holds_zero draft ≡ false) × (is_too_long draft ≡ true)
+IsFirstRefusal file base tag draft serial stamp fault.BadStamp =
+    (has_area file (upper tag) ≡ true) × (holds_zero draft ≡ false) × (is_too_long draft ≡ false) × (is_stamp stamp ≡ false)
+IsFirstRefusal file base tag draft serial stamp fault.BadReply =
+    (has_area file (upper tag) ≡ true) × (holds_zero draft ≡ false) × (is_too_long draft ≡ false) × (is_stamp stamp ≡ true)
+    × (((length draft.reply == 0) || is_id draft.reply) ≡ false)
+IsFirstRefusal file base tag draft serial stamp fault.KnownSerial =
+    (has_area file (upper tag) ≡ true) × (holds_zero draft ≡ false) × (is_too_long draft ≡ false) × (is_stamp stamp ≡ true)
+    × (((length draft.reply == 0) || is_id draft.reply) ≡ true) × (list_any (has_id (id_of file.system serial)) base ≡ true)
+IsFirstRefusal file base tag draft serial stamp fault.Memory = ⊥
 
 -- the message that a posting files
 unfoldable pub posting : LinkFile → List Filed → List ℕ → Draft → ℕ → Stamp → Option Filed

@@ -33,6 +33,7 @@ is_stub_with m (Some msgid) =
     pointwise bytes_eq m.echo.kept (id_line msgid_word msgid ∷ [])
     && ((length m.echo.seen == 0) && (length m.echo.path == 0))
 
+-- the same, of the id that the message has
 unfoldable pub is_stub : Filed → Bool
 is_stub m = is_stub_with m (msgid_of m.echo.kept)
 

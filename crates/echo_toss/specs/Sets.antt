@@ -26,16 +26,18 @@ address_before a b =
     nat_lt a.zone b.zone
     || ((a.zone == b.zone) && (nat_lt a.net b.net || ((a.net == b.net) && nat_lt a.node b.node)))
 
--- whether two entries, or two addresses, are the same
+-- whether two entries are the same
 abbrev pub same_entry : NetNode → NetNode → Bool
 same_entry x y = (x.net == y.net) && (x.node == y.node)
 
+-- whether two addresses are the same
 abbrev pub same_address : Address → Address → Bool
 same_address a b = (a.zone == b.zone) && ((a.net == b.net) && (a.node == b.node))
 
--- the entries, and the addresses, of a list as a set
+-- the entries of a list as a set
 unfoldable pub entry_set : List NetNode → List NetNode
 entry_set all = set_of entry_before all
 
+-- the addresses of a list as a set
 unfoldable pub address_set : List Address → List Address
 address_set all = set_of address_before all

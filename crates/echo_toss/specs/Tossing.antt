@@ -57,6 +57,18 @@ pub record IsToBeFiled (file : LinkFile) (base : List Filed) (from : Address) (p
   pub link : is_link file (echo_of packed.text).tag from ≡ true
   pub new : is_known base (key_of (received from packed)) ≡ false
 
+-- this is what becomes of a message, and no outcome before it applies
+abbrev pub IsOutcome : LinkFile → List Filed → Address → Message → Outcome → Type 0
+IsOutcome file base from packed outcome.NotEcho = refusal packed.text ≡ Some text.NotEcho
+IsOutcome file base from packed outcome.BadTag = refusal packed.text ≡ Some text.BadTag
+IsOutcome file base from packed outcome.NoArea = (refusal packed.text ≡ None) × (has_area file (echo_of packed.text).tag ≡ false)
+IsOutcome file base from packed outcome.NotLinked =
+    (refusal packed.text ≡ None) × (has_area file (echo_of packed.text).tag ≡ true) × (is_link file (echo_of packed.text).tag from ≡ false)
+IsOutcome file base from packed outcome.Known =
+    (refusal packed.text ≡ None) × (has_area file (echo_of packed.text).tag ≡ true) × (is_link file (echo_of packed.text).tag from ≡ true)
+    × (is_known base (key_of (received from packed)) ≡ true)
+IsOutcome file base from packed outcome.Filed = IsToBeFiled file base from packed
+
 -- a toss: the message put at the end of the base where it is filed, else the base as it was
 abbrev pub TossStep : LinkFile → List Filed → Address → Message → Outcome → List Filed → Type 0
 TossStep file base sender packed answer after =
@@ -79,9 +91,10 @@ outcomes file base sender (packed ∷ later) =
 abbrev pub zone_of : LinkFile → ℕ → ℕ
 zone_of file zone = if zone == 0 then file.system.zone else zone
 
--- who sent a packet, and whom it is for
+-- who sent a packet
 abbrev pub origin_of : LinkFile → Header → Address
 origin_of file header = record { zone = zone_of file header.orig_zone; net = header.orig_net; node = header.orig_node }
 
+-- whom a packet is for
 abbrev pub destination_of : LinkFile → Header → Address
 destination_of file header = record { zone = zone_of file header.dest_zone; net = header.dest_net; node = header.dest_node }

@@ -1,7 +1,8 @@
 use echo_addr::Items;
 
-/// A message to be posted: names of at most 35 bytes, a subject of at most 71, the id of the message
-/// that it replies to or no bytes, and a body whose lines end in 0D. No field holds 00.
+/// A message to be posted: names, subject, the id of the message that it replies to or no bytes, and a
+/// body whose lines end in 0D. A name over 35 bytes, a subject over 71 and a 00 anywhere are refused
+/// when it is posted.
 #[derive(Debug, Drop)]
 pub struct Draft {
     pub to_name: Items<u8>,

@@ -3,7 +3,7 @@ use echo_text::Echo;
 use std::marker::Model;
 
 /// A message of a base: its sender, none where it was posted here, its DateTime, names, subject and
-/// text.
+/// text. Names have at most 35 bytes and the subject 71, none of them 00.
 #[derive(Debug, Drop)]
 pub struct Filed {
     pub sender: Option<Address>,
@@ -16,6 +16,7 @@ pub struct Filed {
 
 impl Model for Filed {
     ghost use Rattle.echo_toss.specs.Base as model;
+    ghost use Rattle.echo_toss.specs.Base.{IsFiled};
 
     ghost Value = { model.Filed };
 
@@ -27,4 +28,13 @@ impl Model for Filed {
       subject = m.subject;
       echo = m.echo;
     } };
+
+    ghost invariant = { λ m. IsFiled (record {
+      sender = m.sender;
+      date = m.date;
+      to_name = m.to_name;
+      from_name = m.from_name;
+      subject = m.subject;
+      echo = m.echo;
+    }) };
 }

@@ -1,25 +1,31 @@
 //! What holds of the definitions. Each law is the contract of a function that does nothing.
 
-ghost use Rattle.std.specs.Prelude.{◌≡◌, ◌↔◌, ℕ, List, [], ◌∷◌, ◌++◌, Option, Some, None, Ok, true, false};
+ghost use Rattle.std.specs.Prelude.{◌≡◌, ◌↔◌, ℕ, ◌≤◌, List, [], ◌∷◌, ◌++◌, length, take, Option, Some, None, Result, Ok, Err, true, false};
 ghost use Rattle.std.specs.List.{list_any};
 ghost use Rattle.echo_addr.specs.declared.address.Address.{Address};
 ghost use Rattle.echo_addr.specs.declared.address.NetNode.{NetNode};
+ghost use Rattle.echo_packet.specs.Header.{AreBytes};
 ghost use Rattle.echo_packet.specs.Message.{IsMessage, Message};
 ghost use Rattle.echo_text.specs.Echo.{EchoOf, EchoText, IsEcho, IsSetOf, TextOf, msgid_of};
 ghost use Rattle.echo_text.specs.Refusal.{refusal};
 ghost use Rattle.echo_toss.specs.declared.draft.Draft.{Draft};
+ghost use Rattle.echo_toss.specs.declared.fault.BaseFault.{BaseFault};
+ghost use Rattle.echo_toss.specs.declared.fault.LinkFault.{LinkFault};
+ghost use Rattle.echo_toss.specs.declared.fault.LinkFault.TheVariants as link;
+ghost use Rattle.echo_toss.specs.declared.fault.PostFault.{PostFault};
 ghost use Rattle.echo_toss.specs.declared.key.Key.{Key};
+ghost use Rattle.echo_toss.specs.declared.outcome.Outcome.{Outcome};
 ghost use Rattle.echo_toss.specs.declared.stamp.Stamp.{Stamp};
 ghost use Rattle.echo_text.specs.Ids.{id_of};
 ghost use Rattle.echo_toss.specs.Sets.{entry_set};
 ghost use Rattle.echo_toss.specs.Written.{echo_of, text_of};
-ghost use Rattle.echo_toss.specs.Base.{Filed, IsFile, LinkFile, has_area, key_of, same_key};
-ghost use Rattle.echo_toss.specs.Posting.{has_id, posting};
-ghost use Rattle.echo_toss.specs.Tossing.{IsToBeFiled, received, tossing};
+ghost use Rattle.echo_toss.specs.Base.{Filed, HasSmallSender, IsBase, IsFile, LinkFile, has_area, key_of, same_key};
+ghost use Rattle.echo_toss.specs.Posting.{IsAllowed, IsFirstRefusal, has_id, post_refusal, posting};
+ghost use Rattle.echo_toss.specs.Tossing.{IsOutcome, IsToBeFiled, received, toss_outcome, tossing};
 ghost use Rattle.echo_toss.specs.Scanning.{copy_to, exported};
 ghost use Rattle.echo_toss.specs.Purging.{purged, stub_of};
 ghost use Rattle.echo_toss.specs.LinkLines.{LinksOf};
-ghost use Rattle.echo_toss.specs.BaseFile.{BaseOf, HasSmallSender, IsBase, is_countable, saved_bytes};
+ghost use Rattle.echo_toss.specs.BaseFile.{BaseFaultOf, BaseOf, LoadOf, Loaded, is_countable, saved_bytes};
 
 /// The test of keys passes exactly where they are the same.
 pub fn key_law()
@@ -69,6 +75,21 @@ pub fn posting_laws()
         posting file base tag draft serial stamp ≡ Some m → list_any (has_id (id_of file.system serial)) base ≡ false }
 {}
 
+/// A posting is refused for a reason exactly where that is the first that applies, and is filed exactly
+/// where none does.
+pub fn posting_refusals()
+    ensures refused { (file : LinkFile) (base : List Filed) (tag : List ℕ) (draft : Draft) (serial : ℕ) (stamp : Stamp) (reason : PostFault) →
+        (post_refusal file base tag draft serial stamp ≡ Some reason) ↔ IsFirstRefusal file base tag draft serial stamp reason }
+    ensures filed { (file : LinkFile) (base : List Filed) (tag : List ℕ) (draft : Draft) (serial : ℕ) (stamp : Stamp) →
+        (post_refusal file base tag draft serial stamp ≡ None) ↔ IsAllowed file base tag draft serial stamp }
+{}
+
+/// What becomes of a tossed message is the first outcome that applies.
+pub fn toss_outcomes()
+    ensures { (file : LinkFile) (base : List Filed) (sender : Address) (packed : Message) (outcome : Outcome) →
+        (toss_outcome file base sender packed ≡ outcome) ↔ IsOutcome file base sender packed outcome }
+{}
+
 /// A message is filed by a toss exactly where its text is echomail, its area is in the link file, the
 /// sender is a link of the area, and no message of the base has its key.
 pub fn toss_law()
@@ -77,15 +98,42 @@ pub fn toss_law()
 {}
 
 /// What is saved of a base is a base file of it, where four bytes count its messages and the bytes of
-/// each text and id.
+/// each text and id; it is read back as this base, whatever follows it.
 pub fn saved_base_law()
-    ensures { (base : List Filed) (cursor : ℕ) → IsBase base cursor → is_countable base cursor ≡ true → BaseOf base cursor (saved_bytes base cursor) }
+    ensures base { (base : List Filed) (cursor : ℕ) → IsBase base cursor → is_countable base cursor ≡ true → BaseOf base cursor (saved_bytes base cursor) }
+    ensures read_back { (base : List Filed) (cursor : ℕ) (rest : List ℕ) → IsBase base cursor → is_countable base cursor ≡ true →
+        LoadOf (saved_bytes base cursor ++ rest) (Ok (base, cursor, length (saved_bytes base cursor))) }
+{}
+
+/// Bytes are a base, perhaps with more bytes after it, or have a fault, and only one of these holds.
+pub fn one_base_or_fault()
+    ensures answered { (bytes : List ℕ) → AreBytes bytes →
+        (answer : Result Loaded BaseFault) × LoadOf bytes answer × ((other : Result Loaded BaseFault) → LoadOf bytes other → other ≡ answer) }
+    ensures one_base { (base other : List Filed) (cursor at : ℕ) (bytes : List ℕ) → AreBytes bytes → BaseOf base cursor bytes → BaseOf other at bytes → (base ≡ other) × (cursor ≡ at) }
+    ensures one_length { (base other : List Filed) (cursor at n m : ℕ) (bytes : List ℕ) → AreBytes bytes → n ≤ length bytes → m ≤ length bytes →
+        BaseOf base cursor (take n bytes) → BaseOf other at (take m bytes) → n ≡ m }
+    ensures no_fault { (base : List Filed) (cursor n : ℕ) (bytes : List ℕ) (refused : BaseFault) → AreBytes bytes → n ≤ length bytes →
+        BaseOf base cursor (take n bytes) → BaseFaultOf bytes refused → ⊥ }
+    ensures one_fault { (bytes : List ℕ) (refused other : BaseFault) → AreBytes bytes → BaseFaultOf bytes refused → BaseFaultOf bytes other → refused ≡ other }
+{}
+
+/// Bytes are a link file or have a fault, and only one of these holds; want of memory is no fault of
+/// theirs.
+pub fn one_link_file_or_fault()
+    ensures answered { (bytes : List ℕ) →
+        (answer : Result LinkFile LinkFault) × LinksOf bytes answer × ((other : Result LinkFile LinkFault) → LinksOf bytes other → other ≡ answer) }
+    ensures no_memory { (bytes : List ℕ) → LinksOf bytes (Err link.Memory) → ⊥ }
 {}
 
 /// A link file that is read says a system in range, a name of one line, areas each once, and in each
 /// area links in range, each once.
 pub fn link_file_law()
     ensures { (bytes : List ℕ) (file : LinkFile) → LinksOf bytes (Ok file) → IsFile file }
+{}
+
+/// What a base file says is a base.
+pub fn loaded_base_law()
+    ensures { (base : List Filed) (cursor : ℕ) (bytes : List ℕ) → BaseOf base cursor bytes → IsBase base cursor }
 {}
 
 /// A base stays a base where a posting or a toss files a message, and where it is purged.
