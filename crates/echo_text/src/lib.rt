@@ -31,3 +31,6 @@ pub use laws::{one_reading, one_writing, written_text_read_back};
 pub use msgid::MsgId;
 pub use reading::{read_text, view_text};
 pub use writing::write_text;
+
+#[cfg(test)]
+mod tests;
