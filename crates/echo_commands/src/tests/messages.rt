@@ -118,3 +118,50 @@ fn shows_packets_of_another_tosser(rt: HostRuntime) -> Result<(), Fail> {
     }
     Ok(())
 }
+
+/// The first packet, where memory is there.
+fn first(alloc: Global) -> Option<Vec<u8>> {
+    let digits = FIRST.replace(alloc, "\n", "").ok()?;
+    hex::decode(alloc, digits.as_str()).ok()
+}
+
+/// How a run of `show` ended, and how many bytes it wrote of its lines and of its fault line.
+fn told(alloc: Global, bytes: &[u8], lines: &mut [u8], line: &mut [u8]) -> (Status, usize, usize) {
+    let (most, most_of_line) = (lines.len(), line.len());
+    let mut out = lines;
+    let mut errors = line;
+    let status = show(alloc, false, bytes, &mut out, &mut errors);
+    (
+        status,
+        most.saturating_sub(out.len()),
+        most_of_line.saturating_sub(errors.len()),
+    )
+}
+
+#[test]
+fn want_of_memory_is_told(rt: HostRuntime) -> Result<(), Fail> {
+    let alloc = rt.alloc();
+    let bytes = first(alloc).or_else(|| first(alloc)).ok_or("memory")?;
+    let (mut lines, mut line) = ([0u8; 512], [0u8; 64]);
+    let (status, printed, faulty) = told(alloc, &bytes, &mut lines, &mut line);
+    if status != Status::Good {
+        let faults: [&[u8]; 3] = [
+            b"echonet: P7 Memory\n",
+            b"echonet: X3 Memory\n",
+            b"echonet: out of memory\n",
+        ];
+        assert_eq!(rt; status, Status::Device);
+        assert!(rt;
+            faults
+                .iter()
+                .any(|fault| line.get(..faulty) == Some(*fault))
+        );
+    }
+    let (mut again, mut none) = ([0u8; 512], [0u8; 64]);
+    assert_eq!(rt;
+        told(alloc, &bytes, &mut again, &mut none),
+        (Status::Good, HEADER.len() + POSTING.len() + 26, 0)
+    );
+    assert!(rt; lines.get(..printed) == again.get(..printed));
+    Ok(())
+}
