@@ -21,3 +21,4 @@ pub mod IdsOnce
 pub mod KeptLines
 pub mod SpelledIds
 pub mod WrittenBytes
+pub mod Readers

@@ -1,5 +1,5 @@
 -- A text that is written has no 00.
-use Rattle.std.proofs.Common.{◌≡◌, ◌≢◌, ℕ, ◌==◌, not, Bool, true, false, List, [], ◌∷◌, ◌++◌, refl, sym, ap, subst, ◌∙◌, arith, inl, inr, ◌⊎◌, Some, Result, Ok, Err}
+use Rattle.std.proofs.Common.{◌≡◌, ◌≢◌, ℕ, ◌==◌, not, Bool, true, false, List, [], ◌∷◌, ◌++◌, refl, sym, ap, subst, ◌∙◌, arith, inl, inr}
 use Rattle.std.specs.List.{AllByRecursion, flat_map, list_all}
 use Rattle.std.proofs.lemmas.Bool.{and_parts, eq-eqb}
 use Rattle.std.proofs.lemmas.List.Elements.{All-append, All-from_recursion, All-nil, All-weaker, recursion_from_All}
@@ -7,14 +7,8 @@ use Rattle.std.proofs.lemmas.List.Sums.{AllPass-from_list_all}
 use Rattle.echo_addr.specs.declared.address.NetNode.{NetNode}
 use Rattle.echo_addr.specs.ShortLines.{IsEntryByte, ReadBack, line_of, path_prefix, seen_prefix}
 use Rattle.echo_addr.proofs.ReadBack.{read_back}
-use Rattle.echo_text.specs.declared.fault.TextFault.{TextFault}
-use Rattle.echo_text.specs.declared.fault.TextFault.TheVariants.{Memory}
 use Rattle.echo_text.specs.Lines.{area_word, is_tag_byte}
 use Rattle.echo_text.specs.Echo.{EchoText, HasNoZero, IsEcho, IsLine, TextOf, ended}
-use Rattle.echo_text.specs.Refusal.{Answers, refusal}
-use Rattle.echo_text.proofs.OneReading.{one_answer}
-use Rattle.echo_text.proofs.SaidAfter.{not_refused}
-use Rattle.echo_text.proofs.Written.{written_read_back}
 
 -- a byte that is not 00
 abbrev IsSome : ℕ → Type 0
@@ -74,16 +68,3 @@ written_has_no_zero e text h w =
     subst HasNoZero (sym w.whole)
     (All-append IsSome (ended (area_word ++ e.tag)) (flat_map ended e.kept ++ (w.seen_lines ++ w.path_lines)) area
     (All-append IsSome (flat_map ended e.kept) (w.seen_lines ++ w.path_lines) kept (All-append IsSome w.seen_lines w.path_lines seen path)))
-
--- whoever reads it answers what it was written for
-pub written_is_read : (e : EchoText) (text : List ℕ) (r : Result (EchoText × ℕ) TextFault) → IsEcho e → TextOf e text → Answers text r
-    → (r ≡ Ok (e, 0)) ⊎ (r ≡ Err Memory)
-written_is_read e text r h w answers = one_answer text e 0 r (written_read_back e text h w) answers
-
--- whoever reads a refused text answers the refusal
-pub refused_is_answered : (text : List ℕ) (fault : TextFault) (r : Result (EchoText × ℕ) TextFault) → refusal text ≡ Some fault → Answers text r → r ≡ Err fault
-refused_is_answered text fault (Ok read) is answers = let none = not_refused text read.0 read.1 answers in absurd cc
-refused_is_answered text fault (Err other) is answers = elim answers [
-  | inl refused ↦ let same : Some other ≡ Some fault = sym refused ∙ is in cc
-  | inr memory ↦ let none = memory.0 in absurd cc
-]

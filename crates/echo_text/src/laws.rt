@@ -25,6 +25,11 @@ pub fn refusals_are_answered()
     ensures { (text : List ℕ) (fault : TextFault) (r : Result (EchoText × ℕ) TextFault) → refusal text ≡ Some fault → Answers text r → r ≡ Err fault }
 {}
 
+/// Any two readers, as `read_text` and `view_text`, answer the same of a text, unless one lacked memory.
+pub fn readers_agree()
+    ensures { (text : List ℕ) (r s : Result (EchoText × ℕ) TextFault) → Answers text r → Answers text s → (r ≡ s) ⊎ ((r ≡ Err Memory) ⊎ (s ≡ Err Memory)) }
+{}
+
 /// MSGID, REPLY, tear and origin lines are kept as they stand, all of them and in order, wherever they
 /// stand after the AREA line; and each kept line is a line of the text.
 pub fn kept_as_they_stand()
