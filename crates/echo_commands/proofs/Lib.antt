@@ -1,3 +1,5 @@
 pub mod Padding
 pub mod Pieces
 pub mod Printed
+pub mod Saying
+pub mod OnePrinting

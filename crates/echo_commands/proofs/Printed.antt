@@ -1,5 +1,5 @@
 -- What was printed of a packet.
-use Rattle.std.proofs.Common.{◌≡◌, ℕ, ◌+◌, ◌^◌, ◌<◌, ◌≤◌, List, [], ◌∷◌, ◌++◌, Option, Ok, min, length, take, refl, sym, ap, ◌∙◌, subst, arith, append_assoc, append-nil, add-zero}
+use Rattle.std.proofs.Common.{◌≡◌, ℕ, ◌+◌, ◌^◌, ◌<◌, List, [], ◌∷◌, ◌++◌, Option, Ok, length, refl, sym, ap, ◌∙◌, subst, arith, append_assoc, append-nil, add-zero}
 use Rattle.std.proofs.lemmas.List.{length-append}
 use Rattle.std.specs.Io.KnownBytes.{Appends}
 use Rattle.std.proofs.KnownBytes.{Appends-trans}
@@ -8,12 +8,11 @@ use Rattle.echo_packet.specs.declared.reader.Stage.{Stage}
 use Rattle.echo_packet.specs.declared.limits.Limits.{Limits}
 use Rattle.echo_packet.specs.Header.{header_bytes}
 use Rattle.echo_packet.specs.Message.{Message, message_bytes, messages_bytes}
-use Rattle.echo_packet.specs.Fault.{place_of}
 use Rattle.echo_packet.specs.Answer.{Describes}
 use Rattle.echo_packet.specs.Run.{SoFar}
 use Rattle.echo_packet.proofs.Headers.{length-header_bytes}
 use Rattle.echo_packet.proofs.Slices.{HasGiven}
-use Rattle.echo_commands.specs.Shown.{IsPrinted, header_lines, message_lines, messages_lines, end_line, show_limits}
+use Rattle.echo_commands.specs.Shown.{IsPrinted, MessageShown, MessagesShown, Writes, header_lines, end_line, show_limits}
 
 -- the header and the messages that were given are printed, and the next one begins at this place
 pub record HasPrinted (bytes rest : List ℕ) (header : Header) (own : Limits) (given at : ℕ) (next : Stage) (old new : Option (List ℕ)) (count place : ℕ) : Type 0 where
@@ -21,7 +20,9 @@ pub record HasPrinted (bytes rest : List ℕ) (header : Header) (own : Limits) (
   pub so_far : HasGiven show_limits bytes messages rest header own given at next
   pub number : count ≡ given
   pub here : place ≡ at
-  pub printed : Appends old new (header_lines header ++ messages_lines 1 58 messages)
+  pub lines : List ℕ
+  pub each : MessagesShown 1 58 messages lines
+  pub printed : Appends old new (header_lines header ++ lines)
 
 -- the header is printed
 pub header_printed : (bytes rest : List ℕ) (h : Header) (own : Limits) (given at : ℕ) (next : Stage) (old new : Option (List ℕ)) (place : ℕ)
@@ -31,20 +32,25 @@ header_printed bytes rest h own given at next old new place so here printed = re
   so_far = so;
   number = sym so.so_far.count;
   here = here;
+  lines = [];
+  each = refl;
   printed = subst (Appends old new) (sym (append-nil (header_lines h))) printed;
 }
 
+-- the lines of a message whose number and place have other names
+moved : (k l p q : ℕ) (m : Message) (own : List ℕ) → k ≡ l → p ≡ q → MessageShown k p m own → MessageShown l q m own
+moved k l p q m own number place h = subst (λ n. MessageShown n q m own) number (subst (λ n. MessageShown k n m own) place h)
+
 -- the lines of one message more
-pub messages_lines-more : (k p : ℕ) (ms : List Message) (m : Message)
-    → messages_lines k p (ms ++ m ∷ []) ≡ messages_lines k p ms ++ message_lines (k + length ms) (p + length (messages_bytes ms)) m
-messages_lines-more k p [] m = rw (add-zero, add-zero) (append-nil (message_lines k p m))
-messages_lines-more k p (x ∷ ms) m =
-    let number : k + 1 + length ms ≡ k + length (x ∷ ms) = omega arith in
-    let place : p + length (message_bytes x) + length (messages_bytes ms) ≡ p + length (messages_bytes (x ∷ ms)) = omega (arith, length-append (message_bytes x) (messages_bytes ms)) in
-    let more = messages_lines-more (k + 1) (p + length (message_bytes x)) ms m in
-    ap (λ t. message_lines k p x ++ t) (more ∙ ap (λ n. messages_lines (k + 1) (p + length (message_bytes x)) ms ++ message_lines n (p + length (message_bytes x) + length (messages_bytes ms)) m) number
-    ∙ ap (λ n. messages_lines (k + 1) (p + length (message_bytes x)) ms ++ message_lines (k + length (x ∷ ms)) n m) place)
-    ∙ sym (append_assoc (message_lines k p x) (messages_lines (k + 1) (p + length (message_bytes x)) ms) (message_lines (k + length (x ∷ ms)) (p + length (messages_bytes (x ∷ ms))) m))
+pub one_more : (k p : ℕ) (ms : List Message) (m : Message) (lines own : List ℕ) → MessagesShown k p ms lines
+    → MessageShown (k + length ms) (p + length (messages_bytes ms)) m own → MessagesShown k p (ms ++ m ∷ []) (lines ++ own)
+one_more k p [] m lines own none h =
+    (own, [], moved (k + 0) k (p + 0) p m own (add-zero k) (add-zero p) h, refl, ap (λ t. t ++ own) none ∙ sym (append-nil own))
+one_more k p (x ∷ ms) m lines own some h =
+    let number : k + length (x ∷ ms) ≡ k + 1 + length ms = omega arith in
+    let place : p + length (messages_bytes (x ∷ ms)) ≡ p + length (message_bytes x) + length (messages_bytes ms) = omega (arith, length-append (message_bytes x) (messages_bytes ms)) in
+    let later = one_more (k + 1) (p + length (message_bytes x)) ms m some.1 own some.3 (moved _ _ _ _ m own number place h) in
+    (some.0, some.1 ++ own, some.2, later, ap (λ t. t ++ own) some.4 ∙ append_assoc some.0 some.1 own)
 
 -- a place in a slice is an exact one
 exact_place : (limits : Limits) (bytes : List ℕ) (h : Header) (ms : List Message) (rest : List ℕ) (given at : ℕ) → SoFar limits bytes h ms rest given at → length bytes < 2 ^ 64
@@ -58,24 +64,22 @@ pub message_printed : (bytes rest after : List ℕ) (h new_h : Header) (own new_
     → (before : HasPrinted bytes rest h own given at next old mid count place)
     → HasGiven show_limits bytes (before.messages ++ m ∷ []) after new_h new_own new_given new_at new_next
     → new_h ≡ h → new_count ≡ count + 1 → new_given ≡ given + 1 → new_place ≡ new_at → length bytes < 2 ^ 64
-    → Appends mid new (message_lines new_count place m)
+    → Writes (MessageShown new_count place m) mid new
     → HasPrinted bytes after new_h new_own new_given new_at new_next old new new_count new_place
 message_printed bytes rest after h new_h own new_own given new_given at new_at next new_next old mid new count new_count place new_place m before so same counted gave here small line =
     let ms = before.messages in
     let number : new_count ≡ 1 + length ms = omega (arith, counted, before.number, before.so_far.so_far.count) in
     let start : place ≡ 58 + length (messages_bytes ms) = before.here ∙ exact_place show_limits bytes h ms rest given at before.so_far.so_far small in
-    let lines : message_lines new_count place m ≡ message_lines (1 + length ms) (58 + length (messages_bytes ms)) m = rw (number, start) refl in
-    let all : (header_lines h ++ messages_lines 1 58 ms) ++ message_lines new_count place m ≡ header_lines new_h ++ messages_lines 1 58 (ms ++ m ∷ []) =
-    append_assoc (header_lines h) (messages_lines 1 58 ms) (message_lines new_count place m)
-    ∙ ap (λ t. header_lines h ++ (messages_lines 1 58 ms ++ t)) lines
-    ∙ ap (λ t. header_lines h ++ t) (sym (messages_lines-more 1 58 ms m))
-    ∙ ap (λ x. header_lines x ++ messages_lines 1 58 (ms ++ m ∷ [])) (sym same) in
+    let all : (header_lines h ++ before.lines) ++ line.lines ≡ header_lines new_h ++ (before.lines ++ line.lines) =
+    append_assoc (header_lines h) before.lines line.lines ∙ ap (λ x. header_lines x ++ (before.lines ++ line.lines)) (sym same) in
     record {
       messages = ms ++ m ∷ [];
       so_far = so;
       number = omega (arith, counted, before.number, gave);
       here = here;
-      printed = subst (Appends old new) all (Appends-trans old mid new _ _ before.printed line);
+      lines = before.lines ++ line.lines;
+      each = one_more 1 58 ms m before.lines line.lines before.each (moved _ _ _ _ m line.lines number start line.are);
+      printed = subst (Appends old new) all (Appends-trans old mid new _ _ before.printed line.written);
     }
 
 -- the line after the last message is printed
@@ -85,17 +89,21 @@ pub end_printed : (bytes rest : List ℕ) (h new_h : Header) (own : Limits) (giv
 end_printed bytes rest h new_h own given at next old mid new count place size before same found line =
     let ms = before.messages in
     let number : count ≡ length ms = before.number ∙ before.so_far.so_far.count in
-    let all : (header_lines h ++ messages_lines 1 58 ms) ++ end_line count size ≡ header_lines new_h ++ (messages_lines 1 58 ms ++ end_line (length ms) size) =
-    append_assoc (header_lines h) (messages_lines 1 58 ms) (end_line count size)
-    ∙ ap (λ n. header_lines h ++ (messages_lines 1 58 ms ++ end_line n size)) number
-    ∙ ap (λ x. header_lines x ++ (messages_lines 1 58 ms ++ end_line (length ms) size)) (sym same) in
+    let all : (header_lines h ++ before.lines) ++ end_line count size ≡ header_lines new_h ++ (before.lines ++ end_line (length ms) size) =
+    append_assoc (header_lines h) before.lines (end_line count size)
+    ∙ ap (λ n. header_lines h ++ (before.lines ++ end_line n size)) number
+    ∙ ap (λ x. header_lines x ++ (before.lines ++ end_line (length ms) size)) (sym same) in
     record {
       header = new_h;
       messages = ms;
       size = size;
       room = found.0;
       packet = found.1;
-      printed = subst (Appends old new) all (Appends-trans old mid new _ _ before.printed line);
+      printed = record {
+        lines = (header_lines h ++ before.lines) ++ end_line count size;
+        are = record { of_messages = before.lines; each = before.each; whole = all };
+        written = Appends-trans old mid new _ _ before.printed line;
+      };
     }
 
 -- a message takes bytes

@@ -1,2 +1,4 @@
+pub mod Escaped
+pub mod Said
 pub mod Shown
 pub mod Status

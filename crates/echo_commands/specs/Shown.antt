@@ -1,12 +1,13 @@
 -- What `show` prints of a packet.
-use Rattle.std.specs.Prelude.{◌≡◌, ℕ, ◌+◌, ◌-◌, ◌/◌, ◌%◌, List, [], ◌∷◌, ◌++◌, length, replicate, codes, decimal, filter, ◌≤◌, nat_le, take, slice_index, not, Bool, true, false, ◌||◌, ◌&&◌, ◌==◌, if◌then◌else◌, Option, Ok}
-use Rattle.std.specs.List.{flat_map}
+use Rattle.std.specs.Prelude.{◌≡◌, ℕ, ◌+◌, ◌-◌, List, [], ◌∷◌, ◌++◌, length, replicate, codes, decimal, filter, ◌≤◌, take, not, Bool, true, false, ◌||◌, ◌==◌, Option, Ok}
 use Rattle.std.specs.Io.KnownBytes.{Appends}
 use Rattle.echo_packet.specs.declared.limits.Limits.{Limits}
 use Rattle.echo_packet.specs.Packet.{PacketOf}
-use Rattle.hex.specs.Hex.{lower_digits, encode_lower, decode_of}
+use Rattle.hex.specs.Hex.{encode_lower, decode_of}
 use Rattle.echo_packet.specs.declared.header.Header.{Header}
 use Rattle.echo_packet.specs.Message.{Message, message_bytes}
+pub use Rattle.echo_commands.specs.Escaped.{escaped, escaped_byte, escaped_line}
+use Rattle.echo_commands.specs.Said.{TextShown}
 
 -- a number in decimal, with leading zeros where it has fewer digits than asked for
 unfoldable pub zero_padded : ℕ → ℕ → List ℕ
@@ -40,25 +41,6 @@ abbrev pub header_lines : Header → List ℕ
 header_lines h =
     packet_line h ++ (codes "password " ++ (encode_lower h.password ++ (codes "\nfill " ++ (encode_lower h.fill ++ codes "\n"))))
 
--- a byte that is printed as it is: 20 to 7E, but for the backslash
-abbrev pub is_plain : ℕ → Bool
-is_plain b = nat_le 32 b && (nat_le b 126 && not (b == 92))
-
--- a byte as it is printed: as it is, the backslash twice, every other one by two digits
-abbrev pub escaped_byte : ℕ → List ℕ
-escaped_byte b =
-    if is_plain b then b ∷ []
-    else if b == 92 then codes "\\\\"
-    else codes "\\x" ++ (slice_index lower_digits (b / 16) ∷ slice_index lower_digits (b % 16) ∷ [])
-
--- bytes as they are printed
-abbrev pub escaped : List ℕ → List ℕ
-escaped bytes = flat_map escaped_byte bytes
-
--- a line of a word, a blank and bytes
-abbrev pub escaped_line : List ℕ → List ℕ → List ℕ
-escaped_line word bytes = word ++ (codes " " ++ (escaped bytes ++ codes "\n"))
-
 -- net/node
 abbrev pub net_node : ℕ → ℕ → List ℕ
 net_node net node = decimal net ++ (codes "/" ++ decimal node)
@@ -77,25 +59,34 @@ message_line number place m =
 abbrev pub text_line : ℕ → List ℕ
 text_line n = codes "text " ++ (decimal n ++ codes " bytes\n")
 
--- the lines of a message
+-- the lines of a message, but for those of what its text says
 abbrev pub message_lines : ℕ → ℕ → Message → List ℕ
 message_lines number place m =
     message_line number place m ++ (escaped_line (codes "date") m.date ++ (escaped_line (codes "to") m.to_name
     ++ (escaped_line (codes "from") m.from_name ++ (escaped_line (codes "subject") m.subject ++ text_line (length m.text)))))
 
+-- the lines of a message, those of what its text says among them
+pub record MessageShown (number place : ℕ) (m : Message) (lines : List ℕ) : Type 0 where
+  pub said : List ℕ
+  pub text : TextShown m.text said
+  pub whole : lines ≡ message_lines number place m ++ said
+
 -- the lines of messages, of which the first has this number and begins at this place
-abbrev pub messages_lines : ℕ → ℕ → List Message → List ℕ
-messages_lines number place [] = []
-messages_lines number place (m ∷ ms) =
-    message_lines number place m ++ messages_lines (number + 1) (place + length (message_bytes m)) ms
+abbrev pub MessagesShown : ℕ → ℕ → List Message → List ℕ → Type 0
+MessagesShown number place [] lines = lines ≡ []
+MessagesShown number place (m ∷ ms) lines =
+    (first : List ℕ) × (later : List ℕ) × MessageShown number place m first
+    × MessagesShown (number + 1) (place + length (message_bytes m)) ms later × (lines ≡ first ++ later)
 
 -- the line after the last message
 abbrev pub end_line : ℕ → ℕ → List ℕ
 end_line messages bytes = codes "end " ++ (decimal messages ++ (codes " messages, " ++ (decimal bytes ++ codes " bytes\n")))
 
 -- the lines for a packet of n bytes: its messages begin after the 58 bytes of the header
-abbrev pub shown : Header → List Message → ℕ → List ℕ
-shown h ms n = header_lines h ++ (messages_lines 1 58 ms ++ end_line (length ms) n)
+pub record Shown (h : Header) (ms : List Message) (n : ℕ) (lines : List ℕ) : Type 0 where
+  pub of_messages : List ℕ
+  pub each : MessagesShown 1 58 ms of_messages
+  pub whole : lines ≡ header_lines h ++ (of_messages ++ end_line (length ms) n)
 
 -- a byte that lays out hexadecimal text: a blank, a tab or a part of a line end
 abbrev pub is_layout : ℕ → Bool
@@ -114,6 +105,12 @@ Stands true input bytes = decode_of (hex_text input) ≡ Ok bytes
 abbrev pub show_limits : Limits
 show_limits = record { text = 16777216; messages = 18446744073709551615 }
 
+-- lines of this kind were written
+pub record Writes (AreLines : List ℕ → Type 0) (old new : Option (List ℕ)) : Type 0 where
+  pub lines : List ℕ
+  pub are : AreLines lines
+  pub written : Appends old new lines
+
 -- the packet at the front of the bytes was printed, and nothing else
 pub record IsPrinted (bytes : List ℕ) (old new : Option (List ℕ)) : Type 0 where
   pub header : Header
@@ -121,7 +118,7 @@ pub record IsPrinted (bytes : List ℕ) (old new : Option (List ℕ)) : Type 0 w
   pub size : ℕ
   pub room : size ≤ length bytes
   pub packet : PacketOf show_limits header messages (take size bytes)
-  pub printed : Appends old new (shown header messages size)
+  pub printed : Writes (Shown header messages size) old new
 
 -- the same of the bytes that the input stands for
 abbrev pub IsShown : Bool → List ℕ → Option (List ℕ) → Option (List ℕ) → Type 0

@@ -1,6 +1,6 @@
 //! Bytes as they are printed.
 ghost use Rattle.std.specs.Prelude.{◌≡◌, ◌++◌, codes, IfOk, OnOk};
-ghost use Rattle.echo_commands.specs.Shown.{escaped, escaped_byte, escaped_line};
+ghost use Rattle.echo_commands.specs.Escaped.{escaped, escaped_byte, escaped_line};
 
 use std::alloc::{AllocError, Global};
 
@@ -32,14 +32,22 @@ fn push_bytes(line: &mut Vec<u8>, bytes: &[u8]) -> Result<(), AllocError>
     Ok(())
 }
 
+/// Adds the line of a word, a blank and the bytes.
+pub fn push_escaped(lines: &mut Vec<u8>, word: &str, bytes: &[u8]) -> Result<(), AllocError>
+    ensures { OnOk result (lines.new.items ≡ lines.old.items ++ escaped_line word.now bytes.now) }
+{
+    lines.extend_from_slice(word.as_bytes())?;
+    lines.push(b' ')?;
+    push_bytes(lines, bytes)?;
+    lines.push(b'\n')?;
+    Ok(())
+}
+
 /// The line of a word, a blank and the bytes.
 pub fn escaped_text(alloc: Global, word: &str, bytes: &[u8]) -> Result<Vec<u8>, AllocError>
     ensures { IfOk result (λ line. line.items ≡ escaped_line word.now bytes.now) }
 {
     let mut line = Vec::new(alloc);
-    line.extend_from_slice(word.as_bytes())?;
-    line.push(b' ')?;
-    push_bytes(&mut line, bytes)?;
-    line.push(b'\n')?;
+    push_escaped(&mut line, word, bytes)?;
     Ok(line)
 }

@@ -3,6 +3,7 @@ ghost use Rattle.echo_commands.specs.declared.fault.Fault.TheVariants.{OutOfMemo
 
 use crate::status::Status;
 use echo_packet::PacketFault;
+use echo_text::TextFault;
 use std::alloc::{AllocError, AllocFailed};
 use std::io::Write;
 use thiserror::Error;
@@ -12,6 +13,8 @@ use thiserror::Error;
 pub enum Fault<'a> {
     #[error("{0}")]
     Packet(PacketFault),
+    #[error("{0}")]
+    Text(TextFault),
     #[error("bad hex")]
     BadHex,
     #[error("file too large {0}")]
@@ -47,9 +50,12 @@ impl Fault<'_> {
             Fault::Packet(
                 PacketFault::Read { .. } | PacketFault::Memory | PacketFault::Write { .. },
             )
+            | Fault::Text(TextFault::Memory)
             | Fault::CannotUse(_)
             | Fault::OutOfMemory => Status::Device,
-            Fault::Packet(_) | Fault::BadHex | Fault::TooLarge(_) => Status::Refused,
+            Fault::Packet(_) | Fault::Text(_) | Fault::BadHex | Fault::TooLarge(_) => {
+                Status::Refused
+            }
         }
     }
 

@@ -4,19 +4,23 @@
 //! The contract for the program: where `show` ends well it wrote just the lines of the packet at the
 //! front of its input.
 //!
-//! Modules in reading order: `input` (files and standard input), `showing` with `show_text` (what it
-//! prints), `fault` and `status` (how a command ends).
+//! Modules in reading order: `input` (files and standard input), `showing` with `show_text` and `said`
+//! (what it prints of a packet, and of what a text says), `fault` and `status` (how a command ends),
+//! and `laws` (what holds of the definitions).
 #![tactic(auto)]
 
 mod escape;
 mod fault;
 mod input;
+mod laws;
+mod said;
 mod show_text;
 mod showing;
 mod status;
 
 pub use fault::Fault;
 pub use input::{InputFault, read_whole};
+pub use laws::one_printing;
 pub use showing::show;
 pub use status::Status;
 

@@ -1,13 +1,18 @@
 ghost use Rattle.std.specs.Prelude.{◌≡◌, OnOk, IfOk, Ok};
 ghost use Rattle.std.specs.Io.KnownBytes.{Appends};
 ghost use Rattle.hex.specs.Hex.{decode_of};
-ghost use Rattle.echo_commands.specs.Shown.{IsPrinted, IsShown, end_line, escaped_line, header_lines, hex_text, message_lines};
+ghost use Rattle.echo_text.specs.Echo.{HasNoZero};
+ghost use Rattle.echo_commands.specs.Escaped.{escaped_line};
+ghost use Rattle.echo_commands.specs.Said.{TextShown};
+ghost use Rattle.echo_commands.specs.Shown.{IsPrinted, IsShown, MessageShown, Writes, end_line, header_lines, hex_text, message_lines};
 
 use crate::escape::escaped_text;
 use crate::fault::Fault;
+use crate::said::echo_text;
 use crate::show_text::{end_text, header_text, message_text, text_text};
 use crate::status::Status;
 use echo_packet::{Header, Limits, Packed, PacketReader};
+use echo_text::{TextFault, view_text};
 use hex::FromHexError;
 use std::alloc::Global;
 use std::io::Write;
@@ -90,8 +95,22 @@ fn print_header<'a, W: Write>(alloc: Global, header: &Header, out: &mut W) -> Re
     print(out, lines.as_bytes())
 }
 
-// The six lines of a message.
+// The lines of a message, with what its text says.
 fn print_message<'a, W: Write>(
+    alloc: Global,
+    number: u64,
+    place: u64,
+    message: &Packed,
+    out: &mut W,
+) -> Result<(), Fault<'a>>
+    ensures { OnOk result (Writes (MessageShown number place message.now) (W.contents out.old) (W.contents out.new)) }
+{
+    print_fields(alloc, number, place, message, out)?;
+    print_said(alloc, message.text(), out)
+}
+
+// The six lines of a message.
+fn print_fields<'a, W: Write>(
     alloc: Global,
     number: u64,
     place: u64,
@@ -108,6 +127,22 @@ fn print_message<'a, W: Write>(
     print_bytes(alloc, "subject", message.subject(), out)?;
     let line = text_text(alloc, message.text().len())?;
     print(out, line.as_bytes())
+}
+
+// What the text says as echomail, or why it is none.
+fn print_said<'a, W: Write>(alloc: Global, text: &[u8], out: &mut W) -> Result<(), Fault<'a>>
+    requires { HasNoZero text.now }
+    ensures { OnOk result (Writes (TextShown text.now) (W.contents out.old) (W.contents out.new)) }
+{
+    match view_text(alloc, text) {
+        Ok((echo, dropped)) => {
+            let lines = echo_text(alloc, &echo, dropped)?;
+            print(out, &lines)
+        }
+        Err(TextFault::NotEcho) => print(out, b"not echomail\n"),
+        Err(TextFault::BadTag) => print(out, b"bad tag\n"),
+        Err(fault) => Err(Fault::Text(fault)),
+    }
 }
 
 fn print_bytes<'a, W: Write>(

@@ -1,6 +1,7 @@
 mod messages;
 
 use super::*;
+use echo_text::TextFault;
 use std::alloc::Global;
 use std::io::Read;
 use std::test::Fail;
@@ -172,5 +173,7 @@ fn statuses(rt: HostRuntime) {
     }
     assert_eq!(rt; Fault::CannotUse("x").status(), Status::Device);
     assert_eq!(rt; Fault::OutOfMemory.status(), Status::Device);
+    assert_eq!(rt; Fault::Text(TextFault::Memory).status(), Status::Device);
+    assert_eq!(rt; Fault::Text(TextFault::BadTag).status(), Status::Refused);
     assert_eq!(rt; Fault::TooLarge("x").status(), Status::Refused);
 }

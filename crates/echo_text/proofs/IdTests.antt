@@ -1,12 +1,12 @@
 -- The test of an id holds exactly where the bytes are the parts of one.
-use Rattle.std.proofs.Common.{◌≡◌, ◌≢◌, ℕ, ◌+◌, ◌-◌, ◌<◌, ◌≤◌, ◌==◌, ◌||◌, ◌&&◌, not, nat_lt, cond, Bool, true, false, List, [], ◌∷◌, ◌++◌, length, get_or, take, drop, reverse, refl, sym, ap, subst, ◌∙◌, arith, inl, inr, ◌⊎◌}
-use Rattle.std.specs.List.{All, AllPass, list_all, prefix_len, suffix_len}
+use Rattle.std.proofs.Common.{◌≡◌, ◌≢◌, ℕ, ◌+◌, ◌-◌, ◌<◌, ◌≤◌, ◌==◌, ◌||◌, ◌&&◌, not, nat_lt, Bool, true, false, List, [], ◌∷◌, ◌++◌, length, get_or, take, drop, reverse, refl, sym, ap, subst, ◌∙◌, arith}
+use Rattle.std.specs.List.{AllPass, list_all, suffix_len}
 use Rattle.std.specs.Str.Parse.{AllDigits, digits_value}
-use Rattle.std.proofs.lemmas.Bool.{and_from, and_left, and_right, both_ways, cases_Bool, cases_lt, eq-eqb, eqb-true, false_from_ne_true, le-ltb, lt-ltb, ne_eqb, not-true, not_from_false, not_from_true, or_cases, or_from, or_left, or_parts, or_right}
+use Rattle.std.proofs.lemmas.Bool.{and_from, and_left, and_right, both_ways, le-ltb, lt-ltb, ne_eqb, not-true, not_from_false, or_left, or_parts, or_right}
 use Rattle.std.proofs.lemmas.List.{append_assoc, drop_at, get_or-append_right, get_or-drop, get_or-reverse, get_or_append_left, get_or_at, length-append, length-drop, length-reverse, length-take, length-take-le, take-append-drop, take_at}
 use Rattle.std.proofs.lemmas.List.Sums.{AllPass-from_list_all, list_all-from_AllPass, prefix_len_passes, suffix_len-le-length, suffix_len_is}
 use Rattle.echo_addr.specs.Entries.{is_blank}
-use Rattle.echo_text.specs.Ids.{Bare, IdParts, Quoted, SpellsOrigin, before_serial, doubled, ends_quoted, is_bare_origin, is_gap, is_hex_digit, is_id_trimmed, is_line_byte, is_quote, is_quoted_origin, without_gap}
+use Rattle.echo_text.specs.Ids.{Bare, IdParts, SpellsOrigin, before_serial, is_bare_origin, is_gap, is_hex_digit, is_id_trimmed, is_line_byte, is_quote, is_quoted_origin, without_gap}
 use Rattle.echo_text.proofs.Ids.{ends_doubled, hex_from_digits}
 
 -- the tests on what stands before the serial

@@ -1,14 +1,14 @@
 -- What spells an id, and that the test finds it.
-use Rattle.std.proofs.Common.{◌≡◌, ◌≢◌, ℕ, ◌+◌, ◌-◌, ◌<◌, ◌≤◌, ◌==◌, ◌||◌, ◌&&◌, not, nat_lt, nat_le, cond, Bool, true, false, List, [], ◌∷◌, ◌++◌, length, get_or, take, drop, reverse, refl, sym, ap, subst, ◌∙◌, arith, inl, inr, ◌⊎◌}
+use Rattle.std.proofs.Common.{◌≡◌, ℕ, ◌-◌, ◌≤◌, ◌||◌, ◌&&◌, not, nat_lt, nat_le, true, false, List, [], ◌∷◌, ◌++◌, length, take, drop, refl, sym, ap, ◌∙◌, arith, inl, inr}
 use Rattle.std.specs.Int.{is_in_range}
 use Rattle.std.specs.Char.{digit_value}
-use Rattle.std.specs.List.{All, AllPass, list_all, prefix_len, suffix_len}
-use Rattle.std.specs.Str.Parse.{AllDigits, digits_value}
-use Rattle.std.proofs.lemmas.Bool.{agree_below_at, and_from, and_parts, and_right, cases_Bool, cases_lt, cond-false, cond-true, eq-eqb, eqb-true, false≢true, le-ltb, lt-leb, lt-ltb, ltb-true, ne_eqb, not-true, not_from_false, or_cases}
-use Rattle.std.proofs.lemmas.List.{append_assoc, drop_at, length-append, length-drop, length-reverse, length-take, take-append-drop, take_at, get_or-reverse, get_or-drop, get_or_append_left, get_or-append_right}
-use Rattle.std.proofs.lemmas.List.Sums.{AllPass-from_list_all, list_all-from_AllPass, prefix_len_passes, suffix_len-le-length, suffix_len_is}
+use Rattle.std.specs.List.{list_all}
+use Rattle.std.specs.Str.Parse.{AllDigits}
+use Rattle.std.proofs.lemmas.Bool.{agree_below_at, and_from, and_parts, and_right, cases_Bool, cases_lt, cond-false, cond-true, eq-eqb, eqb-true, false≢true, le-ltb, lt-leb, lt-ltb, not-true}
+use Rattle.std.proofs.lemmas.List.{length-append, take_at}
+use Rattle.std.proofs.lemmas.List.Sums.{AllPass-from_list_all}
 use Rattle.echo_addr.specs.Entries.{is_blank}
-use Rattle.echo_text.specs.Ids.{Bare, IdParts, Quoted, SpellsOrigin, before_serial, doubled, ends_quoted, is_bare_origin, is_gap, is_hex_digit, is_id_trimmed, is_line_byte, is_quote, is_quoted_origin, undoubled, without_gap}
+use Rattle.echo_text.specs.Ids.{Bare, Quoted, doubled, ends_quoted, is_bare_origin, is_hex_digit, is_quote, is_quoted_origin, undoubled}
 
 -- a digit to the base 16, in both wordings
 worthless : (b : ℕ) → 128 ≤ b → digit_value b ≡ 36

@@ -18,3 +18,7 @@ pub mod IdTests
 pub mod OwnIds
 pub mod OwnIdsRead
 pub mod IdsOnce
+pub mod KeptLines
+pub mod SpelledIds
+pub mod WrittenBytes
+pub mod Readers

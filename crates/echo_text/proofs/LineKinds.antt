@@ -78,7 +78,7 @@ one_more : (n : ℕ) → 1 + n ≡ suc n
 one_more n = omega arith
 
 -- the line feeds at the front of a line of blanks leave blanks
-blanks_after_feeds : (line : List ℕ) → list_all is_blank line ≡ true → list_all is_blank (after_feeds line) ≡ true
+pub blanks_after_feeds : (line : List ℕ) → list_all is_blank line ≡ true → list_all is_blank (after_feeds line) ≡ true
 blanks_after_feeds [] blank = refl
 blanks_after_feeds (b ∷ line) blank = elim (cases_Bool (is_feed b)) [
   | inl y ↦

@@ -1,8 +1,7 @@
 -- The id that a system gives is spelled as ids are.
-use Rattle.std.proofs.Common.{◌≡◌, ℕ, ◌+◌, ◌-◌, ◌/◌, ◌%◌, ◌^◌, ◌<◌, ◌≤◌, ◌==◌, ◌||◌, not, Bool, true, false, List, [], ◌∷◌, ◌++◌, length, get_or, take, drop, refl, sym, ap, subst, ◌∙◌, arith, codes}
+use Rattle.std.proofs.Common.{◌≡◌, ℕ, ◌+◌, ◌-◌, ◌/◌, ◌%◌, ◌^◌, ◌<◌, ◌≤◌, ◌==◌, ◌||◌, not, true, false, List, [], ◌∷◌, ◌++◌, length, get_or, drop, refl, sym, ap, subst, ◌∙◌, arith, codes}
 use Rattle.std.specs.Char.{digit_value}
 use Rattle.std.specs.Fmt.{decimal}
-use Rattle.std.specs.Int.{IsInRange}
 use Rattle.std.specs.List.{AllByRecursion, prefix_len, suffix_len}
 use Rattle.std.proofs.lemmas.Bool.{ne_eqb, not_from_false, not-true, or_from}
 use Rattle.std.proofs.lemmas.Fmt.{decimal_nonempty}
@@ -15,7 +14,7 @@ use Rattle.echo_addr.specs.Entries.{is_blank}
 use Rattle.echo_addr.proofs.Decimals.{IsDigit, digits_of_decimal}
 use Rattle.echo_addr.proofs.Each.{joined, weaker}
 use Rattle.echo_text.specs.Lines.{trimmed, without_back_blanks}
-use Rattle.echo_text.specs.Ids.{Bare, IdOf, IdParts, IsWide, hex_digit, id_of, is_gap, is_line_byte, serial_text}
+use Rattle.echo_text.specs.Ids.{IdOf, IdParts, IsWide, hex_digit, id_of, is_gap, is_line_byte, serial_text}
 use Rattle.echo_text.proofs.OwnIds.{hex_worth, serial_back}
 
 -- a byte above the blanks and the double quote

@@ -1,5 +1,5 @@
 -- Serials as digits to the base 16.
-use Rattle.std.proofs.Common.{◌≡◌, ℕ, ◌+◌, ◌-◌, ◌*◌, ◌/◌, ◌%◌, ◌^◌, ◌<◌, ◌≤◌, nat_lt, Bool, true, false, List, [], ◌∷◌, ◌++◌, length, get_or, take, min, refl, sym, ap, subst, ◌∙◌, arith, lit<}
+use Rattle.std.proofs.Common.{◌≡◌, ℕ, ◌+◌, ◌*◌, ◌/◌, ◌%◌, ◌^◌, ◌<◌, ◌≤◌, false, List, ◌∷◌, length, get_or, take, refl, sym, ap, subst, ◌∙◌, arith, lit<}
 use Rattle.std.specs.Char.{digit_value}
 use Rattle.std.specs.List.{list_all}
 use Rattle.std.specs.Int.{to_be_bytes, w32}
@@ -9,7 +9,7 @@ use Rattle.std.proofs.lemmas.Bool.{le-ltb}
 use Rattle.std.proofs.lemmas.Int.Digits.{digits_more, digits_value-lt, digits_value_more}
 use Rattle.std.proofs.lemmas.List.{length-take-le, take_all}
 use Rattle.std.proofs.lemmas.List.Folds.{list_all_at}
-use Rattle.hex.specs.Hex.{encode_lower, encode_with, lower_digits}
+use Rattle.hex.specs.Hex.{encode_lower, encode_with}
 use Rattle.echo_text.specs.Ids.{hex_digit, is_hex_digit, serial_text}
 use Rattle.echo_text.proofs.Ids.{hex_digit_same}
 

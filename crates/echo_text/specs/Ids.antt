@@ -127,6 +127,10 @@ pub record IdParts (id origin : List ℕ) (quoted : Bool) (serial : ℕ) : Type 
 abbrev pub IdOf : List ℕ → List ℕ → Bool → ℕ → Type 0
 IdOf b origin quoted serial = IdParts (trimmed b) origin quoted serial
 
+-- the bytes spell some id
+abbrev pub SpellsId : List ℕ → Type 0
+SpellsId b = (origin : List ℕ) × (quoted : Bool) × (serial : ℕ) × IdOf b origin quoted serial
+
 -- the bytes spell no id
 abbrev pub NoId : List ℕ → Type 0
 NoId b = (origin : List ℕ) (quoted : Bool) (serial : ℕ) → IdOf b origin quoted serial → ⊥

@@ -1,5 +1,7 @@
 use crate::copying::copies;
-use crate::found::{first_id, first_id_of_slices, last_tear, last_with};
+use crate::found::{
+    first_id, first_id_of_slices, last_of_slices, last_tear, last_tear_of_slices, last_with,
+};
 use crate::words::{MSGID, ORIGIN, REPLY};
 use echo_addr::{Items, NetNode};
 use std::alloc::{AllocError, Global};
@@ -85,13 +87,34 @@ impl Echo {
 
 impl<'a> EchoView<'a> {
     ghost use Rattle.std.specs.Prelude.{◌≡◌, option_copied, IfOk};
-    ghost use Rattle.echo_text.specs.Echo.{msgid_of};
+    ghost use Rattle.echo_text.specs.Echo.{msgid_of, origin_of, reply_of, tear_of};
 
     /// The id of the message, as `Echo` has it.
     pub fn msgid(&self) -> Option<&[u8]>
         ensures { option_copied result ≡ msgid_of self.now.kept }
     {
         first_id_of_slices(MSGID, self.kept.as_slice())
+    }
+
+    /// The id of the message replied to, as `Echo` has it.
+    pub fn reply(&self) -> Option<&[u8]>
+        ensures { option_copied result ≡ reply_of self.now.kept }
+    {
+        first_id_of_slices(REPLY, self.kept.as_slice())
+    }
+
+    /// The last tear line, as `Echo` has it.
+    pub fn tear(&self) -> Option<&[u8]>
+        ensures { option_copied result ≡ tear_of self.now.kept }
+    {
+        last_tear_of_slices(self.kept.as_slice())
+    }
+
+    /// The last origin line, as `Echo` has it.
+    pub fn origin(&self) -> Option<&[u8]>
+        ensures { option_copied result ≡ origin_of self.now.kept }
+    {
+        last_of_slices(ORIGIN, self.kept.as_slice())
     }
 
     /// The same parts, with lines of their own.

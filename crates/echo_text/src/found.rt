@@ -63,3 +63,29 @@ pub(crate) fn last_with<'a>(word: &[u8], kept: &'a [Items<u8>]) -> Option<&'a [u
     }
     found
 }
+
+/// The last tear line of slices, likewise.
+pub(crate) fn last_tear_of_slices<'a>(kept: &[&'a [u8]]) -> Option<&'a [u8]>
+    ensures { option_copied result ≡ last_or None (map after_feeds (filter is_tear (map (λ line. line.now) kept.now))) }
+{
+    let mut found = None;
+    'lines: for line in kept {
+        if is_tear(line) {
+            found = Some(after_feeds(line));
+        }
+    }
+    found
+}
+
+/// The last of the slices that begins with the word, likewise.
+pub(crate) fn last_of_slices<'a>(word: &[u8], kept: &[&'a [u8]]) -> Option<&'a [u8]>
+    ensures { option_copied result ≡ last_or None (map after_feeds (filter (begins word.now) (map (λ line. line.now) kept.now))) }
+{
+    let mut found = None;
+    'lines: for line in kept {
+        if begins(word, line) {
+            found = Some(after_feeds(line));
+        }
+    }
+    found
+}

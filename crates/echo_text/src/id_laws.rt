@@ -1,9 +1,9 @@
 //! What holds of message ids. Each law is the contract of a function that does nothing.
 
-ghost use Rattle.std.specs.Prelude.{◌≡◌, ◌<◌, ◌^◌, ℕ, Bool, false, List};
+ghost use Rattle.std.specs.Prelude.{◌≡◌, ◌<◌, ◌^◌, ◌↔◌, ℕ, Bool, true, false, List};
 ghost use Rattle.echo_addr.specs.declared.address.Address.{Address};
 ghost use Rattle.echo_addr.specs.Address.{address_text};
-ghost use Rattle.echo_text.specs.Ids.{IdOf, IsWide, SameId, doubled, id_of, undoubled};
+ghost use Rattle.echo_text.specs.Ids.{IdOf, IsWide, SameId, SpellsId, doubled, id_of, is_id, undoubled};
 
 /// Ids of different pairs of address and serial differ (FTS-0009).
 pub fn ids_differ()
@@ -23,4 +23,9 @@ pub fn written_id_read_back()
 /// Bytes spell at most one id.
 pub fn one_id_is_spelled()
     ensures { (bytes o p : List ℕ) (quoted other : Bool) (s t : ℕ) → IdOf bytes o quoted s → IdOf bytes p other t → SameId o p quoted other s t }
+{}
+
+/// The test of an id passes exactly where the bytes spell one.
+pub fn test_of_ids()
+    ensures { (bytes : List ℕ) → (is_id bytes ≡ true) ↔ SpellsId bytes }
 {}

@@ -1,14 +1,43 @@
 //! What holds of the definitions. Each law is the contract of a function that does nothing.
 
-ghost use Rattle.std.specs.Prelude.{◌≡◌, ◌⊎◌, ℕ, List, Result, Ok, Err};
+ghost use Rattle.std.specs.Prelude.{◌≡◌, ◌⊎◌, ℕ, List, All, Contains, Option, Some, Result, Ok, Err, filter};
 ghost use Rattle.echo_text.specs.declared.fault.TextFault.{TextFault};
 ghost use Rattle.echo_text.specs.declared.fault.TextFault.TheVariants.{Memory};
 ghost use Rattle.echo_text.specs.Echo.{EchoOf, EchoText, HasNoZero, IsEcho, TextOf};
-ghost use Rattle.echo_text.specs.Refusal.{Answers};
+ghost use Rattle.echo_text.specs.Lines.{begins, is_origin, is_tear, msgid_word, reply_word};
+ghost use Rattle.echo_text.specs.Refusal.{Answers, refusal};
+ghost use Rattle.echo_text.specs.Tail.{kept_of};
 
 /// A text that was written is read back as what it was written for, no token dropped.
 pub fn written_text_read_back()
     ensures { (e : EchoText) (text : List ℕ) → IsEcho e → TextOf e text → EchoOf text e 0 }
+{}
+
+/// A text that was written has no 00, and whoever reads it answers what it was written for, no token
+/// dropped, or want of memory.
+pub fn written_text_is_read()
+    ensures no_zero { (e : EchoText) (text : List ℕ) → IsEcho e → TextOf e text → HasNoZero text }
+    ensures read { (e : EchoText) (text : List ℕ) (r : Result (EchoText × ℕ) TextFault) → IsEcho e → TextOf e text → Answers text r → (r ≡ Ok (e, 0)) ⊎ (r ≡ Err Memory) }
+{}
+
+/// Where a refusal applies to a text, whoever reads it answers that refusal.
+pub fn refusals_are_answered()
+    ensures { (text : List ℕ) (fault : TextFault) (r : Result (EchoText × ℕ) TextFault) → refusal text ≡ Some fault → Answers text r → r ≡ Err fault }
+{}
+
+/// Any two readers, as `read_text` and `view_text`, answer the same of a text, unless one lacked memory.
+pub fn readers_agree()
+    ensures { (text : List ℕ) (r s : Result (EchoText × ℕ) TextFault) → Answers text r → Answers text s → (r ≡ s) ⊎ ((r ≡ Err Memory) ⊎ (s ≡ Err Memory)) }
+{}
+
+/// MSGID, REPLY, tear and origin lines are kept as they stand, all of them and in order, wherever they
+/// stand after the AREA line; and each kept line is a line of the text.
+pub fn kept_as_they_stand()
+    ensures msgid { (later : List (List ℕ)) → filter (begins msgid_word) (kept_of later) ≡ filter (begins msgid_word) later }
+    ensures reply { (later : List (List ℕ)) → filter (begins reply_word) (kept_of later) ≡ filter (begins reply_word) later }
+    ensures tear { (later : List (List ℕ)) → filter is_tear (kept_of later) ≡ filter is_tear later }
+    ensures origin { (later : List (List ℕ)) → filter is_origin (kept_of later) ≡ filter is_origin later }
+    ensures lines { (later : List (List ℕ)) → All (Contains later) (kept_of later) }
 {}
 
 /// What a text says keeps the rules of an `Echo`, and it says one thing: whoever reads it answers

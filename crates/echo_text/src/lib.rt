@@ -26,8 +26,16 @@ mod writing;
 
 pub use echo::{Echo, EchoView};
 pub use fault::TextFault;
-pub use id_laws::{doubled_quotes_undone, ids_differ, one_id_is_spelled, written_id_read_back};
-pub use laws::{one_reading, one_writing, written_text_read_back};
+pub use id_laws::{
+    doubled_quotes_undone, ids_differ, one_id_is_spelled, test_of_ids, written_id_read_back,
+};
+pub use laws::{
+    kept_as_they_stand, one_reading, one_writing, readers_agree, refusals_are_answered,
+    written_text_is_read, written_text_read_back,
+};
 pub use msgid::MsgId;
 pub use reading::{read_text, view_text};
 pub use writing::write_text;
+
+#[cfg(test)]
+mod tests;

@@ -15,7 +15,7 @@ const DIGITS: usize = 8;
 
 /// A message id taken apart (FTS-0009). `origin` is what stands before the serial, without the double
 /// quotes around it where it was quoted; double quotes inside are then still doubled.
-#[derive(Clone, Copy, Debug)]
+#[derive(Clone, Copy, Debug, PartialEq, Eq)]
 pub struct MsgId<'a> {
     pub origin: &'a [u8],
     pub quoted: bool,

@@ -10,7 +10,7 @@ const PLAIN: &str =
 
 /// What is printed of the posting.
 const POSTING: &str =
-    "message 1 at 58: 10/1 to 10/2 attribute 0 cost 0\ndate 03 Jul 26  12:34:56\\x00\nto All\nfrom Ann\nsubject Hi\ntext 106 bytes\n";
+    "message 1 at 58: 10/1 to 10/2 attribute 0 cost 0\ndate 03 Jul 26  12:34:56\\x00\nto All\nfrom Ann\nsubject Hi\ntext 106 bytes\narea TEST\nmsgid 1:10/1 00000001\ntear --- echonet\norigin  * Origin: Alpha (1:10/1)\nseen 2 path 1 dropped 0\n";
 
 /// `02-short.pkt` of examples/packets, written by CrashMail II.
 const SHORT: &str =
@@ -33,7 +33,22 @@ fn shows_a_plain_message(rt: HostRuntime) -> Result<(), Fail> {
     let input = format!(in alloc; "{header}{PLAIN}")?;
     let (status, out, errors) = shown(alloc, true, input.as_bytes());
     let text = format!(in alloc;
-        "{HEADER}message 1 at 58: 10/1 to 10/2 attribute 1 cost 0\ndate 01 Jan 86  02:34:56\\x00\nto A\nfrom B\nsubject \ntext 2 bytes\nend 1 messages, 102 bytes\n"
+        "{HEADER}message 1 at 58: 10/1 to 10/2 attribute 1 cost 0\ndate 01 Jan 86  02:34:56\\x00\nto A\nfrom B\nsubject \ntext 2 bytes\nnot echomail\nend 1 messages, 102 bytes\n"
+    )?;
+    assert_eq!(rt; status, Status::Good);
+    assert!(rt; is_text(&out, text.as_str()) && errors.is_empty());
+    Ok(())
+}
+
+#[test]
+fn shows_a_bad_tag(rt: HostRuntime) -> Result<(), Fail> {
+    let alloc = rt.alloc();
+    let header = SIXTY.strip_suffix("0000\n").ok_or("a terminator")?;
+    let message = PLAIN.replace(alloc, "485c", "415245413a6120620d")?;
+    let input = format!(in alloc; "{header}{message}")?;
+    let (status, out, errors) = shown(alloc, true, input.as_bytes());
+    let text = format!(in alloc;
+        "{HEADER}message 1 at 58: 10/1 to 10/2 attribute 1 cost 0\ndate 01 Jan 86  02:34:56\\x00\nto A\nfrom B\nsubject \ntext 9 bytes\nbad tag\nend 1 messages, 109 bytes\n"
     )?;
     assert_eq!(rt; status, Status::Good);
     assert!(rt; is_text(&out, text.as_str()) && errors.is_empty());
@@ -90,16 +105,63 @@ fn shows_packets_of_another_tosser(rt: HostRuntime) -> Result<(), Fail> {
     for (packet, text) in [
         (
             SHORT,
-            "packet 1:10/1 to 1:10/2 at 2026-11-22 06:27:24 product 254 serial 1\npassword 0000000000000000\nfill 0000000100070100010001000000000000000000\nmessage 1 at 58: 10/1 to 10/2 attribute 0 cost 0\ndate 22 Nov 26  06:27:24\\x00\nto All\nfrom Ann\nsubject Hi\ntext 142 bytes\nend 1 messages, 248 bytes\n",
+            "packet 1:10/1 to 1:10/2 at 2026-11-22 06:27:24 product 254 serial 1\npassword 0000000000000000\nfill 0000000100070100010001000000000000000000\nmessage 1 at 58: 10/1 to 10/2 attribute 0 cost 0\ndate 22 Nov 26  06:27:24\\x00\nto All\nfrom Ann\nsubject Hi\ntext 142 bytes\narea TEST\nmsgid 1:10/1.0 028b4c00\ntear --- CrashWrite II/Linux 1.7\norigin  * Origin: CrashMail peer (1:10/1.0)\nseen 2 path 1 dropped 0\nend 1 messages, 248 bytes\n",
         ),
         (
             EIGHT_BIT,
-            "packet 1:10/1 to 1:10/2 at 2026-11-22 06:27:24 product 254 serial 1\npassword 0000000000000000\nfill 0000000100070100010001000000000000000000\nmessage 1 at 58: 10/1 to 10/2 attribute 0 cost 0\ndate 03 Jul 26  12:34:56\\x00\nto \\xc5sa\nfrom J\\xfcrgen\nsubject \\xa1Se\\xf1or!\ntext 301 bytes\nend 1 messages, 415 bytes\n",
+            "packet 1:10/1 to 1:10/2 at 2026-11-22 06:27:24 product 254 serial 1\npassword 0000000000000000\nfill 0000000100070100010001000000000000000000\nmessage 1 at 58: 10/1 to 10/2 attribute 0 cost 0\ndate 03 Jul 26  12:34:56\\x00\nto \\xc5sa\nfrom J\\xfcrgen\nsubject \\xa1Se\\xf1or!\ntext 301 bytes\narea TEST\nmsgid 1:10/1 00000700\ntear --- \\xd6\\xe4\\xfc\norigin  * Origin: K\\xf6ln (1:10/1)\nseen 2 path 1 dropped 0\nend 1 messages, 415 bytes\n",
         ),
     ] {
         let (status, out, _) = shown(alloc, true, packet.as_bytes());
         assert_eq!(rt; status, Status::Good);
         assert!(rt; is_text(&out, text), "{text}");
     }
+    Ok(())
+}
+
+/// The first packet, where memory is there.
+fn first(alloc: Global) -> Option<Vec<u8>> {
+    let digits = FIRST.replace(alloc, "\n", "").ok()?;
+    hex::decode(alloc, digits.as_str()).ok()
+}
+
+/// How a run of `show` ended, and how many bytes it wrote of its lines and of its fault line.
+fn told(alloc: Global, bytes: &[u8], lines: &mut [u8], line: &mut [u8]) -> (Status, usize, usize) {
+    let (most, most_of_line) = (lines.len(), line.len());
+    let mut out = lines;
+    let mut errors = line;
+    let status = show(alloc, false, bytes, &mut out, &mut errors);
+    (
+        status,
+        most.saturating_sub(out.len()),
+        most_of_line.saturating_sub(errors.len()),
+    )
+}
+
+#[test]
+fn want_of_memory_is_told(rt: HostRuntime) -> Result<(), Fail> {
+    let alloc = rt.alloc();
+    let bytes = first(alloc).or_else(|| first(alloc)).ok_or("memory")?;
+    let (mut lines, mut line) = ([0u8; 512], [0u8; 64]);
+    let (status, printed, faulty) = told(alloc, &bytes, &mut lines, &mut line);
+    if status != Status::Good {
+        let faults: [&[u8]; 3] = [
+            b"echonet: P7 Memory\n",
+            b"echonet: X3 Memory\n",
+            b"echonet: out of memory\n",
+        ];
+        assert_eq!(rt; status, Status::Device);
+        assert!(rt;
+            faults
+                .iter()
+                .any(|fault| line.get(..faulty) == Some(*fault))
+        );
+    }
+    let (mut again, mut none) = ([0u8; 512], [0u8; 64]);
+    assert_eq!(rt;
+        told(alloc, &bytes, &mut again, &mut none),
+        (Status::Good, HEADER.len() + POSTING.len() + 26, 0)
+    );
+    assert!(rt; lines.get(..printed) == again.get(..printed));
     Ok(())
 }

@@ -1,4 +1,4 @@
-use Rattle.std.proofs.Common.{◌≡◌, arith}
+use Rattle.std.proofs.Common.{arith}
 use Rattle.echo_commands.proofs.Pieces.{whole}
 use Rattle.echo_commands.proofs.input.read_whole.Goals as goal
 

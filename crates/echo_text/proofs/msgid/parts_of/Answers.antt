@@ -1,4 +1,4 @@
-use Rattle.std.proofs.Common.{◌≡◌, ◌≢◌, ◌≤◌, ◌∙◌, arith, length, sym}
+use Rattle.std.proofs.Common.{◌≢◌, ◌≤◌, ◌∙◌, arith, length, sym}
 use Rattle.echo_text.proofs.IdTests.{parts_found}
 use Rattle.echo_text.proofs.msgid.parts_of.Goals as goal
 

@@ -1,0 +1,76 @@
+-- A packet has one printing.
+use Rattle.std.proofs.Common.{◌≡◌, ℕ, ◌+◌, Bool, true, false, List, [], ◌∷◌, ◌++◌, length, Option, Some, None, Ok, sym, ap, subst, ◌∙◌}
+use Rattle.std.specs.Io.KnownBytes.{Appends}
+use Rattle.echo_packet.specs.declared.header.Header.{Header}
+use Rattle.echo_packet.specs.Message.{Message, message_bytes}
+use Rattle.echo_packet.specs.Answer.{Answer, Describes, Found}
+use Rattle.echo_packet.proofs.Outcome.{only_one}
+use Rattle.echo_text.specs.declared.fault.TextFault.{TextFault}
+use Rattle.echo_text.specs.declared.fault.TextFault.TheVariants.{BadMsgId, BadTag, Memory, NotEcho}
+use Rattle.echo_text.specs.Refusal.{refusal}
+use Rattle.echo_text.proofs.OneReading.{one_count, one_echo}
+use Rattle.echo_commands.specs.Said.{LinesFor, echo_lines}
+use Rattle.echo_commands.specs.Shown.{IsPrinted, IsShown, MessageShown, MessagesShown, Shown, Stands, end_line, header_lines, message_lines, show_limits}
+
+one_said : (r : Option TextFault) (text a b : List ℕ) → LinesFor r text a → LinesFor r text b → a ≡ b
+one_said None text a b h k =
+    h.whole
+    ∙ ap (λ e. echo_lines e h.dropped) (one_echo text h.echo k.echo h.dropped k.dropped h.said k.said)
+    ∙ ap (echo_lines k.echo) (one_count text h.echo k.echo h.dropped k.dropped h.said k.said)
+    ∙ sym k.whole
+one_said (Some NotEcho) text a b h k = h ∙ sym k
+one_said (Some BadTag) text a b h k = h ∙ sym k
+one_said (Some Memory) text a b h k = absurd h
+one_said (Some BadMsgId) text a b h k = absurd h
+
+one_message : (number place : ℕ) (m : Message) (a b : List ℕ) → MessageShown number place m a → MessageShown number place m b → a ≡ b
+one_message number place m a b h k =
+    h.whole ∙ ap (λ t. message_lines number place m ++ t) (one_said (refusal m.text) m.text h.said k.said h.text k.text) ∙ sym k.whole
+
+all_messages : (number place : ℕ) (ms : List Message) (a b : List ℕ) → MessagesShown number place ms a → MessagesShown number place ms b → a ≡ b
+all_messages number place [] a b h k = h ∙ sym k
+all_messages number place (m ∷ ms) a b h k =
+    h.4
+    ∙ ap (λ t. t ++ h.1) (one_message number place m h.0 k.0 h.2 k.2)
+    ∙ ap (λ t. k.0 ++ t) (all_messages (number + 1) (place + length (message_bytes m)) ms h.1 k.1 h.3 k.3)
+    ∙ sym k.4
+
+pub one_shown : (h : Header) (ms : List Message) (n : ℕ) (a b : List ℕ) → Shown h ms n a → Shown h ms n b → a ≡ b
+one_shown h ms n a b p q =
+    p.whole
+    ∙ ap (λ t. header_lines h ++ (t ++ end_line (length ms) n)) (all_messages 1 58 ms p.of_messages q.of_messages p.each q.each)
+    ∙ sym q.whole
+
+-- an input stands for one list of bytes
+one_standing : (hex : Bool) (input a b : List ℕ) → Stands hex input a → Stands hex input b → a ≡ b
+one_standing false input a b h k = h ∙ sym k
+one_standing true input a b h k = let same : Ok a ≡ Ok b = sym h ∙ k in cc
+
+-- what is found in bytes is one
+one_found : (bytes : List ℕ) (a b : Found) → Describes show_limits bytes (Ok a) → Describes show_limits bytes (Ok b) → a ≡ b
+one_found bytes a b h k =
+    let left : Answer = Ok a in
+    let right : Answer = Ok b in
+    let same : left ≡ right = only_one show_limits bytes left h ∙ sym (only_one show_limits bytes right k) in
+    cc
+
+-- lines that were appended to known bytes
+appended : (old lines : List ℕ) (new : Option (List ℕ)) → Appends (Some old) new lines → new ≡ Some (old ++ lines)
+appended old lines None h = absurd h
+appended old lines (Some bytes) h = ap Some h
+
+one_written : (bytes old : List ℕ) (new other : Option (List ℕ)) → IsPrinted bytes (Some old) new → IsPrinted bytes (Some old) other → new ≡ other
+one_written bytes old new other p q =
+    let first : Found = (p.header, p.messages, p.size) in
+    let second : Found = (q.header, q.messages, q.size) in
+    let same = one_found bytes first second (p.room, p.packet) (q.room, q.packet) in
+    let again : Shown q.header q.messages q.size p.printed.lines =
+    subst (λ (f : Found). Shown f.0 f.1 f.2 p.printed.lines) same p.printed.are in
+    appended old p.printed.lines new p.printed.written
+    ∙ ap (λ t. Some (old ++ t)) (one_shown q.header q.messages q.size p.printed.lines q.printed.lines again q.printed.are)
+    ∙ sym (appended old q.printed.lines other q.printed.written)
+
+pub one_input : (hex : Bool) (input old : List ℕ) (new other : Option (List ℕ)) → IsShown hex input (Some old) new → IsShown hex input (Some old) other → new ≡ other
+one_input hex input old new other h k =
+    let same = one_standing hex input h.0 k.0 h.1 k.1 in
+    one_written k.0 old new other (subst (λ (bytes : List ℕ). IsPrinted bytes (Some old) new) same h.2) k.2

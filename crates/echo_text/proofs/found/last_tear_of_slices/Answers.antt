@@ -1,0 +1,21 @@
+use Rattle.std.proofs.Common.{ap, drop, map, option_copied, Some, sym, ◌+◌, ◌∙◌}
+use Rattle.std.specs.List.{filter, last_or}
+use Rattle.echo_text.specs.Lines.{after_feeds, is_tear}
+use Rattle.echo_text.proofs.Listing.{next_seen}
+use Rattle.echo_text.proofs.Seeking.{last_here, last_next}
+use Rattle.echo_text.proofs.found.last_tear_of_slices.Goals as goal
+use Rattle.echo_text.proofs.found.last_tear_of_slices.Goals.{then-is_tear, else-is_tear}
+
+pub lines-preserved : goal.lines-preserved
+lines-preserved c =
+    let next = next_seen (λ line. line.now) c.args.kept.now c.lines.line-index _ c.lines-test.true in
+    let more = drop (c.lines.line-index + 1) (map (λ line. line.now) c.args.kept.now) in
+    elim c.if-is_tear.branch [
+      | then-is_tear w ↦
+          ap (λ o. last_or (option_copied o) (map after_feeds (filter is_tear more))) w.found-is
+          ∙ ap (λ l. last_or (Some l) (map after_feeds (filter is_tear more))) w.after_feeds.ensures
+          ∙ last_here after_feeds is_tear _ _ _ next _ _ c.lines.invariant (sym c.is_tear.ensures ∙ w.if-is_tear.true)
+      | else-is_tear w ↦
+          ap (λ o. last_or (option_copied o) (map after_feeds (filter is_tear more))) w.found-is
+          ∙ last_next after_feeds is_tear _ _ _ next _ _ c.lines.invariant (sym c.is_tear.ensures ∙ w.if-is_tear.false)
+    ]

@@ -1,0 +1,6 @@
+use Rattle.echo_text.proofs.Readers.{written_is_read}
+use Rattle.echo_text.proofs.WrittenBytes.{written_has_no_zero}
+use Rattle.echo_text.proofs.laws.written_text_is_read.Goals as goal
+
+pub returns : goal.returns
+returns c = record { no_zero = written_has_no_zero; read = written_is_read }
