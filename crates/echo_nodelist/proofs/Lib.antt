@@ -1,3 +1,11 @@
 pub mod Division
 pub mod Registers
-pub mod Examples
+pub mod Numbers
+pub mod Pieces
+pub mod Areas
+pub mod Stating
+pub mod Entries
+pub mod WrittenText
+pub mod ReadingOn
+pub mod Clean
+mod Examples
