@@ -8,4 +8,6 @@ pub mod Entries
 pub mod WrittenText
 pub mod ReadingOn
 pub mod Clean
+pub mod ReadBack
+pub mod OneNodelist
 mod Examples
