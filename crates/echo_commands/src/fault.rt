@@ -1,7 +1,8 @@
 ghost use Rattle.std.specs.Prelude.{◌≡◌, ◌≢◌};
-ghost use Rattle.echo_commands.specs.declared.fault.Fault.TheVariants.{OutOfMemory, Packet};
+ghost use Rattle.echo_commands.specs.declared.fault.Fault.TheVariants.{Nodelist, OutOfMemory, Packet};
 
 use crate::status::Status;
+use echo_nodelist::NodeFault;
 use echo_packet::PacketFault;
 use std::alloc::{AllocError, AllocFailed};
 use std::io::Write;
@@ -12,8 +13,12 @@ use thiserror::Error;
 pub enum Fault<'a> {
     #[error("{0}")]
     Packet(PacketFault),
+    #[error("{0}")]
+    Nodelist(NodeFault),
     #[error("bad hex")]
     BadHex,
+    #[error("bad address")]
+    BadAddress,
     #[error("file too large {0}")]
     TooLarge(&'a str),
     #[error("cannot use {0}")]
@@ -30,6 +35,14 @@ impl From<PacketFault> for Fault<'_> {
     }
 }
 
+impl From<NodeFault> for Fault<'_> {
+    ghost from_gives = { λ fault e. e ≡ Nodelist fault };
+
+    fn from(fault: NodeFault) -> Self {
+        Fault::Nodelist(fault)
+    }
+}
+
 impl From<AllocError> for Fault<'_> {
     ghost from_gives = { λ _ e. e ≡ OutOfMemory };
 
@@ -41,22 +54,29 @@ impl From<AllocError> for Fault<'_> {
 impl Fault<'_> {
     /// A fault of a device or of memory is `Device`, every other one `Refused`.
     pub fn status(&self) -> Status
-        ensures { result ≢ Status.Good }
+        ensures good { result ≢ Status.Good }
+        ensures differs { result ≢ Status.Differs }
     {
         match self {
             Fault::Packet(
                 PacketFault::Read { .. } | PacketFault::Memory | PacketFault::Write { .. },
             )
+            | Fault::Nodelist(NodeFault::Memory | NodeFault::Write { .. })
             | Fault::CannotUse(_)
             | Fault::OutOfMemory => Status::Device,
-            Fault::Packet(_) | Fault::BadHex | Fault::TooLarge(_) => Status::Refused,
+            Fault::Packet(_)
+            | Fault::Nodelist(_)
+            | Fault::BadHex
+            | Fault::BadAddress
+            | Fault::TooLarge(_) => Status::Refused,
         }
     }
 
     /// Writes the fault's line, and answers the status. Where the line can't be written, the status
     /// still tells of the fault.
     pub fn report<E: Write>(&self, errors: &mut E) -> Status
-        ensures { result ≢ Status.Good }
+        ensures good { result ≢ Status.Good }
+        ensures differs { result ≢ Status.Differs }
     {
         let _ = writeln!(errors, "echonet: {self}");
         self.status()

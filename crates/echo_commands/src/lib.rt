@@ -5,18 +5,22 @@
 //! front of its input.
 //!
 //! Modules in reading order: `input` (files and standard input), `showing` with `show_text` (what it
-//! prints), `fault` and `status` (how a command ends).
+//! prints), `listing` with `nodelist_text` (the same of nodelists), `fault` and `status` (how a command
+//! ends).
 #![tactic(auto)]
 
 mod escape;
 mod fault;
 mod input;
+mod listing;
+mod nodelist_text;
 mod show_text;
 mod showing;
 mod status;
 
 pub use fault::Fault;
 pub use input::{InputFault, read_whole};
+pub use listing::{nodelist, wanted};
 pub use showing::show;
 pub use status::Status;
 
