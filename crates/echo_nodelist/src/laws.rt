@@ -12,8 +12,9 @@ pub fn written_nodelist_read_back()
     ensures whole { (bytes : List ℕ) (lines : List Line) → NodelistOf bytes lines → IsNodelist lines }
 {}
 
-/// Bytes are one nodelist at most, and none where a line is faulty.
+/// Bytes are one nodelist at most, have one first fault at most, and never both.
 pub fn one_nodelist()
     ensures same { (bytes : List ℕ) (some others : List Line) → NodelistOf bytes some → NodelistOf bytes others → some ≡ others }
+    ensures fault { (bytes : List ℕ) (one other : NodeFault) → FaultOf bytes one → FaultOf bytes other → one ≡ other }
     ensures faulty { (bytes : List ℕ) (lines : List Line) (fault : NodeFault) → NodelistOf bytes lines → FaultOf bytes fault → ⊥ }
 {}
