@@ -1,6 +1,6 @@
-#!/bin/sh
-# How fast a nodelist of many entries is read, looked through and checked, each beside a plain sum over
-# its bytes. Needs the built crates/bench_nodelist/out/bench_nodelist.
+#!/bin/bash
+# How fast a nodelist of many entries is read, looked through and checked, beside a plain sum over its
+# bytes, by processor time. Needs the built crates/bench_nodelist/out/bench_nodelist.
 set -e
 program=$(dirname "$0")/../crates/bench_nodelist/out/bench_nodelist
 entries=${1:-30000}
@@ -18,15 +18,13 @@ awk -v n="$entries" 'BEGIN {
 bytes=$(wc -c < "$input")
 echo "entries $entries bytes $bytes"
 
-# The time in nanoseconds of so many rounds of a kind, less that of none.
-timed() {
-  begin=$(date +%s%N); "$program" "$1" "$input" 0 > /dev/null; middle=$(date +%s%N)
-  "$program" "$1" "$input" "$2" > /dev/null; end=$(date +%s%N)
-  echo $((end - middle - (middle - begin)))
-}
+# The processor time in seconds of so many rounds of a kind, less that of none.
+TIMEFORMAT='%U %S'
+spent() { { time "$program" "$1" "$input" "$2" > /dev/null; } 2>&1; }
+timed() { echo "$(spent "$1" "$2") $(spent "$1" 0)" | awk '{ print $1 + $2 - $3 - $4 + 1e-9 }'; }
 
 for kind in sum crc; do
-  timed "$kind" 100 | awk -v k="$kind" -v b="$bytes" '{ printf "%-5s %8.0f MB/s\n", k, b * 100 / 1e6 / ($1 / 1e9) }'
+  timed "$kind" 200 | awk -v k="$kind" -v b="$bytes" '{ printf "%-5s %8.0f MB/s\n", k, b * 200 / 1e6 / $1 }'
 done
-timed read 20 | awk -v b="$bytes" '{ printf "read  %8.1f ms, %6.0f MB/s\n", $1 / 20 / 1e6, b * 20 / 1e6 / ($1 / 1e9) }'
-timed find 2000 | awk -v n="$entries" '{ printf "find  %8.1f us, %6.0f million lines/s\n", $1 / 2000 / 1e3, n * 2000 / 1e6 / ($1 / 1e9) }'
+timed read 20 | awk -v b="$bytes" '{ printf "read  %8.1f ms, %6.0f MB/s\n", $1 / 20 * 1e3, b * 20 / 1e6 / $1 }'
+timed find 5000 | awk -v n="$entries" '{ printf "find  %8.1f us, %6.0f million lines/s\n", $1 / 5000 * 1e6, n * 5000 / 1e6 / $1 }'
