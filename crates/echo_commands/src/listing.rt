@@ -1,4 +1,6 @@
-ghost use Rattle.std.specs.Prelude.{◌≡◌, false, true, IfOk};
+ghost use Rattle.std.specs.Prelude.{◌≡◌, false, true, IfErr, IfOk, IsSome};
+ghost use Rattle.echo_addr.specs.Address.{AddressOf, refusal};
+ghost use Rattle.echo_commands.specs.declared.fault.Fault.TheVariants.{BadAddress};
 ghost use Rattle.echo_nodelist.specs.CrcLine.{crc_line_of};
 ghost use Rattle.echo_commands.specs.Listed.{agrees};
 
@@ -11,8 +13,14 @@ use std::alloc::Global;
 use std::io::Write;
 
 /// The address that the word after `--find` writes.
-pub fn wanted<'a>(word: &str) -> Result<Address, Fault<'a>> {
-    Address::parse(word.as_bytes()).map_err(|_| Fault::BadAddress)
+pub fn wanted<'a>(word: &str) -> Result<Address, Fault<'a>>
+    ensures ok { IfOk result (λ a. AddressOf word.now a) }
+    ensures refused { IfErr result (λ fault. (fault ≡ BadAddress) × IsSome (refusal word.now)) }
+{
+    match Address::parse(word.as_bytes()) {
+        Ok(address) => Ok(address),
+        Err(_) => Err(Fault::BadAddress),
+    }
 }
 
 /// `nodelist [--find ADDRESS] FILE`: prints what the nodelist states of its checksum, and its entries
