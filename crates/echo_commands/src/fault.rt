@@ -1,7 +1,8 @@
 ghost use Rattle.std.specs.Prelude.{◌≡◌, ◌≢◌};
-ghost use Rattle.echo_commands.specs.declared.fault.Fault.TheVariants.{OutOfMemory, Packet};
+ghost use Rattle.echo_commands.specs.declared.fault.Fault.TheVariants.{Nodelist, OutOfMemory, Packet};
 
 use crate::status::Status;
+use echo_nodelist::NodeFault;
 use echo_packet::PacketFault;
 use echo_text::TextFault;
 use std::alloc::{AllocError, AllocFailed};
@@ -15,8 +16,12 @@ pub enum Fault<'a> {
     Packet(PacketFault),
     #[error("{0}")]
     Text(TextFault),
+    #[error("{0}")]
+    Nodelist(NodeFault),
     #[error("bad hex")]
     BadHex,
+    #[error("bad address")]
+    BadAddress,
     #[error("file too large {0}")]
     TooLarge(&'a str),
     #[error("cannot use {0}")]
@@ -33,6 +38,14 @@ impl From<PacketFault> for Fault<'_> {
     }
 }
 
+impl From<NodeFault> for Fault<'_> {
+    ghost from_gives = { λ fault e. e ≡ Nodelist fault };
+
+    fn from(fault: NodeFault) -> Self {
+        Fault::Nodelist(fault)
+    }
+}
+
 impl From<AllocError> for Fault<'_> {
     ghost from_gives = { λ _ e. e ≡ OutOfMemory };
 
@@ -44,25 +57,31 @@ impl From<AllocError> for Fault<'_> {
 impl Fault<'_> {
     /// A fault of a device or of memory is `Device`, every other one `Refused`.
     pub fn status(&self) -> Status
-        ensures { result ≢ Status.Good }
+        ensures good { result ≢ Status.Good }
+        ensures differs { result ≢ Status.Differs }
     {
         match self {
             Fault::Packet(
                 PacketFault::Read { .. } | PacketFault::Memory | PacketFault::Write { .. },
             )
             | Fault::Text(TextFault::Memory)
+            | Fault::Nodelist(NodeFault::Memory | NodeFault::Write { .. })
             | Fault::CannotUse(_)
             | Fault::OutOfMemory => Status::Device,
-            Fault::Packet(_) | Fault::Text(_) | Fault::BadHex | Fault::TooLarge(_) => {
-                Status::Refused
-            }
+            Fault::Packet(_)
+            | Fault::Text(_)
+            | Fault::Nodelist(_)
+            | Fault::BadHex
+            | Fault::BadAddress
+            | Fault::TooLarge(_) => Status::Refused,
         }
     }
 
     /// Writes the fault's line, and answers the status. Where the line can't be written, the status
     /// still tells of the fault.
     pub fn report<E: Write>(&self, errors: &mut E) -> Status
-        ensures { result ≢ Status.Good }
+        ensures good { result ≢ Status.Good }
+        ensures differs { result ≢ Status.Differs }
     {
         let _ = writeln!(errors, "echonet: {self}");
         self.status()

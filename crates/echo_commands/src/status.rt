@@ -5,6 +5,8 @@ ghost use Rattle.std.specs.Prelude.{◌≡◌};
 pub enum Status {
     /// 0.
     Good,
+    /// 1: a verdict No, or a checksum other than the stated one.
+    Differs,
     /// 2: an input was refused.
     Refused,
     /// 3: a device failed, or memory was wanting.
@@ -21,6 +23,7 @@ impl Status {
     {
         match self {
             Status::Good => 0,
+            Status::Differs => 1,
             Status::Refused => 2,
             Status::Device => 3,
             Status::CommandLine => 4,

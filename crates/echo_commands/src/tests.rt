@@ -1,4 +1,5 @@
 mod messages;
+mod nodelists;
 
 use super::*;
 use echo_text::TextFault;

@@ -6,14 +6,15 @@ mod tests;
 mod words;
 
 use clap::error::ErrorKind;
-use echo_commands::{Fault, InputFault, Status, read_whole, show};
+use echo_addr::Address;
+use echo_commands::{Fault, InputFault, Status, nodelist, read_whole, show, wanted};
 use std::io::{Stderr, Stdout};
 use std::process::ExitCode;
 use std::{env, fs};
 use words::{Words, parse};
 
-/// How many bytes a packet given to `show` may have.
-const MOST_PACKET: usize = 67_108_864;
+/// How many bytes a packet given to `show`, or a nodelist, may have.
+const MOST_INPUT: usize = 67_108_864;
 
 fn input_fault(fault: InputFault, path: &str) -> Fault<'_> {
     match fault {
@@ -23,23 +24,46 @@ fn input_fault(fault: InputFault, path: &str) -> Fault<'_> {
     }
 }
 
+// The bytes of a file.
+fn read_file<'a>(rt: &HostRuntime, path: &'a str, most: usize) -> Result<Vec<u8>, Fault<'a>> {
+    match fs::open(rt, path) {
+        Ok(mut file) => {
+            read_whole(rt.alloc(), &mut file, most).map_err(|fault| input_fault(fault, path))
+        }
+        Err(_) => Err(Fault::CannotUse(path)),
+    }
+}
+
 // The bytes of a file, or of standard input where the path is `-`.
 fn read_input<'a>(rt: &HostRuntime, path: &'a str, most: usize) -> Result<Vec<u8>, Fault<'a>> {
-    let read = if path == "-" {
-        read_whole(rt.alloc(), &mut rt.reader(), most)
+    if path == "-" {
+        read_whole(rt.alloc(), &mut rt.reader(), most).map_err(|fault| input_fault(fault, path))
     } else {
-        match fs::open(rt, path) {
-            Ok(mut file) => read_whole(rt.alloc(), &mut file, most),
-            Err(_) => return Err(Fault::CannotUse(path)),
-        }
+        read_file(rt, path, most)
+    }
+}
+
+// What `nodelist` is asked for: the address first, then the file.
+fn nodelist_input<'a>(
+    rt: &HostRuntime,
+    find: Option<&'a str>,
+    file: &'a str,
+) -> Result<(Option<Address>, Vec<u8>), Fault<'a>> {
+    let address = match find {
+        Some(word) => Some(wanted(word)?),
+        None => None,
     };
-    read.map_err(|fault| input_fault(fault, path))
+    Ok((address, read_file(rt, file, MOST_INPUT)?))
 }
 
 fn run_words(rt: &HostRuntime, words: Words<'_>, out: &mut Stdout, errors: &mut Stderr) -> Status {
     match words {
-        Words::Show { hex, packet } => match read_input(rt, packet, MOST_PACKET) {
+        Words::Show { hex, packet } => match read_input(rt, packet, MOST_INPUT) {
             Ok(input) => show(rt.alloc(), hex, &input, out, errors),
+            Err(fault) => fault.report(errors),
+        },
+        Words::Nodelist { find, file } => match nodelist_input(rt, find, file) {
+            Ok((address, input)) => nodelist(rt.alloc(), address, &input, out, errors),
             Err(fault) => fault.report(errors),
         },
     }

@@ -19,6 +19,20 @@ fn reads_the_command_line(rt: HostRuntime) -> Result<(), Fail> {
                 packet: "-",
             }),
         ),
+        (
+            "echonet nodelist x",
+            Some(Words::Nodelist {
+                find: None,
+                file: "x",
+            }),
+        ),
+        (
+            "echonet nodelist --find 1:10/1 x",
+            Some(Words::Nodelist {
+                find: Some("1:10/1"),
+                file: "x",
+            }),
+        ),
         ("echonet show", None),
         ("echonet toss x", None),
         ("echonet", None),

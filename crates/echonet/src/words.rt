@@ -4,7 +4,14 @@ use std::alloc::{AllocError, Global};
 /// What the command line asks for. Paths are as given, `-` among them.
 #[derive(Clone, Copy, Debug, PartialEq, Eq)]
 pub enum Words<'a> {
-    Show { hex: bool, packet: &'a str },
+    Show {
+        hex: bool,
+        packet: &'a str,
+    },
+    Nodelist {
+        find: Option<&'a str>,
+        file: &'a str,
+    },
 }
 
 fn show_command<'a>(alloc: Global) -> Result<Command<'a>, AllocError> {
@@ -21,11 +28,24 @@ fn show_command<'a>(alloc: Global) -> Result<Command<'a>, AllocError> {
         .arg(packet)
 }
 
+fn nodelist_command<'a>(alloc: Global) -> Result<Command<'a>, AllocError> {
+    let find = Arg::new(alloc, "find")
+        .long("find")
+        .value_name("ADDRESS")
+        .help("Prints the first line with this address alone");
+    let file = Arg::new(alloc, "FILE").required(true).help("The nodelist");
+    Command::new(alloc, "nodelist")
+        .about("Prints the systems of a nodelist")
+        .arg(find)?
+        .arg(file)
+}
+
 fn command<'a>(alloc: Global) -> Result<Command<'a>, AllocError> {
     Command::new(alloc, "echonet")
         .about("An echomail tosser and topology checker for FidoNet")
         .subcommand_required(true)
-        .subcommand(show_command(alloc)?)
+        .subcommand(show_command(alloc)?)?
+        .subcommand(nodelist_command(alloc)?)
 }
 
 fn words_of<'a>(matches: &ArgMatches<'a>) -> Option<Words<'a>> {
@@ -33,6 +53,10 @@ fn words_of<'a>(matches: &ArgMatches<'a>) -> Option<Words<'a>> {
         ("show", show) => Some(Words::Show {
             hex: show.get_flag("hex"),
             packet: show.get_str("PACKET")?,
+        }),
+        ("nodelist", nodelist) => Some(Words::Nodelist {
+            find: nodelist.get_str("find"),
+            file: nodelist.get_str("FILE")?,
         }),
         _ => None,
     }

@@ -1,0 +1,166 @@
+-- Lines that are read hold no 1A and no 0A, their fields no commas: so they keep the rules of a nodelist.
+use Rattle.std.proofs.Common.{◌≡◌, ℕ, ◌+◌, ◌-◌, ◌<◌, ◌≤◌, ◌==◌, ◌&&◌, not, nat_lt, Bool, true, false, List, [], ◌∷◌, ◌++◌, length, get_or, take, drop, map, reverse, cond, refl, sym, ap, ◌∙◌, subst, arith, inl, inr, Option, Some, None, Result, Ok, Err}
+use Rattle.std.specs.Prelude.{IsSome}
+use Rattle.std.specs.List.{All, before_first, list_all, onto_first, position_or_len, slice_split}
+use Rattle.std.specs.Str.Parse.{digits_value}
+use Rattle.std.specs.Io.BufRead.{ends_with_byte, strip_last}
+use Rattle.std.proofs.lemmas.List.{get_or-take, length-take-le, reverse-append, take-append-drop}
+use Rattle.std.proofs.lemmas.List.Elements.{All-from_get_or}
+use Rattle.std.proofs.lemmas.List.Folds.{list_all-append}
+use Rattle.std.proofs.lemmas.List.Splits.{slice_split-cons_no, slice_split-cons_yes}
+use Rattle.std.proofs.lemmas.List.Sums.{fails_before_first, list_all-from_AllPass, prefix_len-le-length}
+use Rattle.std.proofs.lemmas.Bool.{and_from, and_parts, cases_Bool, cases_lt, cond-false, cond-true, le-ltb, lt-ltb}
+use Rattle.echo_addr.specs.Digits.{is_number}
+use Rattle.echo_nodelist.specs.declared.keyword.Keyword.{Keyword}
+use Rattle.echo_nodelist.specs.declared.line.Line.{Line}
+use Rattle.echo_nodelist.specs.declared.line.Line.TheVariants.{Entry, Note}
+use Rattle.echo_nodelist.specs.declared.fault.NodeFault.{NodeFault}
+use Rattle.echo_nodelist.specs.declared.fault.NodeFault.TheVariants.{TooFewFields}
+use Rattle.echo_nodelist.specs.Raw.{is_comma, is_end, is_feed, lines_of, node_lines, text_of, without_empty_last}
+use Rattle.echo_nodelist.specs.Line.{entry_of, is_fit, is_note, keyword_of, line_of, number_of, with_keyword, with_number}
+use Rattle.echo_nodelist.specs.Back.{zone_back}
+use Rattle.echo_nodelist.specs.Nodelist.{AreLines, AreRead, IsEntry, IsLine, IsNodelist, NodelistOf, in_zone, is_field_byte, is_inner, outcome, placed}
+
+-- ---- bytes of pieces
+
+pub front_clean : (q : ℕ → Bool) (n : ℕ) (xs : List ℕ) → list_all q xs ≡ true → list_all q (take n xs) ≡ true
+front_clean q n xs h = (and_parts _ _ (sym (list_all-append q (take n xs) (drop n xs)) ∙ ap (list_all q) (take-append-drop n xs) ∙ h)).0
+
+onto_clean : (r : ℕ → Bool) (b : ℕ) (pieces : List (List ℕ)) → r b ≡ true → list_all (list_all r) pieces ≡ true → list_all (list_all r) (onto_first b pieces) ≡ true
+onto_clean r b [] here h = and_from (r b && true) true (and_from (r b) true here refl) refl
+onto_clean r b (piece ∷ more) here h =
+    let parts = and_parts (list_all r piece) (list_all (list_all r) more) h in
+    and_from (r b && list_all r piece) (list_all (list_all r) more) (and_from (r b) (list_all r piece) here parts.0) parts.1
+
+pub split_clean : (q p : ℕ → Bool) (text : List ℕ) → list_all q text ≡ true → list_all (list_all (λ b. q b && not (p b))) (slice_split p text) ≡ true
+split_clean q p [] h = refl
+split_clean q p (b ∷ text) h =
+    let parts = and_parts (q b) (list_all q text) h in
+    let rest = split_clean q p text parts.1 in
+    elim (cases_Bool (p b)) [
+      | inl y ↦ ap (list_all (list_all (λ c. q c && not (p c)))) (slice_split-cons_yes p b text y) ∙ rest
+      | inr n ↦
+          ap (list_all (list_all (λ c. q c && not (p c)))) (slice_split-cons_no p b text n)
+          ∙ onto_clean (λ c. q c && not (p c)) b (slice_split p text) (and_from (q b) (not (p b)) parts.0 (ap not n)) rest
+    ]
+
+without_last_clean : (r : List ℕ → Bool) (pieces : List (List ℕ)) → list_all r pieces ≡ true → list_all r (without_empty_last pieces) ≡ true
+without_last_clean r [] h = refl
+without_last_clean r (piece ∷ []) h = elim (cases_Bool (length piece == 0)) [
+  | inl y ↦ ap (list_all r) (cond-true (length piece == 0) [] (piece ∷ []) y)
+  | inr n ↦ ap (list_all r) (cond-false (length piece == 0) [] (piece ∷ []) n) ∙ h
+]
+without_last_clean r (piece ∷ (next ∷ more)) h =
+    let parts = and_parts (r piece) (list_all r (next ∷ more)) h in
+    and_from (r piece) (list_all r (without_empty_last (next ∷ more))) parts.0 (without_last_clean r (next ∷ more) parts.1)
+
+strip_clean : (q : ℕ → Bool) (piece : List ℕ) → list_all q piece ≡ true → list_all q (strip_last 13 piece) ≡ true
+strip_clean q piece h = elim (cases_Bool (ends_with_byte 13 piece)) [
+  | inl y ↦ ap (list_all q) (cond-true (ends_with_byte 13 piece) (take (length piece - 1) piece) piece y) ∙ front_clean q (length piece - 1) piece h
+  | inr n ↦ ap (list_all q) (cond-false (ends_with_byte 13 piece) (take (length piece - 1) piece) piece n) ∙ h
+]
+
+strips_clean : (q : ℕ → Bool) (pieces : List (List ℕ)) → list_all (list_all q) pieces ≡ true → list_all (list_all q) (map (strip_last 13) pieces) ≡ true
+strips_clean q [] h = refl
+strips_clean q (piece ∷ more) h =
+    let parts = and_parts (list_all q piece) (list_all (list_all q) more) h in
+    and_from (list_all q (strip_last 13 piece)) (list_all (list_all q) (map (strip_last 13) more)) (strip_clean q piece parts.0) (strips_clean q more parts.1)
+
+lines_clean : (text : List ℕ) → list_all (λ b. not (is_end b)) text ≡ true → list_all (list_all is_inner) (lines_of text) ≡ true
+unfolding lines_of
+lines_clean text h =
+    strips_clean is_inner (without_empty_last (slice_split is_feed text))
+    (without_last_clean (list_all is_inner) (slice_split is_feed text) (split_clean (λ b. not (is_end b)) is_feed text h))
+
+text_clean : (bytes : List ℕ) → list_all (λ b. not (is_end b)) (text_of bytes) ≡ true
+text_clean bytes =
+    let k = position_or_len is_end bytes in
+    let within : k ≤ length bytes = prefix_len-le-length (λ b. not (is_end b)) bytes in
+    list_all-from_AllPass (λ b. not (is_end b)) (text_of bytes)
+    (All-from_get_or (λ b. not (is_end b) ≡ true) (text_of bytes) 0 (λ i below.
+    let at : i < k = omega (arith, below, length-take-le k bytes within) in
+    rw (get_or-take k bytes i 0 at) (ap not (fails_before_first is_end bytes i 0 at))))
+
+list_all-reverse : (r : List ℕ → Bool) (xs : List (List ℕ)) → list_all r xs ≡ true → list_all r (reverse xs) ≡ true
+list_all-reverse r [] h = refl
+list_all-reverse r (x ∷ xs) h =
+    let parts = and_parts (r x) (list_all r xs) h in
+    ap (list_all r) (reverse-append (x ∷ []) xs)
+    ∙ list_all-append r (reverse xs) (x ∷ [])
+    ∙ and_from (list_all r (reverse xs)) (r x && true) (list_all-reverse r xs parts.1) (and_from (r x) true parts.0 refl)
+
+-- ---- what a good line says keeps the rules
+
+fit_number : (k : Keyword) (digits : List ℕ) (n : ℕ) → number_of k digits ≡ Some n → is_fit k n ≡ true
+fit_number k digits n is = elim (cases_Bool (is_number digits && is_fit k (digits_value 10 digits))) [
+  | inl y ↦
+      let value : Some (digits_value 10 digits) ≡ Some n =
+      sym (cond-true (is_number digits && is_fit k (digits_value 10 digits)) (Some (digits_value 10 digits)) None y) ∙ is
+      in
+      let same : digits_value 10 digits ≡ n = cc in
+      subst (λ m. is_fit k m ≡ true) same (and_parts (is_number digits) (is_fit k (digits_value 10 digits)) y).1
+  | inr other ↦
+      let none : None ≡ Some n =
+      sym (cond-false (is_number digits && is_fit k (digits_value 10 digits)) (Some (digits_value 10 digits)) None other) ∙ is
+      in
+      absurd cc
+]
+
+module _ (at : ℕ) (earlier : List Line) (line : Line) (fields : List (List ℕ)) (enough : 5 ≤ length fields) (clean : list_all (list_all is_field_byte) fields ≡ true) where
+  by_zone : (k : Keyword) (n : ℕ) (z : Option ℕ) → is_fit k n ≡ true → zone_back (Entry k n fields ∷ earlier) ≡ z → in_zone at z (Entry k n fields) ≡ Ok line → IsLine earlier line
+  by_zone k n None fit zone is = absurd cc
+  by_zone k n (Some z) fit zone is =
+      let same : Entry k n fields ≡ line = cc in
+      subst (IsLine earlier) same (record { number = fit; enough = enough; bytes = clean; zone = subst IsSome (sym zone) refl })
+
+  by_number : (k : Keyword) (digits : List ℕ) (m : Option ℕ) → number_of k digits ≡ m → placed at earlier (with_number at k m fields) ≡ Ok line → IsLine earlier line
+  by_number k digits None number is = absurd cc
+  by_number k digits (Some n) number is = by_zone k n (zone_back (Entry k n fields ∷ earlier)) (fit_number k digits n number) refl is
+
+  by_keyword : (o : Option Keyword) (digits : List ℕ) → placed at earlier (with_keyword at o digits fields) ≡ Ok line → IsLine earlier line
+  by_keyword None digits is = absurd cc
+  by_keyword (Some k) digits is = by_number k digits (number_of k digits) refl is
+
+entry_good : (at : ℕ) (earlier : List Line) (line : Line) (pieces : List (List ℕ)) → list_all (list_all is_field_byte) pieces ≡ true
+    → placed at earlier (entry_of at pieces) ≡ Ok line → IsLine earlier line
+entry_good at earlier line [] clean is = absurd cc
+entry_good at earlier line (word ∷ []) clean is = absurd cc
+entry_good at earlier line (word ∷ (digits ∷ fields)) clean is =
+    let rest = (and_parts _ _ (and_parts _ _ clean).1).1 in
+    elim (cases_lt (length fields) 5) [
+      | inl few ↦
+          let fault : Err (TooFewFields at) ≡ Ok line =
+          sym (ap (placed at earlier) (cond-true (nat_lt (length fields) 5) (Err (TooFewFields at)) (with_keyword at (keyword_of word) digits fields) (lt-ltb (length fields) 5 few))) ∙ is
+          in
+          absurd cc
+      | inr enough ↦
+          by_keyword at earlier line fields enough rest (keyword_of word) digits
+          (sym (ap (placed at earlier) (cond-false (nat_lt (length fields) 5) (Err (TooFewFields at)) (with_keyword at (keyword_of word) digits fields) (le-ltb (length fields) 5 enough))) ∙ is)
+    ]
+
+line_good : (earlier : List Line) (raw : List ℕ) (line : Line) → outcome earlier raw ≡ Ok line → list_all is_inner raw ≡ true → IsLine earlier line
+line_good earlier raw line is clean =
+    let at = length earlier + 1 in
+    elim (cases_Bool (is_note raw)) [
+      | inl y ↦
+          let said : Ok (Note raw) ≡ Ok line = sym (ap (placed at earlier) (cond-true (is_note raw) (Ok (Note raw)) (entry_of at (slice_split is_comma raw)) y)) ∙ is in
+          let same : Note raw ≡ line = cc in
+          subst (IsLine earlier) same (y, clean)
+      | inr n ↦
+          entry_good at earlier line (slice_split is_comma raw) (split_clean is_inner is_comma raw clean)
+          (sym (ap (placed at earlier) (cond-false (is_note raw) (Ok (Note raw)) (entry_of at (slice_split is_comma raw)) n)) ∙ is)
+    ]
+
+lines_good : (raws : List (List ℕ)) (lines : List Line) → AreRead raws lines → list_all (list_all is_inner) raws ≡ true → AreLines lines
+lines_good [] [] read clean = tt
+lines_good [] (line ∷ earlier) read clean = absurd read
+lines_good (raw ∷ raws) [] read clean = absurd read
+lines_good (raw ∷ raws) (line ∷ earlier) read clean =
+    let parts = and_parts (list_all is_inner raw) (list_all (list_all is_inner) raws) clean in
+    (line_good earlier raw line read.0 parts.0, lines_good raws earlier read.1 parts.1)
+
+-- the lines of bytes that are a nodelist keep the rules
+pub good_lines : (bytes : List ℕ) (lines : List Line) → NodelistOf bytes lines → IsNodelist lines
+good_lines bytes lines read =
+    lines_good (reverse (node_lines bytes)) (reverse lines) read
+    (list_all-reverse (list_all is_inner) (node_lines bytes) (lines_clean (text_of bytes) (text_clean bytes)))

@@ -1,0 +1,59 @@
+-- What the fields of an entry say.
+use Rattle.std.proofs.Common.{◌≡◌, ℕ, ◌<◌, ◌≤◌, nat_lt, true, false, List, [], ◌∷◌, length, cond, refl, sym, ap, ◌∙◌, arith, Option, Some, None, Result, Ok, Err}
+use Rattle.std.specs.List.{after_first, before_first, position_or_len, slice_split}
+use Rattle.std.proofs.lemmas.List.Splits.{slice_split_first}
+use Rattle.std.proofs.lemmas.Bool.{cond-false, cond-true, le-ltb, lt-ltb}
+use Rattle.echo_nodelist.specs.declared.keyword.Keyword.{Keyword}
+use Rattle.echo_nodelist.specs.declared.line.Line.{Line}
+use Rattle.echo_nodelist.specs.declared.line.Line.TheVariants.{Entry}
+use Rattle.echo_nodelist.specs.declared.fault.NodeFault.{NodeFault}
+use Rattle.echo_nodelist.specs.declared.fault.NodeFault.TheVariants.{BadKeyword, BadNumber, TooFewFields}
+use Rattle.echo_nodelist.specs.Raw.{is_comma}
+use Rattle.echo_nodelist.specs.Line.{entry_of, keyword_of, number_of, with_keyword, with_number}
+use Rattle.echo_nodelist.proofs.Pieces.{one_piece}
+
+-- the first field, and the fields after it
+pub field_cut : (text field rest : List ℕ) → position_or_len is_comma text < length text → field ≡ before_first is_comma text
+    → rest ≡ after_first is_comma text → slice_split is_comma text ≡ field ∷ slice_split is_comma rest
+field_cut text field rest found before behind =
+    slice_split_first is_comma text 0 found
+    ∙ ap (λ f. f ∷ slice_split is_comma (after_first is_comma text)) (sym before)
+    ∙ ap (λ t. field ∷ slice_split is_comma t) (sym behind)
+
+pub one_field : (at : ℕ) (text : List ℕ) → position_or_len is_comma text ≡ length text → entry_of at (slice_split is_comma text) ≡ Err (TooFewFields at)
+one_field at text none = ap (entry_of at) (one_piece is_comma text none)
+
+pub two_fields : (at : ℕ) (text word rest : List ℕ) → slice_split is_comma text ≡ word ∷ slice_split is_comma rest → position_or_len is_comma rest ≡ length rest
+    → entry_of at (slice_split is_comma text) ≡ Err (TooFewFields at)
+two_fields at text word rest cut none =
+    ap (entry_of at) (cut ∙ ap (λ fs. word ∷ fs) (one_piece is_comma rest none))
+    ∙ cond-true (nat_lt 0 5) (Err (TooFewFields at)) (with_keyword at (keyword_of word) rest []) refl
+
+module _ (at : ℕ) (text word rest digits last : List ℕ) (fields : List (List ℕ)) (first : slice_split is_comma text ≡ word ∷ slice_split is_comma rest)
+    (second : slice_split is_comma rest ≡ digits ∷ slice_split is_comma last) (others : fields ≡ slice_split is_comma last) where
+  whole : slice_split is_comma text ≡ word ∷ (digits ∷ fields)
+  whole = first ∙ ap (λ fs. word ∷ fs) second ∙ ap (λ fs. word ∷ (digits ∷ fs)) (sym others)
+
+  pub few_fields : length fields < 5 → entry_of at (slice_split is_comma text) ≡ Err (TooFewFields at)
+  few_fields few =
+      ap (entry_of at) whole
+      ∙ cond-true (nat_lt (length fields) 5) (Err (TooFewFields at)) (with_keyword at (keyword_of word) digits fields) (lt-ltb (length fields) 5 few)
+
+  module _ (enough : 5 ≤ length fields) where
+    by_keyword : entry_of at (slice_split is_comma text) ≡ with_keyword at (keyword_of word) digits fields
+    by_keyword =
+        ap (entry_of at) whole
+        ∙ cond-false (nat_lt (length fields) 5) (Err (TooFewFields at)) (with_keyword at (keyword_of word) digits fields) (le-ltb (length fields) 5 enough)
+
+    pub no_keyword : None ≡ keyword_of word → entry_of at (slice_split is_comma text) ≡ Err (BadKeyword at)
+    no_keyword none = by_keyword ∙ ap (λ k. with_keyword at k digits fields) (sym none)
+
+    module _ (k : Keyword) (is : Some k ≡ keyword_of word) where
+      by_number : entry_of at (slice_split is_comma text) ≡ with_number at k (number_of k digits) fields
+      by_number = by_keyword ∙ ap (λ o. with_keyword at o digits fields) (sym is)
+
+      pub no_number : None ≡ number_of k digits → entry_of at (slice_split is_comma text) ≡ Err (BadNumber at)
+      no_number none = by_number ∙ ap (λ n. with_number at k n fields) (sym none)
+
+      pub an_entry : (n : ℕ) → Some n ≡ number_of k digits → entry_of at (slice_split is_comma text) ≡ Ok (Entry k n fields)
+      an_entry n some = by_number ∙ ap (λ o. with_number at k o fields) (sym some)

@@ -1,0 +1,88 @@
+-- Bytes are one nodelist at most, or have one first fault.
+use Rattle.std.proofs.Common.{◌≡◌, ℕ, List, [], ◌∷◌, ◌++◌, reverse, refl, sym, ap, ◌∙◌, subst, Result, Ok, Err}
+use Rattle.std.proofs.lemmas.List.{append_assoc, reverse-append, reverse-reverse}
+use Rattle.echo_nodelist.specs.declared.line.Line.{Line}
+use Rattle.echo_nodelist.specs.declared.fault.NodeFault.{NodeFault}
+use Rattle.echo_nodelist.specs.Raw.{node_lines}
+use Rattle.echo_nodelist.specs.Nodelist.{AreRead, FaultOf, NodelistOf, outcome}
+
+same_read : (raws : List (List ℕ)) (some others : List Line) → AreRead raws some → AreRead raws others → some ≡ others
+same_read [] [] [] s o = refl
+same_read [] [] (line ∷ others) s o = absurd o
+same_read [] (line ∷ some) others s o = absurd s
+same_read (raw ∷ raws) [] others s o = absurd s
+same_read (raw ∷ raws) (line ∷ some) [] s o = absurd o
+same_read (raw ∷ raws) (line ∷ some) (other ∷ others) s o =
+    let earlier = same_read raws some others s.1 o.1 in
+    let both : Ok line ≡ Ok other = sym s.0 ∙ ap (λ ls. outcome ls raw) earlier ∙ o.0 in
+    let here : line ≡ other = cc in
+    ap (λ l. l ∷ some) here ∙ ap (λ ls. other ∷ ls) earlier
+
+pub same_nodelist : (bytes : List ℕ) (some others : List Line) → NodelistOf bytes some → NodelistOf bytes others → some ≡ others
+same_nodelist bytes some others s o =
+    sym (reverse-reverse some) ∙ ap reverse (same_read (reverse (node_lines bytes)) (reverse some) (reverse others) s o) ∙ reverse-reverse others
+
+-- the lines before a line
+record Before (raw : List ℕ) (raws : List (List ℕ)) : Type 0 where
+  line : Line
+  earlier : List Line
+  said : outcome earlier raw ≡ Ok line
+  read : AreRead raws earlier
+
+before : (later : List (List ℕ)) (raw : List ℕ) (raws : List (List ℕ)) (lines : List Line) → AreRead (later ++ raw ∷ raws) lines → Before raw raws
+before [] raw raws [] r = absurd r
+before [] raw raws (line ∷ earlier) r = record { line = line; earlier = earlier; said = r.0; read = r.1 }
+before (next ∷ later) raw raws [] r = absurd r
+before (next ∷ later) raw raws (line ∷ earlier) r = before later raw raws earlier r.1
+
+-- a good front that goes on past a faulty line
+front_faulty : (front : List (List ℕ)) (raw : List ℕ) (later : List (List ℕ)) (lines earlier : List Line) (fault : NodeFault)
+    → AreRead (reverse (front ++ raw ∷ later)) lines → AreRead (reverse front) earlier → outcome earlier raw ≡ Err fault → ⊥
+front_faulty front raw later lines earlier fault read good faulty =
+    let pieces : reverse (front ++ raw ∷ later) ≡ reverse later ++ raw ∷ reverse front =
+    reverse-append front (raw ∷ later)
+    ∙ ap (λ l. l ++ reverse front) (reverse-append (raw ∷ []) later)
+    ∙ append_assoc (reverse later) (raw ∷ []) (reverse front)
+    in
+    let b = before (reverse later) raw (reverse front) lines (subst (λ rs. AreRead rs lines) pieces read) in
+    let same : b.earlier ≡ earlier = same_read (reverse front) b.earlier earlier b.read good in
+    let both : Ok b.line ≡ Err fault = sym b.said ∙ ap (λ ls. outcome ls raw) same ∙ faulty in
+    absurd cc
+
+pub none_faulty : (bytes : List ℕ) (lines : List Line) (fault : NodeFault) → NodelistOf bytes lines → FaultOf bytes fault → ⊥
+none_faulty bytes lines fault read faulty =
+    front_faulty faulty.front faulty.raw faulty.later (reverse lines) (reverse faulty.lines) fault
+    (subst (λ rs. AreRead (reverse rs) (reverse lines)) faulty.pieces read) faulty.good faulty.faulty
+
+-- two places in one list: the same, or one before the other
+data Places (first : List (List ℕ)) (a : List ℕ) (second : List (List ℕ)) (b : List ℕ) : Type 0 where
+  together : first ≡ second → a ≡ b → Places first a second b
+  earlier : (between : List (List ℕ)) → second ≡ first ++ a ∷ between → Places first a second b
+  later : (between : List (List ℕ)) → first ≡ second ++ b ∷ between → Places first a second b
+
+places : (first second : List (List ℕ)) (a b : List ℕ) (xs ys : List (List ℕ)) → first ++ a ∷ xs ≡ second ++ b ∷ ys → Places first a second b
+places [] [] a b xs ys is = together refl cc
+places [] (s ∷ second) a b xs ys is = let same : a ≡ s = cc in earlier second (ap (λ l. l ∷ second) (sym same))
+places (f ∷ first) [] a b xs ys is = let same : f ≡ b = cc in later first (ap (λ l. l ∷ first) same)
+places (f ∷ first) (s ∷ second) a b xs ys is =
+    let head : f ≡ s = cc in
+    let tail : first ++ a ∷ xs ≡ second ++ b ∷ ys = cc in
+    onward head (places first second a b xs ys tail)
+  where
+    onward : f ≡ s → Places first a second b → Places (f ∷ first) a (s ∷ second) b
+    onward head (together e h) = together (ap (λ l. l ∷ first) head ∙ ap (λ ls. s ∷ ls) e) h
+    onward head (earlier m e) = earlier m (ap (λ l. l ∷ second) (sym head) ∙ ap (λ ls. f ∷ ls) e)
+    onward head (later m e) = later m (ap (λ l. l ∷ first) head ∙ ap (λ ls. s ∷ ls) e)
+
+pub same_fault : (bytes : List ℕ) (one other : NodeFault) → FaultOf bytes one → FaultOf bytes other → one ≡ other
+same_fault bytes one other f g = by (places f.front g.front f.raw g.raw f.later g.later (sym f.pieces ∙ g.pieces))
+  where
+    by : Places f.front f.raw g.front g.raw → one ≡ other
+    by (together e h) =
+        let lines : reverse f.lines ≡ reverse g.lines = same_read (reverse f.front) (reverse f.lines) (reverse g.lines) f.good (subst (λ fs. AreRead (reverse fs) (reverse g.lines)) (sym e) g.good) in
+        let both : Err one ≡ Err other = sym f.faulty ∙ ap (λ ls. outcome ls f.raw) lines ∙ ap (outcome (reverse g.lines)) h ∙ g.faulty in
+        cc
+    by (earlier m e) =
+        absurd (front_faulty f.front f.raw m (reverse g.lines) (reverse f.lines) one (subst (λ fs. AreRead (reverse fs) (reverse g.lines)) e g.good) f.good f.faulty)
+    by (later m e) =
+        absurd (front_faulty g.front g.raw m (reverse f.lines) (reverse g.lines) other (subst (λ fs. AreRead (reverse fs) (reverse f.lines)) e f.good) g.good g.faulty)

@@ -1,0 +1,110 @@
+-- Cutting a text into pieces.
+use Rattle.std.proofs.Common.{◌≡◌, ℕ, ◌+◌, ◌-◌, ◌<◌, ◌≤◌, ◌==◌, Bool, true, false, List, [], ◌∷◌, ◌++◌, length, get_or, take, drop, map, Some, None, refl, sym, ap, ◌∙◌, arith, inl, inr}
+use Rattle.std.specs.List.{All, after_first, before_first, onto_first, position_or_len, slice_split}
+use Rattle.std.specs.Io.BufRead.{strip_last}
+use Rattle.std.proofs.lemmas.List.{append_assoc, drop_all, take_rest}
+use Rattle.std.proofs.lemmas.List.Elements.{All-from_get_or}
+use Rattle.std.proofs.lemmas.List.Sums.{fails_before_first, position_or_len_is}
+use Rattle.std.proofs.lemmas.List.Splits.{slice_split-cons_no, slice_split-cons_yes, slice_split_first, slice_split_none}
+use Rattle.std.proofs.lemmas.Bool.{cases_Bool, cond-false, false_from_ne_true, ne_eqb}
+use Rattle.memchr.specs.Find.{IsFirstByte, is_byte}
+use Rattle.echo_nodelist.specs.Raw.{is_comma, is_feed, lines_of, without_empty_last}
+
+module _ (byte : ℕ) (text : List ℕ) where
+  abbrev is : ℕ → Bool
+  is b = b == byte
+
+  -- the place that `memchr` found
+  pub place_found : (k : ℕ) → IsFirstByte (is_byte byte) text (Some k) → position_or_len is text ≡ k
+  place_found k found =
+      position_or_len_is is text k 0 (omega (arith, found.0.high))
+      (λ j below. false_from_ne_true (is (get_or text j 0)) (found.0.before j (omega arith) below)) (λ h. found.1)
+
+  pub no_place : IsFirstByte (is_byte byte) text None → position_or_len is text ≡ length text
+  no_place none =
+      position_or_len_is is text (length text) 0 (omega arith)
+      (λ j below. false_from_ne_true (is (get_or text j 0)) (none j (omega arith) below)) (λ h. absurd (omega arith))
+
+  pub before_place : (k : ℕ) → IsFirstByte (is_byte byte) text (Some k) → take k text ≡ before_first is text
+  before_place k found = ap (λ n. take n text) (sym (place_found k found))
+
+  pub after_place : (k : ℕ) → IsFirstByte (is_byte byte) text (Some k) → take (length text - (k + 1)) (drop (k + 1) text) ≡ after_first is text
+  after_place k found = take_rest text (k + 1) ∙ ap (λ n. drop (n + 1) text) (sym (place_found k found))
+
+-- where no byte passes, none of them does
+none_passes : (p : ℕ → Bool) (text : List ℕ) → position_or_len p text ≡ length text → All (λ b. p b ≡ false) text
+none_passes p text none = All-from_get_or (λ b. p b ≡ false) text 0 (λ i below. fails_before_first p text i 0 (omega arith))
+
+pub one_piece : (p : ℕ → Bool) (text : List ℕ) → position_or_len p text ≡ length text → slice_split p text ≡ text ∷ []
+one_piece p text none = slice_split_none p text (none_passes p text none)
+
+-- ---- lines
+
+-- a split has a first piece
+record HasFirst (pieces : List (List ℕ)) : Type 0 where
+  first : List ℕ
+  more : List (List ℕ)
+  is : pieces ≡ first ∷ more
+
+first_onto : (b : ℕ) (pieces : List (List ℕ)) → HasFirst (onto_first b pieces)
+first_onto b [] = record { first = b ∷ []; more = []; is = refl }
+first_onto b (piece ∷ more) = record { first = b ∷ piece; more = more; is = refl }
+
+first_of_split : (text : List ℕ) → HasFirst (slice_split is_feed text)
+first_of_split [] = record { first = []; more = []; is = refl }
+first_of_split (b ∷ text) = elim (cases_Bool (is_feed b)) [
+  | inl y ↦ record { first = []; more = slice_split is_feed text; is = slice_split-cons_yes is_feed b text y }
+  | inr n ↦
+      let onto = first_onto b (slice_split is_feed text) in
+      record { first = onto.first; more = onto.more; is = slice_split-cons_no is_feed b text n ∙ onto.is }
+]
+
+kept_piece : (piece : List ℕ) (pieces : List (List ℕ)) → HasFirst pieces → without_empty_last (piece ∷ pieces) ≡ piece ∷ without_empty_last pieces
+kept_piece piece pieces h =
+    ap (λ ps. without_empty_last (piece ∷ ps)) h.is ∙ ap (λ ps. piece ∷ without_empty_last ps) (sym h.is)
+
+pub lines_nil : lines_of [] ≡ []
+unfolding lines_of
+lines_nil = refl
+
+pub lines_split : (text piece rest : List ℕ) → slice_split is_feed text ≡ piece ∷ slice_split is_feed rest → lines_of text ≡ strip_last 13 piece ∷ lines_of rest
+unfolding lines_of
+lines_split text piece rest cut =
+    ap (λ ps. map (strip_last 13) (without_empty_last ps)) cut ∙ ap (map (strip_last 13)) (kept_piece piece (slice_split is_feed rest) (first_of_split rest))
+
+-- the first line, where it has an end, and those after it
+pub lines_cut : (text line piece rest : List ℕ) → position_or_len is_feed text < length text → piece ≡ before_first is_feed text → rest ≡ after_first is_feed text
+    → line ≡ strip_last 13 piece → lines_of text ≡ line ∷ lines_of rest
+lines_cut text line piece rest found before after last =
+    lines_split text (before_first is_feed text) (after_first is_feed text) (slice_split_first is_feed text 0 found)
+    ∙ ap (λ l. l ∷ lines_of (after_first is_feed text)) (sym (last ∙ ap (strip_last 13) before))
+    ∙ ap (λ t. line ∷ lines_of t) (sym after)
+
+-- a last line without an end
+pub lines_last : (text line rest : List ℕ) → 0 < length text → position_or_len is_feed text ≡ length text → line ≡ strip_last 13 text → rest ≡ []
+    → lines_of text ≡ line ∷ lines_of rest
+unfolding lines_of
+lines_last text line rest some none last nothing =
+    ap (λ ps. map (strip_last 13) (without_empty_last ps)) (one_piece is_feed text none)
+    ∙ ap (map (strip_last 13)) (cond-false (length text == 0) [] (text ∷ []) (ne_eqb (length text) 0 (λ e. omega arith)))
+    ∙ ap (λ l. l ∷ []) (sym last)
+    ∙ ap (λ t. line ∷ map (strip_last 13) (without_empty_last (slice_split is_feed t))) (sym nothing)
+
+-- what is left at the end
+pub nothing_left : (text : List ℕ) → take (length text - length text) (drop (length text) text) ≡ []
+nothing_left text = take_rest text (length text) ∙ drop_all (length text) text (omega arith)
+
+-- ---- fields
+
+pub fields_more : (found all : List (List ℕ)) (field rest after : List ℕ) → found ++ slice_split is_comma rest ≡ all → position_or_len is_comma rest < length rest
+    → field ≡ before_first is_comma rest → after ≡ after_first is_comma rest → (found ++ field ∷ []) ++ slice_split is_comma after ≡ all
+fields_more found all field rest after so_far cut before behind =
+    append_assoc found (field ∷ []) (slice_split is_comma after)
+    ∙ ap (λ f. found ++ (f ∷ slice_split is_comma after)) before
+    ∙ ap (λ t. found ++ (before_first is_comma rest ∷ slice_split is_comma t)) behind
+    ∙ ap (λ ps. found ++ ps) (sym (slice_split_first is_comma rest 0 cut))
+    ∙ so_far
+
+pub fields_all : (found all : List (List ℕ)) (rest : List ℕ) → found ++ slice_split is_comma rest ≡ all → position_or_len is_comma rest ≡ length rest
+    → found ++ rest ∷ [] ≡ all
+fields_all found all rest so_far none = ap (λ ps. found ++ ps) (sym (one_piece is_comma rest none)) ∙ so_far

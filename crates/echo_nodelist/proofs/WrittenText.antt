@@ -1,0 +1,34 @@
+-- What is written of a line, piece by piece.
+use Rattle.std.proofs.Common.{◌≡◌, ℕ, List, [], ◌∷◌, ◌++◌, take, get_or, length, ◌+◌, ◌<◌, decimal, refl, sym, ap, ◌∙◌, Result, Ok, Err}
+use Rattle.std.specs.Prelude.{OnOk}
+use Rattle.std.specs.List.{flat_map, join_with_byte}
+use Rattle.std.proofs.lemmas.List.{append_assoc, append-nil, flat_map_more}
+use Rattle.echo_nodelist.specs.declared.keyword.Keyword.{Keyword}
+use Rattle.echo_nodelist.specs.declared.line.Line.{Line}
+use Rattle.echo_nodelist.specs.declared.line.Line.TheVariants.{Entry}
+use Rattle.echo_nodelist.specs.Line.{keyword_text}
+use Rattle.echo_nodelist.specs.Written.{ended, line_text, nodelist_text}
+
+pub OnOk-map : {A E : Type 0} {P Q : Type 0} (r : Result A E) → (P → Q) → OnOk r P → OnOk r Q
+OnOk-map (Ok x) f p = f p
+OnOk-map (Err e) f p = p
+
+-- fields, each after a comma
+abbrev pub commas : List (List ℕ) → List ℕ
+commas fields = flat_map (λ field. 44 ∷ field) fields
+
+pub joined : (x : List ℕ) (fields : List (List ℕ)) → join_with_byte 44 (x ∷ fields) ≡ x ++ commas fields
+joined x [] = sym (append-nil x)
+joined x (field ∷ fields) = ap (λ t. x ++ 44 ∷ t) (joined field fields)
+
+-- an entry, written piece by piece
+pub entry_written : (line : Line) (k : Keyword) (n : ℕ) (fields : List (List ℕ)) (old word comma number new : List ℕ) → line ≡ Entry k n fields
+    → word ≡ old ++ keyword_text k → comma ≡ word ++ 44 ∷ [] → number ≡ comma ++ decimal n → new ≡ number ++ commas fields → new ≡ old ++ line_text line
+entry_written line k n fields old word comma number new is w c d f =
+    f
+    ∙ ap (λ t. t ++ commas fields) (d ∙ ap (λ t. t ++ decimal n) (c ∙ ap (λ t. t ++ 44 ∷ []) w))
+    ∙ append_assoc ((old ++ keyword_text k) ++ 44 ∷ []) (decimal n) (commas fields)
+    ∙ ap (λ t. ((old ++ keyword_text k) ++ 44 ∷ []) ++ t) (sym (joined (decimal n) fields))
+    ∙ append_assoc (old ++ keyword_text k) (44 ∷ []) (join_with_byte 44 (decimal n ∷ fields))
+    ∙ append_assoc old (keyword_text k) (44 ∷ join_with_byte 44 (decimal n ∷ fields))
+    ∙ ap (λ l. old ++ line_text l) (sym is)

@@ -1,0 +1,53 @@
+-- The checksum of nodelists: bits divided by hand. The polynomial is x^16 + x^12 + x^5 + 1.
+use Rattle.std.specs.Prelude.{ℕ, zero, suc, ◌+◌, ◌-◌, ◌^◌, ◌==◌, not, Bool, true, false, List, [], ◌∷◌, ◌++◌, length, drop, if◌then◌else◌}
+use Rattle.std.specs.List.{flat_map}
+use Rattle.std.specs.Int.{bit_at}
+
+-- the lowest bits of a number, so many, the highest first
+abbrev pub bits_of : ℕ → ℕ → List Bool
+bits_of zero n = []
+bits_of (suc k) n = (bit_at n k == 1) ∷ bits_of k n
+
+-- the number that bits write, the highest first
+abbrev pub number_of : List Bool → ℕ
+number_of [] = 0
+number_of (b ∷ rest) = (if b then 2 ^ length rest else 0) + number_of rest
+
+-- so many 0 bits
+abbrev pub zeros : ℕ → List Bool
+zeros zero = []
+zeros (suc n) = false ∷ zeros n
+
+-- the sum of two bits, without a carry
+abbrev pub sum_of : Bool → Bool → Bool
+sum_of true b = not b
+sum_of false b = b
+
+-- bits added to the front of other bits, one by one
+abbrev pub added : List Bool → List Bool → List Bool
+added [] bits = bits
+added (x ∷ xs) [] = []
+added (x ∷ xs) (y ∷ ys) = sum_of x y ∷ added xs ys
+
+-- 1 0001 0000 0010 0001
+abbrev pub divisor : List Bool
+divisor = true ∷ (false ∷ (false ∷ (false ∷ (true ∷ (false ∷ (false ∷ (false ∷ (false ∷ (false ∷ (false ∷ (true ∷ (false ∷ (false ∷ (false ∷ (false ∷ (true ∷ []))))))))))))))))
+
+-- a leading 0 is dropped; a leading 1 is dropped after the divisor was added
+abbrev pub stepped : List Bool → List Bool
+stepped [] = []
+stepped (false ∷ rest) = rest
+stepped (true ∷ rest) = drop 1 (added divisor (true ∷ rest))
+
+-- so many steps
+abbrev pub steps : ℕ → List Bool → List Bool
+steps zero bits = bits
+steps (suc n) bits = steps n (stepped bits)
+
+-- steps while more than sixteen bits are left: each step takes one away
+abbrev pub divided : List Bool → List Bool
+divided bits = steps (length bits - 16) bits
+
+-- the bits of the bytes and sixteen 0 bits, divided: the sixteen bits left
+unfoldable pub crc : List ℕ → ℕ
+crc bytes = number_of (divided (flat_map (bits_of 8) bytes ++ zeros 16))

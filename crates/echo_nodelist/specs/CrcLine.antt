@@ -1,0 +1,51 @@
+-- The checksum that the first line of a nodelist states.
+use Rattle.std.specs.Prelude.{ℕ, ◌-◌, ◌==◌, ◌&&◌, nat_le, Bool, List, length, take, drop, if◌then◌else◌}
+use Rattle.std.specs.List.{after_first, before_first, suffix_len}
+use Rattle.std.specs.Str.{all_ascii_digits}
+use Rattle.std.specs.Str.Parse.{digits_value}
+use Rattle.std.specs.Io.BufRead.{ends_with_byte, strip_last}
+use Rattle.echo_nodelist.specs.declared.stated.CrcLine.{CrcLine}
+use Rattle.echo_nodelist.specs.declared.stated.CrcLine.TheVariants.{Absent, Match, Mismatch}
+use Rattle.echo_nodelist.specs.Crc.{crc}
+use Rattle.echo_nodelist.specs.Raw.{is_feed, text_of}
+
+-- the first line of a text without 0D at its end, and the bytes from the second line on
+abbrev pub first_line : List ℕ → List ℕ
+first_line text = strip_last 13 (before_first is_feed text)
+
+abbrev pub later_bytes : List ℕ → List ℕ
+later_bytes text = after_first is_feed text
+
+abbrev pub is_space : ℕ → Bool
+is_space b = b == 32
+
+-- the last five bytes of a line, what stands before them, and that without the blanks 20 at its end
+abbrev pub last_five : List ℕ → List ℕ
+last_five line = drop (length line - 5) line
+
+abbrev pub before_five : List ℕ → List ℕ
+before_five line = take (length line - 5) line
+
+abbrev pub without_spaces : List ℕ → List ℕ
+without_spaces bytes = take (length bytes - suffix_len is_space bytes) bytes
+
+-- whether a line ends with a colon, blanks 20 and five decimal digits
+abbrev pub states_crc : List ℕ → Bool
+states_crc line =
+    nat_le 5 (length line) && all_ascii_digits (last_five line) && ends_with_byte 58 (without_spaces (before_five line))
+
+-- the number that the five digits write
+abbrev pub stated_crc : List ℕ → ℕ
+stated_crc line = digits_value 10 (last_five line)
+
+-- a stated number beside the computed one
+abbrev pub compared : ℕ → ℕ → CrcLine
+compared stated computed = if stated == computed then Match stated else Mismatch stated computed
+
+-- what the first line of a text says of the bytes after it
+abbrev pub crc_of_text : List ℕ → CrcLine
+crc_of_text text = if states_crc (first_line text) then compared (stated_crc (first_line text)) (crc (later_bytes text)) else Absent
+
+-- the same of a nodelist, up to its first 1A
+abbrev pub crc_line_of : List ℕ → CrcLine
+crc_line_of bytes = crc_of_text (text_of bytes)

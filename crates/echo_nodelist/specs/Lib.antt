@@ -1,0 +1,9 @@
+pub mod Crc
+pub mod Raw
+pub mod CrcLine
+pub mod Line
+pub mod Back
+pub mod Nodelist
+pub mod Place
+pub mod Reading
+pub mod Written

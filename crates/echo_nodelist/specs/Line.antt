@@ -1,0 +1,83 @@
+-- What a line of a nodelist says (FTS-5000).
+use Rattle.std.specs.Prelude.{ℕ, ◌==◌, ◌&&◌, ◌||◌, nat_lt, not, Bool, true, false, List, [], ◌∷◌, length, codes, find, slice_index, Option, Some, None, if◌then◌else◌, Result, Ok, Err}
+use Rattle.std.specs.List.{slice_split}
+use Rattle.std.specs.Int.{is_in_range}
+use Rattle.std.specs.Str.{str_eq_ignore_ascii_case}
+use Rattle.std.specs.Str.Parse.{digits_value}
+use Rattle.echo_addr.specs.Digits.{is_number}
+use Rattle.echo_nodelist.specs.declared.keyword.Keyword.{Keyword}
+use Rattle.echo_nodelist.specs.declared.keyword.Keyword.TheVariants.{Zone, Region, Host, Hub, Pvt, Hold, Down, Node}
+use Rattle.echo_nodelist.specs.declared.line.Line.{Line}
+use Rattle.echo_nodelist.specs.declared.line.Line.TheVariants.{Note, Entry}
+use Rattle.echo_nodelist.specs.declared.fault.NodeFault.{NodeFault}
+use Rattle.echo_nodelist.specs.declared.fault.NodeFault.TheVariants.{TooFewFields, BadKeyword, BadNumber}
+use Rattle.echo_nodelist.specs.Raw.{is_comma}
+
+-- the keywords as they are written
+abbrev pub keyword_text : Keyword → List ℕ
+keyword_text Zone = codes "Zone"
+keyword_text Region = codes "Region"
+keyword_text Host = codes "Host"
+keyword_text Hub = codes "Hub"
+keyword_text Pvt = codes "Pvt"
+keyword_text Hold = codes "Hold"
+keyword_text Down = codes "Down"
+keyword_text Node = []
+
+abbrev pub keywords : List Keyword
+keywords = Zone ∷ (Region ∷ (Host ∷ (Hub ∷ (Pvt ∷ (Hold ∷ (Down ∷ (Node ∷ [])))))))
+
+-- the keyword that bytes write in any case
+abbrev pub keyword_of : List ℕ → Option Keyword
+keyword_of bytes = find (λ k. str_eq_ignore_ascii_case bytes (keyword_text k)) keywords
+
+-- whether it is Zone; whether it begins a net, as Zone, Region and Host do; whether it is Hub
+abbrev pub is_zone : Keyword → Bool
+is_zone Zone = true
+is_zone _ = false
+
+abbrev pub begins_net : Keyword → Bool
+begins_net Zone = true
+begins_net Region = true
+begins_net Host = true
+begins_net _ = false
+
+abbrev pub is_hub : Keyword → Bool
+is_hub Hub = true
+is_hub _ = false
+
+-- the least number beside a keyword: nets are counted from 1, other systems from 0
+abbrev pub least_of : Keyword → ℕ
+least_of k = if begins_net k then 1 else 0
+
+-- whether a number may stand beside a keyword
+abbrev pub is_fit : Keyword → ℕ → Bool
+is_fit k n = is_in_range (least_of k) 32767 n
+
+-- the number that digits write, where it may stand beside the keyword
+abbrev pub number_of : Keyword → List ℕ → Option ℕ
+number_of k digits = if is_number digits && is_fit k (digits_value 10 digits) then Some (digits_value 10 digits) else None
+
+-- an empty line, or one that begins with `;`
+abbrev pub is_note : List ℕ → Bool
+is_note line = (length line == 0) || (slice_index line 0 == 59)
+
+-- an entry of this keyword, with the number that was read
+abbrev pub with_number : ℕ → Keyword → Option ℕ → List (List ℕ) → Result Line NodeFault
+with_number at k None fields = Err (BadNumber at)
+with_number at k (Some n) fields = Ok (Entry k n fields)
+
+-- an entry of the keyword that was read
+abbrev pub with_keyword : ℕ → Option Keyword → List ℕ → List (List ℕ) → Result Line NodeFault
+with_keyword at None digits fields = Err (BadKeyword at)
+with_keyword at (Some k) digits fields = with_number at k (number_of k digits) fields
+
+-- what the fields of line `at` say: a keyword, a number, and at least five more
+abbrev pub entry_of : ℕ → List (List ℕ) → Result Line NodeFault
+entry_of at (word ∷ (digits ∷ fields)) =
+    if nat_lt (length fields) 5 then Err (TooFewFields at) else with_keyword at (keyword_of word) digits fields
+entry_of at _ = Err (TooFewFields at)
+
+-- what line `at` says, apart from the lines before it
+abbrev pub line_of : ℕ → List ℕ → Result Line NodeFault
+line_of at line = if is_note line then Ok (Note line) else entry_of at (slice_split is_comma line)

@@ -1,0 +1,93 @@
+-- What a nodelist says (FTS-5000), and why bytes are none.
+use Rattle.std.specs.Prelude.{◌≡◌, ℕ, ◌+◌, ◌≤◌, ◌⊎◌, ◌&&◌, not, Bool, true, List, [], ◌∷◌, ◌++◌, length, reverse, Option, Some, None, IsSome, Result, Ok, Err}
+use Rattle.std.specs.List.{list_all}
+use Rattle.echo_addr.specs.declared.address.Address.{Address}
+use Rattle.echo_nodelist.specs.declared.keyword.Keyword.{Keyword}
+use Rattle.echo_nodelist.specs.declared.line.Line.{Line}
+use Rattle.echo_nodelist.specs.declared.line.Line.TheVariants.{Note, Entry}
+use Rattle.echo_nodelist.specs.declared.fault.NodeFault.{NodeFault}
+use Rattle.echo_nodelist.specs.declared.fault.NodeFault.TheVariants.{Memory, NoZone}
+use Rattle.echo_nodelist.specs.Raw.{is_comma, is_end, is_feed, node_lines}
+use Rattle.echo_nodelist.specs.Line.{is_fit, is_note, line_of}
+use Rattle.echo_nodelist.specs.Back.{address_back, each_back, hub_back, zone_back}
+
+-- an entry, where a Zone line stands at or before it
+abbrev pub in_zone : ℕ → Option ℕ → Line → Result Line NodeFault
+in_zone at None line = Err (NoZone at)
+in_zone at (Some zone) line = Ok line
+
+-- what a line says after earlier lines, nearest first
+abbrev pub placed : ℕ → List Line → Result Line NodeFault → Result Line NodeFault
+placed at earlier (Err fault) = Err fault
+placed at earlier (Ok (Note text)) = Ok (Note text)
+placed at earlier (Ok (Entry k n fields)) = in_zone at (zone_back (Entry k n fields ∷ earlier)) (Entry k n fields)
+
+-- what bytes of a line say after earlier lines, or the first fault of it
+abbrev pub outcome : List Line → List ℕ → Result Line NodeFault
+outcome earlier raw = placed (length earlier + 1) earlier (line_of (length earlier + 1) raw)
+
+-- the bytes of each line say the line, after those before it; both lists have the nearest first
+abbrev pub AreRead : List (List ℕ) → List Line → Type 0
+AreRead [] [] = Unit {0}
+AreRead (raw ∷ raws) (line ∷ earlier) = (outcome earlier raw ≡ Ok line) × AreRead raws earlier
+AreRead _ _ = ⊥
+
+-- the bytes are a nodelist of these lines
+abbrev pub NodelistOf : List ℕ → List Line → Type 0
+NodelistOf bytes lines = AreRead (reverse (node_lines bytes)) (reverse lines)
+
+-- the first faulty line of these, after lines that are good, has the fault
+pub record FaultIn (raws : List (List ℕ)) (fault : NodeFault) : Type 0 where
+  pub front : List (List ℕ)
+  pub raw : List ℕ
+  pub later : List (List ℕ)
+  pub lines : List Line
+  pub pieces : raws ≡ front ++ raw ∷ later
+  pub good : AreRead (reverse front) (reverse lines)
+  pub faulty : outcome (reverse lines) raw ≡ Err fault
+
+-- the same of a nodelist
+abbrev pub FaultOf : List ℕ → NodeFault → Type 0
+FaultOf bytes fault = FaultIn (node_lines bytes) fault
+
+-- a reader's answer: the lines, the first fault, or want of memory
+abbrev pub Answers : List ℕ → Result (List Line) NodeFault → Type 0
+Answers bytes (Ok lines) = NodelistOf bytes lines
+Answers bytes (Err fault) = FaultOf bytes fault ⊎ (fault ≡ Memory)
+
+-- what was to be answered, or want of memory
+abbrev pub Gives : {A : Type 0} → Result A NodeFault → Result A NodeFault → Type 0
+Gives answer expected = (answer ≡ Err Memory) ⊎ (answer ≡ expected)
+
+-- a byte that may stand in a line: neither 1A nor 0A; one of a field is no comma either
+abbrev pub is_inner : ℕ → Bool
+is_inner b = not (is_end b) && not (is_feed b)
+
+abbrev pub is_field_byte : ℕ → Bool
+is_field_byte b = is_inner b && not (is_comma b)
+
+-- what holds of each entry
+pub record IsEntry (earlier : List Line) (k : Keyword) (n : ℕ) (fields : List (List ℕ)) : Type 0 where
+  pub number : is_fit k n ≡ true
+  pub enough : 5 ≤ length fields
+  pub bytes : list_all (list_all is_field_byte) fields ≡ true
+  pub zone : IsSome (zone_back (Entry k n fields ∷ earlier))
+
+-- what holds of each line after earlier ones
+abbrev pub IsLine : List Line → Line → Type 0
+IsLine earlier (Note text) = (is_note text ≡ true) × (list_all is_inner text ≡ true)
+IsLine earlier (Entry k n fields) = IsEntry earlier k n fields
+
+abbrev pub AreLines : List Line → Type 0
+AreLines [] = Unit {0}
+AreLines (line ∷ earlier) = IsLine earlier line × AreLines earlier
+
+-- what holds of the lines of each `Nodelist`
+abbrev pub IsNodelist : List Line → Type 0
+IsNodelist lines = AreLines (reverse lines)
+
+-- what a `Nodelist` keeps beside its lines: the address of each and that of its hub
+pub record IsIndexed (lines : List Line) (addresses hubs : List (Option Address)) : Type 0 where
+  pub whole : IsNodelist lines
+  pub address_each : addresses ≡ each_back address_back (reverse lines)
+  pub hub_each : hubs ≡ each_back hub_back (reverse lines)

@@ -1,0 +1,17 @@
+-- What reading the lines of a text one by one answers.
+use Rattle.std.specs.Prelude.{◌≡◌, ℕ, ◌⊎◌, List, reverse, Result, Ok, Err}
+use Rattle.echo_nodelist.specs.declared.reading.Reading.{Reading}
+use Rattle.echo_nodelist.specs.declared.fault.NodeFault.{NodeFault}
+use Rattle.echo_nodelist.specs.declared.fault.NodeFault.TheVariants.{Memory}
+use Rattle.echo_nodelist.specs.declared.line.Line.{Line}
+use Rattle.echo_nodelist.specs.Nodelist.{AreRead, FaultIn, placed}
+use Rattle.echo_nodelist.specs.Place.{Follows}
+
+-- what a reader holds belongs to its lines
+abbrev pub IsInStep : Reading → Type 0
+IsInStep r = Follows r.lines.items r.addresses.items r.hubs.items r.place
+
+-- the lines were read, or the first fault among them
+abbrev pub Reads : List (List ℕ) → Result Reading NodeFault → Type 0
+Reads raws (Ok r) = AreRead (reverse raws) (reverse r.lines.items) × IsInStep r
+Reads raws (Err fault) = FaultIn raws fault ⊎ (fault ≡ Memory)

@@ -1,0 +1,32 @@
+-- What is written of a nodelist.
+use Rattle.std.specs.Prelude.{◌≡◌, ℕ, ◌<◌, List, [], ◌∷◌, ◌++◌, length, take, decimal, Option, Result, Ok, Err}
+use Rattle.std.specs.List.{flat_map, join_with_byte}
+use Rattle.std.specs.Io.KnownBytes.{Appends}
+use Rattle.echo_addr.specs.Device.{Failed, counted}
+use Rattle.echo_nodelist.specs.declared.line.Line.{Line}
+use Rattle.echo_nodelist.specs.declared.line.Line.TheVariants.{Note, Entry}
+use Rattle.echo_nodelist.specs.declared.fault.NodeFault.{NodeFault}
+use Rattle.echo_nodelist.specs.declared.fault.NodeFault.TheVariants.{Memory, Write}
+use Rattle.echo_nodelist.specs.Line.{keyword_text}
+
+-- a Note as it is; an entry's fields, joined by commas
+abbrev pub line_text : Line → List ℕ
+line_text (Note text) = text
+line_text (Entry k n fields) = join_with_byte 44 (keyword_text k ∷ (decimal n ∷ fields))
+
+-- a line with 0D 0A
+abbrev pub ended : Line → List ℕ
+ended line = line_text line ++ 13 ∷ (10 ∷ [])
+
+-- the lines, and 1A
+unfoldable pub nodelist_text : List Line → List ℕ
+nodelist_text lines = flat_map ended lines ++ 26 ∷ []
+
+-- What a call did that had these bytes to write. Ok: all of them went out. A write fault: the device failed, and so
+-- many bytes went out, a beginning that lacks some. Want of memory: nothing went out.
+abbrev pub Writes : {A : Type 0} → Option (List ℕ) → Option (List ℕ) → ℕ → ℕ → List ℕ → Result A NodeFault → Type 0
+Writes old new before after bytes (Ok done) = Appends old new bytes × (after ≡ before)
+Writes old new before after bytes (Err (Write n)) =
+    (k : ℕ) × (k < length bytes) × Appends old new (take k bytes) × (n ≡ counted k) × Failed before after
+Writes old new before after bytes (Err Memory) = (new ≡ old) × (after ≡ before)
+Writes old new before after bytes (Err _) = ⊥

@@ -1,0 +1,36 @@
+//! Nodelists (FTS-5000) and their checksum.
+//!
+//! The contract for the layers above: what `write` wrote of a nodelist is read as that nodelist
+//! (`written_nodelist_read_back`); `find` gives the first line with an address, and addresses are
+//! those told by looking back from a line.
+//!
+//! Modules in reading order: `fault` (why a nodelist is not read or written), `crc_table` and `crc`
+//! (the checksum), `cutting` (pieces of a text), `digits` (decimal numbers), `stated` (the checksum
+//! that the first line states), `keyword`, `line` (what a line says), `area` (where it stands),
+//! `reading`, `writing`, `nodelist`, and `laws` (what holds of the definitions).
+#![tactic(auto)]
+
+mod area;
+mod crc;
+mod crc_table;
+mod cutting;
+mod digits;
+mod fault;
+mod keyword;
+mod laws;
+mod line;
+mod nodelist;
+mod reading;
+mod stated;
+mod writing;
+
+pub use crc::crc16;
+pub use fault::NodeFault;
+pub use keyword::Keyword;
+pub use laws::{one_nodelist, written_nodelist_read_back};
+pub use line::Line;
+pub use nodelist::Nodelist;
+pub use stated::{CrcLine, crc_line};
+
+#[cfg(test)]
+mod tests;

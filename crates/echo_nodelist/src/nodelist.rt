@@ -1,0 +1,126 @@
+ghost use Rattle.std.specs.Prelude.{◌≡◌, ◌≢◌, ◌↔◌, ◌<◌, ℕ, Some, None, IsTrue, MatchOption, slice_index_or};
+
+use crate::cutting::text_of;
+use crate::fault::NodeFault;
+use crate::line::Line;
+use crate::reading::read_lines;
+use crate::writing::nodelist_text;
+use echo_addr::{Address, Failure, Sink, send};
+use std::alloc::Global;
+use std::marker::Model;
+
+/// A nodelist (FTS-5000): its lines, and beside them the address of each line and that of its hub.
+#[derive(Debug, Drop)]
+pub struct Nodelist {
+    lines: Vec<Line>,
+    addresses: Vec<Option<Address>>,
+    hubs: Vec<Option<Address>>,
+}
+
+impl Model for Nodelist {
+    ghost use Rattle.std.specs.Prelude.{List};
+    ghost use Rattle.echo_nodelist.specs.declared.line.Line.{Line};
+    ghost use Rattle.echo_nodelist.specs.Nodelist.{IsIndexed};
+
+    ghost Value = { List Line };
+
+    ghost view = { λ list. list.lines.items };
+
+    ghost invariant = { λ list. IsIndexed list.lines.items list.addresses.items list.hubs.items };
+}
+
+impl Nodelist {
+    ghost use Rattle.std.specs.Prelude.{◌≡◌, IfOk};
+    ghost use Rattle.echo_nodelist.specs.Back.{Finds, address_at, hub_at};
+    ghost use Rattle.echo_nodelist.specs.Nodelist.{Answers, IsNodelist};
+    ghost use Rattle.echo_nodelist.specs.Written.{Writes, nodelist_text};
+
+    /// The nodelist that the bytes are, up to the first 1A. A fault is that of the first faulty line,
+    /// or `Memory`.
+    pub fn read(alloc: Global, bytes: &[u8]) -> Result<Nodelist, NodeFault>
+        ensures { Answers bytes.now result }
+    {
+        let reading = read_lines(alloc, text_of(bytes))?;
+        Ok(Nodelist {
+            lines: reading.lines,
+            addresses: reading.addresses,
+            hubs: reading.hubs,
+        })
+    }
+
+    /// Writes each line with 0D 0A, then 1A. A fault is `Write` with the number of bytes that went
+    /// out, or `Memory`, where none did.
+    pub fn write<W: Sink>(&self, alloc: Global, writer: &mut W) -> Result<(), NodeFault>
+        ensures { Writes (W.contents writer.old) (W.contents writer.new) (W.failures writer.old) (W.failures writer.new) (nodelist_text self.now) result }
+    {
+        let text = nodelist_text(alloc, &self.lines)?;
+        let mut sent = 0;
+        match send(writer, &text, &mut sent) {
+            Ok(()) => Ok(()),
+            Err(Failure) => Err(NodeFault::Write { bytes: sent }),
+        }
+    }
+
+    /// The lines in order.
+    pub fn lines(&self) -> &[Line]
+        ensures lines { result.now ≡ self.now }
+        ensures whole { IsNodelist self.now }
+    {
+        self.lines.as_slice()
+    }
+
+    /// The address of the line at an index, from 0; none for a Note, and past the last line.
+    pub fn address_of(&self, i: usize) -> Option<Address>
+        ensures { result ≡ address_at self.now i }
+    {
+        kept_at(&self.addresses, i)
+    }
+
+    /// The address of the Hub over the line at an index, from 0: for an entry with the keyword Pvt,
+    /// Hold, Down or none, that of the nearest Hub line before it with no Zone, Region or Host line
+    /// between them.
+    pub fn hub_of(&self, i: usize) -> Option<Address>
+        ensures { result ≡ hub_at self.now i }
+    {
+        kept_at(&self.hubs, i)
+    }
+
+    /// The index of the first line with the address. It goes over the addresses alone, eight bytes a
+    /// line.
+    pub fn find(&self, address: Address) -> Option<usize>
+        ensures { Finds self.now address result }
+    {
+        first_at(&self.addresses, address)
+    }
+}
+
+/// What is kept at an index; nothing past the end.
+fn kept_at(kept: &[Option<Address>], i: usize) -> Option<Address>
+    ensures { result ≡ slice_index_or kept.now i None }
+{
+    match kept.get(i) {
+        Some(address) => *address,
+        None => None,
+    }
+}
+
+/// Where the address stands first.
+fn first_at(addresses: &[Option<Address>], wanted: Address) -> Option<usize>
+    ensures { MatchOption result
+        ((i : ℕ) → slice_index_or addresses.now i None ≢ Some wanted)
+        (λ i. (slice_index_or addresses.now i None ≡ Some wanted) × ((j : ℕ) → j < i → slice_index_or addresses.now j None ≢ Some wanted)) }
+{
+    'addresses: for (i, found) in addresses.iter().enumerate() {
+        if is_at(*found, wanted) {
+            return Some(i);
+        }
+    }
+    None
+}
+
+/// Whether the address is the one that is wanted.
+fn is_at(found: Option<Address>, wanted: Address) -> bool
+    ensures { IsTrue result ↔ (found ≡ Some wanted) }
+{
+    found == Some(wanted)
+}

@@ -1,0 +1,60 @@
+ghost use Rattle.std.specs.Prelude.{◌≡◌, ◌+◌, ◌⊎◌, [], ◌∷◌, ◌++◌, length, reverse, OnOk, IfErr, Ok, Err};
+ghost use Rattle.echo_nodelist.specs.declared.fault.NodeFault.TheVariants.{Memory};
+ghost use Rattle.echo_nodelist.specs.Raw.{lines_of};
+ghost use Rattle.echo_nodelist.specs.Nodelist.{placed};
+ghost use Rattle.echo_nodelist.specs.Reading.{IsInStep, Reads};
+
+use crate::area::{Area, tell};
+use crate::cutting::split_line;
+use crate::fault::NodeFault;
+use crate::line::{Line, read_line};
+use echo_addr::Address;
+use std::alloc::Global;
+
+/// Lines that were read, with the address of each and that of its hub, and the place after them.
+#[derive(Drop)]
+pub(crate) struct Reading {
+    pub(crate) lines: Vec<Line>,
+    pub(crate) addresses: Vec<Option<Address>>,
+    pub(crate) hubs: Vec<Option<Address>>,
+    place: Option<Area>,
+}
+
+impl Reading {
+    /// Adds a line, the one of this number.
+    fn push(&mut self, number: usize, line: Line) -> Result<(), NodeFault>
+        requires { IsInStep self.old }
+        ensures step { OnOk result (IsInStep self.new) }
+        ensures lines { OnOk result (self.new.lines.items ≡ self.old.lines.items ++ line ∷ []) }
+        ensures good { OnOk result (placed number (reverse self.old.lines.items) (Ok line) ≡ Ok line) }
+        ensures fault { IfErr result (λ fault. (fault ≡ Memory) ⊎ (placed number (reverse self.old.lines.items) (Ok line) ≡ Err fault)) }
+    {
+        let told = tell(self.place, number, &line)?;
+        self.addresses.push(told.address)?;
+        self.hubs.push(told.hub)?;
+        self.lines.push(line)?;
+        self.place = told.place;
+        Ok(())
+    }
+}
+
+/// The lines of the text.
+pub(crate) fn read_lines(alloc: Global, text: &[u8]) -> Result<Reading, NodeFault>
+    ensures { Reads (lines_of text.now) result }
+{
+    let mut reading = Reading {
+        lines: Vec::new(alloc),
+        addresses: Vec::new(alloc),
+        hubs: Vec::new(alloc),
+        place: None,
+    };
+    let mut rest = text;
+    'lines: while !rest.is_empty() {
+        let number = reading.lines.len() + 1;
+        let (raw, after) = split_line(rest);
+        let line = read_line(alloc, number, raw)?;
+        reading.push(number, line)?;
+        rest = after;
+    }
+    Ok(reading)
+}

@@ -1,0 +1,78 @@
+ghost use Rattle.std.specs.Prelude.{◌≡◌, ◌≤◌, ◌↔◌, false, length, IsNone, IfSome};
+ghost use Rattle.std.specs.List.{after_first, before_first, suffix_len};
+ghost use Rattle.echo_nodelist.specs.Raw.{is_feed};
+ghost use Rattle.echo_nodelist.specs.CrcLine.{crc_line_of, is_space, states_crc, stated_crc, without_spaces};
+
+use crate::crc::crc16;
+use crate::cutting::{cut, text_of, without_return};
+use crate::digits::number;
+
+/// What the first line of a nodelist says of the checksum of the bytes after it.
+#[derive(Clone, Copy, Debug, PartialEq, Eq, Hash)]
+pub enum CrcLine {
+    /// It doesn't end with a colon, blanks 20 and five decimal digits.
+    Absent,
+    /// The stated number is the computed one.
+    Match(u32),
+    Mismatch { stated: u32, computed: u32 },
+}
+
+/// How many digits state a checksum.
+const DIGITS: usize = 5;
+
+/// What the first line states, beside the checksum of the bytes from the second line on, up to the
+/// first 1A.
+pub fn crc_line(bytes: &[u8]) -> CrcLine
+    ensures { result ≡ crc_line_of bytes.now }
+{
+    let text = text_of(bytes);
+    let (first, later) = first_piece(text);
+    let Some(stated) = stated_number(without_return(first)) else {
+        return CrcLine::Absent;
+    };
+    let computed = u32::from(crc16(later));
+    if stated == computed {
+        CrcLine::Match(stated)
+    } else {
+        CrcLine::Mismatch { stated, computed }
+    }
+}
+
+/// What stands before the first 0A, and after it.
+fn first_piece(text: &[u8]) -> (&[u8], &[u8])
+    ensures before { result.0.now ≡ before_first is_feed text.now }
+    ensures after { result.1.now ≡ after_first is_feed text.now }
+{
+    match cut(b'\n', text) {
+        Some(parts) => parts,
+        None => (text, &text[text.len()..]),
+    }
+}
+
+/// The number that the line states.
+fn stated_number(line: &[u8]) -> Option<u32>
+    ensures none { IsNone result ↔ (states_crc line.now ≡ false) }
+    ensures value { IfSome result (λ n. n ≡ stated_crc line.now) }
+{
+    let at = line.len().checked_sub(DIGITS)?;
+    let (before, digits) = line.split_at(at);
+    if without_spaces(before).last() != Some(&b':') {
+        return None;
+    }
+    number(digits)
+}
+
+/// The bytes without the blanks 20 at their end.
+fn without_spaces(bytes: &[u8]) -> &[u8]
+    ensures { result.now ≡ without_spaces bytes.now }
+{
+    &bytes[..bytes.len() - spaces(bytes)]
+}
+
+/// How many blanks 20 stand at the end.
+fn spaces(bytes: &[u8]) -> usize
+    ensures exact { result ≡ suffix_len is_space bytes.now }
+    ensures within { result ≤ length bytes.now }
+{
+    bytes.iter().rev().take_while(|b| **b == b' ').count()
+}
