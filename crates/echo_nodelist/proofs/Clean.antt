@@ -1,7 +1,7 @@
 -- Lines that are read hold no 1A and no 0A, their fields no commas: so they keep the rules of a nodelist.
-use Rattle.std.proofs.Common.{◌≡◌, ℕ, ◌+◌, ◌-◌, ◌<◌, ◌≤◌, ◌==◌, ◌&&◌, not, nat_lt, Bool, true, false, List, [], ◌∷◌, ◌++◌, length, get_or, take, drop, map, reverse, cond, refl, sym, ap, ◌∙◌, subst, arith, inl, inr, Option, Some, None, Result, Ok, Err}
+use Rattle.std.proofs.Common.{◌≡◌, ℕ, ◌+◌, ◌-◌, ◌<◌, ◌≤◌, ◌==◌, ◌&&◌, not, nat_lt, Bool, true, List, [], ◌∷◌, length, take, drop, map, reverse, refl, sym, ap, ◌∙◌, subst, arith, inl, inr, Option, Some, None, Ok, Err}
 use Rattle.std.specs.Prelude.{IsSome}
-use Rattle.std.specs.List.{All, before_first, list_all, onto_first, position_or_len, slice_split}
+use Rattle.std.specs.List.{list_all, onto_first, position_or_len, slice_split}
 use Rattle.std.specs.Str.Parse.{digits_value}
 use Rattle.std.specs.Io.BufRead.{ends_with_byte, strip_last}
 use Rattle.std.proofs.lemmas.List.{get_or-take, length-take-le, reverse-append, take-append-drop}
@@ -14,12 +14,11 @@ use Rattle.echo_addr.specs.Digits.{is_number}
 use Rattle.echo_nodelist.specs.declared.keyword.Keyword.{Keyword}
 use Rattle.echo_nodelist.specs.declared.line.Line.{Line}
 use Rattle.echo_nodelist.specs.declared.line.Line.TheVariants.{Entry, Note}
-use Rattle.echo_nodelist.specs.declared.fault.NodeFault.{NodeFault}
 use Rattle.echo_nodelist.specs.declared.fault.NodeFault.TheVariants.{TooFewFields}
 use Rattle.echo_nodelist.specs.Raw.{is_comma, is_end, is_feed, lines_of, node_lines, text_of, without_empty_last}
-use Rattle.echo_nodelist.specs.Line.{entry_of, is_fit, is_note, keyword_of, line_of, number_of, with_keyword, with_number}
+use Rattle.echo_nodelist.specs.Line.{entry_of, is_fit, is_note, keyword_of, number_of, with_keyword, with_number}
 use Rattle.echo_nodelist.specs.Back.{zone_back}
-use Rattle.echo_nodelist.specs.Nodelist.{AreLines, AreRead, IsEntry, IsLine, IsNodelist, NodelistOf, in_zone, is_field_byte, is_inner, outcome, placed}
+use Rattle.echo_nodelist.specs.Nodelist.{AreLines, AreRead, IsLine, IsNodelist, NodelistOf, in_zone, is_field_byte, is_inner, outcome, placed}
 
 -- ---- bytes of pieces
 

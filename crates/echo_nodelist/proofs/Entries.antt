@@ -1,12 +1,10 @@
 -- What the fields of an entry say.
-use Rattle.std.proofs.Common.{◌≡◌, ℕ, ◌<◌, ◌≤◌, nat_lt, true, false, List, [], ◌∷◌, length, cond, refl, sym, ap, ◌∙◌, arith, Option, Some, None, Result, Ok, Err}
+use Rattle.std.proofs.Common.{◌≡◌, ℕ, ◌<◌, ◌≤◌, nat_lt, List, [], ◌∷◌, length, refl, sym, ap, ◌∙◌, Some, None, Ok, Err}
 use Rattle.std.specs.List.{after_first, before_first, position_or_len, slice_split}
 use Rattle.std.proofs.lemmas.List.Splits.{slice_split_first}
 use Rattle.std.proofs.lemmas.Bool.{cond-false, cond-true, le-ltb, lt-ltb}
 use Rattle.echo_nodelist.specs.declared.keyword.Keyword.{Keyword}
-use Rattle.echo_nodelist.specs.declared.line.Line.{Line}
 use Rattle.echo_nodelist.specs.declared.line.Line.TheVariants.{Entry}
-use Rattle.echo_nodelist.specs.declared.fault.NodeFault.{NodeFault}
 use Rattle.echo_nodelist.specs.declared.fault.NodeFault.TheVariants.{BadKeyword, BadNumber, TooFewFields}
 use Rattle.echo_nodelist.specs.Raw.{is_comma}
 use Rattle.echo_nodelist.specs.Line.{entry_of, keyword_of, number_of, with_keyword, with_number}

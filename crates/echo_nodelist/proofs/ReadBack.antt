@@ -1,7 +1,7 @@
 -- What was written of a nodelist is read as that nodelist.
-use Rattle.std.proofs.Common.{◌≡◌, ℕ, ◌+◌, ◌-◌, ◌^◌, ◌<◌, ◌≤◌, ◌==◌, ◌&&◌, ◌||◌, not, nat_lt, Bool, true, false, List, [], ◌∷◌, ◌++◌, length, get_or, take, map, reverse, cond, codes, decimal, refl, sym, ap, ◌∙◌, subst, arith, inl, inr, Option, Some, None, Result, Ok, Err}
+use Rattle.std.proofs.Common.{◌≡◌, ℕ, ◌+◌, ◌-◌, ◌^◌, ◌<◌, ◌==◌, ◌&&◌, ◌||◌, not, nat_lt, Bool, true, false, List, [], ◌∷◌, ◌++◌, length, get_or, take, map, reverse, codes, decimal, refl, sym, ap, ◌∙◌, subst, arith, Option, Some, None, Ok, Err}
 use Rattle.std.specs.Prelude.{IsSome}
-use Rattle.std.specs.List.{All, AllByRecursion, before_first, flat_map, join_with_byte, list_all, position_or_len, slice_split}
+use Rattle.std.specs.List.{All, AllByRecursion, flat_map, join_with_byte, list_all, position_or_len, slice_split}
 use Rattle.std.specs.Str.Parse.{digits_value}
 use Rattle.std.specs.Io.BufRead.{ends_with_byte, strip_last}
 use Rattle.std.proofs.Math.Seq.{get_or-append_seam, take-append_seam}
@@ -17,10 +17,9 @@ use Rattle.echo_nodelist.specs.declared.keyword.Keyword.{Keyword}
 use Rattle.echo_nodelist.specs.declared.keyword.Keyword.TheVariants.{Down, Hold, Host, Hub, Node, Pvt, Region, Zone}
 use Rattle.echo_nodelist.specs.declared.line.Line.{Line}
 use Rattle.echo_nodelist.specs.declared.line.Line.TheVariants.{Entry, Note}
-use Rattle.echo_nodelist.specs.declared.fault.NodeFault.{NodeFault}
 use Rattle.echo_nodelist.specs.declared.fault.NodeFault.TheVariants.{TooFewFields}
 use Rattle.echo_nodelist.specs.Raw.{is_comma, is_end, is_feed, lines_of, node_lines, text_of}
-use Rattle.echo_nodelist.specs.Line.{entry_of, is_fit, is_note, keyword_of, keyword_text, least_of, line_of, number_of, with_keyword, with_number}
+use Rattle.echo_nodelist.specs.Line.{entry_of, is_fit, is_note, keyword_of, keyword_text, line_of, number_of, with_keyword, with_number}
 use Rattle.echo_nodelist.specs.Back.{zone_back}
 use Rattle.echo_nodelist.specs.Nodelist.{AreLines, AreRead, IsEntry, IsLine, IsNodelist, NodelistOf, in_zone, is_field_byte, is_inner, outcome, placed}
 use Rattle.echo_nodelist.specs.Written.{ended, line_text, nodelist_text}

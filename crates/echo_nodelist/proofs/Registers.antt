@@ -1,5 +1,5 @@
 -- The register as a number, and the table of its bytes.
-use Rattle.std.proofs.Common.{◌≡◌, ℕ, zero, suc, ◌+◌, ◌-◌, ◌*◌, ◌/◌, ◌%◌, ◌^◌, ◌<◌, ◌≤◌, ◌==◌, Bool, true, false, List, [], ◌∷◌, ◌++◌, length, get_or, cond, refl, sym, ap, ◌∙◌, subst, arith, add-zero, zero-add}
+use Rattle.std.proofs.Common.{◌≡◌, ℕ, zero, suc, ◌+◌, ◌-◌, ◌*◌, ◌/◌, ◌%◌, ◌^◌, ◌<◌, ◌==◌, Bool, true, false, List, [], ◌∷◌, ◌++◌, length, get_or, cond, refl, sym, ap, ◌∙◌, subst, arith, add-zero, zero-add}
 use Rattle.std.specs.List.{flat_map, fold}
 use Rattle.std.specs.Int.{bit_at}
 use Rattle.std.specs.Int.Bits.{bit_xor}
@@ -11,8 +11,8 @@ use Rattle.std.proofs.lemmas.List.{append-nil}
 use Rattle.std.proofs.lemmas.List.Sums.{fold-append}
 use Rattle.std.proofs.lemmas.List.Concat.{flat_map-append}
 use Rattle.echo_nodelist.specs.declared.crc_table.TheConstants.{TABLE}
-use Rattle.echo_nodelist.specs.Crc.{added, bits_of, crc, divided, number_of, sum_of, zeros}
-use Rattle.echo_nodelist.proofs.Division.{divided_register, fold_byte, length-added, length-fold, shifted}
+use Rattle.echo_nodelist.specs.Crc.{added, bits_of, crc, number_of, sum_of, zeros}
+use Rattle.echo_nodelist.proofs.Division.{divided_register, fold_byte, length-fold, shifted}
 
 -- ---- numbers and their bits
 

@@ -1,16 +1,14 @@
 -- The number that a first line states, beside the computed one.
-use Rattle.std.proofs.Common.{◌≡◌, ℕ, ◌+◌, ◌-◌, ◌<◌, ◌≤◌, ◌==◌, ◌↔◌, Bool, true, false, List, length, take, drop, min, cond, refl, sym, ap, ◌∙◌, ◌≢◌, subst, arith, Option, Some, None}
+use Rattle.std.proofs.Common.{◌≡◌, ℕ, ◌+◌, ◌<◌, ◌≤◌, ◌==◌, ◌↔◌, Bool, true, false, List, length, drop, min, sym, ap, ◌∙◌, ◌≢◌, arith, Option, Some, None}
 use Rattle.std.specs.Prelude.{IsNone, IfSome}
 use Rattle.std.specs.List.{after_first, before_first, position_or_len}
-use Rattle.std.specs.Str.{all_ascii_digits}
 use Rattle.std.specs.Str.Parse.{digits_value}
 use Rattle.std.specs.Io.BufRead.{strip_last}
-use Rattle.std.proofs.lemmas.List.{drop_all, take_all, take_rest}
+use Rattle.std.proofs.lemmas.List.{drop_all, take_all}
 use Rattle.std.proofs.lemmas.Str.Parse.{digits_value_short}
 use Rattle.std.proofs.lemmas.Bool.{and_parts, cond-false, cond-true, eq-eqb, ne_eqb, true_from_ne_false, true≢false}
 use Rattle.echo_addr.specs.Digits.{is_number}
 use Rattle.echo_addr.proofs.Decimals.{own}
-use Rattle.echo_nodelist.specs.declared.stated.CrcLine.{CrcLine}
 use Rattle.echo_nodelist.specs.declared.stated.CrcLine.TheVariants.{Absent, Match, Mismatch}
 use Rattle.echo_nodelist.specs.Crc.{crc}
 use Rattle.echo_nodelist.specs.Raw.{is_feed}

@@ -1,13 +1,13 @@
 -- What is written of a line, piece by piece.
-use Rattle.std.proofs.Common.{◌≡◌, ℕ, List, [], ◌∷◌, ◌++◌, take, get_or, length, ◌+◌, ◌<◌, decimal, refl, sym, ap, ◌∙◌, Result, Ok, Err}
+use Rattle.std.proofs.Common.{◌≡◌, ℕ, List, [], ◌∷◌, ◌++◌, decimal, sym, ap, ◌∙◌, Result, Ok, Err}
 use Rattle.std.specs.Prelude.{OnOk}
 use Rattle.std.specs.List.{flat_map, join_with_byte}
-use Rattle.std.proofs.lemmas.List.{append_assoc, append-nil, flat_map_more}
+use Rattle.std.proofs.lemmas.List.{append_assoc, append-nil}
 use Rattle.echo_nodelist.specs.declared.keyword.Keyword.{Keyword}
 use Rattle.echo_nodelist.specs.declared.line.Line.{Line}
 use Rattle.echo_nodelist.specs.declared.line.Line.TheVariants.{Entry}
 use Rattle.echo_nodelist.specs.Line.{keyword_text}
-use Rattle.echo_nodelist.specs.Written.{ended, line_text, nodelist_text}
+use Rattle.echo_nodelist.specs.Written.{line_text}
 
 pub OnOk-map : {A E : Type 0} {P Q : Type 0} (r : Result A E) → (P → Q) → OnOk r P → OnOk r Q
 OnOk-map (Ok x) f p = f p

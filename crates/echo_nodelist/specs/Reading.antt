@@ -3,8 +3,7 @@ use Rattle.std.specs.Prelude.{◌≡◌, ℕ, ◌⊎◌, List, reverse, Result, 
 use Rattle.echo_nodelist.specs.declared.reading.Reading.{Reading}
 use Rattle.echo_nodelist.specs.declared.fault.NodeFault.{NodeFault}
 use Rattle.echo_nodelist.specs.declared.fault.NodeFault.TheVariants.{Memory}
-use Rattle.echo_nodelist.specs.declared.line.Line.{Line}
-use Rattle.echo_nodelist.specs.Nodelist.{AreRead, FaultIn, placed}
+use Rattle.echo_nodelist.specs.Nodelist.{AreRead, FaultIn}
 use Rattle.echo_nodelist.specs.Place.{Follows}
 
 -- what a reader holds belongs to its lines

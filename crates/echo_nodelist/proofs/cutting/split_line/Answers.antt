@@ -1,4 +1,4 @@
-use Rattle.std.proofs.Common.{[], length, take, drop, refl, ◌-◌}
+use Rattle.std.proofs.Common.{length, take, drop, refl, ◌-◌}
 use Rattle.echo_nodelist.proofs.Pieces.{lines_cut, lines_last, nothing_left}
 use Rattle.echo_nodelist.proofs.cutting.split_line.Goals as goal
 

@@ -1,4 +1,4 @@
-use Rattle.std.proofs.Common.{◌≡◌, ◌++◌, ◌∷◌, [], ap, ◌∙◌, refl}
+use Rattle.std.proofs.Common.{◌++◌, ◌∷◌, [], ap, ◌∙◌, refl}
 use Rattle.std.specs.List.{slice_split}
 use Rattle.echo_nodelist.specs.Raw.{is_comma}
 use Rattle.echo_nodelist.proofs.Pieces.{fields_all, fields_more}

@@ -1,4 +1,4 @@
-use Rattle.std.proofs.Common.{◌≡◌, ◌∷◌, refl, sym, inr, ap, ◌∙◌, arith, ◌<◌, ◌≤◌, length, Ok}
+use Rattle.std.proofs.Common.{refl, sym, inr, ap, ◌∙◌, arith, Ok}
 use Rattle.echo_nodelist.specs.declared.line.Line.TheVariants.{Entry}
 use Rattle.echo_nodelist.proofs.Entries.{an_entry, few_fields, field_cut, no_keyword, no_number, one_field, two_fields}
 use Rattle.echo_nodelist.proofs.line.read_entry.Goals as goal

@@ -1,4 +1,4 @@
-use Rattle.std.proofs.Common.{◌≡◌, ◌≢◌, ℕ, ◌<◌, get_or, Some, None}
+use Rattle.std.proofs.Common.{◌≢◌, ℕ, ◌<◌, get_or, Some, None}
 use Rattle.echo_nodelist.proofs.nodelist.first_at.Given as goal
 
 abbrev pub invariant-addresses : goal.invariant-addresses

@@ -1,4 +1,4 @@
-use Rattle.std.proofs.Common.{refl, sym, ap, ◌∙◌}
+use Rattle.std.proofs.Common.{refl, ap, ◌∙◌}
 use Rattle.echo_nodelist.specs.CrcLine.{crc_of_text}
 use Rattle.echo_nodelist.proofs.Stating.{compared_other, compared_same, some_stated, states_none, states_some}
 use Rattle.echo_nodelist.proofs.stated.crc_line.Goals as goal

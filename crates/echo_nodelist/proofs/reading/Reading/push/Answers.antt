@@ -1,5 +1,4 @@
-use Rattle.std.proofs.Common.{reverse, ◌≡◌, ◌++◌, ◌∷◌, [], subst, sym}
-use Rattle.echo_nodelist.specs.Place.{Follows}
+use Rattle.std.proofs.Common.{reverse}
 use Rattle.echo_nodelist.proofs.Areas.{follows_more}
 use Rattle.echo_nodelist.proofs.reading.Reading.push.Goals as goal
 
