@@ -2,6 +2,8 @@ mod messages;
 mod nodelists;
 
 use super::*;
+use echo_nodelist::NodeFault;
+use echo_packet::PacketFault;
 use echo_text::TextFault;
 use std::alloc::Global;
 use std::io::Read;
@@ -166,15 +168,61 @@ fn sixteen_interruptions_are_a_failure(rt: HostRuntime) -> Result<(), Fail> {
 fn statuses(rt: HostRuntime) {
     for (status, code) in [
         (Status::Good, 0),
+        (Status::Differs, 1),
         (Status::Refused, 2),
         (Status::Device, 3),
         (Status::CommandLine, 4),
     ] {
         assert_eq!(rt; status.code(), code);
     }
-    assert_eq!(rt; Fault::CannotUse("x").status(), Status::Device);
-    assert_eq!(rt; Fault::OutOfMemory.status(), Status::Device);
-    assert_eq!(rt; Fault::Text(TextFault::Memory).status(), Status::Device);
-    assert_eq!(rt; Fault::Text(TextFault::BadTag).status(), Status::Refused);
-    assert_eq!(rt; Fault::TooLarge("x").status(), Status::Refused);
+    for fault in [
+        Fault::CannotUse("x"),
+        Fault::OutOfMemory,
+        Fault::Packet(PacketFault::Read { at: 58 }),
+        Fault::Packet(PacketFault::Memory),
+        Fault::Packet(PacketFault::Write { bytes: 0 }),
+        Fault::Text(TextFault::Memory),
+        Fault::Nodelist(NodeFault::Memory),
+        Fault::Nodelist(NodeFault::Write { bytes: 0 }),
+    ] {
+        assert_eq!(rt; fault.status(), Status::Device);
+    }
+    for fault in [
+        Fault::TooLarge("x"),
+        Fault::BadHex,
+        Fault::BadAddress,
+        Fault::Packet(PacketFault::Truncated { at: 58 }),
+        Fault::Text(TextFault::BadTag),
+        Fault::Nodelist(NodeFault::NoZone { line: 1 }),
+    ] {
+        assert_eq!(rt; fault.status(), Status::Refused);
+    }
+}
+
+#[test]
+fn fault_lines(rt: HostRuntime) {
+    for (fault, line) in [
+        (Fault::CannotUse("x.pkt"), "echonet: cannot use x.pkt\n"),
+        (Fault::TooLarge("-"), "echonet: file too large -\n"),
+        (Fault::BadHex, "echonet: bad hex\n"),
+        (Fault::OutOfMemory, "echonet: out of memory\n"),
+        (
+            Fault::Packet(PacketFault::Read { at: 58 }),
+            "echonet: P6 Read at 58\n",
+        ),
+        (Fault::Nodelist(NodeFault::Memory), "echonet: N5 Memory\n"),
+        (
+            Fault::Nodelist(NodeFault::Write { bytes: 7 }),
+            "echonet: N6 Write bytes 7\n",
+        ),
+    ] {
+        let mut room = [0u8; 64];
+        let mut errors = room.as_mut_slice();
+        fault.report(&mut errors);
+        let left = errors.len();
+        assert!(rt;
+            room.get(..64usize.saturating_sub(left)) == Some(line.as_bytes()),
+            "{line}"
+        );
+    }
 }

@@ -37,6 +37,13 @@ fn checks_sums(rt: HostRuntime) -> Result<(), Fail> {
                 computed: 12739,
             },
         ),
+        (
+            b";x : 12738\n123456789\x1a",
+            CrcLine::Mismatch {
+                stated: 12738,
+                computed: 12739,
+            },
+        ),
         (b";x : 00000", CrcLine::Match(0)),
         (b"x:00000\r\x1a1", CrcLine::Match(0)),
         (
@@ -133,10 +140,25 @@ fn gives_the_lines(rt: HostRuntime) -> Result<(), Fail> {
     Ok(())
 }
 
-// What a device that takes pieces and fails after so many bytes gets of the nodelist.
+// A last piece of 0D alone is a line, an empty Note.
+#[test]
+fn counts_a_lone_return(rt: HostRuntime) -> Result<(), Fail> {
+    let list = read(rt.alloc(), b";Foo\n\r")?;
+    match list.lines() {
+        [Line::Note(first), Line::Note(last)] => {
+            assert_eq!(rt; first.as_slice(), b";Foo".as_slice());
+            assert!(rt; last.is_empty());
+        }
+        _ => assert!(rt; false, "other lines"),
+    }
+    Ok(())
+}
+
+// What a device that takes pieces and fails after so many bytes gets of the bytes that are wanted.
 fn write_case(
     alloc: Global,
     list: &Nodelist,
+    wanted: &[u8],
     piece: usize,
     left: u64,
 ) -> (Option<NodeFault>, usize) {
@@ -146,17 +168,22 @@ fn write_case(
     if fault == Some(NodeFault::Memory) {
         fault = list.write(alloc, &mut device).err();
     }
-    let same = out.iter().zip(WRITTEN).take_while(|(a, b)| a == b).count();
+    let same = out.iter().zip(wanted).take_while(|(a, b)| a == b).count();
     (fault, same)
 }
 
 #[test]
 fn writes_what_it_reads(rt: HostRuntime) -> Result<(), Fail> {
     let alloc = rt.alloc();
+    let short = read(alloc, b"zone,01,a,b,c,d,e")?;
+    assert_eq!(rt;
+        write_case(alloc, &short, b"Zone,1,a,b,c,d,e\r\n\x1a", 64, 19),
+        (None, 19)
+    );
     let list = read(alloc, b"zone,01,a,b,c,d,9600\n;n\n\n,7,a,,c,d,,e")?;
     let all = WRITTEN.len();
-    assert_eq!(rt; write_case(alloc, &list, all, 64), (None, all));
-    assert_eq!(rt; write_case(alloc, &list, 1, 64), (None, all));
+    assert_eq!(rt; write_case(alloc, &list, WRITTEN, all, 64), (None, all));
+    assert_eq!(rt; write_case(alloc, &list, WRITTEN, 1, 64), (None, all));
     let again = read(alloc, WRITTEN)?;
     assert!(rt; again.lines() == list.lines());
     assert_eq!(rt; again.find(address(1, 7)), Some(3));
@@ -168,11 +195,11 @@ fn failing_writers_are_told(rt: HostRuntime) -> Result<(), Fail> {
     let alloc = rt.alloc();
     let list = read(alloc, WRITTEN)?;
     for left in 0u64..WRITTEN.len() as u64 {
-        let (fault, same) = write_case(alloc, &list, 64, left);
+        let (fault, same) = write_case(alloc, &list, WRITTEN, 64, left);
         assert_eq!(rt; fault, Some(NodeFault::Write { bytes: left }));
         assert!(rt; left as usize <= same);
     }
-    let (fault, _) = write_case(alloc, &list, 0, 64);
+    let (fault, _) = write_case(alloc, &list, WRITTEN, 0, 64);
     assert_eq!(rt; fault, Some(NodeFault::Write { bytes: 0 }));
     Ok(())
 }

@@ -10,7 +10,7 @@ use echo_addr::Address;
 use echo_commands::{Fault, InputFault, Status, nodelist, read_whole, show, wanted};
 use std::io::{Stderr, Stdout};
 use std::process::ExitCode;
-use std::{env, fs};
+use std::{env, fs, io};
 use words::{Words, parse};
 
 /// How many bytes a packet given to `show`, or a nodelist, may have.
@@ -74,19 +74,32 @@ fn refuse(rt: &HostRuntime, error: &clap::Error) -> Status {
     let printed = error.print(rt);
     match error.kind() {
         ErrorKind::DisplayHelp | ErrorKind::DisplayVersion if printed.is_ok() => Status::Good,
-        ErrorKind::DisplayHelp | ErrorKind::DisplayVersion | ErrorKind::OutOfMemory => {
-            Status::Device
+        ErrorKind::DisplayHelp | ErrorKind::DisplayVersion => {
+            Fault::CannotUse("-").report(&mut rt.stderr())
         }
+        ErrorKind::OutOfMemory => Fault::OutOfMemory.report(&mut rt.stderr()),
         _ => Status::CommandLine,
     }
 }
 
+// The words of the command line. The status is that of what stops it: words that are no text, or
+// want of memory.
+fn words_given(rt: &HostRuntime) -> Result<Vec<String>, Status> {
+    match env::args(rt) {
+        Ok(args) => args
+            .collect::<Vec<String>>(rt.alloc())
+            .map_err(|_| Fault::OutOfMemory.report(&mut rt.stderr())),
+        Err(error) if error.kind() == io::ErrorKind::OutOfMemory => {
+            Err(Fault::OutOfMemory.report(&mut rt.stderr()))
+        }
+        Err(_) => Err(Status::CommandLine),
+    }
+}
+
 fn run(rt: &HostRuntime) -> Status {
-    let Ok(args) = env::args(rt) else {
-        return Status::CommandLine;
-    };
-    let Ok(words) = args.collect::<Vec<String>>(rt.alloc()) else {
-        return Status::Device;
+    let words = match words_given(rt) {
+        Ok(words) => words,
+        Err(status) => return status,
     };
     match parse(rt.alloc(), words.as_slice()) {
         Ok(Some(asked)) => run_words(rt, asked, &mut rt.stdout(), &mut rt.stderr()),

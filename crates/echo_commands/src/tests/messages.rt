@@ -165,3 +165,17 @@ fn want_of_memory_is_told(rt: HostRuntime) -> Result<(), Fail> {
     assert!(rt; lines.get(..printed) == again.get(..printed));
     Ok(())
 }
+
+// Standard output is named `-` where it fails.
+#[test]
+fn output_that_fails_is_told_of_packets(rt: HostRuntime) {
+    let (mut few, mut line) = ([0u8; 10], [0u8; 64]);
+    let mut out = few.as_mut_slice();
+    let mut errors = line.as_mut_slice();
+    let status = show(rt.alloc(), true, SIXTY.as_bytes(), &mut out, &mut errors);
+    let faulty = 64usize.saturating_sub(errors.len());
+    assert_eq!(rt; status, Status::Device);
+    if faulty != b"echonet: out of memory\n".len() {
+        assert!(rt; line.get(..faulty) == Some(b"echonet: cannot use -\n".as_slice()));
+    }
+}

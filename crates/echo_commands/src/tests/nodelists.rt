@@ -30,6 +30,11 @@ fn lists_entries(rt: HostRuntime) -> Result<(), Fail> {
             "crc match 00000\nentries 0\n",
         ),
         (b"down,0,a,b,c,d,e\x1a", Status::Refused, ""),
+        (
+            b"Zone,1,a,b,c,d,e\nhold,2,a,b,c,d,e\nDOWN,3,a,b,c,d,e\n",
+            Status::Good,
+            "crc absent\n1:1/0 Zone a\n1:1/2 Hold a\n1:1/3 Down a\nentries 3\n",
+        ),
     ] {
         let (status, out, _) = listed(rt.alloc(), None, input);
         assert_eq!(rt; status, ended);
@@ -47,6 +52,28 @@ fn finds_an_entry(rt: HostRuntime) -> Result<(), Fail> {
         let (status, out, errors) = listed(rt.alloc(), wanted(word).ok(), NESTED);
         assert_eq!(rt; status, Status::Good);
         assert!(rt; is_text(&out, printed) && errors.is_empty(), "{word}");
+    }
+    Ok(())
+}
+
+// Notes are lines too, and a checksum that differs is told whatever is looked for.
+#[test]
+fn counts_notes_as_lines(rt: HostRuntime) -> Result<(), Fail> {
+    for (input, ended, printed) in [
+        (
+            b";x\nZone,1,a,b,c,d,e\n\n,7,a,b,c,d,e\n".as_slice(),
+            Status::Good,
+            "crc absent\nline 4 1:1/7 Node a\n",
+        ),
+        (
+            b";A : 00001\n",
+            Status::Differs,
+            "crc mismatch stated 00001 computed 00000\nnot listed 1:1/7\n",
+        ),
+    ] {
+        let (status, out, errors) = listed(rt.alloc(), wanted("1:1/7").ok(), input);
+        assert_eq!(rt; status, ended);
+        assert!(rt; is_text(&out, printed) && errors.is_empty(), "{printed}");
     }
     Ok(())
 }
@@ -87,4 +114,56 @@ fn escapes_names(rt: HostRuntime) -> Result<(), Fail> {
     let (_, out, _) = listed(rt.alloc(), None, input);
     assert!(rt; is_text(&out, "crc absent\n1:1/0 Zone \\xe4\\\\\nentries 1\n"));
     Ok(())
+}
+
+/// How a run of `nodelist` ended, and how many bytes it wrote of its lines and of its fault line.
+fn listed_into(
+    alloc: Global,
+    input: &[u8],
+    lines: &mut [u8],
+    line: &mut [u8],
+) -> (Status, usize, usize) {
+    let (most, most_of_line) = (lines.len(), line.len());
+    let mut out = lines;
+    let mut errors = line;
+    let status = nodelist(alloc, None, input, &mut out, &mut errors);
+    (
+        status,
+        most.saturating_sub(out.len()),
+        most_of_line.saturating_sub(errors.len()),
+    )
+}
+
+#[test]
+fn want_of_memory_is_told_of_nodelists(rt: HostRuntime) {
+    let alloc = rt.alloc();
+    let (mut lines, mut line) = ([0u8; 256], [0u8; 64]);
+    let (status, printed, faulty) = listed_into(alloc, NESTED, &mut lines, &mut line);
+    if status != Status::Good {
+        let faults: [&[u8]; 2] = [b"echonet: N5 Memory\n", b"echonet: out of memory\n"];
+        assert_eq!(rt; (status, printed), (Status::Device, 0));
+        assert!(rt;
+            faults
+                .iter()
+                .any(|fault| line.get(..faulty) == Some(*fault))
+        );
+    }
+    let (mut again, mut none) = ([0u8; 256], [0u8; 64]);
+    assert_eq!(rt;
+        listed_into(alloc, NESTED, &mut again, &mut none),
+        (Status::Good, ENTRIES.len(), 0)
+    );
+    assert!(rt; again.get(..ENTRIES.len()) == Some(ENTRIES.as_bytes()));
+}
+
+// Standard output is named `-` where it fails.
+#[test]
+fn output_that_fails_is_told(rt: HostRuntime) {
+    let alloc = rt.alloc();
+    let (mut few, mut line) = ([0u8; 10], [0u8; 64]);
+    let (status, _, faulty) = listed_into(alloc, b"", &mut few, &mut line);
+    assert_eq!(rt; status, Status::Device);
+    if faulty != b"echonet: out of memory\n".len() {
+        assert!(rt; line.get(..faulty) == Some(b"echonet: cannot use -\n".as_slice()));
+    }
 }
