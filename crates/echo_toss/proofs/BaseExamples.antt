@@ -18,7 +18,7 @@ use Rattle.echo_toss.specs.BaseFile.{BaseFaultOf, BaseOf, EndsInside, First, IsD
 use Rattle.echo_toss.proofs.Examples.{date_bytes, first_posting, id_text, kept_text}
 
 -- a number below 256 in four bytes
-abbrev small : ℕ → List ℕ
+abbrev pub small : ℕ → List ℕ
 small n = n ∷ (0 ∷ (0 ∷ (0 ∷ [])))
 
 -- the bytes of the posting's fields before its text, with this first byte

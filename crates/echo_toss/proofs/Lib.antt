@@ -29,3 +29,5 @@ mod PostExamples
 mod TossExamples
 mod StepExamples
 mod BaseExamples
+mod BodyExamples
+mod IdLineExamples
