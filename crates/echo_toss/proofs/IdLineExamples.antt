@@ -1,5 +1,5 @@
 -- Messages of an id line alone, by computation: what is saved of them, and whether a purge changes them.
-use Rattle.std.proofs.Common.{◌≡◌, ℕ, List, [], ◌∷◌, ◌++◌, refl, Some, None, codes, lit<, lit≤}
+use Rattle.std.proofs.Common.{◌≡◌, ℕ, List, [], ◌∷◌, ◌++◌, refl, None, codes, lit<, lit≤}
 use Rattle.echo_addr.specs.Entries.{entries, pair_of, tokens}
 use Rattle.echo_text.specs.Lines.{after_word, begins, lines, trimmed}
 use Rattle.echo_text.specs.Tail.{kept_of, path_lists, seen_lists}
@@ -7,11 +7,11 @@ use Rattle.echo_text.specs.Echo.{msgid_of}
 use Rattle.echo_text.specs.Refusal.{refusal}
 use Rattle.echo_toss.specs.Sets.{entry_set}
 use Rattle.echo_toss.specs.Written.{echo_of, short_lines, text_of}
-use Rattle.echo_toss.specs.Base.{Filed, key_of}
-use Rattle.echo_toss.specs.Purging.{bare, changed, is_stub, purged, stub_of}
-use Rattle.echo_toss.specs.BaseFile.{BaseOf, First, IsStored, Second, Stored, head_bytes, is_damaged, message_in, saved_bytes, stored_at, stored_bytes}
-use Rattle.echo_toss.proofs.Examples.{date_bytes, first_received, system}
-use Rattle.echo_toss.proofs.BaseExamples.{small}
+use Rattle.echo_toss.specs.Base.{Filed}
+use Rattle.echo_toss.specs.Purging.{changed, is_stub, purged, stub_of}
+use Rattle.echo_toss.specs.BaseFile.{BaseOf, First, head_bytes, is_damaged, message_in, saved_bytes, stored_at, stored_bytes}
+use Rattle.echo_toss.proofs.Examples.{date_bytes, first_received}
+use Rattle.echo_toss.proofs.BaseExamples.{size_with, small, stored_with}
 
 -- received from 1:10/1, with this one line and no entries
 abbrev of_line : List ℕ → Filed
@@ -74,45 +74,16 @@ no_sender = 0 ∷ (0 ∷ (0 ∷ (0 ∷ (0 ∷ (0 ∷ [])))))
 abbrev line_text : List ℕ
 line_text = codes "AREA:TEST" ++ 13 ∷ (blank_line ++ 13 ∷ [])
 
-abbrev stored_line : Stored
-stored_line = record {
-  kind = 0;
-  zone = 0;
-  net = 0;
-  node = 0;
-  date = date_bytes;
-  to_name = codes "All";
-  from_name = codes "Ann";
-  subject = codes "Hi";
-  tag = [];
-  last = line_text;
-}
-
-stored_line_size : IsStored First stored_line
-stored_line_size = record {
-  kind = lit< tt;
-  zone = lit< tt;
-  net = lit< tt;
-  node = lit< tt;
-  date_len = refl;
-  to_name = lit< tt;
-  from_name = lit< tt;
-  subject = lit< tt;
-  tag = lit< tt;
-  no_tag = λ _. refl;
-  last = lit< tt;
-}
-
 posted_in_first : BaseOf (posted_line ∷ []) 1
     (codes "ECHOBAS1" ++ (small 1 ++ (small 1 ++ (0 ∷ (no_sender ++ (date_bytes ++ (3 ∷ codes "All" ++ (3 ∷ codes "Ann" ++ (2 ∷ codes "Hi" ++ (small 20 ++ line_text))))))))))
 unfolding head_bytes stored_bytes is_damaged message_in echo_of refusal lines begins after_word trimmed kept_of seen_lists path_lists entry_set entries tokens pair_of text_of short_lines
 posted_in_first = record {
   version = First;
-  all = stored_line ∷ [];
+  all = stored_with 0 0 line_text ∷ [];
   begins = record {
     number_fits = lit< tt;
     cursor_within = lit≤ tt;
-    sizes = (stored_line_size, tt);
+    sizes = (size_with First 0 0 line_text (lit< tt) (lit< tt) (lit< tt), tt);
     sound = (refl, tt);
     whole = refl;
   };

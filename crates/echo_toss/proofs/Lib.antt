@@ -31,3 +31,4 @@ mod StepExamples
 mod BaseExamples
 mod BodyExamples
 mod IdLineExamples
+mod HostileExamples
