@@ -1,5 +1,5 @@
 -- Base files by computation: what is saved, what is read, and each fault.
-use Rattle.std.proofs.Common.{◌≡◌, ℕ, List, [], ◌∷◌, ◌++◌, ◌^◌, ◌<◌, refl, true, false, codes, length, lit<, lit≤, inl, inr}
+use Rattle.std.proofs.Common.{◌≡◌, ℕ, List, [], ◌∷◌, ◌++◌, ◌^◌, ◌<◌, refl, true, false, codes, length, lit<, lit≤, inl}
 use Rattle.std.specs.Fmt.{digits}
 use Rattle.echo_addr.specs.Entries.{entries, pair_of, tokens}
 use Rattle.echo_text.specs.Lines.{after_word, begins, lines, trimmed}
@@ -11,25 +11,24 @@ use Rattle.echo_toss.specs.declared.fault.BaseFault.TheVariants as fault
 use Rattle.echo_toss.specs.Sets.{entry_set}
 use Rattle.echo_toss.specs.Stamps.{date_of}
 use Rattle.echo_toss.specs.Written.{echo_of, short_lines, text_of}
-use Rattle.echo_toss.specs.Base.{key_of}
 use Rattle.echo_toss.specs.Posting.{posted, posted_lines}
 use Rattle.echo_toss.specs.Purging.{changed, is_stub, purged, stub_of}
-use Rattle.echo_toss.specs.BaseFile.{BaseFaultOf, BaseOf, EndsInside, First, IsDamagedAt, IsNoBase, IsStored, Second, Stored, Version, head_bytes, is_damaged, message_in, saved_bytes, stored_at, stored_bytes}
+use Rattle.echo_toss.specs.BaseFile.{BaseFaultOf, BaseOf, EndsInside, First, IsNoBase, IsStored, Second, Stored, Version, head_bytes, is_damaged, message_in, saved_bytes, stored_at, stored_bytes}
 use Rattle.echo_toss.proofs.Examples.{date_bytes, first_posting, id_text, kept_text}
 
 -- a number below 256 in four bytes
-abbrev small : ℕ → List ℕ
+abbrev pub small : ℕ → List ℕ
 small n = n ∷ (0 ∷ (0 ∷ (0 ∷ [])))
 
 -- the bytes of the posting's fields before its text, with this first byte
-abbrev fields_bytes : ℕ → List ℕ
+abbrev pub fields_bytes : ℕ → List ℕ
 fields_bytes kind = kind ∷ (0 ∷ (0 ∷ (0 ∷ (0 ∷ (0 ∷ (0 ∷ (date_bytes ++ (3 ∷ codes "All" ++ (3 ∷ codes "Ann" ++ (2 ∷ codes "Hi"))))))))))
 
 -- and of the whole message, in a base
-abbrev text_bytes : List ℕ
+abbrev pub text_bytes : List ℕ
 text_bytes = codes "AREA:TEST" ++ 13 ∷ kept_text 49
 
-abbrev whole_bytes : ℕ → List ℕ
+abbrev pub whole_bytes : ℕ → List ℕ
 whole_bytes kind = fields_bytes kind ++ (small 78 ++ text_bytes)
 
 abbrev short_bytes : List ℕ
@@ -73,11 +72,11 @@ purge_before_scan : changed (first_posting ∷ []) 0 ≡ 0
 unfolding changed
 purge_before_scan = refl
 
--- the message as it is stored, with this first byte
-abbrev stored : ℕ → Stored
-stored kind = record {
+-- the message as it is stored, with this first byte, zone of a sender and text
+abbrev pub stored_with : ℕ → ℕ → List ℕ → Stored
+stored_with kind zone last = record {
   kind = kind;
-  zone = 0;
+  zone = zone;
   net = 0;
   node = 0;
   date = date_bytes;
@@ -85,17 +84,22 @@ stored kind = record {
   from_name = codes "Ann";
   subject = codes "Hi";
   tag = [];
-  last = text_bytes;
+  last = last;
 }
+
+-- with this first byte alone, and in short
+abbrev pub stored : ℕ → Stored
+stored kind = stored_with kind 0 text_bytes
 
 abbrev stored_short : ℕ → Stored
 stored_short kind = record (stored kind) { tag = codes "TEST"; last = id_text }
 
 -- its fields are of their sizes
-stored_size : (version : Version) (kind : ℕ) → kind < 2 ^ 8 → IsStored version (stored kind)
-stored_size version kind small_kind = record {
+pub size_with : (version : Version) (kind zone : ℕ) (last : List ℕ) → kind < 2 ^ 8 → zone < 2 ^ 16 → length last < 2 ^ 32
+    → IsStored version (stored_with kind zone last)
+size_with version kind zone last small_kind small_zone short_last = record {
   kind = small_kind;
-  zone = lit< tt;
+  zone = small_zone;
   net = lit< tt;
   node = lit< tt;
   date_len = refl;
@@ -104,8 +108,11 @@ stored_size version kind small_kind = record {
   subject = lit< tt;
   tag = lit< tt;
   no_tag = λ _. refl;
-  last = lit< tt;
+  last = short_last;
 }
+
+pub stored_size : (version : Version) (kind : ℕ) → kind < 2 ^ 8 → IsStored version (stored kind)
+stored_size version kind small_kind = size_with version kind 0 text_bytes small_kind (lit< tt) (lit< tt)
 
 -- a base of version 1 says the same message
 first_version : BaseOf (first_posting ∷ []) 0 (codes "ECHOBAS1" ++ (small 0 ++ (small 1 ++ whole_bytes 0)))
@@ -123,15 +130,12 @@ first_version = record {
   messages = refl;
 }
 
--- F1: another beginning, also where little is there; the cursor past the number
+-- F1: another beginning, also where little is there
 other_beginning : IsNoBase (codes "ECHOBAS3")
 other_beginning = inl refl
 
 other_front : IsNoBase (codes "EX")
 other_front = inl refl
-
-cursor_two : IsNoBase (codes "ECHOBAS2" ++ (small 2 ++ (small 1 ++ whole_bytes 0)))
-cursor_two = inr (lit≤ tt, lit< tt)
 
 -- F2: the front of both beginnings, and no byte at all
 seven_bytes : BaseFaultOf (codes "ECHOBAS") (fault.Truncated 0)
@@ -159,23 +163,6 @@ cut_before_judged = record {
   cut = refl;
 }
 
--- F3, whole: a first byte that no version has
-fifth_kind : IsDamagedAt 0 (codes "ECHOBAS2" ++ (small 0 ++ (small 1 ++ whole_bytes 5)))
-unfolding head_bytes stored_bytes is_damaged
-fifth_kind = record {
-  version = Second;
-  cursor = 0;
-  number = 1;
-  all = [];
-  next = stored 5;
-  rest = [];
-  begins = record { number_fits = lit< tt; cursor_within = lit≤ tt; sizes = tt; sound = tt; whole = refl };
-  many = refl;
-  one_more = lit< tt;
-  size = stored_size Second 5 (lit< tt);
-  damaged = refl;
-}
-
 -- a message that is sound by itself
 sound_message : is_damaged Second 0 [] (stored 0) ≡ false
 unfolding is_damaged message_in echo_of refusal lines begins after_word trimmed kept_of seen_lists path_lists entry_set entries tokens pair_of text_of short_lines
@@ -186,10 +173,6 @@ third_kind_of_first : is_damaged First 0 [] (stored 2) ≡ true
 unfolding is_damaged
 third_kind_of_first = refl
 
-posted_with_sender : is_damaged Second 0 [] (record (stored 0) { zone = 1 }) ≡ true
-unfolding is_damaged
-posted_with_sender = refl
-
 zero_in_name : is_damaged Second 0 [] (record (stored 0) { to_name = 65 ∷ (0 ∷ []) }) ≡ true
 unfolding is_damaged
 zero_in_name = refl
@@ -197,14 +180,6 @@ zero_in_name = refl
 no_echomail : is_damaged Second 0 [] (record (stored 0) { last = codes "Hello" }) ≡ true
 unfolding is_damaged refusal lines begins after_word trimmed
 no_echomail = refl
-
-small_letter_in_tag : is_damaged Second 0 [] (record (stored 0) { last = codes "AREA:tEST" ++ 13 ∷ kept_text 49 }) ≡ true
-unfolding is_damaged echo_of refusal lines begins after_word trimmed kept_of seen_lists path_lists entry_set entries tokens pair_of text_of short_lines
-small_letter_in_tag = refl
-
-key_twice : is_damaged Second 0 (first_posting ∷ []) (stored 0) ≡ true
-unfolding is_damaged message_in echo_of refusal lines begins after_word trimmed kept_of seen_lists path_lists entry_set entries tokens pair_of text_of short_lines key_of msgid_of posted posted_lines id_of digits date_of
-key_twice = refl
 
 -- received from 0:0/0 is no damage
 received_from_nobody : is_damaged Second 0 [] (stored 1) ≡ false

@@ -186,7 +186,7 @@ unfolding as_bytes scanned packets_of recipients packet_to targets links_of addr
 second_packet_size = refl
 
 -- a zone of 0 in a header is the receiver's own
-abbrev header_without_zones : Header
+abbrev pub header_without_zones : Header
 header_without_zones = record (header_to first_file stamp (system 2)) { orig_zone = 0; dest_zone = 0 }
 
 origin_first : origin_of second_file header_without_zones ≡ system 1

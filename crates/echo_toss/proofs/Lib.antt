@@ -29,3 +29,6 @@ mod PostExamples
 mod TossExamples
 mod StepExamples
 mod BaseExamples
+mod BodyExamples
+mod IdLineExamples
+mod HostileExamples

@@ -90,9 +90,12 @@ says_accepted bytes e dropped h =
     let P : List ℕ → Type 0 = λ tag. is_tag tag ≡ true in
     accepted (first_line (lines bytes)) (record { area = h.area; tag = subst P h.tag h.tag_bytes })
 
--- what is written for an echo is accepted and says it
+-- what is written for an echo says it and nothing more, is accepted, and is read so
+pub written_says : (e : EchoText) → IsEcho e → EchoOf (text_of e) e 0
+written_says e h = written_read_back e (text_of e) h (text_is_text e h)
+
 pub written_accepted : (e : EchoText) → IsEcho e → refusal (text_of e) ≡ None
-written_accepted e h = says_accepted (text_of e) e 0 (written_read_back e (text_of e) h (text_is_text e h))
+written_accepted e h = says_accepted (text_of e) e 0 (written_says e h)
 
 pub written_back : (e : EchoText) → IsEcho e → echo_of (text_of e) ≡ e
-written_back e h = says_one (text_of e) e 0 (written_read_back e (text_of e) h (text_is_text e h))
+written_back e h = says_one (text_of e) e 0 (written_says e h)

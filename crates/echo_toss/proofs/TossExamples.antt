@@ -10,9 +10,9 @@ use Rattle.echo_toss.specs.declared.outcome.Outcome.TheVariants as outcome
 use Rattle.echo_toss.specs.Sets.{entry_set}
 use Rattle.echo_toss.specs.Written.{echo_of}
 use Rattle.echo_toss.specs.Base.{LinkFile, key_of, links_of}
-use Rattle.echo_toss.specs.Tossing.{outcomes, received, toss_outcome, tossed, tossing}
-use Rattle.echo_toss.specs.Scanning.{targets}
-use Rattle.echo_toss.proofs.Examples.{first_copy, first_received, second_file, system}
+use Rattle.echo_toss.specs.Tossing.{destination_of, origin_of, outcomes, received, toss_outcome, tossed, tossing}
+use Rattle.echo_toss.specs.Scanning.{header_to, targets}
+use Rattle.echo_toss.proofs.Examples.{first_copy, first_file, first_received, header_without_zones, second_file, stamp, system}
 
 -- a system with two areas that 1:10/1 links
 abbrev file : LinkFile
@@ -92,3 +92,28 @@ sender_left_out = refl
 seen_left_out : targets file (record first_received { echo = record first_received.echo { seen = record { net = 10; node = 3 } ∷ [] } }) ≡ []
 unfolding targets links_of
 seen_left_out = refl
+
+-- a zone of 0 is the receiver's own, also where that is another than the sender's
+abbrev other_zone : LinkFile
+other_zone = record {
+  system = record { zone = 2; net = 10; node = 2 };
+  name = codes "Beta";
+  areas = record { tag = codes "TEST"; links = record { zone = 2; net = 10; node = 1 } ∷ [] } ∷ [];
+}
+
+other_zone_destination : destination_of other_zone header_without_zones ≡ other_zone.system
+unfolding header_to
+other_zone_destination = refl
+
+other_zone_filed : tossing other_zone [] (origin_of other_zone header_without_zones) first_copy ≡
+    Some (record first_received { sender = Some (record { zone = 2; net = 10; node = 1 }) })
+unfolding header_to tossing toss_outcome received refusal echo_of lines begins after_word trimmed kept_of seen_lists path_lists entry_set entries tokens pair_of links_of key_of msgid_of
+other_zone_filed = refl
+
+-- a system that links only the third one
+abbrev third_only : LinkFile
+third_only = record second_file { areas = record { tag = codes "TEST"; links = system 3 ∷ [] } ∷ [] }
+
+third_only_not_linked : toss_outcome third_only [] (origin_of third_only (header_to first_file stamp (system 2))) first_copy ≡ outcome.NotLinked
+unfolding header_to toss_outcome received refusal echo_of lines begins after_word trimmed kept_of seen_lists path_lists entry_set entries tokens pair_of links_of
+third_only_not_linked = refl

@@ -1,6 +1,6 @@
 //! What holds of the definitions. Each law is the contract of a function that does nothing.
 
-ghost use Rattle.std.specs.Prelude.{◌≡◌, ◌↔◌, ℕ, ◌≤◌, List, [], ◌∷◌, ◌++◌, length, take, Option, Some, None, Result, Ok, Err, true, false};
+ghost use Rattle.std.specs.Prelude.{◌≡◌, ◌↔◌, ℕ, ◌≤◌, ◌<◌, ◌^◌, List, [], ◌∷◌, ◌++◌, length, take, Option, Some, None, Result, Ok, Err, true, false};
 ghost use Rattle.std.specs.List.{list_any};
 ghost use Rattle.echo_addr.specs.declared.address.Address.{Address};
 ghost use Rattle.echo_addr.specs.declared.address.NetNode.{NetNode};
@@ -16,7 +16,7 @@ ghost use Rattle.echo_toss.specs.declared.fault.PostFault.{PostFault};
 ghost use Rattle.echo_toss.specs.declared.key.Key.{Key};
 ghost use Rattle.echo_toss.specs.declared.outcome.Outcome.{Outcome};
 ghost use Rattle.echo_toss.specs.declared.stamp.Stamp.{Stamp};
-ghost use Rattle.echo_text.specs.Ids.{id_of};
+ghost use Rattle.echo_text.specs.Ids.{IsWide, id_of};
 ghost use Rattle.echo_toss.specs.Sets.{entry_set};
 ghost use Rattle.echo_toss.specs.Written.{echo_of, text_of};
 ghost use Rattle.echo_toss.specs.Base.{Filed, HasSmallSender, IsBase, IsFile, LinkFile, has_area, key_of, same_key};
@@ -44,12 +44,18 @@ pub fn set_law()
 {}
 
 /// What an echomail text says, and what is written, are the functions that the definitions of texts
-/// describe; what is written is read back.
+/// describe; what is written is read back, no token dropped.
 pub fn text_laws()
     ensures said { (text : List ℕ) → refusal text ≡ None → (dropped : ℕ) × EchoOf text (echo_of text) dropped }
     ensures only_said { (text : List ℕ) (e : EchoText) (dropped : ℕ) → EchoOf text e dropped → (refusal text ≡ None) × (echo_of text ≡ e) }
     ensures written { (e : EchoText) → IsEcho e → TextOf e (text_of e) }
     ensures read_back { (e : EchoText) → IsEcho e → (refusal (text_of e) ≡ None) × (echo_of (text_of e) ≡ e) }
+    ensures whole { (e : EchoText) → IsEcho e → EchoOf (text_of e) e 0 }
+{}
+
+/// Ids of different pairs of address and serial differ (FTS-0009).
+pub fn id_law()
+    ensures { (a b : Address) (s t : ℕ) → IsWide a → IsWide b → s < 2 ^ 32 → t < 2 ^ 32 → id_of a s ≡ id_of b t → (a ≡ b) × (s ≡ t) }
 {}
 
 /// The copy of a message that goes out is echomail whose text is read back, and it has the key of the

@@ -24,7 +24,7 @@ pub use fault::{BaseFault, LinkFault, PostFault, ScanFault};
 pub use filed::Filed;
 pub use key::Key;
 pub use laws::{
-    base_laws, copy_laws, key_law, link_file_law, loaded_base_law, one_base_or_fault,
+    base_laws, copy_laws, id_law, key_law, link_file_law, loaded_base_law, one_base_or_fault,
     one_link_file_or_fault, posting_laws, posting_refusals, saved_base_law, set_law, stub_laws,
     text_laws, toss_law, toss_outcomes,
 };

@@ -1,4 +1,4 @@
-use Rattle.echo_toss.proofs.Texts.{says_accepted, says_one, says_read, text_is_text, written_accepted, written_back}
+use Rattle.echo_toss.proofs.Texts.{says_accepted, says_one, says_read, text_is_text, written_accepted, written_back, written_says}
 use Rattle.echo_toss.proofs.laws.text_laws.Goals as goal
 
 pub returns-clause-said : goal.returns-clause-said
@@ -12,3 +12,6 @@ returns-clause-written c = text_is_text
 
 pub returns-clause-read_back : goal.returns-clause-read_back
 returns-clause-read_back c = λ e h. (written_accepted e h, written_back e h)
+
+pub returns-clause-whole : goal.returns-clause-whole
+returns-clause-whole c = written_says
