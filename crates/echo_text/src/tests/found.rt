@@ -92,3 +92,16 @@ fn tears_have_a_blank_behind(rt: HostRuntime) -> Result<(), Fail> {
     assert!(rt; is_found(rt.alloc(), text, &want)?);
     Ok(())
 }
+
+#[test]
+fn last_of_two_tears(rt: HostRuntime) -> Result<(), Fail> {
+    let want = Found {
+        msgid: None,
+        reply: None,
+        tear: Some(b"--- z"),
+        origin: None,
+    };
+    let text = b"AREA:T\r\n\n--- x\r---y\r--- z\r";
+    assert!(rt; is_found(rt.alloc(), text, &want)?);
+    Ok(())
+}

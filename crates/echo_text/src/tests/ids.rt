@@ -55,7 +55,7 @@ fn quoted_ids(rt: HostRuntime) -> Result<(), Fail> {
 
 #[test]
 fn no_ids(rt: HostRuntime) {
-    let texts: [&[u8]; 9] = [
+    let texts: [&[u8]; 11] = [
         b"1:10/1 123",
         b"",
         b"00000001",
@@ -65,6 +65,8 @@ fn no_ids(rt: HostRuntime) {
         b"a b 00000001",
         b"\"a\"b\" 00000001",
         b"a 0000000g",
+        b"\"a\x00b\" 00000001",
+        b"\"a\rb\" 00000001",
     ];
     for text in texts {
         assert!(rt; matches!(MsgId::read(text), Err(TextFault::BadMsgId)));

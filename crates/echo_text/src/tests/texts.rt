@@ -161,3 +161,19 @@ fn first_posting(rt: HostRuntime) -> Result<(), Fail> {
     assert!(rt; is_seen(rt.alloc(), FIRST_POSTING, &want)?);
     Ok(())
 }
+
+#[test]
+fn tear_lines_are_kept(rt: HostRuntime) -> Result<(), Fail> {
+    let text = b"AREA:T\r\n\n--- x\r---y\r--- z\r";
+    let want = Said {
+        tag: b"T",
+        kept: &[b"\n\n--- x", b"---y", b"--- z"],
+        seen: &[],
+        path: &[],
+        dropped: 0,
+        written: text,
+    };
+    assert!(rt; is_read(rt.alloc(), text, &want)?);
+    assert!(rt; is_seen(rt.alloc(), text, &want)?);
+    Ok(())
+}
