@@ -3,16 +3,12 @@
 # message, and through a file, each beside a plain sum over as many bytes. Needs the built
 # crates/bench_packets/out/bench_packets. The word is the number of messages.
 set -e
+. "$(dirname "$0")/rate.sh"
 program=$(dirname "$0")/../crates/bench_packets/out/bench_packets
 count=${1:-100000}
 rounds=${2:-4}
 packet=$(mktemp)
 trap 'rm -f "$packet"' EXIT
-
-# Prints a name, and the rate of so many bytes between two times in nanoseconds.
-rate() {
-  echo "$1 $2 $3 $4" | awk '{ printf "%-24s %8.0f MB/s\n", $1, $2 / 1e6 / (($4 - $3) / 1e9) }'
-}
 
 made=$(date +%s%N); "$program" make "$count" "$packet" > /dev/null; end=$(date +%s%N)
 size=$(wc -c < "$packet")
