@@ -1,14 +1,14 @@
 #!/bin/sh
 # How long a graph's search and the judging of its cycles take, without the time of building it.
-# Needs the built crates/bench_graph/out/bench_graph. The words are of its program; with none, the
+# Needs the built crates/bench/out/bench. The words are of its program; with none, the
 # sizes that a large net has.
 set -e
-program=$(dirname "$0")/../crates/bench_graph/out/bench_graph
+program=$(dirname "$0")/../crates/bench/out/bench
 
 # Prints the milliseconds of one answer.
 measure() {
-  made=$(date +%s%N); "$program" "$1" "$2" 0 > /dev/null; begin=$(date +%s%N)
-  "$program" "$1" "$2" "$3" > /dev/null; end=$(date +%s%N)
+  made=$(date +%s%N); "$program" graph "$1" "$2" 0 > /dev/null; begin=$(date +%s%N)
+  "$program" graph "$1" "$2" "$3" > /dev/null; end=$(date +%s%N)
   echo "$1 $2 $3 $made $begin $end" |
     awk '{ printf "%-9s %8d %10.1f ms\n", $1, $2, (($6 - $5) - ($5 - $4)) / $3 / 1e6 }'
 }

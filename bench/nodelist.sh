@@ -1,8 +1,8 @@
 #!/bin/bash
 # How fast a nodelist of many entries is read, looked through and checked, beside a plain sum over its
-# bytes, by processor time. Needs the built crates/bench_nodelist/out/bench_nodelist.
+# bytes, by processor time. Needs the built crates/bench/out/bench.
 set -e
-program=$(dirname "$0")/../crates/bench_nodelist/out/bench_nodelist
+program=$(dirname "$0")/../crates/bench/out/bench
 entries=${1:-30000}
 input=$(mktemp)
 trap 'rm -f "$input"' EXIT
@@ -20,7 +20,7 @@ echo "entries $entries bytes $bytes"
 
 # The processor time in seconds of so many rounds of a kind, less that of none.
 TIMEFORMAT='%U %S'
-spent() { { time "$program" "$1" "$input" "$2" > /dev/null; } 2>&1; }
+spent() { { time "$program" nodelist "$1" "$input" "$2" > /dev/null; } 2>&1; }
 timed() { echo "$(spent "$1" "$2") $(spent "$1" 0)" | awk '{ print $1 + $2 - $3 - $4 + 1e-9 }'; }
 
 for kind in sum crc; do

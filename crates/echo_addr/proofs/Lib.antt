@@ -11,6 +11,3 @@ pub mod Shapes
 pub mod Carrying
 pub mod Outcomes
 pub mod Spellings
-mod Moving
-pub mod Devices
-mod Buffers

@@ -1,2 +1,2 @@
-mod devices;
+mod items;
 mod lists;

@@ -5,7 +5,8 @@ use crate::fault::NodeFault;
 use crate::line::Line;
 use crate::reading::read_lines;
 use crate::writing::nodelist_text;
-use echo_addr::{Address, Failure, Sink, send};
+use echo_addr::Address;
+use echo_device::{Failure, Sink, send};
 use std::alloc::Global;
 use std::marker::Model;
 

@@ -2,7 +2,8 @@
 //! been refused.
 
 use crate::{CrcLine, Keyword, Line, NodeFault, Nodelist, crc_line, crc16};
-use echo_addr::{Address, Trial, Watched};
+use echo_addr::Address;
+use echo_device::{Trial, Watched};
 use std::alloc::Global;
 use std::test::Fail;
 

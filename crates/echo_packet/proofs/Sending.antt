@@ -6,7 +6,7 @@ use Rattle.std.specs.Result.{IsErrAnd}
 use Rattle.std.proofs.Math.Seq.{take-append-add}
 use Rattle.std.specs.Io.KnownBytes.{Appends}
 use Rattle.std.proofs.KnownBytes.{Appends-trans}
-use Rattle.echo_addr.specs.Device.{counted, SendsFront, Sends}
+use Rattle.echo_device.specs.Device.{counted, SendsFront, Sends}
 use Rattle.echo_packet.specs.Message.{Message, ToName, FromName, Subject, Text, before, ended, message_bytes}
 
 -- all bytes went out, and were counted

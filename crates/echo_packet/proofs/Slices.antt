@@ -1,7 +1,7 @@
 -- A packet read from a slice, which never fails.
 use Rattle.std.proofs.Common.{◌≡◌, ◌≢◌, ℕ, ◌+◌, ◌^◌, ◌<◌, ◌≤◌, ◌⊎◌, min, List, [], ◌∷◌, ◌++◌, Some, None, Result, Ok, Err, length, take, refl, sym, ap, ◌∙◌, subst, inl, inr, arith}
 use Rattle.std.proofs.lemmas.List.{length-append}
-use Rattle.echo_addr.specs.Device.{Failed}
+use Rattle.echo_device.specs.Device.{Failed}
 use Rattle.echo_packet.specs.declared.header.Header.{Header}
 use Rattle.echo_packet.specs.declared.limits.Limits.{Limits}
 use Rattle.echo_packet.specs.declared.fault.PacketFault.{PacketFault}

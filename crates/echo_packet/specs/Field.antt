@@ -2,7 +2,7 @@
 use Rattle.std.specs.Prelude.{◌≡◌, ◌≢◌, ℕ, ◌+◌, ◌-◌, ◌<◌, ◌≤◌, List, [], ◌∷◌, ◌++◌, length, take, slice_index, Option, Result, Ok, Err, Bool, true, false}
 use Rattle.std.specs.Io.{StartsWith}
 use Rattle.std.specs.Io.KnownBytes.{Consumes, IsAtEnd}
-use Rattle.echo_addr.specs.Device.{Failed}
+use Rattle.echo_device.specs.Device.{Failed}
 use Rattle.echo_packet.specs.declared.field.Broken.{Broken}
 use Rattle.echo_packet.specs.declared.field.Broken.TheVariants as broken
 use Rattle.echo_packet.specs.declared.field.Piece.{Piece}

@@ -1,6 +1,6 @@
 -- What a clause reads of a `PacketReader`, and what its calls are to answer.
 use Rattle.std.specs.Prelude.{◌≡◌, ◌≢◌, ℕ, ◌+◌, ◌<◌, ◌≤◌, List, ◌++◌, length, Option, None, Some, Result, Ok, Err}
-use Rattle.echo_addr.specs.Device.{Failed}
+use Rattle.echo_device.specs.Device.{Failed}
 use Rattle.echo_packet.specs.declared.header.Header.{Header}
 use Rattle.echo_packet.specs.declared.limits.Limits.{Limits}
 use Rattle.echo_packet.specs.declared.fault.PacketFault.{PacketFault}

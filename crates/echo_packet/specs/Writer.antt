@@ -1,7 +1,7 @@
 -- What a clause reads of a `PacketWriter`, and what its calls did.
 use Rattle.std.specs.Prelude.{◌≡◌, ℕ, ◌+◌, ◌<◌, Bool, List, length, take, Option}
 use Rattle.std.specs.Io.KnownBytes.{Appends}
-use Rattle.echo_addr.specs.Device.{Failed, counted}
+use Rattle.echo_device.specs.Device.{Failed, counted}
 use Rattle.echo_packet.specs.declared.writer.PacketWriter.{PacketWriter}
 use Rattle.echo_packet.specs.declared.fault.PacketFault.{PacketFault}
 use Rattle.echo_packet.specs.declared.fault.PacketFault.TheVariants.{Write}

@@ -5,7 +5,7 @@ ghost use Rattle.echo_packet.specs.Header.{AreBytes};
 ghost use Rattle.echo_packet.specs.Message.{IsString, ended};
 ghost use Rattle.echo_packet.specs.Field.{BreaksFixed, BreaksString, CountsBroken, IsPiece, StepsString};
 
-use echo_addr::{Failure, Source, fill};
+use echo_device::{Failure, Source, fill};
 use memchr::memchr;
 use std::alloc::{AllocError, AllocFailed, Global};
 

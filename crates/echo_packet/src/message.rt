@@ -12,7 +12,7 @@ use crate::field::{Broken, are_bytes, read_fixed, read_string};
 use crate::header::number_at;
 use crate::limits::Limits;
 use crate::packed::{Packed, from_parts};
-use echo_addr::Source;
+use echo_device::Source;
 use std::alloc::Global;
 
 /// How many bytes a name, and how many the subject may have before the 00.

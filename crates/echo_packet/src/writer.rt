@@ -1,6 +1,6 @@
 ghost use Rattle.std.specs.Prelude.{◌≡◌, ◌+◌, true, false, length, IfOk, IfErr, OnOk, OnErr, Err};
 ghost use Rattle.std.specs.Io.KnownBytes.{Appends};
-ghost use Rattle.echo_addr.specs.Device.{Failed, Sends};
+ghost use Rattle.echo_device.specs.Device.{Failed, Sends};
 ghost use Rattle.echo_packet.specs.declared.fault.PacketFault.TheVariants.{Stopped, Write};
 ghost use Rattle.echo_packet.specs.Header.{IsHeader, header_bytes, word};
 ghost use Rattle.echo_packet.specs.Message.{IsMessage, ended, message_bytes};
@@ -10,7 +10,7 @@ use crate::encoding::{fixed_bytes, write_header};
 use crate::fault::PacketFault;
 use crate::header::{HEADER_BYTES, Header};
 use crate::packed::Packed;
-use echo_addr::{Failure, Sink, send};
+use echo_device::{Failure, Sink, send};
 
 /// Writes a packet: its header, messages one by one, and the terminator (FTS-0001). It takes no
 /// memory.

@@ -14,7 +14,7 @@ use crate::limits::Limits;
 use crate::message::{name_fault, read_next};
 use crate::packed::Packed;
 use crate::reader::{PacketReader, Stage};
-use echo_addr::Source;
+use echo_device::Source;
 use std::alloc::Global;
 
 // The header at the front of what the source has.

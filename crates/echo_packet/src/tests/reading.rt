@@ -1,6 +1,6 @@
 //! Packets from readers.
 use crate::{Limits, PacketFault, PacketReader, read_packet};
-use echo_addr::{Source, Trial, Watched};
+use echo_device::{Source, Trial, Watched};
 use std::alloc::{AllocError, Global};
 use std::test::Fail;
 

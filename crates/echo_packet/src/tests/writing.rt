@@ -1,5 +1,5 @@
 use crate::*;
-use echo_addr::{Sink, Trial, Watched};
+use echo_device::{Sink, Trial, Watched};
 use std::alloc::{AllocError, Global};
 use std::test::Fail;
 

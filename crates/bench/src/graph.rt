@@ -1,0 +1,130 @@
+//! How fast a graph is searched and its cycles are judged.
+//!
+//! Words: `KIND SIZE ROUNDS`. A `star`, a `chain` and a `tree` have SIZE members; `polygons` is a chain
+//! of SIZE full polygons of ten, and `ring` is the same with a ring of four at its end, so that the
+//! cycle which is not fully linked is found last. ROUNDS times it asks which member no walk reaches and
+//! which cycle is not fully linked; with 0 rounds it only builds the graph.
+ghost use Rattle.std.specs.Prelude.{◌≤◌};
+
+use anyhow::{Context, Result, bail};
+use echo_graph::{Graph, Links, is_graph, loop_of, unreached};
+use std::alloc::{AllocError, Global};
+
+/// The most members or polygons that are built.
+const MOST: usize = 100_000_000;
+
+/// Members without links.
+fn lone(alloc: Global, members: usize) -> Result<Vec<Vec<usize>>, AllocError> {
+    let mut rows = Vec::new(alloc);
+    for _ in 0..members {
+        rows.push(Vec::new(alloc))?;
+    }
+    Ok(rows)
+}
+
+/// Links two members. Rows ascend where links come by their greater end, and then by their smaller.
+fn link(rows: &mut Vec<Vec<usize>>, low: usize, high: usize) -> Result<(), AllocError> {
+    if low < rows.len() && high < rows.len() {
+        rows[low].push(high)?;
+        rows[high].push(low)?;
+    }
+    Ok(())
+}
+
+/// Links each member but the first with the one that `parent` names.
+fn trees(alloc: Global, kind: &str, members: usize) -> Result<Vec<Vec<usize>>, AllocError> {
+    let mut rows = lone(alloc, members)?;
+    for member in 1..members {
+        let parent = match kind {
+            "star" => 0,
+            "chain" => member - 1,
+            _ => (member - 1) / 2,
+        };
+        link(&mut rows, parent, member)?;
+    }
+    Ok(rows)
+}
+
+/// A chain of so many full polygons of ten, and further members without links.
+fn polygons(alloc: Global, count: usize, further: usize) -> Result<Vec<Vec<usize>>, AllocError>
+    requires count { count ≤ 100_000_000 }
+    requires further { further ≤ 3 }
+{
+    let mut rows = lone(alloc, 9 * count + 1 + further)?;
+    for polygon in 0..count {
+        let first = 9 * polygon;
+        for high in 1..10 {
+            for low in 0..high {
+                link(&mut rows, first + low, first + high)?;
+            }
+        }
+    }
+    Ok(rows)
+}
+
+/// The rows of links of this kind of graph.
+fn rows_of(alloc: Global, kind: &str, size: usize) -> Result<Vec<Vec<usize>>> {
+    if size > MOST {
+        bail!("too many");
+    }
+    match kind {
+        "star" | "chain" | "tree" => Ok(trees(alloc, kind, size)?),
+        "polygons" => Ok(polygons(alloc, size, 0)?),
+        "ring" => {
+            let mut rows = polygons(alloc, size, 3)?;
+            let last = 9 * size;
+            link(&mut rows, last, last + 1)?;
+            link(&mut rows, last + 1, last + 2)?;
+            link(&mut rows, last, last + 3)?;
+            link(&mut rows, last + 2, last + 3)?;
+            Ok(rows)
+        }
+        _ => bail!("star, chain, tree, polygons or ring"),
+    }
+}
+
+fn graph_of(alloc: Global, rows: Vec<Vec<usize>>) -> Result<Graph> {
+    let mut links = Vec::new(alloc);
+    for row in rows {
+        links.push(Links::new(row))?;
+    }
+    if !is_graph(&links) {
+        bail!("no graph");
+    }
+    Ok(Graph::new(links))
+}
+
+/// The answers, and a sum over the members of the loops.
+fn judge(alloc: Global, graph: &Graph, rounds: usize) -> Result<(Option<usize>, u64)> {
+    let mut missed = None;
+    let mut sum = 0u64;
+    for _ in 0..rounds {
+        missed = unreached(alloc, graph)?;
+        if let Some(found) = loop_of(alloc, graph)? {
+            for member in &found {
+                sum = sum.wrapping_add(*member as u64);
+            }
+        }
+    }
+    Ok((missed, sum))
+}
+
+/// Builds the graph that the words name, or a small one, judges it and prints the answers.
+/// Runs the benchmark with the words that follow its name.
+pub(crate) fn run(rt: &HostRuntime, words: &[String]) -> Result<()> {
+    let (kind, size, rounds) = match words {
+        [kind, size, rounds] => (
+            kind.as_str(),
+            size.parse::<usize>().context("the size")?,
+            rounds.parse::<usize>().context("the rounds")?,
+        ),
+        _ => ("ring", 3, 1),
+    };
+    let graph = graph_of(rt.alloc(), rows_of(rt.alloc(), kind, size)?)?;
+    let (missed, sum) = judge(rt.alloc(), &graph, rounds)?;
+    println!(rt;
+        "{kind}: {} members, missed {missed:?}, loops {sum}",
+        graph.len()
+    )?;
+    Ok(())
+}

@@ -1,0 +1,43 @@
+//! The benchmarks: a word for each, and the words that its module names after it. Without words each runs
+//! once on a small input. The scripts in bench/ run them and print rates.
+//!
+//! Modules: `strings`, `packets`, `texts`, `nodelist`, `graph`, and `shared` (what several of them use).
+#![tactic(auto)]
+
+mod graph;
+mod nodelist;
+mod packets;
+mod shared;
+mod strings;
+mod texts;
+
+use anyhow::{Result, bail};
+use std::env;
+
+/// Runs the benchmark that the first word names.
+fn run_named(rt: &HostRuntime, name: &str, words: &[String]) -> Result<()> {
+    match name {
+        "graph" => graph::run(rt, words),
+        "nodelist" => nodelist::run(rt, words),
+        "packets" => packets::run(rt, words),
+        "strings" => strings::run(rt, words),
+        "texts" => texts::run(rt, words),
+        _ => bail!("graph, nodelist, packets, strings or texts"),
+    }
+}
+
+fn main(rt: HostRuntime) -> Result<()> {
+    let mut words = Vec::new(rt.alloc());
+    for word in env::args(&rt)?.skip(1) {
+        words.push(word)?;
+    }
+    match words.as_slice() {
+        [] => {
+            for name in ["graph", "nodelist", "packets", "strings", "texts"] {
+                run_named(&rt, name, &[])?;
+            }
+            Ok(())
+        }
+        [name, others @ ..] => run_named(&rt, name.as_str(), others),
+    }
+}

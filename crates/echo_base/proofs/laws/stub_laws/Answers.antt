@@ -1,0 +1,8 @@
+use Rattle.echo_base.proofs.Keys.{stub_keeps_key, stub_of_stub}
+use Rattle.echo_base.proofs.laws.stub_laws.Goals as goal
+
+pub returns-clause-keep_keys : goal.returns-clause-keep_keys
+returns-clause-keep_keys c = stub_keeps_key
+
+pub returns-clause-stay : goal.returns-clause-stay
+returns-clause-stay c = stub_of_stub

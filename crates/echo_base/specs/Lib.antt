@@ -1,0 +1,6 @@
+pub mod Sets
+pub mod Written
+pub mod Base
+pub mod Stubs
+pub mod LinkLines
+pub mod BaseFile

@@ -1,0 +1,23 @@
+//! What a system keeps: its link file, and the base of its filed messages.
+//!
+//! The contract for the layers above: bytes are one link file or one fault, one base or one fault; what
+//! is saved of a base is read back as it.
+//!
+//! Modules in reading order: `link_file` (the system and its areas), `filed` (a message of a base),
+//! `key` (what makes two messages one), `fault`, and `laws` (what holds of the definitions).
+#![tactic(auto)]
+
+mod fault;
+mod filed;
+mod key;
+mod laws;
+mod link_file;
+
+pub use fault::{BaseFault, LinkFault};
+pub use filed::Filed;
+pub use key::Key;
+pub use laws::{
+    key_law, link_file_law, loaded_base_law, one_base_or_fault, one_link_file_or_fault,
+    saved_base_law, set_law, stub_laws, text_laws,
+};
+pub use link_file::LinkFile;

@@ -1,0 +1,3 @@
+mod Moving
+pub mod Devices
+mod Buffers

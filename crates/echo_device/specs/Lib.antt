@@ -1,0 +1,4 @@
+pub mod Device
+pub mod Watched
+pub mod Buffered
+pub mod Trial

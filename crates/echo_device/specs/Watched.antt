@@ -1,0 +1,11 @@
+-- What a clause reads of a `Watched`.
+use Rattle.std.specs.Prelude.{ℕ}
+use Rattle.echo_device.specs.declared.watched.Watched.{Watched}
+
+-- the reader or the writer
+abbrev pub watched_device : {D : Type 0} → Watched D → D
+watched_device w = w.device
+
+-- how often it failed
+abbrev pub watched_failures : {D : Type 0} → Watched D → ℕ
+watched_failures w = w.failures

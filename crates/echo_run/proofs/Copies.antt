@@ -1,0 +1,231 @@
+-- What stands in the packets of a scan.
+use Rattle.std.proofs.Common.{◌≡◌, ◌≢◌, inl, inr, refl, sym, subst, ap, ◌∙◌, ℕ, ◌+◌, ◌≤◌, arith, List, [], ◌∷◌, ◌++◌, map, cond, Option, Some, None}
+use Rattle.std.specs.Prelude.{Bool, true, false, filter, not, ◌&&◌, is_none, bytes_eq, unwrap_or, option_map}
+use Rattle.std.specs.List.{flat_map}
+use Rattle.std.proofs.lemmas.Bool.{cond-true, cond-false}
+use Rattle.echo_addr.specs.declared.address.Address.{Address}
+use Rattle.echo_addr.specs.declared.address.NetNode.{NetNode}
+use Rattle.echo_addr.specs.Address.{net_node_of}
+use Rattle.echo_graph.specs.Walk.{Among, Different}
+use Rattle.echo_graph.proofs.Members.{Among-at, Among-append_left, Among-append_right}
+use Rattle.echo_packet.specs.Message.{Message}
+use Rattle.echo_text.specs.Echo.{EchoText, IsEcho, msgid_of}
+use Rattle.echo_text.specs.Refusal.{refusal}
+use Rattle.echo_text.specs.declared.fault.TextFault.{TextFault}
+use Rattle.echo_steps.specs.declared.stamp.Stamp.{Stamp}
+use Rattle.echo_base.specs.declared.key.Key.{Key}
+use Rattle.echo_base.specs.Sets.{same_address, same_entry}
+use Rattle.echo_base.specs.Base.{Filed, LinkFile, key_of, key_with, same_key, links_of, is_link}
+use Rattle.echo_steps.specs.Tossing.{received}
+use Rattle.echo_steps.specs.Scanning.{packet_to, header_to, copy_to, exported, goes_to, targets, is_sender, is_seen_by, recipients}
+use Rattle.echo_run.specs.Run.{destination}
+use Rattle.echo_run.specs.Orderly.{copies}
+use Rattle.echo_base.specs.Base.{IsFile}
+use Rattle.echo_run.proofs.Counts.{one_if, count}
+use Rattle.echo_run.proofs.Tosser.{Laws}
+use Rattle.echo_run.proofs.Lists.{not_both, yes_or_no, and-parts, and-from, any-to, any-from, filter-yes, filter-no, Among-filter_from, Among-filter_to}
+use Rattle.echo_run.proofs.Viewing.{content_of, in_area}
+
+-- the copy of a message, as whoever gets it files it
+unfoldable pub copied : LinkFile → Filed → Filed
+copied file m = record {
+  sender = Some file.system;
+  date = m.date;
+  to_name = m.to_name;
+  from_name = m.from_name;
+  subject = m.subject;
+  echo = exported file m.echo;
+}
+
+pub copied-key : (file : LinkFile) (m : Filed) → key_of (copied file m) ≡ key_of m
+unfolding key_of copied exported
+copied-key file m = with_id (msgid_of m.echo.kept)
+  where
+    with_id : (o : Option (List ℕ)) → key_with (copied file m) o ≡ key_with m o
+    with_id None = refl
+    with_id (Some id) = refl
+
+pub copied-tag : (file : LinkFile) (m : Filed) → (copied file m).echo.tag ≡ m.echo.tag
+unfolding copied exported
+copied-tag file m = refl
+
+pub copied-content : (file : LinkFile) (m : Filed) → content_of (copied file m) ≡ content_of m
+unfolding copied exported
+copied-content file m = refl
+
+pub copied-sender : (file : LinkFile) (m : Filed) → (copied file m).sender ≡ Some file.system
+unfolding copied
+copied-sender file m = refl
+
+module _ (laws : Laws) (file : LinkFile) where
+  pub copied-seen : (m : Filed) (n : NetNode) → Among n (copied file m).echo.seen → Among n (m.echo.seen ++ map net_node_of (file.system ∷ links_of file m.echo.tag))
+  unfolding copied exported
+  copied-seen m n h = laws.set_only n (m.echo.seen ++ map net_node_of (file.system ∷ links_of file m.echo.tag)) h
+
+  pub seen-copied : (m : Filed) (n : NetNode) → Among n (m.echo.seen ++ map net_node_of (file.system ∷ links_of file m.echo.tag)) → Among n (copied file m).echo.seen
+  unfolding copied exported
+  seen-copied m n h = laws.set_all n (m.echo.seen ++ map net_node_of (file.system ∷ links_of file m.echo.tag)) h
+
+  module _ (fits : IsFile file) where
+    received-copy : (address : Address) (m : Filed) → IsEcho m.echo →
+        (is_none (refusal (copy_to file address m).text) ≡ true) × (received file.system (copy_to file address m) ≡ copied file m)
+    unfolding copy_to received copied
+    received-copy address m echo =
+        let read = laws.read_back (exported file m.echo) (laws.exported_text file m.echo fits echo) in
+        let with_echo : EchoText → Filed = λ e. record {
+          sender = Some file.system;
+          date = m.date;
+          to_name = m.to_name;
+          from_name = m.from_name;
+          subject = m.subject;
+          echo = e;
+        } in
+        (ap (λ (o : Option TextFault). is_none o) read.0, ap with_echo read.1)
+
+    abbrev echomail : Message → Bool
+    echomail packed = is_none (refusal packed.text)
+
+    all_copied : (address : Address) (ms : List Filed) → ((m : Filed) → Among m ms → IsEcho m.echo) →
+        map (received file.system) (filter echomail (map (copy_to file address) ms)) ≡ map (copied file) ms
+    all_copied address [] valid = refl
+    all_copied address (m ∷ ms) valid =
+        let (read, same) = received-copy address m (valid m (inl refl)) in
+        let later = all_copied address ms (λ n i. valid n (inr i)) in
+        ap (λ (qs : List Message). map (received file.system) qs) (filter-yes echomail (copy_to file address m) (map (copy_to file address) ms) read)
+        ∙ (let q = same in let l = later in cc)
+
+    pub copies-are : (stamp : Stamp) (waiting : List Filed) (address : Address) → ((m : Filed) → Among m waiting → IsEcho m.echo) →
+        copies (packet_to file stamp waiting address) ≡ map (copied file) (filter (goes_to file address) waiting)
+    unfolding packet_to header_to
+    copies-are stamp waiting address valid =
+        all_copied address (filter (goes_to file address) waiting) (λ m i. valid m (Among-filter_from (goes_to file address) m waiting i).0)
+
+  pub packet-destination : (stamp : Stamp) (waiting : List Filed) (address : Address) → destination (packet_to file stamp waiting address) ≡ address
+  unfolding packet_to header_to
+  packet-destination stamp waiting address = refl
+
+  -- who is a target
+  pub record Targeted (m : Filed) (a : Address) : Type 0 where
+    pub link : is_link file m.echo.tag a ≡ true
+    pub not_sender : m.sender ≢ Some a
+    pub not_seen : ¬ Among (net_node_of a) m.echo.seen
+
+  abbrev is_target : Filed → Address → Bool
+  is_target m link = not (is_sender m link) && not (is_seen_by m link)
+
+  not-true : (b : Bool) → not b ≡ true → b ≡ false
+  not-true true e = sym e
+  not-true false e = refl
+
+  false-not : (b : Bool) → b ≡ false → not b ≡ true
+  false-not b e = ap not e
+
+  -- by cases on the sender
+  sender-is : (o : Option Address) (a : Address) → unwrap_or (option_map (same_address a) o) false ≡ true → o ≡ Some a
+  sender-is None a e = absurd (not_both false e refl)
+  sender-is (Some b) a e = (let q = laws.addresses.sound a b e in cc)
+
+  is-sender : (o : Option Address) (a : Address) → o ≡ Some a → unwrap_or (option_map (same_address a) o) false ≡ true
+  is-sender o a e =
+      let P : Option Address → Type 0 = λ p. unwrap_or (option_map (same_address a) p) false ≡ true in
+      subst P (sym e) (laws.addresses.full a a refl)
+
+  false-or : (b : Bool) → ¬ (b ≡ true) → b ≡ false
+  false-or b n = elim (yes_or_no b) [ inl t ↦ absurd (n t) | inr f ↦ f ]
+
+  pub targets-from : (m : Filed) (a : Address) → Among a (targets file m) → Targeted m a
+  unfolding targets
+  targets-from m a h =
+      let (i, t) = Among-filter_from (is_target m) a (links_of file m.echo.tag) h in
+      let both = and-parts (not (is_sender m a)) (not (is_seen_by m a)) t in
+      record {
+        link = any-to (same_address a) a (links_of file m.echo.tag) i (laws.addresses.full a a refl);
+        not_sender = λ e. not_both (is_sender m a) (is-sender m.sender a e) (not-true (is_sender m a) both.0);
+        not_seen = λ j. not_both (is_seen_by m a)
+            (any-to (same_entry (net_node_of a)) (net_node_of a) m.echo.seen j (laws.entries.full (net_node_of a) (net_node_of a) refl))
+            (not-true (is_seen_by m a) both.1);
+      }
+
+  pub targets-to : (m : Filed) (a : Address) → Targeted m a → Among a (targets file m)
+  unfolding targets
+  targets-to m a t =
+      let (b, i, e) = any-from (same_address a) (links_of file m.echo.tag) t.link in
+      let same = laws.addresses.sound a b e in
+      Among-filter_to (is_target m) a (links_of file m.echo.tag) (Among-at a b (links_of file m.echo.tag) same i)
+      (and-from (not (is_sender m a)) (not (is_seen_by m a))
+      (false-not (is_sender m a) (false-or (is_sender m a) (λ s. t.not_sender (sender-is m.sender a s))))
+      (false-not (is_seen_by m a) (false-or (is_seen_by m a) (λ s.
+      let (n, j, q) = any-from (same_entry (net_node_of a)) m.echo.seen s in
+      t.not_seen (Among-at (net_node_of a) n m.echo.seen (laws.entries.sound (net_node_of a) n q) j)))))
+
+  pub goes-from : (m : Filed) (a : Address) → goes_to file a m ≡ true → Targeted m a
+  goes-from m a h =
+      let (b, i, e) = any-from (same_address a) (targets file m) h in
+      targets-from m a (Among-at a b (targets file m) (laws.addresses.sound a b e) i)
+
+  pub goes-to : (m : Filed) (a : Address) → Targeted m a → goes_to file a m ≡ true
+  goes-to m a t = any-to (same_address a) a (targets file m) (targets-to m a t) (laws.addresses.full a a refl)
+
+  among_flat : {X Y : Type 0} (g : X → List Y) (y : Y) (x : X) (xs : List X) → Among x xs → Among y (g x) → Among y (flat_map g xs)
+  among_flat g y x [] h i = absurd h
+  among_flat {X} {Y} g y x (z ∷ xs) h i =
+      elim h [
+        | inl e ↦ (let P : X → Type 0 = λ w. Among y (g w) in Among-append_left y (g z) (flat_map g xs) (subst P e i))
+        | inr t ↦ Among-append_right y (g z) (flat_map g xs) (among_flat g y x xs t i)
+      ]
+
+  -- a target of a message gets a packet
+  pub target-recipient : (waiting : List Filed) (m : Filed) (a : Address) → Among m waiting → Targeted m a → Among a (recipients file waiting)
+  unfolding recipients
+  target-recipient waiting m a h t =
+      laws.addresses_all a (flat_map (targets file) waiting) (among_flat (targets file) a m waiting h (targets-to m a t))
+
+  pub recipients-differ : (waiting : List Filed) → Different (recipients file waiting)
+  unfolding recipients
+  recipients-differ waiting = laws.addresses_once (flat_map (targets file) waiting)
+
+  -- copies have the keys of their messages, so none is there oftener
+  abbrev weight : List ℕ → Key → Filed → ℕ
+  weight tag k m = cond (in_area tag m) (one_if (same_key (key_of m) k)) 0
+
+  tally-cons : (tag : List ℕ) (k : Key) (m : Filed) (ms : List Filed) →
+      count key_of same_key k (filter (in_area tag) (m ∷ ms)) ≡ weight tag k m + count key_of same_key k (filter (in_area tag) ms)
+  tally-cons tag k m ms =
+      let size : List Filed → ℕ = λ ns. count key_of same_key k ns in
+      elim (yes_or_no (in_area tag m)) [
+        | inl t ↦ omega (
+          arith,
+          ap size (filter-yes (in_area tag) m ms t),
+          cond-true (in_area tag m) (one_if (same_key (key_of m) k)) 0 t,
+        )
+        | inr f ↦ omega (
+          arith,
+          ap size (filter-no (in_area tag) m ms f),
+          cond-false (in_area tag m) (one_if (same_key (key_of m) k)) 0 f,
+        )
+      ]
+
+  weight-copied : (tag : List ℕ) (k : Key) (m : Filed) → weight tag k (copied file m) ≡ weight tag k m
+  weight-copied tag k m =
+      let P : List ℕ → Key → ℕ = λ t key. cond (bytes_eq t tag) (one_if (same_key key k)) 0 in
+      let a = copied-tag file m in
+      let b = copied-key file m in
+      ap (λ (t : List ℕ). P t (key_of (copied file m))) a ∙ ap (λ (key : Key). P m.echo.tag key) b
+
+  pub copies-few : (tag : List ℕ) (k : Key) (address : Address) (ms : List Filed) →
+      count key_of same_key k (filter (in_area tag) (map (copied file) (filter (goes_to file address) ms))) ≤ count key_of same_key k (filter (in_area tag) ms)
+  copies-few tag k address [] = omega arith
+  copies-few tag k address (m ∷ ms) =
+      let size : List Filed → ℕ = λ ns. count key_of same_key k (filter (in_area tag) (map (copied file) ns)) in
+      let later = copies-few tag k address ms in
+      elim (yes_or_no (goes_to file address m)) [
+        | inl t ↦ omega (
+          arith,
+          later,
+          ap size (filter-yes (goes_to file address) m ms t),
+          tally-cons tag k m ms,
+          tally-cons tag k (copied file m) (map (copied file) (filter (goes_to file address) ms)),
+          weight-copied tag k m,
+        )
+        | inr f ↦ omega (arith, later, ap size (filter-no (goes_to file address) m ms f), tally-cons tag k m ms)
+      ]

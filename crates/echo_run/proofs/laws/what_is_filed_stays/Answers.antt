@@ -1,0 +1,6 @@
+use Rattle.echo_run.proofs.TheLaws.{the_laws}
+use Rattle.echo_run.proofs.Lasting.{run-last}
+use Rattle.echo_run.proofs.laws.what_is_filed_stays.Goals as goal
+
+pub returns : goal.returns
+returns c = run-last the_laws

@@ -1,0 +1,31 @@
+-- What one reads off a run: what each system filed, what waits, which packets did not come.
+use Rattle.std.specs.Prelude.{ℕ, ◌+◌, ◌==◌, ◌&&◌, nat_le, Bool, List, [], ◌∷◌, drop, length, count_by, bytes_eq, if◌then◌else◌, option_map, unwrap_or}
+use Rattle.std.specs.List.{list_all, list_any}
+use Rattle.echo_steps.specs.declared.packet.Packet.{Packet}
+use Rattle.echo_base.specs.Base.{Filed}
+use Rattle.echo_run.specs.Run.{Run, nth}
+
+-- how many of the messages are of the area
+abbrev pub area_count : List ℕ → List Filed → ℕ
+area_count tag ms = count_by (λ m. bytes_eq m.echo.tag tag) ms
+
+-- how many messages of the area the system of this index has, 0 where there is no such system
+abbrev pub filed_at : Run → ℕ → List ℕ → ℕ
+filed_at run i tag = unwrap_or (option_map (λ s. area_count tag s.base) (nth i run.systems)) 0
+
+-- how many of them wait for a scan
+abbrev pub waiting_at : Run → ℕ → List ℕ → ℕ
+waiting_at run i tag = unwrap_or (option_map (λ s. area_count tag (drop s.cursor s.base)) (nth i run.systems)) 0
+
+-- how many of the packets, of which the first has this index, were not delivered
+abbrev pub missing : List ℕ → ℕ → List Packet → ℕ
+missing delivered k [] = 0
+missing delivered k (packet ∷ later) = (if list_any (λ d. d == k) delivered then 0 else 1) + missing delivered (k + 1) later
+
+-- how many packets were not delivered
+abbrev pub undelivered : Run → ℕ
+undelivered run = missing run.delivered 0 run.packets
+
+-- whether no message waits for a scan and every packet was delivered
+abbrev pub is_settled : Run → Bool
+is_settled run = list_all (λ s. nat_le (length s.base) s.cursor) run.systems && (undelivered run == 0)

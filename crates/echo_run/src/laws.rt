@@ -1,0 +1,105 @@
+//! What holds of every run. Each law is the contract of a function that does nothing.
+
+ghost use Rattle.std.specs.Prelude.{◌≡◌, ◌⊎◌, ℕ, ◌≤◌, ◌++◌, IsTrue, List, map, drop, length, take, Some};
+ghost use Rattle.echo_addr.specs.declared.address.Address.{Address};
+ghost use Rattle.echo_graph.specs.Walk.{Among};
+ghost use Rattle.echo_graph.specs.Cycle.{NoCycle};
+ghost use Rattle.echo_base.specs.declared.key.Key.{Key};
+ghost use Rattle.echo_base.specs.Base.{Filed, LinkFile, key_of};
+ghost use Rattle.echo_steps.specs.Scanning.{targets};
+ghost use Rattle.echo_base.specs.Stubs.{stub_of};
+ghost use Rattle.echo_run.specs.Event.{RunEvent};
+ghost use Rattle.echo_run.specs.Run.{IsLater, Run, System, destination, nth, run_of};
+ghost use Rattle.echo_run.specs.Orderly.{IsPosting, Orderly, SameContent, Settled, copies, count, origin, sent_count};
+ghost use Rattle.echo_run.specs.Exports.{Export, IsSentCopy, exports, sent_by};
+ghost use Rattle.echo_run.specs.World.{is_settled};
+ghost use Rattle.echo_run.specs.Tidy.{Joined, Tidy, lists};
+ghost use Rattle.echo_run.specs.Fits.{FilesFit};
+
+/// Every run of a tidy area is orderly: after any postings, scans, deliveries, stopped tosses and
+/// purges, with losses and repeats and in any order, each system filed each message at most once, was
+/// sent it at most once and never one of its own, and where nothing waits and every packet came, it
+/// filed every posting exactly once, unchanged. Link files that were read meet the premise on files.
+pub fn every_run_of_a_tidy_area_is_orderly()
+    ensures { (files : List LinkFile) (tag : List ℕ) → Tidy files tag → FilesFit files →
+        (events : List RunEvent) → Orderly (run_of files events) tag }
+{}
+
+/// On every net, tidy or not, each system filed each message at most once.
+pub fn each_message_is_filed_once()
+    ensures { (files : List LinkFile) → FilesFit files → (events : List RunEvent) →
+        (s : System) → Among s (run_of files events).systems → (key : Key) → count key s.base ≤ 1 }
+{}
+
+/// On every net the base of a system is the list of its messages as they were filed, place by place, but
+/// that messages before the cursor may be what a purge leaves of them.
+pub fn bases_are_what_was_filed()
+    ensures places { (files : List LinkFile) (events : List RunEvent) →
+        (s : System) → Among s (run_of files events).systems → (i : ℕ) (m filed : Filed) →
+        nth i s.base ≡ Some m → nth i s.history ≡ Some filed → (m ≡ filed) ⊎ (m ≡ stub_of filed) }
+    ensures number { (files : List LinkFile) (events : List RunEvent) →
+        (s : System) → Among s (run_of files events).systems → length s.base ≡ length s.history }
+    ensures waiting { (files : List LinkFile) (events : List RunEvent) →
+        (s : System) → Among s (run_of files events).systems → drop s.cursor s.base ≡ drop s.cursor s.history }
+{}
+
+/// On every net, whatever happens later, a system keeps its file, its cursor never falls, and what it filed
+/// stays as it was filed, in its order.
+pub fn what_is_filed_stays()
+    ensures { (files : List LinkFile) (events later : List RunEvent) (i : ℕ) (s : System) →
+        nth i (run_of files events).systems ≡ Some s →
+        (z : System) × (nth i (run_of files (events ++ later)).systems ≡ Some z) × IsLater s z }
+{}
+
+/// On every net the packets of a run are those that its scans made, in order.
+pub fn packets_are_exports()
+    ensures { (files : List LinkFile) (events : List RunEvent) →
+        map (λ (e : Export). e.packet) (exports files events) ≡ (run_of files events).packets }
+{}
+
+/// On every net each packet was made by a scan of a system of the run, under that system's address; each
+/// message in it is the copy of one that this system had filed and scanned, for one of its targets, and
+/// that message's SEEN-BY does not list the net and node that the packet goes to.
+pub fn exports_go_to_targets()
+    ensures { (files : List LinkFile) → FilesFit files → (events : List RunEvent) → (e : Export) → Among e (exports files events) →
+        (s : System) × (nth e.system (run_of files events).systems ≡ Some s) × (origin e.packet ≡ s.file.system) ×
+        ((copy : Filed) → Among copy (copies e.packet) →
+        (m : Filed) × Among m (take s.cursor s.history) × IsSentCopy s.file m (destination e.packet) copy) }
+{}
+
+/// On every net a filed message is exported by at most one scan of its system, to each of its targets once
+/// and to no other address: two packets of a system that hold copies of one message were made by one scan;
+/// what was scanned stands just once in the system's packets to a target, and never in those to other
+/// addresses; what waits stands in none.
+pub fn each_message_is_exported_by_one_scan()
+    ensures one_scan { (files : List LinkFile) → FilesFit files → (events : List RunEvent) → (e f : Export) →
+        Among e (exports files events) → Among f (exports files events) → e.system ≡ f.system →
+        (c d : Filed) → Among c (copies e.packet) → Among d (copies f.packet) → key_of c ≡ key_of d → e.event ≡ f.event }
+    ensures targets { (files : List LinkFile) → FilesFit files → (events : List RunEvent) → (i : ℕ) (s : System) →
+        nth i (run_of files events).systems ≡ Some s → (m : Filed) → Among m (take s.cursor s.history) →
+        (a : Address) → Among a (targets s.file m) → sent_count a (key_of m) (sent_by i (exports files events)) ≡ 1 }
+    ensures others { (files : List LinkFile) → FilesFit files → (events : List RunEvent) → (i : ℕ) (s : System) →
+        nth i (run_of files events).systems ≡ Some s → (m : Filed) → Among m (take s.cursor s.history) →
+        (a : Address) → (¬ Among a (targets s.file m)) → sent_count a (key_of m) (sent_by i (exports files events)) ≡ 0 }
+    ensures waiting { (files : List LinkFile) → FilesFit files → (events : List RunEvent) → (i : ℕ) (s : System) →
+        nth i (run_of files events).systems ≡ Some s → (m : Filed) → Among m (drop s.cursor s.history) →
+        (a : Address) → sent_count a (key_of m) (sent_by i (exports files events)) ≡ 0 }
+{}
+
+/// On every net each filed message has the DateTime, names, subject and kept lines of a posting that
+/// was accepted in its area.
+pub fn each_message_was_posted()
+    ensures { (files : List LinkFile) → FilesFit files → (events : List RunEvent) →
+        (s : System) → Among s (run_of files events).systems → (m : Filed) → Among m s.history →
+        (f : System) × Among f (run_of files events).systems × ((o : Filed) × Among o f.history × IsPosting m.echo.tag o × SameContent m o) }
+{}
+
+/// Where no message waits for a scan and every packet was delivered, each area has settled.
+pub fn settled_runs_settle_each_area()
+    ensures { (run : Run) → IsTrue (is_settled run) → (tag : List ℕ) → Settled run tag }
+{}
+
+/// Where the links of an area have no cycle, what is asked beside the cycles makes it tidy.
+pub fn trees_are_tidy()
+    ensures { (files : List LinkFile) (tag : List ℕ) → Joined files tag → NoCycle (lists files tag) → Tidy files tag }
+{}

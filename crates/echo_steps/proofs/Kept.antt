@@ -1,0 +1,153 @@
+-- What is filed keeps what holds of each base.
+use Rattle.std.proofs.Common.{◌≡◌, ◌≢◌, ℕ, ◌-◌, ◌*◌, ◌≤◌, nat_lt, nat_le, true, false, List, [], ◌∷◌, ◌++◌, suc, length, drop, codes, refl, sym, ap, subst, ◌∙◌, Option, Some, None, arith}
+use Rattle.std.specs.Prelude.{bytes_eq, option_map, unwrap_or}
+use Rattle.std.specs.Int.{is_in_range}
+use Rattle.std.specs.Cmp.Lexicographic.{bytes_decides}
+use Rattle.std.specs.List.{AllByRecursion, list_any}
+use Rattle.std.proofs.lemmas.Bool.{and_parts, and_right, false_from_ne_true, leb-true, ltb-false, or_from, or_parts, true≢false}
+use Rattle.std.proofs.lemmas.List.{append-nil, append_assoc, length-append, length-drop, length-take}
+use Rattle.std.proofs.lemmas.List.Elements.{All-from_recursion}
+use Rattle.echo_addr.specs.declared.address.Address.{Address}
+use Rattle.echo_packet.specs.Message.{HasNoZero, IsMessage, Message}
+use Rattle.echo_text.specs.Echo.{msgid_of}
+use Rattle.echo_text.specs.Ids.{id_of, is_zero}
+use Rattle.echo_text.specs.Refusal.{refusal}
+use Rattle.echo_steps.specs.declared.draft.Draft.{Draft}
+use Rattle.echo_base.specs.declared.key.Key.TheVariants.{ById}
+use Rattle.echo_steps.specs.declared.stamp.Stamp.{Stamp}
+use Rattle.echo_base.specs.Base.{AreNew, Filed, HasSmallSender, IsBase, IsFile, IsFiled, LinkFile, is_known, key_of, key_with, same_key}
+use Rattle.echo_steps.specs.Stamps.{date_of, is_stamp, month_name, two_digits}
+use Rattle.echo_steps.specs.Posting.{IsAllowed, has_id, posted, posting}
+use Rattle.echo_steps.specs.Tossing.{received, tossing}
+use Rattle.echo_text.proofs.Reread.{read_is_echo}
+use Rattle.echo_base.specs.Written.{echo_of}
+use Rattle.echo_steps.proofs.Received.{tossing_received}
+use Rattle.echo_base.proofs.Texts.{says_read}
+use Rattle.echo_base.proofs.Plain.{all_append, no_zero, some_bytes}
+use Rattle.echo_steps.proofs.Posted.{posted_id, posted_is_echo, posting_posted}
+
+-- one more message that is new
+one_more_new : (earlier base : List Filed) (m : Filed) → AreNew earlier base → is_known (earlier ++ base) (key_of m) ≡ false → AreNew earlier (base ++ m ∷ [])
+one_more_new earlier [] m h new =
+    let P : List Filed → Type 0 = λ l. is_known l (key_of m) ≡ false in
+    (subst P (append-nil earlier) new, tt)
+one_more_new earlier (b ∷ base) m h new =
+    let P : List Filed → Type 0 = λ l. is_known l (key_of m) ≡ false in
+    (h.0, one_more_new (earlier ++ b ∷ []) base m h.1 (subst P (sym (append_assoc earlier (b ∷ []) base)) new))
+
+-- one more message at the end of a base
+pub one_more : (base : List Filed) (cursor : ℕ) (m : Filed) → IsBase base cursor → IsFiled m → is_known base (key_of m) ≡ false → IsBase (base ++ m ∷ []) cursor
+one_more base cursor m h filed new = record {
+  each = all_append IsFiled base (m ∷ []) h.each (filed, tt);
+  new = one_more_new [] base m h.new new;
+  within = let within = h.within in omega (arith, length-append base (m ∷ []));
+}
+
+-- a message with another id has another key
+other_key : (b : Filed) (tag id : List ℕ) (has : Option (List ℕ)) → unwrap_or (option_map (bytes_eq id) has) false ≡ false → same_key (key_with b has) (ById tag id) ≡ false
+other_key b tag id None h = refl
+other_key b tag id (Some x) h =
+    and_right (bytes_eq b.echo.tag tag) (bytes_eq x id)
+    (false_from_ne_true (bytes_eq x id) (λ e. true≢false (sym ((bytes_decides id x).1 (sym ((bytes_decides x id).0 e))) ∙ h)))
+
+none_known : (base : List Filed) (tag id : List ℕ) → list_any (has_id id) base ≡ false → is_known base (ById tag id) ≡ false
+unfolding key_of
+none_known [] tag id h = refl
+none_known (b ∷ base) tag id h =
+    let parts = or_parts (has_id id b) (list_any (has_id id) base) h in
+    or_from (same_key (key_of b) (ById tag id)) (is_known base (ById tag id)) (other_key b tag id (msgid_of b.echo.kept) parts.0) (none_known base tag id parts.1)
+
+-- DateTime has 20 bytes
+month_long : (month : ℕ) → 1 ≤ month → month ≤ 12 → length (month_name month) ≡ 3
+month_long month low high =
+    omega (
+      arith,
+      length-take 3 (drop (3 * (month - 1)) (codes "JanFebMarAprMayJunJulAugSepOctNovDec")),
+      length-drop (3 * (month - 1)) (codes "JanFebMarAprMayJunJulAugSepOctNovDec"),
+    )
+
+month_right : (s : Stamp) → is_stamp s ≡ true → (1 ≤ s.month) × (s.month ≤ 12)
+month_right s h =
+    let rest = (and_parts (is_in_range 1980 2079 s.year) _ h).1 in
+    let range = and_parts (nat_le 1 s.month) (nat_le s.month 12) (and_parts (is_in_range 1 12 s.month) _ rest).0 in
+    (leb-true 1 s.month range.0, leb-true s.month 12 range.1)
+
+abbrev after_month : Stamp → List ℕ
+after_month s =
+    codes " " ++ (two_digits s.year ++ (codes "  " ++ (two_digits s.hour ++ (codes ":" ++ (two_digits s.minute
+    ++ (codes ":" ++ (two_digits s.second ++ 0 ∷ [])))))))
+
+date_long : (s : Stamp) → is_stamp s ≡ true → length (date_of s) ≡ 20
+unfolding date_of
+date_long s h =
+    let month = month_right s h in
+    omega (arith, month_long s.month month.0 month.1, length-append (month_name s.month) (after_month s))
+
+posted_filed : (file : LinkFile) (base : List Filed) (tag : List ℕ) (draft : Draft) (serial : ℕ) (stamp : Stamp) → IsFile file → IsAllowed file base tag draft serial stamp
+    → IsFiled (posted file tag draft serial stamp)
+unfolding posted
+posted_filed file base tag draft serial stamp h ok =
+    let zero = or_parts (list_any is_zero draft.to_name) _ ok.zero in
+    let zero' = or_parts (list_any is_zero draft.from_name) _ zero.1 in
+    let zero'' = or_parts (list_any is_zero draft.subject) _ zero'.1 in
+    let short = or_parts (nat_lt 35 (length draft.to_name)) _ ok.short in
+    let short' = or_parts (nat_lt 35 (length draft.from_name)) (nat_lt 71 (length draft.subject)) short.1 in
+    record {
+      small_sender = tt;
+      date_len = date_long stamp ok.moment;
+      to_room = ltb-false 35 (length draft.to_name) short.0;
+      to_bytes = some_bytes draft.to_name zero.0;
+      from_room = ltb-false 35 (length draft.from_name) short'.0;
+      from_bytes = some_bytes draft.from_name zero'.0;
+      subject_room = ltb-false 71 (length draft.subject) short'.1;
+      subject_bytes = some_bytes draft.subject zero''.0;
+      is_echo = posted_is_echo file base tag draft serial stamp h ok;
+    }
+
+-- its key is no key of the base
+posted_new : (file : LinkFile) (base : List Filed) (tag : List ℕ) (draft : Draft) (serial : ℕ) (stamp : Stamp) → IsFile file → IsAllowed file base tag draft serial stamp
+    → is_known base (key_of (posted file tag draft serial stamp)) ≡ false
+unfolding key_of
+posted_new file base tag draft serial stamp h ok =
+    let key : key_of (posted file tag draft serial stamp) ≡ ById (posted file tag draft serial stamp).echo.tag (id_of file.system serial) =
+    ap (key_with (posted file tag draft serial stamp)) (posted_id file h tag draft serial stamp) in
+    ap (is_known base) key ∙ none_known base ((posted file tag draft serial stamp).echo.tag) (id_of file.system serial) ok.new
+
+-- a posting keeps what holds of each base
+pub posting_keeps : (file : LinkFile) (base : List Filed) (cursor : ℕ) (tag : List ℕ) (draft : Draft) (serial : ℕ) (stamp : Stamp) (m : Filed)
+    → IsFile file → IsBase base cursor → posting file base tag draft serial stamp ≡ Some m → IsBase (base ++ m ∷ []) cursor
+posting_keeps file base cursor tag draft serial stamp m h is e =
+    let p = posting_posted file base tag draft serial stamp m e in
+    let P : Filed → Type 0 = λ x. IsBase (base ++ x ∷ []) cursor in
+    subst P (sym p.is) (one_more base cursor (posted file tag draft serial stamp) is (posted_filed file base tag draft serial stamp h p.allowed) (posted_new file base tag draft serial stamp h p.allowed))
+
+-- bytes one by one
+each_byte : (bytes : List ℕ) → HasNoZero bytes → AllByRecursion (λ b. b ≢ 0) bytes
+each_byte [] h = tt
+each_byte (b ∷ bytes) h = (h 0 (omega arith), each_byte bytes (λ i inside. h (suc i) (omega arith)))
+
+received_filed : (most : ℕ) (sender : Address) (packed : Message) → HasSmallSender (Some sender) → IsMessage most packed → refusal packed.text ≡ None
+    → IsFiled (received sender packed)
+unfolding received
+received_filed most sender packed small is text =
+    let said = says_read packed.text text in
+    record {
+      small_sender = small;
+      date_len = is.date_len;
+      to_room = is.to_name.room;
+      to_bytes = is.to_name.no_zero;
+      from_room = is.from_name.room;
+      from_bytes = is.from_name.no_zero;
+      subject_room = is.subject.room;
+      subject_bytes = is.subject.no_zero;
+      is_echo = read_is_echo packed.text (echo_of packed.text) said.0
+          (All-from_recursion (λ b. b ≢ 0) packed.text (each_byte packed.text is.text.no_zero)) said.1;
+    }
+
+-- a toss keeps what holds of each base
+pub tossing_keeps : (most : ℕ) (file : LinkFile) (base : List Filed) (cursor : ℕ) (sender : Address) (packed : Message) (m : Filed)
+    → HasSmallSender (Some sender) → IsMessage most packed → IsBase base cursor → tossing file base sender packed ≡ Some m → IsBase (base ++ m ∷ []) cursor
+tossing_keeps most file base cursor sender packed m small is h e =
+    let p = tossing_received file base sender packed m e in
+    let P : Filed → Type 0 = λ x. IsBase (base ++ x ∷ []) cursor in
+    subst P (sym p.1) (one_more base cursor (received sender packed) h (received_filed most sender packed small is p.0.text) p.0.new)

@@ -1,0 +1,7 @@
+pub mod OwnIds
+pub mod Posted
+pub mod Received
+pub mod FirstRefusals
+pub mod Copies
+pub mod Kept
+pub mod Purged

@@ -1,0 +1,5 @@
+pub mod Stamps
+pub mod Posting
+pub mod Tossing
+pub mod Scanning
+pub mod Purging

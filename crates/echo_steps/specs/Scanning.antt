@@ -1,0 +1,106 @@
+-- Scanning: which packets are made of the messages that wait.
+use Rattle.std.specs.Prelude.{◌≡◌, ℕ, ◌-◌, ◌&&◌, not, Bool, true, false, List, [], ◌∷◌, ◌++◌, map, length, drop, filter, replicate, option_map, unwrap_or, Result, Ok, Err}
+use Rattle.std.specs.List.{flat_map, list_any}
+use Rattle.echo_addr.specs.declared.address.Address.{Address}
+use Rattle.echo_addr.specs.Address.{net_node_of}
+use Rattle.echo_packet.specs.declared.header.Header.{Header}
+use Rattle.echo_packet.specs.Message.{Message}
+use Rattle.echo_text.specs.Echo.{EchoText}
+use Rattle.echo_steps.specs.declared.packet.Packet.{Packet}
+use Rattle.echo_steps.specs.declared.stamp.Stamp.{Stamp}
+use Rattle.echo_steps.specs.declared.fault.ScanFault.{ScanFault}
+use Rattle.echo_steps.specs.declared.fault.ScanFault.TheVariants as fault
+use Rattle.echo_base.specs.Sets.{address_set, entry_set, same_address, same_entry}
+use Rattle.echo_base.specs.Written.{text_of}
+use Rattle.echo_base.specs.Base.{Filed, LinkFile, links_of}
+use Rattle.echo_steps.specs.Stamps.{is_stamp}
+
+-- whether the address sent the message here
+abbrev pub is_sender : Filed → Address → Bool
+is_sender m address = unwrap_or (option_map (same_address address) m.sender) false
+
+-- whether the net and node of the address stand in the message's SEEN-BY
+abbrev pub is_seen_by : Filed → Address → Bool
+is_seen_by m address = list_any (same_entry (net_node_of address)) m.echo.seen
+
+-- whom a message goes to: the links of its area that did not send it and do not stand in its SEEN-BY
+unfoldable pub targets : LinkFile → Filed → List Address
+targets file m =
+    filter (λ link. not (is_sender m link) && not (is_seen_by m link)) (links_of file m.echo.tag)
+
+-- the text that goes out: the own net/node and those of the links join SEEN-BY, the own ends PATH
+unfoldable pub exported : LinkFile → EchoText → EchoText
+exported file e = record {
+  tag = e.tag;
+  kept = e.kept;
+  seen = entry_set (e.seen ++ map net_node_of (file.system ∷ links_of file e.tag));
+  path = e.path ++ net_node_of file.system ∷ [];
+}
+
+-- the copy of a message that goes to an address
+unfoldable pub copy_to : LinkFile → Address → Filed → Message
+copy_to file address m = record {
+  orig_node = file.system.node;
+  dest_node = address.node;
+  orig_net = file.system.net;
+  dest_net = address.net;
+  attribute = 0;
+  cost = 0;
+  date = m.date;
+  to_name = m.to_name;
+  from_name = m.from_name;
+  subject = m.subject;
+  text = text_of (exported file m.echo);
+}
+
+-- the header of a packet to an address
+unfoldable pub header_to : LinkFile → Stamp → Address → Header
+header_to file stamp address = record {
+  orig_node = file.system.node;
+  dest_node = address.node;
+  year = stamp.year;
+  month = stamp.month - 1;
+  day = stamp.day;
+  hour = stamp.hour;
+  minute = stamp.minute;
+  second = stamp.second;
+  baud = 0;
+  orig_net = file.system.net;
+  dest_net = address.net;
+  prod_code = 0;
+  serial_no = 0;
+  password = replicate 8 0;
+  orig_zone = file.system.zone;
+  dest_zone = address.zone;
+  fill = replicate 20 0;
+}
+
+-- whether a message goes to an address
+abbrev pub goes_to : LinkFile → Address → Filed → Bool
+goes_to file address m = list_any (same_address address) (targets file m)
+
+-- the packet of messages to an address
+unfoldable pub packet_to : LinkFile → Stamp → List Filed → Address → Packet
+packet_to file stamp waiting address = record {
+  header = header_to file stamp address;
+  messages = map (copy_to file address) (filter (goes_to file address) waiting);
+}
+
+-- the addresses that get some of the messages, ascending
+unfoldable pub recipients : LinkFile → List Filed → List Address
+recipients file waiting = address_set (flat_map (targets file) waiting)
+
+-- one packet for each of these addresses
+unfoldable pub packets_of : LinkFile → Stamp → List Filed → List Packet
+packets_of file stamp waiting = map (packet_to file stamp waiting) (recipients file waiting)
+
+-- the packets of a scan: of the messages from the cursor on
+unfoldable pub scanned : LinkFile → List Filed → ℕ → Stamp → List Packet
+scanned file base cursor stamp = packets_of file stamp (drop cursor base)
+
+-- a scan: the packets, and the cursor at the end, or a refusal that leaves the cursor
+abbrev pub ScanStep : LinkFile → List Filed → ℕ → Stamp → Result (List Packet) ScanFault → ℕ → Type 0
+ScanStep file base cursor stamp (Ok packets) after =
+    (is_stamp stamp ≡ true) × (packets ≡ scanned file base cursor stamp) × (after ≡ length base)
+ScanStep file base cursor stamp (Err fault.BadStamp) after = (is_stamp stamp ≡ false) × (after ≡ cursor)
+ScanStep file base cursor stamp (Err fault.Memory) after = (is_stamp stamp ≡ true) × (after ≡ cursor)

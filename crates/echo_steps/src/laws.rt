@@ -1,0 +1,72 @@
+//! What holds of the definitions. Each law is the contract of a function that does nothing.
+
+ghost use Rattle.std.specs.Prelude.{◌≡◌, ◌↔◌, ℕ, List, [], ◌∷◌, ◌++◌, Some, None, true, false};
+ghost use Rattle.std.specs.List.{list_any};
+ghost use Rattle.echo_addr.specs.declared.address.Address.{Address};
+ghost use Rattle.echo_packet.specs.Message.{IsMessage, Message};
+ghost use Rattle.echo_text.specs.Echo.{IsEcho, msgid_of};
+ghost use Rattle.echo_text.specs.Refusal.{refusal};
+ghost use Rattle.echo_steps.specs.declared.draft.Draft.{Draft};
+ghost use Rattle.echo_steps.specs.declared.fault.PostFault.{PostFault};
+ghost use Rattle.echo_steps.specs.declared.outcome.Outcome.{Outcome};
+ghost use Rattle.echo_steps.specs.declared.stamp.Stamp.{Stamp};
+ghost use Rattle.echo_text.specs.Ids.{id_of};
+ghost use Rattle.echo_base.specs.Base.{Filed, HasSmallSender, IsBase, IsFile, LinkFile, has_area, key_of};
+ghost use Rattle.echo_steps.specs.Posting.{IsAllowed, IsFirstRefusal, has_id, post_refusal, posting};
+ghost use Rattle.echo_steps.specs.Tossing.{IsOutcome, IsToBeFiled, received, toss_outcome, tossing};
+ghost use Rattle.echo_steps.specs.Scanning.{copy_to, exported};
+ghost use Rattle.echo_steps.specs.Purging.{purged};
+
+/// The copy of a message that goes out is echomail whose text is read back, and it has the key of the
+/// message.
+pub fn copy_laws()
+    ensures echo { (file : LinkFile) (m : Filed) → IsFile file → IsEcho m.echo → IsEcho (exported file m.echo) }
+    ensures accepted { (file : LinkFile) (to : Address) (m : Filed) → IsFile file → IsEcho m.echo → refusal ((copy_to file to m).text) ≡ None }
+    ensures read_back { (file : LinkFile) (from to : Address) (m : Filed) → IsFile file → IsEcho m.echo →
+        received from (copy_to file to m) ≡ record { sender = Some from; date = m.date; to_name = m.to_name; from_name = m.from_name; subject = m.subject; echo = exported file m.echo } }
+    ensures keep_keys { (file : LinkFile) (from to : Address) (m : Filed) → IsFile file → IsEcho m.echo → key_of (received from (copy_to file to m)) ≡ key_of m }
+{}
+
+/// What a posting files is echomail, was sent by no other system, stands in an area of the link file,
+/// and has the id of the system and the serial, which no message of the base has.
+pub fn posting_laws()
+    ensures echo { (file : LinkFile) (base : List Filed) (tag : List ℕ) (draft : Draft) (serial : ℕ) (stamp : Stamp) (m : Filed) →
+        IsFile file → posting file base tag draft serial stamp ≡ Some m → IsEcho m.echo }
+    ensures own { (file : LinkFile) (base : List Filed) (tag : List ℕ) (draft : Draft) (serial : ℕ) (stamp : Stamp) (m : Filed) →
+        posting file base tag draft serial stamp ≡ Some m → (m.sender ≡ None) × (has_area file m.echo.tag ≡ true) }
+    ensures id { (file : LinkFile) (base : List Filed) (tag : List ℕ) (draft : Draft) (serial : ℕ) (stamp : Stamp) (m : Filed) →
+        IsFile file → posting file base tag draft serial stamp ≡ Some m → msgid_of m.echo.kept ≡ Some (id_of file.system serial) }
+    ensures new { (file : LinkFile) (base : List Filed) (tag : List ℕ) (draft : Draft) (serial : ℕ) (stamp : Stamp) (m : Filed) →
+        posting file base tag draft serial stamp ≡ Some m → list_any (has_id (id_of file.system serial)) base ≡ false }
+{}
+
+/// A posting is refused for a reason exactly where that is the first that applies, and is filed exactly
+/// where none does.
+pub fn posting_refusals()
+    ensures refused { (file : LinkFile) (base : List Filed) (tag : List ℕ) (draft : Draft) (serial : ℕ) (stamp : Stamp) (reason : PostFault) →
+        (post_refusal file base tag draft serial stamp ≡ Some reason) ↔ IsFirstRefusal file base tag draft serial stamp reason }
+    ensures filed { (file : LinkFile) (base : List Filed) (tag : List ℕ) (draft : Draft) (serial : ℕ) (stamp : Stamp) →
+        (post_refusal file base tag draft serial stamp ≡ None) ↔ IsAllowed file base tag draft serial stamp }
+{}
+
+/// What becomes of a tossed message is the first outcome that applies.
+pub fn toss_outcomes()
+    ensures { (file : LinkFile) (base : List Filed) (sender : Address) (packed : Message) (outcome : Outcome) →
+        (toss_outcome file base sender packed ≡ outcome) ↔ IsOutcome file base sender packed outcome }
+{}
+
+/// A message is filed by a toss exactly where its text is echomail, its area is in the link file, the
+/// sender is a link of the area, and no message of the base has its key.
+pub fn toss_law()
+    ensures { (file : LinkFile) (base : List Filed) (sender : Address) (packed : Message) →
+        (tossing file base sender packed ≡ Some (received sender packed)) ↔ IsToBeFiled file base sender packed }
+{}
+
+/// A base stays a base where a posting or a toss files a message, and where it is purged.
+pub fn base_laws()
+    ensures posted { (file : LinkFile) (base : List Filed) (cursor : ℕ) (tag : List ℕ) (draft : Draft) (serial : ℕ) (stamp : Stamp) (m : Filed) →
+        IsFile file → IsBase base cursor → posting file base tag draft serial stamp ≡ Some m → IsBase (base ++ m ∷ []) cursor }
+    ensures tossed { (most : ℕ) (file : LinkFile) (base : List Filed) (cursor : ℕ) (sender : Address) (packed : Message) (m : Filed) →
+        HasSmallSender (Some sender) → IsMessage most packed → IsBase base cursor → tossing file base sender packed ≡ Some m → IsBase (base ++ m ∷ []) cursor }
+    ensures purged { (base : List Filed) (cursor : ℕ) → IsBase base cursor → IsBase (purged base cursor) cursor }
+{}

@@ -1,8 +1,0 @@
-use Rattle.echo_toss.proofs.Keys.{stub_keeps_key, stub_of_stub}
-use Rattle.echo_toss.proofs.laws.stub_laws.Goals as goal
-
-pub returns-clause-keep_keys : goal.returns-clause-keep_keys
-returns-clause-keep_keys c = stub_keeps_key
-
-pub returns-clause-stay : goal.returns-clause-stay
-returns-clause-stay c = stub_of_stub
