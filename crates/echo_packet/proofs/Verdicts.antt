@@ -1,12 +1,12 @@
 -- What stands where a message or the terminator begins, read from left to right.
-use Rattle.std.proofs.Common.{◌≡◌, ◌≢◌, ℕ, replicate, ◌+◌, ◌-◌, ◌*◌, ◌/◌, ◌%◌, ◌<◌, ◌≤◌, ◌==◌, ◌⊎◌, inl, inr, List, [], ◌∷◌, ◌++◌, length, get_or, take, drop, refl, sym, ap, ◌∙◌, subst, arith, cond, append_assoc, length-append}
+use Rattle.std.proofs.Common.{◌≡◌, ◌≢◌, ℕ, replicate, ◌+◌, ◌-◌, ◌<◌, ◌≤◌, ◌==◌, ◌⊎◌, inl, inr, List, [], ◌++◌, length, take, drop, refl, sym, ap, ◌∙◌, subst, arith, cond, append_assoc, length-append}
 use Rattle.std.proofs.lemmas.List.{take-append-drop, length-take-le, get_or-take}
 use Rattle.std.proofs.lemmas.Bool.{eq-eqb, ne_eqb, cond-true, cond-false}
 use Rattle.echo_packet.specs.declared.limits.Limits.{Limits}
 use Rattle.echo_packet.specs.declared.fault.PacketFault.{PacketFault}
 use Rattle.echo_packet.specs.declared.fault.PacketFault.TheVariants as fault
 use Rattle.echo_packet.specs.Header.{word, number_at}
-use Rattle.echo_packet.specs.Message.{Message, Part, Number, Numbers, DateTime, ToName, FromName, Subject, Text, IsMessage, before, ended, numbers, message_bytes}
+use Rattle.echo_packet.specs.Message.{Message, Part, Number, Numbers, DateTime, ToName, FromName, Subject, Text, IsMessage, before, ended, numbers, message_bytes, max_name, max_subject}
 use Rattle.echo_packet.specs.Fault.{IsCut, IsLongField, IsLongText, IsOtherNumber, IsOneTooMany, place_of}
 use Rattle.echo_packet.specs.Next.{AtPart, NextFault}
 use Rattle.echo_packet.specs.Run.{IsOfCall}
@@ -43,15 +43,15 @@ from_text text m r = then_piece (string text r) (Wrong fault.Truncated r) (Wrong
 
 from_subject : ℕ → Message → List ℕ → Verdict
 from_subject text m r =
-    then_piece (string 71 r) (Wrong fault.Truncated r) (Wrong fault.FieldTooLong r) (λ s rest. from_text text (record m { subject = s }) rest)
+    then_piece (string max_subject r) (Wrong fault.Truncated r) (Wrong fault.FieldTooLong r) (λ s rest. from_text text (record m { subject = s }) rest)
 
 from_from : ℕ → Message → List ℕ → Verdict
 from_from text m r =
-    then_piece (string 35 r) (Wrong fault.Truncated r) (Wrong fault.FieldTooLong r) (λ s rest. from_subject text (record m { from_name = s }) rest)
+    then_piece (string max_name r) (Wrong fault.Truncated r) (Wrong fault.FieldTooLong r) (λ s rest. from_subject text (record m { from_name = s }) rest)
 
 from_to : ℕ → Message → List ℕ → Verdict
 from_to text m r =
-    then_piece (string 35 r) (Wrong fault.Truncated r) (Wrong fault.FieldTooLong r) (λ s rest. from_from text (record m { to_name = s }) rest)
+    then_piece (string max_name r) (Wrong fault.Truncated r) (Wrong fault.FieldTooLong r) (λ s rest. from_from text (record m { to_name = s }) rest)
 
 from_date : ℕ → Message → List ℕ → Verdict
 from_date text m r =
@@ -119,7 +119,7 @@ unfolding from_to part_verdict
 reach_from limits given m r fits more =
     let s = m.to_name in
     ap (verdict limits given) (append_assoc (before ToName m) (ended s) r) ∙ reach_to limits given m (ended s ++ r) fits more
-    ∙ then_got (string 35 (ended s ++ r)) _ _ _ s r (string-whole 35 s r fits.to_name.no_zero fits.to_name.room)
+    ∙ then_got (string max_name (ended s ++ r)) _ _ _ s r (string-whole max_name s r fits.to_name.no_zero fits.to_name.room)
 
 reach_subject : (limits : Limits) (given : ℕ) (m : Message) (r : List ℕ) → IsMessage limits.text m → given < limits.messages
     → verdict limits given (before Subject m ++ r) ≡ part_verdict limits given m Subject r
@@ -127,7 +127,7 @@ unfolding from_from part_verdict
 reach_subject limits given m r fits more =
     let s = m.from_name in
     ap (verdict limits given) (append_assoc (before FromName m) (ended s) r) ∙ reach_from limits given m (ended s ++ r) fits more
-    ∙ then_got (string 35 (ended s ++ r)) _ _ _ s r (string-whole 35 s r fits.from_name.no_zero fits.from_name.room)
+    ∙ then_got (string max_name (ended s ++ r)) _ _ _ s r (string-whole max_name s r fits.from_name.no_zero fits.from_name.room)
 
 reach_text : (limits : Limits) (given : ℕ) (m : Message) (r : List ℕ) → IsMessage limits.text m → given < limits.messages
     → verdict limits given (before Text m ++ r) ≡ part_verdict limits given m Text r
@@ -135,7 +135,7 @@ unfolding from_subject part_verdict
 reach_text limits given m r fits more =
     let s = m.subject in
     ap (verdict limits given) (append_assoc (before Subject m) (ended s) r) ∙ reach_subject limits given m (ended s ++ r) fits more
-    ∙ then_got (string 71 (ended s ++ r)) _ _ _ s r (string-whole 71 s r fits.subject.no_zero fits.subject.room)
+    ∙ then_got (string max_subject (ended s ++ r)) _ _ _ s r (string-whole max_subject s r fits.subject.no_zero fits.subject.room)
 
 pub verdict-whole : (limits : Limits) (given : ℕ) (m : Message) (r : List ℕ) → IsMessage limits.text m → given < limits.messages
     → verdict limits given (message_bytes m ++ r) ≡ Whole m r
@@ -166,9 +166,9 @@ unfolding part_verdict verdict from_numbers from_date from_to from_from from_sub
 cut_is limits given m Number r h = then_cut (fixed 2 r) _ _ _ (fixed-cut 2 r h)
 cut_is limits given m Numbers r h = then_cut (fixed 12 r) _ _ _ (fixed-cut 12 r h)
 cut_is limits given m DateTime r h = then_cut (fixed 20 r) _ _ _ (fixed-cut 20 r h)
-cut_is limits given m ToName r h = then_cut (string 35 r) _ _ _ (string-cut 35 r h.0 h.1)
-cut_is limits given m FromName r h = then_cut (string 35 r) _ _ _ (string-cut 35 r h.0 h.1)
-cut_is limits given m Subject r h = then_cut (string 71 r) _ _ _ (string-cut 71 r h.0 h.1)
+cut_is limits given m ToName r h = then_cut (string max_name r) _ _ _ (string-cut max_name r h.0 h.1)
+cut_is limits given m FromName r h = then_cut (string max_name r) _ _ _ (string-cut max_name r h.0 h.1)
+cut_is limits given m Subject r h = then_cut (string max_subject r) _ _ _ (string-cut max_subject r h.0 h.1)
 cut_is limits given m Text r h = then_cut (string limits.text r) _ _ _ (string-cut limits.text r h.0 h.1)
 
 long_is : (limits : Limits) (given : ℕ) (m : Message) (field : Part) (r : List ℕ) → IsLongField field r → part_verdict limits given m field r ≡ Wrong fault.FieldTooLong r
@@ -176,9 +176,9 @@ unfolding part_verdict from_to from_from from_subject
 long_is limits given m Number r h = absurd h
 long_is limits given m Numbers r h = absurd h
 long_is limits given m DateTime r h = absurd h
-long_is limits given m ToName r h = then_long (string 35 r) _ _ _ (string-long 35 r h)
-long_is limits given m FromName r h = then_long (string 35 r) _ _ _ (string-long 35 r h)
-long_is limits given m Subject r h = then_long (string 71 r) _ _ _ (string-long 71 r h)
+long_is limits given m ToName r h = then_long (string max_name r) _ _ _ (string-long max_name r h)
+long_is limits given m FromName r h = then_long (string max_name r) _ _ _ (string-long max_name r h)
+long_is limits given m Subject r h = then_long (string max_subject r) _ _ _ (string-long max_subject r h)
 long_is limits given m Text r h = absurd h
 
 text_is : (limits : Limits) (given : ℕ) (m : Message) (field : Part) (r : List ℕ) → IsLongText limits field r → part_verdict limits given m field r ≡ Wrong fault.TextTooLong r

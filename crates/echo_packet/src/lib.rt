@@ -25,10 +25,10 @@ mod writer;
 pub use fault::{Field, PacketFault};
 pub use header::Header;
 pub use laws::{header_laws, one_answer, whole_runs, written_packet_reads_back};
-pub use limits::Limits;
+pub use limits::{Limits, MAX_NAME, MAX_SUBJECT};
 pub use packed::Packed;
-pub use reader::PacketReader;
-pub use reading::{read_header, read_packet};
+pub use reader::{PacketReader, read_header};
+pub use reading::read_packet;
 pub use writer::PacketWriter;
 
 #[cfg(test)]

@@ -1,4 +1,4 @@
-use Rattle.echo_packet.specs.Message.{ToName, FromName, Subject, Text, before}
+use Rattle.echo_packet.specs.Message.{ToName, FromName, Subject, before}
 use Rattle.echo_packet.proofs.Sending.{AllSent-as, PartSent-as, Sends-at_err, string_sent, string_part, from_fixed, from_to_name, from_from_name, from_subject, text_sent}
 use Rattle.echo_packet.proofs.writer.send_message.Goals as goal
 
