@@ -6,7 +6,7 @@ use Rattle.echo_packet.specs.declared.fault.PacketFault.TheVariants as fault
 use Rattle.echo_packet.specs.Header.{AreBytes, number_at, header_bytes, header_of}
 use Rattle.echo_packet.specs.Reader.{FrontFault}
 use Rattle.echo_packet.proofs.Headers.{header_bytes-header_of}
-use Rattle.echo_packet.proofs.Fields.{Consumes-front}
+use Rattle.echo_packet.proofs.FieldsSoFar.{Consumes-front}
 
 -- the packet type is another
 pub front-other : (a b : Option (List ℕ)) (t : List ℕ) → length t ≡ 58 → Consumes a b t → number_at 18 t ≢ 2

@@ -15,7 +15,7 @@ use Rattle.echo_packet.specs.Answer.{Answer, Answers, Describes}
 use Rattle.echo_packet.specs.Next.{AtPart, NextFault}
 use Rattle.echo_packet.specs.Run.{IsOfCall}
 use Rattle.echo_packet.proofs.Headers.{header_of-header_bytes, length-header_bytes, number_at-header_bytes}
-use Rattle.echo_packet.proofs.Runs.{length-packet_bytes}
+use Rattle.echo_packet.proofs.MessageByMessage.{length-packet_bytes}
 use Rattle.echo_packet.proofs.Slices.{IsJudged}
 use Rattle.echo_packet.proofs.Verdicts.{Verdict, Whole, End, Wrong, verdict, verdict-whole, verdict-end, Fails, fails}
 

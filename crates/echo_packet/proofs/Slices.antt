@@ -15,7 +15,7 @@ use Rattle.echo_packet.specs.Answer.{Answer, Describes}
 use Rattle.echo_packet.specs.Next.{CountsFailures, NextFault}
 use Rattle.echo_packet.specs.Reader.{FrontFault}
 use Rattle.echo_packet.specs.Run.{SoFar, IsOfCall}
-use Rattle.echo_packet.proofs.Runs.{run-opens, run-gives, run-ends, run-fails, length-packet_bytes}
+use Rattle.echo_packet.proofs.MessageByMessage.{run-opens, run-gives, run-ends, run-fails, length-packet_bytes}
 
 -- the messages that were given, while messages or the terminator are still to come
 pub record HasGiven (limits : Limits) (bs : List ℕ) (ms : List Message) (rest : List ℕ) (header : Header) (own : Limits) (given at : ℕ) (next : Stage) : Type 0 where

@@ -35,7 +35,7 @@ breaks-more most room a b c s broken.TooLong first none fits came =
 breaks-more most room a b c s broken.Memory first none fits came = tt
 
 -- the last bytes of a string came behind what came before
-pub last-fits : (most room : ℕ) (had has : List ℕ) (b c : Option (List ℕ)) (ended : Bool) → ended ≡ true → StepsString room had has b c (Ok ended)
+pub last-fits : (most room : ℕ) (had has : List ℕ) (b c : Option (List ℕ)) (last : Bool) → last ≡ true → StepsString room had has b c (Ok last)
     → HasNoZero had → length had + room ≡ most → AreBytes has → IsString most has
 last-fits most room had has b c true is step none fits bytes =
     let t = step.0 in record {

@@ -9,7 +9,7 @@ use Rattle.echo_packet.specs.declared.field.Piece.TheVariants as piece
 use Rattle.echo_packet.specs.declared.fault.PacketFault.{PacketFault}
 use Rattle.echo_packet.specs.declared.fault.PacketFault.TheVariants as fault
 use Rattle.echo_packet.specs.Header.{word}
-use Rattle.echo_packet.specs.Message.{Message, HasNoZero, IsMessage, ended, message_bytes}
+use Rattle.echo_packet.specs.Message.{Message, HasNoZero, IsMessage, zero_ended, message_bytes}
 use Rattle.echo_packet.specs.Fault.{IsTooLong, place_of}
 
 -- these bytes came from the source
@@ -46,7 +46,7 @@ abbrev pub StepsString : ℕ → List ℕ → List ℕ → Option (List ℕ) →
 StepsString room had has old new (Ok false) =
     (t : List ℕ) × (has ≡ had ++ t) × Consumes old new t × HasNoZero t × (0 < length t) × (length t ≤ room)
 StepsString room had has old new (Ok true) =
-    (t : List ℕ) × (has ≡ had ++ t) × Consumes old new (ended t) × HasNoZero t × (length t ≤ room)
+    (t : List ℕ) × (has ≡ had ++ t) × Consumes old new (zero_ended t) × HasNoZero t × (length t ≤ room)
 StepsString room had has old new (Err b) = BreaksString room old new b
 
 -- the fault of a field that begins at the place, by what is so of the bytes from there on

@@ -36,8 +36,8 @@ pub record IsString (most : ℕ) (s : List ℕ) : Type 0 where
   pub room : length s ≤ most
 
 -- a string and the 00 that ends it
-abbrev pub ended : List ℕ → List ℕ
-ended s = s ++ 0 ∷ []
+abbrev pub zero_ended : List ℕ → List ℕ
+zero_ended s = s ++ 0 ∷ []
 
 -- the fields of a packed message, in order
 pub data Part : Type 0 where
@@ -60,13 +60,13 @@ before Number m = []
 before Numbers m = word 2
 before DateTime m = word 2 ++ numbers m
 before ToName m = (word 2 ++ numbers m) ++ m.date
-before FromName m = ((word 2 ++ numbers m) ++ m.date) ++ ended m.to_name
-before Subject m = (((word 2 ++ numbers m) ++ m.date) ++ ended m.to_name) ++ ended m.from_name
-before Text m = ((((word 2 ++ numbers m) ++ m.date) ++ ended m.to_name) ++ ended m.from_name) ++ ended m.subject
+before FromName m = ((word 2 ++ numbers m) ++ m.date) ++ zero_ended m.to_name
+before Subject m = (((word 2 ++ numbers m) ++ m.date) ++ zero_ended m.to_name) ++ zero_ended m.from_name
+before Text m = ((((word 2 ++ numbers m) ++ m.date) ++ zero_ended m.to_name) ++ zero_ended m.from_name) ++ zero_ended m.subject
 
 -- the bytes of a message: the number 2 and its fields in order, each string with its 00
 abbrev pub message_bytes : Message → List ℕ
-message_bytes m = before Text m ++ ended m.text
+message_bytes m = before Text m ++ zero_ended m.text
 
 -- the bytes of the messages, one after the other
 abbrev pub messages_bytes : List Message → List ℕ

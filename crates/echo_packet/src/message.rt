@@ -2,7 +2,7 @@
 ghost use Rattle.std.specs.Prelude.{◌≡◌, ℕ, ◌+◌, ◌<◌, ◌≤◌, List, [], length, IfOk, IfErr, IfSome, OnOk};
 ghost use Rattle.std.specs.Io.KnownBytes.{Consumes};
 ghost use Rattle.echo_packet.specs.Header.{AreBytes};
-ghost use Rattle.echo_packet.specs.Message.{IsString, ended};
+ghost use Rattle.echo_packet.specs.Message.{IsString, zero_ended};
 ghost use Rattle.echo_packet.specs.Fault.{place_of};
 ghost use Rattle.echo_packet.specs.Field.{FailsInField, FixedFault, IsOpen, IsShort, NameFault, TakesMessage, TextFault, name_fault_at, text_fault_at};
 ghost use Rattle.echo_packet.specs.Next.{CountsFailures, FailsBehind, FailsInMessage, IsWithin, NextFault, TakesNext, next_bytes};
@@ -37,7 +37,7 @@ fn text_fault(broken: Broken, at: u64) -> PacketFault
 
 // Past a string and its 00. The greatest place stays.
 fn past_string(place: u64, string: &[u8]) -> u64
-    ensures { result ≡ place_of (place + length (ended string.now)) }
+    ensures { result ≡ place_of (place + length (zero_ended string.now)) }
 {
     place.saturating_add(string.len() as u64).saturating_add(1)
 }
@@ -70,8 +70,8 @@ fn name_at<R: Source>(
     place: &mut u64,
 ) -> Result<Vec<u8>, PacketFault>
     ensures found { IfOk result (λ s. IsString most s.items) }
-    ensures taken { IfOk result (λ s. Consumes (R.remaining reader.old) (R.remaining reader.new) (ended s.items)) }
-    ensures place { IfOk result (λ s. place.new ≡ place_of (place.old + length (ended s.items))) }
+    ensures taken { IfOk result (λ s. Consumes (R.remaining reader.old) (R.remaining reader.new) (zero_ended s.items)) }
+    ensures place { IfOk result (λ s. place.new ≡ place_of (place.old + length (zero_ended s.items))) }
     ensures fault { IfSome (R.remaining reader.old) (λ bs. IfErr result (NameFault most place.old bs)) }
     ensures inside { IfErr result (FailsInField (IsOpen most) place.old (R.remaining reader.old) (R.remaining reader.new)) }
     ensures device { CountsFailures result (R.failures reader.old) (R.failures reader.new) }
@@ -93,8 +93,8 @@ fn text_at<R: Source>(
     place: &mut u64,
 ) -> Result<Vec<u8>, PacketFault>
     ensures found { IfOk result (λ s. IsString most s.items) }
-    ensures taken { IfOk result (λ s. Consumes (R.remaining reader.old) (R.remaining reader.new) (ended s.items)) }
-    ensures place { IfOk result (λ s. place.new ≡ place_of (place.old + length (ended s.items))) }
+    ensures taken { IfOk result (λ s. Consumes (R.remaining reader.old) (R.remaining reader.new) (zero_ended s.items)) }
+    ensures place { IfOk result (λ s. place.new ≡ place_of (place.old + length (zero_ended s.items))) }
     ensures fault { IfSome (R.remaining reader.old) (λ bs. IfErr result (TextFault most place.old bs)) }
     ensures inside { IfErr result (FailsInField (IsOpen most) place.old (R.remaining reader.old) (R.remaining reader.new)) }
     ensures device { CountsFailures result (R.failures reader.old) (R.failures reader.new) }

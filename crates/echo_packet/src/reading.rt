@@ -1,5 +1,5 @@
 ghost use Rattle.std.specs.Prelude.{◌≡◌, ◌⊎◌, Err};
-ghost use Rattle.echo_packet.specs.Answer.{Answer, Answers, Describes, given};
+ghost use Rattle.echo_packet.specs.Answer.{Answer, Answers, Describes, answered};
 ghost use Rattle.echo_packet.specs.declared.fault.PacketFault.TheVariants.{Memory};
 
 use crate::fault::PacketFault;
@@ -17,9 +17,9 @@ pub fn read_packet(
     limits: Limits,
 ) -> Result<(Header, Vec<Packed>, usize), PacketFault>
     // What it answers is so of the bytes.
-    ensures judged { (given result ≡ Err Memory) ⊎ Describes limits bytes.now (given result) }
+    ensures judged { (answered result ≡ Err Memory) ⊎ Describes limits bytes.now (answered result) }
     // What is so of the bytes, it answers.
-    ensures only { (other : Answer) → Describes limits bytes.now other → Answers (given result) other }
+    ensures only { (other : Answer) → Describes limits bytes.now other → Answers (answered result) other }
 {
     read_messages(alloc, bytes, limits)
 }
@@ -29,7 +29,7 @@ fn read_messages(
     bytes: &[u8],
     limits: Limits,
 ) -> Result<(Header, Vec<Packed>, usize), PacketFault>
-    ensures { (given result ≡ Err Memory) ⊎ Describes limits bytes.now (given result) }
+    ensures { (answered result ≡ Err Memory) ⊎ Describes limits bytes.now (answered result) }
 {
     let mut reader = PacketReader::open(alloc, bytes, limits)?;
     let mut messages = Vec::new(alloc);

@@ -4,7 +4,7 @@ use Rattle.echo_packet.specs.Message.{Numbers, DateTime, ToName, FromName, Subje
 use Rattle.echo_packet.specs.Fault.{IsTooLong}
 use Rattle.echo_packet.specs.Field.{IsShort, IsOpen, Never, TakesMessage}
 use Rattle.echo_packet.specs.Next.{FailsBehind}
-use Rattle.echo_packet.proofs.Fields.{has-none, has-numbers, has-date, has-to_name, has-from_name, has-subject, has-text, field-fails, made_of, at_exit, tells-numbers, tells-date, tells-to_name, tells-from_name, tells-subject, tells-text}
+use Rattle.echo_packet.proofs.FieldsSoFar.{has-none, has-numbers, has-date, has-to_name, has-from_name, has-subject, has-text, field-fails, made_of, at_exit, tells-numbers, tells-date, tells-to_name, tells-from_name, tells-subject, tells-text}
 use Rattle.echo_packet.proofs.message.read_fields.Goals as goal
 
 pub returns-in_err-fixed_at-clause-fails : goal.returns-in_err-fixed_at-clause-fails

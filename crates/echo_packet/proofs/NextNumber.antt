@@ -12,7 +12,7 @@ use Rattle.echo_packet.specs.Fault.{IsCut, IsOtherNumber, IsOneTooMany}
 use Rattle.echo_packet.specs.Field.{FailsInField, FixedFault, IsShort, TakesMessage}
 use Rattle.echo_packet.specs.Next.{AtPart, FailsInMessage, NextFault}
 use Rattle.echo_packet.proofs.Headers.{word-number}
-use Rattle.echo_packet.proofs.Fields.{numbered, numbered-fits, Consumes-known, Consumes-front}
+use Rattle.echo_packet.proofs.FieldsSoFar.{numbered, numbered-fits, Consumes-known, Consumes-front}
 
 -- the number itself is at fault
 at_number : (limits : Limits) (given start at : ℕ) (bs : List ℕ) (Wrong : Part → List ℕ → Type 0) → start < 2 ^ 64 → at ≡ start → Wrong Number bs

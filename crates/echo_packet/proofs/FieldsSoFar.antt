@@ -9,7 +9,7 @@ use Rattle.echo_packet.specs.declared.limits.Limits.{Limits}
 use Rattle.echo_packet.specs.declared.fault.PacketFault.{PacketFault}
 use Rattle.echo_packet.specs.declared.fault.PacketFault.TheVariants as fault
 use Rattle.echo_packet.specs.Header.{AreBytes, word, number_at}
-use Rattle.echo_packet.specs.Message.{Message, Part, Number, Numbers, DateTime, ToName, FromName, Subject, Text, IsString, IsMessage, before, ended, numbers, message_bytes, max_name, max_subject}
+use Rattle.echo_packet.specs.Message.{Message, Part, Number, Numbers, DateTime, ToName, FromName, Subject, Text, IsString, IsMessage, before, zero_ended, numbers, message_bytes, max_name, max_subject}
 use Rattle.echo_packet.specs.Fault.{IsCut, IsLongField, IsLongText, IsTooLong, place_of}
 use Rattle.echo_packet.specs.Field.{FieldFault, IsShort, IsOpen, Never, FailsInField, TakesMessage}
 use Rattle.echo_packet.specs.Next.{AtPart, FailsBehind, FailsInMessage, NextFault}
@@ -127,50 +127,50 @@ has-date most start p q a b c m d h bytes size took there = record {
 }
 
 pub has-to_name : (most start p q : ℕ) (a b c : Option (List ℕ)) (m : Message) (s : List ℕ) → HasFields most start a b ToName m p
-    → IsString max_name s → Consumes b c (ended s) → q ≡ place_of (p + length (ended s)) → HasFields most start a c FromName (record m { to_name = s }) q
+    → IsString max_name s → Consumes b c (zero_ended s) → q ≡ place_of (p + length (zero_ended s)) → HasFields most start a c FromName (record m { to_name = s }) q
 unfolding numbers
 has-to_name most start p q a b c m s h fits took there = record {
-  came = h.came ++ ended s;
-  is = ap (λ t. t ++ ended s) h.is;
+  came = h.came ++ zero_ended s;
+  is = ap (λ t. t ++ zero_ended s) h.is;
   fits = let f = h.fits in with_fields most m m.date s m.from_name m.subject m.text f f.date_len f.date fits f.from_name f.subject f.text;
-  took = Consumes-trans a b c h.came (ended s) h.took took;
-  place = further (start + 2) p q h.came (ended s) h.place there;
+  took = Consumes-trans a b c h.came (zero_ended s) h.took took;
+  place = further (start + 2) p q h.came (zero_ended s) h.place there;
 }
 
 pub has-from_name : (most start p q : ℕ) (a b c : Option (List ℕ)) (m : Message) (s : List ℕ) → HasFields most start a b FromName m p
-    → IsString max_name s → Consumes b c (ended s) → q ≡ place_of (p + length (ended s)) → HasFields most start a c Subject (record m { from_name = s }) q
+    → IsString max_name s → Consumes b c (zero_ended s) → q ≡ place_of (p + length (zero_ended s)) → HasFields most start a c Subject (record m { from_name = s }) q
 unfolding numbers
 has-from_name most start p q a b c m s h fits took there = record {
-  came = h.came ++ ended s;
-  is = ap (λ t. t ++ ended s) h.is;
+  came = h.came ++ zero_ended s;
+  is = ap (λ t. t ++ zero_ended s) h.is;
   fits = let f = h.fits in with_fields most m m.date m.to_name s m.subject m.text f f.date_len f.date f.to_name fits f.subject f.text;
-  took = Consumes-trans a b c h.came (ended s) h.took took;
-  place = further (start + 2) p q h.came (ended s) h.place there;
+  took = Consumes-trans a b c h.came (zero_ended s) h.took took;
+  place = further (start + 2) p q h.came (zero_ended s) h.place there;
 }
 
 pub has-subject : (most start p q : ℕ) (a b c : Option (List ℕ)) (m : Message) (s : List ℕ) → HasFields most start a b Subject m p
-    → IsString max_subject s → Consumes b c (ended s) → q ≡ place_of (p + length (ended s)) → HasFields most start a c Text (record m { subject = s }) q
+    → IsString max_subject s → Consumes b c (zero_ended s) → q ≡ place_of (p + length (zero_ended s)) → HasFields most start a c Text (record m { subject = s }) q
 unfolding numbers
 has-subject most start p q a b c m s h fits took there = record {
-  came = h.came ++ ended s;
-  is = ap (λ t. t ++ ended s) h.is;
+  came = h.came ++ zero_ended s;
+  is = ap (λ t. t ++ zero_ended s) h.is;
   fits = let f = h.fits in with_fields most m m.date m.to_name m.from_name s m.text f f.date_len f.date f.to_name f.from_name fits f.text;
-  took = Consumes-trans a b c h.came (ended s) h.took took;
-  place = further (start + 2) p q h.came (ended s) h.place there;
+  took = Consumes-trans a b c h.came (zero_ended s) h.took took;
+  place = further (start + 2) p q h.came (zero_ended s) h.place there;
 }
 
 pub has-text : (most start p q : ℕ) (a b c : Option (List ℕ)) (m : Message) (s : List ℕ) → HasFields most start a b Text m p
-    → IsString most s → Consumes b c (ended s) → q ≡ place_of (p + length (ended s)) → TakesMessage most start a c (record m { text = s }) q
+    → IsString most s → Consumes b c (zero_ended s) → q ≡ place_of (p + length (zero_ended s)) → TakesMessage most start a c (record m { text = s }) q
 unfolding numbers
 has-text most start p q a b c m s h fits took there =
-    let bytes = h.came ++ ended s in
-    let whole : message_bytes (record m { text = s }) ≡ word 2 ++ bytes = ap (λ t. t ++ ended s) h.is in
-    let past : q ≡ place_of (start + 2 + length bytes) = further (start + 2) p q h.came (ended s) h.place there in
+    let bytes = h.came ++ zero_ended s in
+    let whole : message_bytes (record m { text = s }) ≡ word 2 ++ bytes = ap (λ t. t ++ zero_ended s) h.is in
+    let past : q ≡ place_of (start + 2 + length bytes) = further (start + 2) p q h.came (zero_ended s) h.place there in
     record {
       came = bytes;
       is = whole;
       fits = let f = h.fits in with_fields most m m.date m.to_name m.from_name m.subject s f f.date_len f.date f.to_name f.from_name f.subject fits;
-      took = Consumes-trans a b c h.came (ended s) h.took took;
+      took = Consumes-trans a b c h.came (zero_ended s) h.took took;
       place = omega (arith, ap length whole);
     }
 

@@ -3,32 +3,32 @@ use Rattle.std.proofs.Common.{◌≡◌, ◌≢◌, ℕ, zero, suc, ◌<◌, ◌
 use Rattle.std.proofs.lemmas.List.{length-append, take_at, drop_at}
 use Rattle.std.proofs.lemmas.Bool.{lt-ltb, le-ltb, ne_eqb, cond-true, cond-false}
 use Rattle.std.proofs.lemmas.List.Elements.{All-head, All-tail}
-use Rattle.echo_packet.specs.Message.{HasNoZero, ended}
+use Rattle.echo_packet.specs.Message.{HasNoZero, zero_ended}
 use Rattle.echo_packet.specs.Fault.{IsTooLong}
 
 -- a field and what follows it, or why there is none
-pub data Piece : Type 0 where
-  Got : List ℕ → List ℕ → Piece
-  Cut : Piece
-  Long : Piece
+pub data FieldRead : Type 0 where
+  Got : List ℕ → List ℕ → FieldRead
+  Cut : FieldRead
+  Long : FieldRead
 
-abbrev pub push : ℕ → Piece → Piece
+abbrev pub push : ℕ → FieldRead → FieldRead
 push x (Got s r) = Got (x ∷ s) r
 push x Cut = Cut
 push x Long = Long
 
 -- a string of at most so many bytes
-pub string : ℕ → List ℕ → Piece
+pub string : ℕ → List ℕ → FieldRead
 string zero [] = Cut
 string zero (x ∷ xs) = cond (x == 0) (Got [] xs) Long
 string (suc k) [] = Cut
 string (suc k) (x ∷ xs) = cond (x == 0) (Got [] xs) (push x (string k xs))
 
 -- a field of a fixed size
-pub fixed : ℕ → List ℕ → Piece
+pub fixed : ℕ → List ℕ → FieldRead
 fixed n r = cond (nat_lt (length r) n) Cut (Got (take n r) (drop n r))
 
-pub string-whole : (most : ℕ) (s r : List ℕ) → HasNoZero s → length s ≤ most → string most (ended s ++ r) ≡ Got s r
+pub string-whole : (most : ℕ) (s r : List ℕ) → HasNoZero s → length s ≤ most → string most (zero_ended s ++ r) ≡ Got s r
 unfolding string
 string-whole zero [] r h fits = refl
 string-whole (suc k) [] r h fits = refl
