@@ -1,13 +1,14 @@
 -- Bytes are a packet or have a fault.
-use Rattle.std.proofs.Common.{◌≡◌, ◌≢◌, ℕ, zero, suc, ◌+◌, ◌^◌, ◌<◌, ◌≤◌, ◌⊎◌, min, List, [], ◌∷◌, ◌++◌, Some, Result, Ok, Err, length, get_or, take, drop, refl, sym, ap, ◌∙◌, subst, inl, inr, arith, append_assoc, length-append}
-use Rattle.std.proofs.lemmas.List.{take_at, drop_at, length-take, length-drop, length-take-le, take-append-drop, take-append-le}
+use Rattle.std.proofs.Common.{◌≡◌, ◌≢◌, ℕ, zero, suc, ◌+◌, ◌^◌, ◌<◌, ◌≤◌, ◌⊎◌, List, [], ◌∷◌, ◌++◌, Some, Ok, Err, length, take, drop, refl, sym, ap, ◌∙◌, subst, inl, inr, arith, append_assoc, length-append}
+use Rattle.std.proofs.lemmas.List.{take_at, drop_at, length-take-le, take-append-drop, take-append-le}
 use Rattle.std.proofs.lemmas.Bool.{cases_lt, cases_eq}
+use Rattle.std.proofs.lemmas.List.Elements.{All-cons, All-nil, All-take}
 use Rattle.echo_packet.specs.declared.header.Header.{Header}
 use Rattle.echo_packet.specs.declared.limits.Limits.{Limits}
 use Rattle.echo_packet.specs.declared.fault.PacketFault.{PacketFault}
 use Rattle.echo_packet.specs.declared.fault.PacketFault.TheVariants as fault
-use Rattle.echo_packet.specs.Header.{AreBytes, IsHeader, word, number_at, header_bytes, header_of}
-use Rattle.echo_packet.specs.Message.{Message, Part, Numbers, DateTime, ToName, FromName, Subject, Text, HasNoZero, IsString, IsMessage, ended, message_bytes}
+use Rattle.echo_packet.specs.Header.{AreBytes, word, number_at, header_bytes, header_of}
+use Rattle.echo_packet.specs.Message.{Message, Numbers, DateTime, ToName, FromName, Subject, Text, HasNoZero, IsString, IsMessage, zero_ended, message_bytes, max_name, max_subject}
 use Rattle.echo_packet.specs.Packet.{packet_bytes}
 use Rattle.echo_packet.specs.Fault.{IsTooLong, place_of}
 use Rattle.echo_packet.specs.Answer.{Answer, Describes}
@@ -15,29 +16,24 @@ use Rattle.echo_packet.specs.Field.{IsShort, IsOpen, Never, TakesMessage}
 use Rattle.echo_packet.specs.Next.{NextFault}
 use Rattle.echo_packet.specs.Run.{SoFar, IsOfCall}
 use Rattle.echo_packet.proofs.Headers.{AreBytes-take, AreBytes-drop, IsHeader-header_of, header_bytes-header_of}
-use Rattle.echo_packet.proofs.Strings.{HasNoZero-take}
-use Rattle.echo_packet.proofs.Fields.{HasFields, has-none, has-numbers, has-date, has-to_name, has-from_name, has-subject, has-text, next-field, tells-numbers, tells-date, tells-to_name, tells-from_name, tells-subject, tells-text}
-use Rattle.echo_packet.proofs.Numbers.{number-cut, number-other, number-many, number-then, number-bytes, takes-whole}
-use Rattle.echo_packet.proofs.Runs.{run-opens, run-gives, run-ends, run-fails}
-
-cons_no_zero : (x : ℕ) (s : List ℕ) → x ≢ 0 → HasNoZero s → HasNoZero (x ∷ s)
-cons_no_zero x s not h zero lt = not
-cons_no_zero x s not h (suc i) lt = h i (omega arith)
+use Rattle.echo_packet.proofs.FieldsSoFar.{HasFields, has-none, has-numbers, has-date, has-to_name, has-from_name, has-subject, has-text, next-field, tells-numbers, tells-date, tells-to_name, tells-from_name, tells-subject, tells-text}
+use Rattle.echo_packet.proofs.NextNumber.{number-cut, number-other, number-many, number-then, number-bytes, takes-whole}
+use Rattle.echo_packet.proofs.MessageByMessage.{run-opens, run-gives, run-ends, run-fails}
 
 -- bytes up to the first 00, and what follows it
 record Split (r : List ℕ) : Type 0 where
   pub string : List ℕ
   pub rest : List ℕ
-  pub is : r ≡ ended string ++ rest
+  pub is : r ≡ zero_ended string ++ rest
   pub none : HasNoZero string
 
 first_zero : (r : List ℕ) → Split r ⊎ HasNoZero r
-first_zero [] = inr (λ i lt. absurd (omega arith))
+first_zero [] = inr (All-nil (λ b. b ≢ 0))
 first_zero (x ∷ xs) = elim (cases_eq x 0) [
-  | inl e ↦ inl (record { string = []; rest = xs; is = ap (λ y. y ∷ xs) e; none = λ i lt. absurd (omega arith) })
+  | inl e ↦ inl (record { string = []; rest = xs; is = ap (λ y. y ∷ xs) e; none = All-nil (λ b. b ≢ 0) })
   | inr not ↦ elim (first_zero xs) [
-    | inl f ↦ inl (record { string = x ∷ f.string; rest = f.rest; is = ap (λ t. x ∷ t) f.is; none = cons_no_zero x f.string not f.none })
-    | inr all ↦ inr (cons_no_zero x xs not all)
+    | inl f ↦ inl (record { string = x ∷ f.string; rest = f.rest; is = ap (λ t. x ∷ t) f.is; none = All-cons (λ b. b ≢ 0) x f.string not f.none })
+    | inr all ↦ inr (All-cons (λ b. b ≢ 0) x xs not all)
   ]
 ]
 
@@ -45,12 +41,12 @@ first_zero (x ∷ xs) = elim (cases_eq x 0) [
 record HasString (most : ℕ) (r : List ℕ) : Type 0 where
   pub string : List ℕ
   pub rest : List ℕ
-  pub is : r ≡ ended string ++ rest
+  pub is : r ≡ zero_ended string ++ rest
   pub fits : IsString most string
   pub bytes : AreBytes rest
 
 too_long : (most : ℕ) (r : List ℕ) → HasNoZero r → most < length r → IsTooLong most r
-too_long most r none more = (more, HasNoZero-take (most + 1) r none)
+too_long most r none more = (more, All-take (λ b. b ≢ 0) (most + 1) r none)
 
 -- the bytes up to the first 00 are too many
 long_split : (most : ℕ) (r : List ℕ) (x : Split r) → most < length x.string → IsTooLong most r
@@ -59,15 +55,15 @@ long_split most r x more =
     let behind = 0 ∷ x.rest in
     let whole : r ≡ s ++ behind = x.is ∙ append_assoc s (0 ∷ []) x.rest in
     let front : take (most + 1) r ≡ take (most + 1) s = ap (take (most + 1)) whole ∙ take-append-le (most + 1) s behind (omega arith) in
-    (omega (arith, ap length whole, length-append s behind), subst HasNoZero (sym front) (HasNoZero-take (most + 1) s x.none))
+    (omega (arith, ap length whole, length-append s behind), subst HasNoZero (sym front) (All-take (λ b. b ≢ 0) (most + 1) s x.none))
 
 has_string : (most : ℕ) (r : List ℕ) (x : Split r) → AreBytes r → length x.string ≤ most → HasString most r
 has_string most r x bytes fits =
     let s = x.string in
     let whole : r ≡ s ++ (0 ∷ x.rest) = x.is ∙ append_assoc s (0 ∷ []) x.rest in
     let front : take (length s) r ≡ s = ap (take (length s)) whole ∙ take_at s (0 ∷ x.rest) (length s) refl in
-    let size : length (ended s) ≡ length s + 1 = length-append s (0 ∷ []) in
-    let behind : drop (length s + 1) r ≡ x.rest = ap (drop (length s + 1)) x.is ∙ drop_at (ended s) x.rest (length s + 1) size in
+    let size : length (zero_ended s) ≡ length s + 1 = length-append s (0 ∷ []) in
+    let behind : drop (length s + 1) r ≡ x.rest = ap (drop (length s + 1)) x.is ∙ drop_at (zero_ended s) x.rest (length s + 1) size in
     record {
       string = s;
       rest = x.rest;
@@ -103,14 +99,14 @@ record HasWhole (limits : Limits) (start : ℕ) (r : List ℕ) : Type 0 where
 abbrev SomeFields : Limits → ℕ → ℕ → List ℕ → Type 0
 SomeFields limits given start r = HasWhole limits start r ⊎ FieldsFault limits given start r
 
-from_text : (limits : Limits) (given start p : ℕ) (all r : List ℕ) (m : Message) → given < limits.messages → AreBytes r
+text_on : (limits : Limits) (given start p : ℕ) (all r : List ℕ) (m : Message) → given < limits.messages → AreBytes r
     → HasFields limits.text start (Some all) (Some r) Text m p → SomeFields limits given start all
-from_text limits given start p all r m more bytes h = elim (string_cases limits.text r bytes) [
+text_on limits given start p all r m more bytes h = elim (string_cases limits.text r bytes) [
   | inl x ↦ inl (record {
     message = record m { text = x.string };
     rest = x.rest;
-    at = place_of (p + length (ended x.string));
-    takes = has-text limits.text start p (place_of (p + length (ended x.string))) (Some all) (Some r) (Some x.rest) m x.string h x.fits x.is refl;
+    at = place_of (p + length (zero_ended x.string));
+    takes = has-text limits.text start p (place_of (p + length (zero_ended x.string))) (Some all) (Some r) (Some x.rest) m x.string h x.fits x.is refl;
     bytes = x.bytes;
   })
   | inr wrong ↦ elim wrong [
@@ -119,47 +115,47 @@ from_text limits given start p all r m more bytes h = elim (string_cases limits.
   ]
 ]
 
-from_subject : (limits : Limits) (given start p : ℕ) (all r : List ℕ) (m : Message) → given < limits.messages → AreBytes r
+subject_on : (limits : Limits) (given start p : ℕ) (all r : List ℕ) (m : Message) → given < limits.messages → AreBytes r
     → HasFields limits.text start (Some all) (Some r) Subject m p → SomeFields limits given start all
-from_subject limits given start p all r m more bytes h = elim (string_cases 71 r bytes) [
-  | inl x ↦ from_text limits given start (place_of (p + length (ended x.string))) all x.rest (record m { subject = x.string }) more x.bytes
-      (has-subject limits.text start p (place_of (p + length (ended x.string))) (Some all) (Some r) (Some x.rest) m x.string h x.fits x.is refl)
+subject_on limits given start p all r m more bytes h = elim (string_cases max_subject r bytes) [
+  | inl x ↦ text_on limits given start (place_of (p + length (zero_ended x.string))) all x.rest (record m { subject = x.string }) more x.bytes
+      (has-subject limits.text start p (place_of (p + length (zero_ended x.string))) (Some all) (Some r) (Some x.rest) m x.string h x.fits x.is refl)
   | inr wrong ↦ elim wrong [
-    | inl cut ↦ inr (fault.Truncated p, next-field limits given start p (Some all) (Some r) Subject m (IsOpen 71) (IsTooLong 71) Never (fault.Truncated p) h (tells-subject limits) more (refl, cut), λ c. c)
-    | inr long ↦ inr (fault.FieldTooLong p, next-field limits given start p (Some all) (Some r) Subject m (IsOpen 71) (IsTooLong 71) Never (fault.FieldTooLong p) h (tells-subject limits) more (refl, long), λ c. c)
+    | inl cut ↦ inr (fault.Truncated p, next-field limits given start p (Some all) (Some r) Subject m (IsOpen max_subject) (IsTooLong max_subject) Never (fault.Truncated p) h (tells-subject limits) more (refl, cut), λ c. c)
+    | inr long ↦ inr (fault.FieldTooLong p, next-field limits given start p (Some all) (Some r) Subject m (IsOpen max_subject) (IsTooLong max_subject) Never (fault.FieldTooLong p) h (tells-subject limits) more (refl, long), λ c. c)
   ]
 ]
 
-from_from : (limits : Limits) (given start p : ℕ) (all r : List ℕ) (m : Message) → given < limits.messages → AreBytes r
+from_name_on : (limits : Limits) (given start p : ℕ) (all r : List ℕ) (m : Message) → given < limits.messages → AreBytes r
     → HasFields limits.text start (Some all) (Some r) FromName m p → SomeFields limits given start all
-from_from limits given start p all r m more bytes h = elim (string_cases 35 r bytes) [
-  | inl x ↦ from_subject limits given start (place_of (p + length (ended x.string))) all x.rest (record m { from_name = x.string }) more x.bytes
-      (has-from_name limits.text start p (place_of (p + length (ended x.string))) (Some all) (Some r) (Some x.rest) m x.string h x.fits x.is refl)
+from_name_on limits given start p all r m more bytes h = elim (string_cases max_name r bytes) [
+  | inl x ↦ subject_on limits given start (place_of (p + length (zero_ended x.string))) all x.rest (record m { from_name = x.string }) more x.bytes
+      (has-from_name limits.text start p (place_of (p + length (zero_ended x.string))) (Some all) (Some r) (Some x.rest) m x.string h x.fits x.is refl)
   | inr wrong ↦ elim wrong [
-    | inl cut ↦ inr (fault.Truncated p, next-field limits given start p (Some all) (Some r) FromName m (IsOpen 35) (IsTooLong 35) Never (fault.Truncated p) h (tells-from_name limits) more (refl, cut), λ c. c)
-    | inr long ↦ inr (fault.FieldTooLong p, next-field limits given start p (Some all) (Some r) FromName m (IsOpen 35) (IsTooLong 35) Never (fault.FieldTooLong p) h (tells-from_name limits) more (refl, long), λ c. c)
+    | inl cut ↦ inr (fault.Truncated p, next-field limits given start p (Some all) (Some r) FromName m (IsOpen max_name) (IsTooLong max_name) Never (fault.Truncated p) h (tells-from_name limits) more (refl, cut), λ c. c)
+    | inr long ↦ inr (fault.FieldTooLong p, next-field limits given start p (Some all) (Some r) FromName m (IsOpen max_name) (IsTooLong max_name) Never (fault.FieldTooLong p) h (tells-from_name limits) more (refl, long), λ c. c)
   ]
 ]
 
-from_to : (limits : Limits) (given start p : ℕ) (all r : List ℕ) (m : Message) → given < limits.messages → AreBytes r
+to_name_on : (limits : Limits) (given start p : ℕ) (all r : List ℕ) (m : Message) → given < limits.messages → AreBytes r
     → HasFields limits.text start (Some all) (Some r) ToName m p → SomeFields limits given start all
-from_to limits given start p all r m more bytes h = elim (string_cases 35 r bytes) [
-  | inl x ↦ from_from limits given start (place_of (p + length (ended x.string))) all x.rest (record m { to_name = x.string }) more x.bytes
-      (has-to_name limits.text start p (place_of (p + length (ended x.string))) (Some all) (Some r) (Some x.rest) m x.string h x.fits x.is refl)
+to_name_on limits given start p all r m more bytes h = elim (string_cases max_name r bytes) [
+  | inl x ↦ from_name_on limits given start (place_of (p + length (zero_ended x.string))) all x.rest (record m { to_name = x.string }) more x.bytes
+      (has-to_name limits.text start p (place_of (p + length (zero_ended x.string))) (Some all) (Some r) (Some x.rest) m x.string h x.fits x.is refl)
   | inr wrong ↦ elim wrong [
-    | inl cut ↦ inr (fault.Truncated p, next-field limits given start p (Some all) (Some r) ToName m (IsOpen 35) (IsTooLong 35) Never (fault.Truncated p) h (tells-to_name limits) more (refl, cut), λ c. c)
-    | inr long ↦ inr (fault.FieldTooLong p, next-field limits given start p (Some all) (Some r) ToName m (IsOpen 35) (IsTooLong 35) Never (fault.FieldTooLong p) h (tells-to_name limits) more (refl, long), λ c. c)
+    | inl cut ↦ inr (fault.Truncated p, next-field limits given start p (Some all) (Some r) ToName m (IsOpen max_name) (IsTooLong max_name) Never (fault.Truncated p) h (tells-to_name limits) more (refl, cut), λ c. c)
+    | inr long ↦ inr (fault.FieldTooLong p, next-field limits given start p (Some all) (Some r) ToName m (IsOpen max_name) (IsTooLong max_name) Never (fault.FieldTooLong p) h (tells-to_name limits) more (refl, long), λ c. c)
   ]
 ]
 
-from_date : (limits : Limits) (given start p : ℕ) (all r : List ℕ) (m : Message) → given < limits.messages → AreBytes r
+date_on : (limits : Limits) (given start p : ℕ) (all r : List ℕ) (m : Message) → given < limits.messages → AreBytes r
     → HasFields limits.text start (Some all) (Some r) DateTime m p → SomeFields limits given start all
-from_date limits given start p all r m more bytes h = elim (cases_lt (length r) 20) [
+date_on limits given start p all r m more bytes h = elim (cases_lt (length r) 20) [
   | inl short ↦ inr (fault.Truncated p, next-field limits given start p (Some all) (Some r) DateTime m (IsShort 20) Never Never (fault.Truncated p) h (tells-date limits) more (refl, short), λ c. c)
   | inr long ↦
       let d = take 20 r in
       let size : length d ≡ 20 = length-take-le 20 r long in
-      from_to limits given start (place_of (p + length d)) all (drop 20 r) (record m { date = d }) more (AreBytes-drop 20 r bytes)
+      to_name_on limits given start (place_of (p + length d)) all (drop 20 r) (record m { date = d }) more (AreBytes-drop 20 r bytes)
       (has-date limits.text start p (place_of (p + length d)) (Some all) (Some r) (Some (drop 20 r)) m d h (AreBytes-take 20 r bytes) size (sym (take-append-drop 20 r)) refl)
 ]
 
@@ -177,7 +173,7 @@ some_fields limits given start r more bytes =
       | inr long ↦
           let ns = take 12 r in
           let size : length ns ≡ 12 = length-take-le 12 r long in
-          from_date limits given start (place_of (p + length ns)) r (drop 12 r) _ more (AreBytes-drop 12 r bytes)
+          date_on limits given start (place_of (p + length ns)) r (drop 12 r) _ more (AreBytes-drop 12 r bytes)
           (has-numbers limits.text start p (place_of (p + length ns)) (Some r) (Some (drop 12 r)) ns refl (AreBytes-take 12 r bytes) size (sym (take-append-drop 12 r)) refl)
     ]
 

@@ -1,7 +1,7 @@
 -- A header is undone by its bytes, and the bytes by the header.
 use Rattle.std.proofs.Common.{◌≡◌, ℕ, suc, append-nil, ◌+◌, ◌*◌, ◌/◌, ◌%◌, ◌^◌, ◌<◌, ◌≤◌, List, [], ◌∷◌, ◌++◌, length, get_or, take, drop, refl, sym, ap, ◌∙◌, arith, add-one, append_assoc, drop-cons, length-append}
-use Rattle.std.proofs.Math.Seq.{take-add, take-append_seam, drop-append_seam, drop-append-add}
-use Rattle.std.proofs.lemmas.List.{take_at, drop_at, length-take, length-drop, drop-drop, get_or-take, get_or-drop, get_or_past, get_or-append-add}
+use Rattle.std.proofs.Math.Seq.{take-add, drop-append-add}
+use Rattle.std.proofs.lemmas.List.{take_at, length-take, length-drop, drop-drop, get_or-take, get_or-drop, get_or_past, get_or-append-add}
 use Rattle.std.proofs.lemmas.Bool.{cases_lt}
 use Rattle.std.proofs.Common.{inl, inr, subst}
 use Rattle.echo_packet.specs.declared.header.Header.{Header}

@@ -1,5 +1,5 @@
 -- The one answer that bytes have: they are read message by message, and each description of them is this answer.
-use Rattle.std.proofs.Common.{◌≡◌, ◌≢◌, ℕ, zero, suc, ◌+◌, ◌-◌, ◌<◌, ◌≤◌, ◌==◌, ◌⊎◌, nat_lt, min, List, [], ◌∷◌, ◌++◌, Result, Ok, Err, length, take, drop, refl, sym, ap, ◌∙◌, subst, inl, inr, arith, cond, append_assoc, length-append}
+use Rattle.std.proofs.Common.{◌≡◌, ℕ, zero, suc, ◌+◌, ◌-◌, ◌≤◌, ◌==◌, nat_lt, List, [], ◌∷◌, ◌++◌, Ok, Err, length, take, drop, refl, sym, ap, ◌∙◌, subst, inl, inr, arith, cond, append_assoc, length-append}
 use Rattle.std.proofs.lemmas.List.{drop_at, length-take, take-append-drop}
 use Rattle.std.proofs.lemmas.Bool.{lt-ltb, le-ltb, eq-eqb, ne_eqb, cond-true, cond-false}
 use Rattle.std.specs.List.{AllByRecursion}
@@ -8,14 +8,14 @@ use Rattle.echo_packet.specs.declared.limits.Limits.{Limits}
 use Rattle.echo_packet.specs.declared.fault.PacketFault.{PacketFault}
 use Rattle.echo_packet.specs.declared.fault.PacketFault.TheVariants as fault
 use Rattle.echo_packet.specs.Header.{IsHeader, word, number_at, header_bytes, header_of}
-use Rattle.echo_packet.specs.Message.{Message, Part, Number, IsMessage, AreMessages, before, message_bytes, messages_bytes}
+use Rattle.echo_packet.specs.Message.{Message, Part, IsMessage, AreMessages, before, message_bytes, messages_bytes}
 use Rattle.echo_packet.specs.Packet.{packet_bytes, PacketOf}
-use Rattle.echo_packet.specs.Fault.{AtField, FaultOf, IsCut, IsLongField, IsLongText, IsOtherNumber, IsOneTooMany, place_of}
+use Rattle.echo_packet.specs.Fault.{AtField, IsCut, IsLongField, IsLongText, IsOtherNumber, IsOneTooMany, place_of}
 use Rattle.echo_packet.specs.Answer.{Answer, Answers, Describes}
 use Rattle.echo_packet.specs.Next.{AtPart, NextFault}
 use Rattle.echo_packet.specs.Run.{IsOfCall}
 use Rattle.echo_packet.proofs.Headers.{header_of-header_bytes, length-header_bytes, number_at-header_bytes}
-use Rattle.echo_packet.proofs.Runs.{length-packet_bytes}
+use Rattle.echo_packet.proofs.MessageByMessage.{length-packet_bytes}
 use Rattle.echo_packet.proofs.Slices.{IsJudged}
 use Rattle.echo_packet.proofs.Verdicts.{Verdict, Whole, End, Wrong, verdict, verdict-whole, verdict-end, Fails, fails}
 

@@ -1,7 +1,6 @@
 -- A packet read from a slice, which never fails.
-use Rattle.std.proofs.Common.{◌≡◌, ◌≢◌, ℕ, ◌+◌, ◌^◌, ◌<◌, ◌≤◌, ◌⊎◌, min, List, [], ◌∷◌, ◌++◌, Some, None, Result, Ok, Err, length, take, refl, sym, ap, ◌∙◌, subst, inl, inr, arith}
-use Rattle.std.proofs.lemmas.List.{length-append}
-use Rattle.echo_device.specs.Device.{Failed}
+use Rattle.std.proofs.Common.{◌≡◌, ℕ, ◌+◌, ◌^◌, ◌<◌, ◌⊎◌, List, [], ◌∷◌, ◌++◌, Ok, Err, length, refl, ◌∙◌, subst, inl, inr, arith}
+use Rattle.echo_device.proofs.Devices.{Failed-never}
 use Rattle.echo_packet.specs.declared.header.Header.{Header}
 use Rattle.echo_packet.specs.declared.limits.Limits.{Limits}
 use Rattle.echo_packet.specs.declared.fault.PacketFault.{PacketFault}
@@ -9,14 +8,14 @@ use Rattle.echo_packet.specs.declared.fault.PacketFault.TheVariants as fault
 use Rattle.echo_packet.specs.declared.reader.Stage.{Stage}
 use Rattle.echo_packet.specs.declared.reader.Stage.TheVariants as stage
 use Rattle.echo_packet.specs.Header.{header_bytes, IsHeader, word}
-use Rattle.echo_packet.specs.Message.{Message, IsMessage, message_bytes, messages_bytes}
+use Rattle.echo_packet.specs.Message.{Message, IsMessage, message_bytes}
 use Rattle.echo_packet.specs.Packet.{packet_bytes}
 use Rattle.echo_packet.specs.Fault.{FaultOf, place_of}
 use Rattle.echo_packet.specs.Answer.{Answer, Describes}
 use Rattle.echo_packet.specs.Next.{CountsFailures, NextFault}
 use Rattle.echo_packet.specs.Reader.{FrontFault}
 use Rattle.echo_packet.specs.Run.{SoFar, IsOfCall}
-use Rattle.echo_packet.proofs.Runs.{run-opens, run-gives, run-ends, run-fails, length-packet_bytes}
+use Rattle.echo_packet.proofs.MessageByMessage.{run-opens, run-gives, run-ends, run-fails, length-packet_bytes}
 
 -- the messages that were given, while messages or the terminator are still to come
 pub record HasGiven (limits : Limits) (bs : List ℕ) (ms : List Message) (rest : List ℕ) (header : Header) (own : Limits) (given at : ℕ) (next : Stage) : Type 0 where
@@ -28,15 +27,11 @@ pub record HasGiven (limits : Limits) (bs : List ℕ) (ms : List Message) (rest 
 abbrev pub IsJudged : Limits → List ℕ → Answer → Type 0
 IsJudged limits bs a = (a ≡ Err fault.Memory) ⊎ Describes limits bs a
 
-never_failed : Failed 0 0 → ⊥
-never_failed (inl less) = omega arith
-never_failed (inr most) = omega (arith, most.0)
-
 -- what the fault of a call on a slice is
 judge : (A : Type 0) (limits : Limits) (bs : List ℕ) (ms : List Message) (f : PacketFault) → FaultOf bs limits ms f ⊎ IsOfCall f → CountsFailures {A = A} (Err f) 0 0
     → IsJudged limits bs (Err f)
 judge A limits bs ms f (inl wrong) device = inr (ms, wrong)
-judge A limits bs ms (fault.Read at) (inr call) device = absurd (never_failed device)
+judge A limits bs ms (fault.Read at) (inr call) device = absurd (Failed-never device)
 judge A limits bs ms fault.Memory (inr call) device = inl refl
 judge A limits bs ms (fault.Truncated at) (inr call) device = absurd call
 judge A limits bs ms (fault.NotType2 at) (inr call) device = absurd call

@@ -1,12 +1,11 @@
 -- Strings that end in 00, read in pieces.
-use Rattle.std.proofs.Common.{◌≡◌, ◌≢◌, ℕ, zero, suc, ◌+◌, ◌-◌, ◌<◌, ◌≤◌, min, List, [], ◌∷◌, ◌++◌, Option, length, get_or, take, drop, refl, sym, ap, ◌∙◌, subst, inl, inr, arith, Bool, true, false, Ok, append_assoc}
-use Rattle.std.proofs.lemmas.List.{length-append, length-take, get_or_append_left, get_or-append_right, get_or-take, take-take, take_all, append-nil}
-use Rattle.std.proofs.lemmas.Bool.{cases_lt, eq-eqb}
-use Rattle.std.specs.Io.KnownBytes.{Consumes, IsAtEnd}
-use Rattle.std.proofs.KnownBytes.{Consumes-trans, Consumes-nil}
-use Rattle.memchr.specs.Find.{IsFirstByte, Nowhere, NoneBefore, Passes, is_byte}
+use Rattle.std.proofs.Common.{◌≡◌, ◌≢◌, ℕ, ◌+◌, ◌≤◌, List, ◌++◌, Option, length, sym, ap, subst, arith, Bool, true, false, Ok}
+use Rattle.std.proofs.lemmas.List.{length-append}
+use Rattle.std.specs.Io.KnownBytes.{Consumes}
+use Rattle.std.proofs.KnownBytes.{Consumes-trans}
+use Rattle.std.proofs.lemmas.List.Elements.{All-append}
 use Rattle.echo_packet.specs.Header.{AreBytes}
-use Rattle.echo_packet.specs.Message.{HasNoZero, IsString, ended}
+use Rattle.echo_packet.specs.Message.{HasNoZero, IsString}
 use Rattle.echo_packet.specs.declared.field.Broken.{Broken}
 use Rattle.echo_packet.specs.declared.field.Broken.TheVariants as broken
 use Rattle.echo_packet.specs.Field.{Came, BreaksString, StepsString}
@@ -18,29 +17,12 @@ pub record HasRead (most : ℕ) (before after : Option (List ℕ)) (s : List ℕ
   pub room : length s ≤ most
   pub failed : failures_after ≡ failures_before
 
-pub HasNoZero-append : (s t : List ℕ) → HasNoZero s → HasNoZero t → HasNoZero (s ++ t)
-HasNoZero-append s t hs ht i lt = elim (cases_lt i (length s)) [
-  | inl first ↦ rw (get_or_append_left s t 0 i first) (hs i first)
-  | inr later ↦ rw (get_or-append_right s t (length s) i 0 refl later) (ht (i - length s) (omega (arith, length-append s t)))
-]
-
-pub HasNoZero-take : (n : ℕ) (s : List ℕ) → HasNoZero s → HasNoZero (take n s)
-HasNoZero-take n s h i lt =
-    let within : (i < n) × (i < length s) = (omega (arith, length-take n s), omega (arith, length-take n s)) in
-    rw (get_or-take n s i 0 within.0) (h i within.1)
-
--- what a search for 00 did not find
-pub no_zero_before : (bs : List ℕ) (n : ℕ) → n ≤ length bs → Nowhere (Passes (is_byte 0) bs) 0 n → HasNoZero (take n bs)
-no_zero_before bs n within none i lt =
-    let below : i < n = omega (arith, length-take n bs) in
-    rw (get_or-take n bs i 0 below) (λ zero_here. none i (omega arith) below (eq-eqb _ _ zero_here))
-
 -- more bytes behind what came of a string, of which so many have room
 pub behind : (most room : ℕ) (a b c : Option (List ℕ)) (s : List ℕ) → Consumes a b s → HasNoZero s → length s + room ≡ most
     → Came b c (λ t. HasNoZero t × (length t ≤ room)) → Came a c (λ t. HasNoZero t × (length t ≤ most))
 behind most room a b c s first none fits came =
     let t = came.0 in
-    (s ++ t, Consumes-trans a b c s t first came.1, (HasNoZero-append s t none came.2.0, omega (arith, length-append s t, came.2.1)))
+    (s ++ t, Consumes-trans a b c s t first came.1, (All-append (λ b. b ≢ 0) s t none came.2.0, omega (arith, length-append s t, came.2.1)))
 
 -- what breaks the string behind what came of it
 pub breaks-more : (most room : ℕ) (a b c : Option (List ℕ)) (s : List ℕ) (why : Broken) → Consumes a b s → HasNoZero s → length s + room ≡ most
@@ -49,16 +31,16 @@ breaks-more most room a b c s broken.Cut first none fits came = (behind most roo
 breaks-more most room a b c s broken.Device first none fits came = behind most room a b c s first none fits came
 breaks-more most room a b c s broken.TooLong first none fits came =
     let t = came.0 in
-    (s ++ t, Consumes-trans a b c s t first came.1, (HasNoZero-append s t none came.2.0, omega (arith, length-append s t, came.2.1)))
+    (s ++ t, Consumes-trans a b c s t first came.1, (All-append (λ b. b ≢ 0) s t none came.2.0, omega (arith, length-append s t, came.2.1)))
 breaks-more most room a b c s broken.Memory first none fits came = tt
 
 -- the last bytes of a string came behind what came before
-pub last-fits : (most room : ℕ) (had has : List ℕ) (b c : Option (List ℕ)) (ended : Bool) → ended ≡ true → StepsString room had has b c (Ok ended)
+pub last-fits : (most room : ℕ) (had has : List ℕ) (b c : Option (List ℕ)) (last : Bool) → last ≡ true → StepsString room had has b c (Ok last)
     → HasNoZero had → length had + room ≡ most → AreBytes has → IsString most has
 last-fits most room had has b c true is step none fits bytes =
     let t = step.0 in record {
       bytes = bytes;
-      no_zero = subst HasNoZero (sym step.1) (HasNoZero-append had t none step.3);
+      no_zero = subst HasNoZero (sym step.1) (All-append (λ b. b ≢ 0) had t none step.3);
       room = omega (arith, ap length step.1, length-append had t, step.4);
     }
 last-fits most room had has b c false is step none fits bytes = absurd cc

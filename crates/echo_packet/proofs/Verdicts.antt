@@ -1,18 +1,18 @@
 -- What stands where a message or the terminator begins, read from left to right.
-use Rattle.std.proofs.Common.{◌≡◌, ◌≢◌, ℕ, replicate, ◌+◌, ◌-◌, ◌*◌, ◌/◌, ◌%◌, ◌<◌, ◌≤◌, ◌==◌, ◌⊎◌, inl, inr, List, [], ◌∷◌, ◌++◌, length, get_or, take, drop, refl, sym, ap, ◌∙◌, subst, arith, cond, append_assoc, length-append}
+use Rattle.std.proofs.Common.{◌≡◌, ◌≢◌, ℕ, replicate, ◌+◌, ◌-◌, ◌<◌, ◌≤◌, ◌==◌, ◌⊎◌, inl, inr, List, [], ◌++◌, length, take, drop, refl, sym, ap, ◌∙◌, subst, arith, cond, append_assoc, length-append}
 use Rattle.std.proofs.lemmas.List.{take-append-drop, length-take-le, get_or-take}
 use Rattle.std.proofs.lemmas.Bool.{eq-eqb, ne_eqb, cond-true, cond-false}
 use Rattle.echo_packet.specs.declared.limits.Limits.{Limits}
 use Rattle.echo_packet.specs.declared.fault.PacketFault.{PacketFault}
 use Rattle.echo_packet.specs.declared.fault.PacketFault.TheVariants as fault
 use Rattle.echo_packet.specs.Header.{word, number_at}
-use Rattle.echo_packet.specs.Message.{Message, Part, Number, Numbers, DateTime, ToName, FromName, Subject, Text, IsMessage, before, ended, numbers, message_bytes}
+use Rattle.echo_packet.specs.Message.{Message, Part, Number, Numbers, DateTime, ToName, FromName, Subject, Text, IsMessage, before, zero_ended, numbers, message_bytes, max_name, max_subject}
 use Rattle.echo_packet.specs.Fault.{IsCut, IsLongField, IsLongText, IsOtherNumber, IsOneTooMany, place_of}
 use Rattle.echo_packet.specs.Next.{AtPart, NextFault}
 use Rattle.echo_packet.specs.Run.{IsOfCall}
 use Rattle.echo_packet.proofs.Headers.{number-word}
-use Rattle.echo_packet.proofs.Fields.{numbered}
-use Rattle.echo_packet.proofs.Pieces.{Piece, Got, Cut, Long, string, fixed, string-whole, string-cut, string-long, fixed-whole, fixed-cut}
+use Rattle.echo_packet.proofs.FieldsSoFar.{numbered}
+use Rattle.echo_packet.proofs.OneField.{FieldRead, Got, Cut, Long, string, fixed, string-whole, string-cut, string-long, fixed-whole, fixed-cut}
 
 -- a message and what follows it, what follows the terminator, or the fault of a field and the bytes from this on
 pub data Verdict : Type 0 where
@@ -20,46 +20,46 @@ pub data Verdict : Type 0 where
   End : List ℕ → Verdict
   Wrong : (ℕ → PacketFault) → List ℕ → Verdict
 
-then_piece : Piece → Verdict → Verdict → (List ℕ → List ℕ → Verdict) → Verdict
-then_piece (Got s r) cut long go = go s r
-then_piece Cut cut long go = cut
-then_piece Long cut long go = long
+then_field : FieldRead → Verdict → Verdict → (List ℕ → List ℕ → Verdict) → Verdict
+then_field (Got s r) cut long go = go s r
+then_field Cut cut long go = cut
+then_field Long cut long go = long
 
-then_got : (p : Piece) (cut long : Verdict) (go : List ℕ → List ℕ → Verdict) (s r : List ℕ) → p ≡ Got s r → then_piece p cut long go ≡ go s r
-unfolding then_piece
-then_got p cut long go s r e = ap (λ q. then_piece q cut long go) e
+then_got : (p : FieldRead) (cut long : Verdict) (go : List ℕ → List ℕ → Verdict) (s r : List ℕ) → p ≡ Got s r → then_field p cut long go ≡ go s r
+unfolding then_field
+then_got p cut long go s r e = ap (λ q. then_field q cut long go) e
 
-then_cut : (p : Piece) (cut long : Verdict) (go : List ℕ → List ℕ → Verdict) → p ≡ Cut → then_piece p cut long go ≡ cut
-unfolding then_piece
-then_cut p cut long go e = ap (λ q. then_piece q cut long go) e
+then_cut : (p : FieldRead) (cut long : Verdict) (go : List ℕ → List ℕ → Verdict) → p ≡ Cut → then_field p cut long go ≡ cut
+unfolding then_field
+then_cut p cut long go e = ap (λ q. then_field q cut long go) e
 
-then_long : (p : Piece) (cut long : Verdict) (go : List ℕ → List ℕ → Verdict) → p ≡ Long → then_piece p cut long go ≡ long
-unfolding then_piece
-then_long p cut long go e = ap (λ q. then_piece q cut long go) e
+then_long : (p : FieldRead) (cut long : Verdict) (go : List ℕ → List ℕ → Verdict) → p ≡ Long → then_field p cut long go ≡ long
+unfolding then_field
+then_long p cut long go e = ap (λ q. then_field q cut long go) e
 
 -- from each field on, with the fields before it
 from_text : ℕ → Message → List ℕ → Verdict
-from_text text m r = then_piece (string text r) (Wrong fault.Truncated r) (Wrong fault.TextTooLong r) (λ s rest. Whole (record m { text = s }) rest)
+from_text text m r = then_field (string text r) (Wrong fault.Truncated r) (Wrong fault.TextTooLong r) (λ s rest. Whole (record m { text = s }) rest)
 
 from_subject : ℕ → Message → List ℕ → Verdict
 from_subject text m r =
-    then_piece (string 71 r) (Wrong fault.Truncated r) (Wrong fault.FieldTooLong r) (λ s rest. from_text text (record m { subject = s }) rest)
+    then_field (string max_subject r) (Wrong fault.Truncated r) (Wrong fault.FieldTooLong r) (λ s rest. from_text text (record m { subject = s }) rest)
 
 from_from : ℕ → Message → List ℕ → Verdict
 from_from text m r =
-    then_piece (string 35 r) (Wrong fault.Truncated r) (Wrong fault.FieldTooLong r) (λ s rest. from_subject text (record m { from_name = s }) rest)
+    then_field (string max_name r) (Wrong fault.Truncated r) (Wrong fault.FieldTooLong r) (λ s rest. from_subject text (record m { from_name = s }) rest)
 
 from_to : ℕ → Message → List ℕ → Verdict
 from_to text m r =
-    then_piece (string 35 r) (Wrong fault.Truncated r) (Wrong fault.FieldTooLong r) (λ s rest. from_from text (record m { to_name = s }) rest)
+    then_field (string max_name r) (Wrong fault.Truncated r) (Wrong fault.FieldTooLong r) (λ s rest. from_from text (record m { to_name = s }) rest)
 
 from_date : ℕ → Message → List ℕ → Verdict
 from_date text m r =
-    then_piece (fixed 20 r) (Wrong fault.Truncated r) (Wrong fault.Truncated r) (λ s rest. from_to text (record m { date = s }) rest)
+    then_field (fixed 20 r) (Wrong fault.Truncated r) (Wrong fault.Truncated r) (λ s rest. from_to text (record m { date = s }) rest)
 
 from_numbers : ℕ → List ℕ → Verdict
 from_numbers text r =
-    then_piece (fixed 12 r) (Wrong fault.Truncated r) (Wrong fault.Truncated r) (λ s rest. from_date text (numbered s) rest)
+    then_field (fixed 12 r) (Wrong fault.Truncated r) (Wrong fault.Truncated r) (λ s rest. from_date text (numbered s) rest)
 
 -- what a number leads to, from which so many bytes are left
 from_kind : Limits → ℕ → List ℕ → ℕ → List ℕ → Verdict
@@ -68,7 +68,7 @@ from_kind limits given r kind rest =
 
 pub verdict : Limits → ℕ → List ℕ → Verdict
 verdict limits given r =
-    then_piece (fixed 2 r) (Wrong fault.Truncated r) (Wrong fault.Truncated r) (λ s rest. from_kind limits given r (number_at 0 s) rest)
+    then_field (fixed 2 r) (Wrong fault.Truncated r) (Wrong fault.Truncated r) (λ s rest. from_kind limits given r (number_at 0 s) rest)
 
 -- the message with its six numbers alone
 abbrev only_numbers : Message → Message
@@ -118,32 +118,32 @@ reach_from : (limits : Limits) (given : ℕ) (m : Message) (r : List ℕ) → Is
 unfolding from_to part_verdict
 reach_from limits given m r fits more =
     let s = m.to_name in
-    ap (verdict limits given) (append_assoc (before ToName m) (ended s) r) ∙ reach_to limits given m (ended s ++ r) fits more
-    ∙ then_got (string 35 (ended s ++ r)) _ _ _ s r (string-whole 35 s r fits.to_name.no_zero fits.to_name.room)
+    ap (verdict limits given) (append_assoc (before ToName m) (zero_ended s) r) ∙ reach_to limits given m (zero_ended s ++ r) fits more
+    ∙ then_got (string max_name (zero_ended s ++ r)) _ _ _ s r (string-whole max_name s r fits.to_name.no_zero fits.to_name.room)
 
 reach_subject : (limits : Limits) (given : ℕ) (m : Message) (r : List ℕ) → IsMessage limits.text m → given < limits.messages
     → verdict limits given (before Subject m ++ r) ≡ part_verdict limits given m Subject r
 unfolding from_from part_verdict
 reach_subject limits given m r fits more =
     let s = m.from_name in
-    ap (verdict limits given) (append_assoc (before FromName m) (ended s) r) ∙ reach_from limits given m (ended s ++ r) fits more
-    ∙ then_got (string 35 (ended s ++ r)) _ _ _ s r (string-whole 35 s r fits.from_name.no_zero fits.from_name.room)
+    ap (verdict limits given) (append_assoc (before FromName m) (zero_ended s) r) ∙ reach_from limits given m (zero_ended s ++ r) fits more
+    ∙ then_got (string max_name (zero_ended s ++ r)) _ _ _ s r (string-whole max_name s r fits.from_name.no_zero fits.from_name.room)
 
 reach_text : (limits : Limits) (given : ℕ) (m : Message) (r : List ℕ) → IsMessage limits.text m → given < limits.messages
     → verdict limits given (before Text m ++ r) ≡ part_verdict limits given m Text r
 unfolding from_subject part_verdict
 reach_text limits given m r fits more =
     let s = m.subject in
-    ap (verdict limits given) (append_assoc (before Subject m) (ended s) r) ∙ reach_subject limits given m (ended s ++ r) fits more
-    ∙ then_got (string 71 (ended s ++ r)) _ _ _ s r (string-whole 71 s r fits.subject.no_zero fits.subject.room)
+    ap (verdict limits given) (append_assoc (before Subject m) (zero_ended s) r) ∙ reach_subject limits given m (zero_ended s ++ r) fits more
+    ∙ then_got (string max_subject (zero_ended s ++ r)) _ _ _ s r (string-whole max_subject s r fits.subject.no_zero fits.subject.room)
 
 pub verdict-whole : (limits : Limits) (given : ℕ) (m : Message) (r : List ℕ) → IsMessage limits.text m → given < limits.messages
     → verdict limits given (message_bytes m ++ r) ≡ Whole m r
 unfolding from_text part_verdict
 verdict-whole limits given m r fits more =
     let s = m.text in
-    ap (verdict limits given) (append_assoc (before Text m) (ended s) r) ∙ reach_text limits given m (ended s ++ r) fits more
-    ∙ then_got (string limits.text (ended s ++ r)) _ _ _ s r (string-whole limits.text s r fits.text.no_zero fits.text.room)
+    ap (verdict limits given) (append_assoc (before Text m) (zero_ended s) r) ∙ reach_text limits given m (zero_ended s ++ r) fits more
+    ∙ then_got (string limits.text (zero_ended s ++ r)) _ _ _ s r (string-whole limits.text s r fits.text.no_zero fits.text.room)
 
 pub verdict-end : (limits : Limits) (given : ℕ) (r : List ℕ) → verdict limits given (word 0 ++ r) ≡ End r
 unfolding verdict from_kind
@@ -166,9 +166,9 @@ unfolding part_verdict verdict from_numbers from_date from_to from_from from_sub
 cut_is limits given m Number r h = then_cut (fixed 2 r) _ _ _ (fixed-cut 2 r h)
 cut_is limits given m Numbers r h = then_cut (fixed 12 r) _ _ _ (fixed-cut 12 r h)
 cut_is limits given m DateTime r h = then_cut (fixed 20 r) _ _ _ (fixed-cut 20 r h)
-cut_is limits given m ToName r h = then_cut (string 35 r) _ _ _ (string-cut 35 r h.0 h.1)
-cut_is limits given m FromName r h = then_cut (string 35 r) _ _ _ (string-cut 35 r h.0 h.1)
-cut_is limits given m Subject r h = then_cut (string 71 r) _ _ _ (string-cut 71 r h.0 h.1)
+cut_is limits given m ToName r h = then_cut (string max_name r) _ _ _ (string-cut max_name r h.0 h.1)
+cut_is limits given m FromName r h = then_cut (string max_name r) _ _ _ (string-cut max_name r h.0 h.1)
+cut_is limits given m Subject r h = then_cut (string max_subject r) _ _ _ (string-cut max_subject r h.0 h.1)
 cut_is limits given m Text r h = then_cut (string limits.text r) _ _ _ (string-cut limits.text r h.0 h.1)
 
 long_is : (limits : Limits) (given : ℕ) (m : Message) (field : Part) (r : List ℕ) → IsLongField field r → part_verdict limits given m field r ≡ Wrong fault.FieldTooLong r
@@ -176,9 +176,9 @@ unfolding part_verdict from_to from_from from_subject
 long_is limits given m Number r h = absurd h
 long_is limits given m Numbers r h = absurd h
 long_is limits given m DateTime r h = absurd h
-long_is limits given m ToName r h = then_long (string 35 r) _ _ _ (string-long 35 r h)
-long_is limits given m FromName r h = then_long (string 35 r) _ _ _ (string-long 35 r h)
-long_is limits given m Subject r h = then_long (string 71 r) _ _ _ (string-long 71 r h)
+long_is limits given m ToName r h = then_long (string max_name r) _ _ _ (string-long max_name r h)
+long_is limits given m FromName r h = then_long (string max_name r) _ _ _ (string-long max_name r h)
+long_is limits given m Subject r h = then_long (string max_subject r) _ _ _ (string-long max_subject r h)
 long_is limits given m Text r h = absurd h
 
 text_is : (limits : Limits) (given : ℕ) (m : Message) (field : Part) (r : List ℕ) → IsLongText limits field r → part_verdict limits given m field r ≡ Wrong fault.TextTooLong r
@@ -256,3 +256,23 @@ fails limits given start bs (fault.NotType2 at) a = absurd a
 fails limits given start bs fault.Stopped a = absurd a
 fails limits given start bs (fault.Write n) a = absurd a
 fails limits given start bs (fault.BadField n) a = absurd a
+
+-- bytes are read from left to right in one way
+one_reading : (limits : Limits) (given start : ℕ) (bs : List ℕ) (f g : PacketFault) → Fails limits given start bs f → Fails limits given start bs g → g ≡ f
+one_reading limits given start bs f g x y =
+    let same : Wrong y.why y.rest ≡ Wrong x.why x.rest = sym y.found ∙ x.found in
+    let why : y.why ≡ x.why = cc in
+    let rest : y.rest ≡ x.rest = cc in
+    y.is ∙ ap (λ (h : ℕ → PacketFault). h (place_of (start + (length bs - length y.rest)))) why
+    ∙ ap (λ r. x.why (place_of (start + (length bs - length r)))) rest ∙ sym x.is
+
+-- bytes have one fault
+pub one_fault : (limits : Limits) (given start : ℕ) (bs : List ℕ) (f g : PacketFault) → NextFault limits given start bs f → NextFault limits given start bs g
+    → (g ≡ f) ⊎ (IsOfCall f ⊎ IsOfCall g)
+one_fault limits given start bs f g first second = elim (fails limits given start bs f first) [
+  | inr call ↦ inr (inl call)
+  | inl x ↦ elim (fails limits given start bs g second) [
+    | inr call ↦ inr (inr call)
+    | inl y ↦ inl (one_reading limits given start bs f g x y)
+  ]
+]

@@ -18,9 +18,9 @@ abbrev pub Answer : Type 0
 Answer = Result Found PacketFault
 
 -- what a call answered, its vector as a list
-abbrev pub given : Result (Header × Vec Message Global × ℕ) PacketFault → Answer
-given (Ok r) = Ok (r.0, r.1.items, r.2)
-given (Err f) = Err f
+abbrev pub answered : Result (Header × Vec Message Global × ℕ) PacketFault → Answer
+answered (Ok r) = Ok (r.0, r.1.items, r.2)
+answered (Err f) = Err f
 
 -- the first bytes are the packet, or the bytes have the fault after some messages
 abbrev pub Describes : Limits → List ℕ → Answer → Type 0

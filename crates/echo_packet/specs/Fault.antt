@@ -5,7 +5,7 @@ use Rattle.echo_packet.specs.declared.limits.Limits.{Limits}
 use Rattle.echo_packet.specs.declared.fault.PacketFault.{PacketFault}
 use Rattle.echo_packet.specs.declared.fault.PacketFault.TheVariants as fault
 use Rattle.echo_packet.specs.Header.{header_bytes, IsHeader, number_at}
-use Rattle.echo_packet.specs.Message.{Message, Part, Number, Numbers, DateTime, ToName, FromName, Subject, Text, before, messages_bytes, most_of, HasNoZero, IsMessage, AreMessages}
+use Rattle.echo_packet.specs.Message.{Message, Part, Number, Numbers, DateTime, ToName, FromName, Subject, Text, before, messages_bytes, most_of, max_name, max_subject, HasNoZero, IsMessage, AreMessages}
 
 -- the bytes from a field on end inside it
 abbrev pub IsCut : Limits → Part → List ℕ → Type 0
@@ -20,9 +20,9 @@ IsTooLong most r = (most < length r) × HasNoZero (take (most + 1) r)
 
 -- the field is a name or the subject, and too long
 abbrev pub IsLongField : Part → List ℕ → Type 0
-IsLongField ToName r = IsTooLong 35 r
-IsLongField FromName r = IsTooLong 35 r
-IsLongField Subject r = IsTooLong 71 r
+IsLongField ToName r = IsTooLong max_name r
+IsLongField FromName r = IsTooLong max_name r
+IsLongField Subject r = IsTooLong max_subject r
 IsLongField _ r = ⊥
 
 -- the field is a text, and too long

@@ -1,6 +1,5 @@
 -- What reading one field takes from a source, and why it fails.
-use Rattle.std.specs.Prelude.{◌≡◌, ◌≢◌, ℕ, ◌+◌, ◌-◌, ◌<◌, ◌≤◌, List, [], ◌∷◌, ◌++◌, length, take, slice_index, Option, Result, Ok, Err, Bool, true, false}
-use Rattle.std.specs.Io.{StartsWith}
+use Rattle.std.specs.Prelude.{◌≡◌, ℕ, ◌+◌, ◌<◌, ◌≤◌, List, ◌++◌, length, take, slice_index, Option, Result, Ok, Err, Bool, true, false}
 use Rattle.std.specs.Io.KnownBytes.{Consumes, IsAtEnd}
 use Rattle.echo_device.specs.Device.{Failed}
 use Rattle.echo_packet.specs.declared.field.Broken.{Broken}
@@ -10,7 +9,7 @@ use Rattle.echo_packet.specs.declared.field.Piece.TheVariants as piece
 use Rattle.echo_packet.specs.declared.fault.PacketFault.{PacketFault}
 use Rattle.echo_packet.specs.declared.fault.PacketFault.TheVariants as fault
 use Rattle.echo_packet.specs.Header.{word}
-use Rattle.echo_packet.specs.Message.{Message, HasNoZero, IsMessage, ended, message_bytes}
+use Rattle.echo_packet.specs.Message.{Message, HasNoZero, IsMessage, zero_ended, message_bytes}
 use Rattle.echo_packet.specs.Fault.{IsTooLong, place_of}
 
 -- these bytes came from the source
@@ -47,17 +46,22 @@ abbrev pub StepsString : ℕ → List ℕ → List ℕ → Option (List ℕ) →
 StepsString room had has old new (Ok false) =
     (t : List ℕ) × (has ≡ had ++ t) × Consumes old new t × HasNoZero t × (0 < length t) × (length t ≤ room)
 StepsString room had has old new (Ok true) =
-    (t : List ℕ) × (has ≡ had ++ t) × Consumes old new (ended t) × HasNoZero t × (length t ≤ room)
+    (t : List ℕ) × (has ≡ had ++ t) × Consumes old new (zero_ended t) × HasNoZero t × (length t ≤ room)
 StepsString room had has old new (Err b) = BreaksString room old new b
 
 -- the fault of a field that begins at the place, by what is so of the bytes from there on
-abbrev pub FieldFault : (List ℕ → Type 0) → (List ℕ → Type 0) → (List ℕ → Type 0) → (List ℕ → Type 0) → ℕ → List ℕ → PacketFault → Type 0
-FieldFault Cut Long LongText Unfinished place bs (fault.Truncated at) = (at ≡ place) × Cut bs
-FieldFault Cut Long LongText Unfinished place bs (fault.FieldTooLong at) = (at ≡ place) × Long bs
-FieldFault Cut Long LongText Unfinished place bs (fault.TextTooLong at) = (at ≡ place) × LongText bs
-FieldFault Cut Long LongText Unfinished place bs (fault.Read at) = (at ≡ place) × Unfinished bs
-FieldFault Cut Long LongText Unfinished place bs fault.Memory = Unit {0}
-FieldFault Cut Long LongText Unfinished place bs _ = ⊥
+abbrev pub FieldFault : (List ℕ → Type 0) → (List ℕ → Type 0) → (List ℕ → Type 0) → ℕ → List ℕ → PacketFault → Type 0
+FieldFault Cut Long LongText place bs (fault.Truncated at) = (at ≡ place) × Cut bs
+FieldFault Cut Long LongText place bs (fault.FieldTooLong at) = (at ≡ place) × Long bs
+FieldFault Cut Long LongText place bs (fault.TextTooLong at) = (at ≡ place) × LongText bs
+FieldFault Cut Long LongText place bs (fault.Read at) = Unit {0}
+FieldFault Cut Long LongText place bs fault.Memory = Unit {0}
+FieldFault Cut Long LongText place bs _ = ⊥
+
+-- where the device failed, the bytes that came end inside the field that begins at the place
+abbrev pub FailsInField : (List ℕ → Type 0) → ℕ → Option (List ℕ) → Option (List ℕ) → PacketFault → Type 0
+FailsInField Cut place old new (fault.Read at) = (at ≡ place) × Came old new Cut
+FailsInField Cut place old new _ = Unit {0}
 
 -- the bytes end inside a field of that size
 abbrev pub IsShort : ℕ → List ℕ → Type 0
@@ -67,25 +71,21 @@ IsShort size bs = length bs < size
 abbrev pub IsOpen : ℕ → List ℕ → Type 0
 IsOpen most bs = HasNoZero bs × (length bs ≤ most)
 
--- the bytes begin with some of which that is so
-abbrev pub Begin : (List ℕ → Type 0) → List ℕ → Type 0
-Begin P bs = (came : List ℕ) × StartsWith bs came × P came
-
 -- nothing is so
 abbrev pub Never : List ℕ → Type 0
 Never bs = ⊥
 
 -- the fault of a field of that size
 abbrev pub FixedFault : ℕ → ℕ → List ℕ → PacketFault → Type 0
-FixedFault size = FieldFault (IsShort size) Never Never (Begin (IsShort size))
+FixedFault size = FieldFault (IsShort size) Never Never
 
 -- the fault of a name or the subject
 abbrev pub NameFault : ℕ → ℕ → List ℕ → PacketFault → Type 0
-NameFault most = FieldFault (IsOpen most) (IsTooLong most) Never (Begin (IsOpen most))
+NameFault most = FieldFault (IsOpen most) (IsTooLong most) Never
 
 -- the fault of a text
 abbrev pub TextFault : ℕ → ℕ → List ℕ → PacketFault → Type 0
-TextFault most = FieldFault (IsOpen most) Never (IsTooLong most) (Begin (IsOpen most))
+TextFault most = FieldFault (IsOpen most) Never (IsTooLong most)
 
 -- how a field that was not read is told, by its place
 abbrev pub name_fault_at : ℕ → Broken → PacketFault

@@ -8,5 +8,4 @@ pub mod Next
 pub mod Reader
 pub mod Run
 pub mod Answer
-pub mod Outcome
 pub mod Writer

@@ -1,6 +1,7 @@
 -- The bytes of one packed message.
-use Rattle.std.specs.Prelude.{◌≡◌, ◌≢◌, ℕ, ◌^◌, ◌<◌, ◌≤◌, List, [], ◌∷◌, ◌++◌, length, slice_index, EachIndex}
+use Rattle.std.specs.Prelude.{◌≡◌, ℕ, ◌^◌, ◌<◌, ◌≤◌, List, [], ◌∷◌, ◌++◌, length}
 use Rattle.std.specs.List.{AllByRecursion}
+pub use Rattle.echo_addr.specs.Bytes.{HasNoZero}
 use Rattle.echo_packet.specs.declared.limits.Limits.{Limits}
 use Rattle.echo_packet.specs.declared.fault.Field.{Field}
 use Rattle.echo_packet.specs.declared.fault.Field.TheVariants as field
@@ -20,9 +21,13 @@ pub record Message : Type 0 where
   pub subject : List ℕ
   pub text : List ℕ
 
--- no byte is 00
-abbrev pub HasNoZero : List ℕ → Type 0
-HasNoZero bs = EachIndex bs (λ i. slice_index bs i ≢ 0)
+-- how many bytes a name may have before its 00
+abbrev pub max_name : ℕ
+max_name = 35
+
+-- how many bytes a subject may have before its 00
+abbrev pub max_subject : ℕ
+max_subject = 71
 
 -- a string of bytes that a 00 may end, of at most so many bytes
 pub record IsString (most : ℕ) (s : List ℕ) : Type 0 where
@@ -31,8 +36,8 @@ pub record IsString (most : ℕ) (s : List ℕ) : Type 0 where
   pub room : length s ≤ most
 
 -- a string and the 00 that ends it
-abbrev pub ended : List ℕ → List ℕ
-ended s = s ++ 0 ∷ []
+abbrev pub zero_ended : List ℕ → List ℕ
+zero_ended s = s ++ 0 ∷ []
 
 -- the fields of a packed message, in order
 pub data Part : Type 0 where
@@ -55,13 +60,13 @@ before Number m = []
 before Numbers m = word 2
 before DateTime m = word 2 ++ numbers m
 before ToName m = (word 2 ++ numbers m) ++ m.date
-before FromName m = ((word 2 ++ numbers m) ++ m.date) ++ ended m.to_name
-before Subject m = (((word 2 ++ numbers m) ++ m.date) ++ ended m.to_name) ++ ended m.from_name
-before Text m = ((((word 2 ++ numbers m) ++ m.date) ++ ended m.to_name) ++ ended m.from_name) ++ ended m.subject
+before FromName m = ((word 2 ++ numbers m) ++ m.date) ++ zero_ended m.to_name
+before Subject m = (((word 2 ++ numbers m) ++ m.date) ++ zero_ended m.to_name) ++ zero_ended m.from_name
+before Text m = ((((word 2 ++ numbers m) ++ m.date) ++ zero_ended m.to_name) ++ zero_ended m.from_name) ++ zero_ended m.subject
 
 -- the bytes of a message: the number 2 and its fields in order, each string with its 00
 abbrev pub message_bytes : Message → List ℕ
-message_bytes m = before Text m ++ ended m.text
+message_bytes m = before Text m ++ zero_ended m.text
 
 -- the bytes of the messages, one after the other
 abbrev pub messages_bytes : List Message → List ℕ
@@ -70,9 +75,9 @@ messages_bytes (m ∷ ms) = message_bytes m ++ messages_bytes ms
 
 -- how many bytes a string field may have before its 00
 abbrev pub most_of : ℕ → Part → ℕ
-most_of text ToName = 35
-most_of text FromName = 35
-most_of text Subject = 71
+most_of text ToName = max_name
+most_of text FromName = max_name
+most_of text Subject = max_subject
 most_of text _ = text
 
 -- the fields of a message are of their sizes, its text of at most so many bytes
@@ -85,9 +90,9 @@ pub record IsMessage (most : ℕ) (m : Message) : Type 0 where
   pub cost : m.cost < 2 ^ 16
   pub date_len : length m.date ≡ 20
   pub date : AreBytes m.date
-  pub to_name : IsString 35 m.to_name
-  pub from_name : IsString 35 m.from_name
-  pub subject : IsString 71 m.subject
+  pub to_name : IsString max_name m.to_name
+  pub from_name : IsString max_name m.from_name
+  pub subject : IsString max_subject m.subject
   pub text : IsString most m.text
 
 -- messages that keep the limits
@@ -97,15 +102,15 @@ pub record AreMessages (limits : Limits) (ms : List Message) : Type 0 where
 
 -- names and subject of their sizes, and a text, all without 00
 pub record AreStrings (to_name from_name subject text : List ℕ) : Type 0 where
-  pub to_name_fits : IsString 35 to_name
-  pub from_name_fits : IsString 35 from_name
-  pub subject_fits : IsString 71 subject
+  pub to_name_fits : IsString max_name to_name
+  pub from_name_fits : IsString max_name from_name
+  pub subject_fits : IsString max_subject subject
   pub text_fits : IsString (length text) text
 
 -- the field holds 00 or is too long, and those before it are in order
 abbrev pub IsFirstBad : List ℕ → List ℕ → List ℕ → List ℕ → Field → Type 0
-IsFirstBad to_name from_name subject text field.ToName = ¬ IsString 35 to_name
-IsFirstBad to_name from_name subject text field.FromName = IsString 35 to_name × ¬ IsString 35 from_name
-IsFirstBad to_name from_name subject text field.Subject = IsString 35 to_name × IsString 35 from_name × ¬ IsString 71 subject
+IsFirstBad to_name from_name subject text field.ToName = ¬ IsString max_name to_name
+IsFirstBad to_name from_name subject text field.FromName = IsString max_name to_name × ¬ IsString max_name from_name
+IsFirstBad to_name from_name subject text field.Subject = IsString max_name to_name × IsString max_name from_name × ¬ IsString max_subject subject
 IsFirstBad to_name from_name subject text field.Text =
-    IsString 35 to_name × IsString 35 from_name × IsString 71 subject × ¬ IsString (length text) text
+    IsString max_name to_name × IsString max_name from_name × IsString max_subject subject × ¬ IsString (length text) text

@@ -1,18 +1,14 @@
 -- What stands where a message or the terminator begins, or what is wrong there.
-use Rattle.std.specs.Prelude.{◌≡◌, ◌≢◌, ℕ, ◌+◌, ◌<◌, List, ◌∷◌, ◌++◌, length, Option, None, Some, Result, Ok, Err}
-use Rattle.std.specs.Io.{StartsWith}
+use Rattle.std.specs.Prelude.{◌≡◌, ◌≢◌, ℕ, ◌+◌, ◌<◌, List, ◌++◌, length, Option, None, Some, IfSome, Result, Ok, Err}
 use Rattle.std.specs.Io.KnownBytes.{Consumes}
 use Rattle.echo_device.specs.Device.{Failed}
 use Rattle.echo_packet.specs.declared.limits.Limits.{Limits}
 use Rattle.echo_packet.specs.declared.fault.PacketFault.{PacketFault}
 use Rattle.echo_packet.specs.declared.fault.PacketFault.TheVariants as fault
-use Rattle.echo_packet.specs.Header.{word, number_at}
+use Rattle.echo_packet.specs.Header.{word}
 use Rattle.echo_packet.specs.Message.{Message, Part, Number, before, message_bytes, IsMessage}
+use Rattle.echo_packet.specs.Field.{Came}
 use Rattle.echo_packet.specs.Fault.{IsCut, IsLongField, IsLongText, IsOtherNumber, IsOneTooMany, place_of}
-
--- the bytes from a field on begin with some that end inside it
-abbrev pub IsUnfinished : Limits → Part → List ℕ → Type 0
-IsUnfinished limits field r = (came : List ℕ) × StartsWith r came × IsCut limits field came
 
 -- So many messages and bytes stand before these bytes. After the earlier fields of one more message, the field at the place is wrong.
 pub record AtPart (limits : Limits) (given start : ℕ) (bs : List ℕ) (at : ℕ) (Wrong : Part → List ℕ → Type 0) : Type 0 where
@@ -25,16 +21,26 @@ pub record AtPart (limits : Limits) (given start : ℕ) (bs : List ℕ) (at : �
   pub place : at ≡ place_of (start + length (before field one_more))
   pub wrong : Wrong field rest
 
--- the fault of these bytes, or that the device failed inside a field, or want of memory
+-- the fault of these bytes, or that the device failed, or want of memory
 abbrev pub NextFault : Limits → ℕ → ℕ → List ℕ → PacketFault → Type 0
 NextFault limits given start bs (fault.Truncated at) = AtPart limits given start bs at (IsCut limits)
 NextFault limits given start bs (fault.NotMessage at) = AtPart limits given start bs at IsOtherNumber
 NextFault limits given start bs (fault.FieldTooLong at) = AtPart limits given start bs at IsLongField
 NextFault limits given start bs (fault.TextTooLong at) = AtPart limits given start bs at (IsLongText limits)
 NextFault limits given start bs (fault.TooManyMessages at) = AtPart limits given start bs at (IsOneTooMany limits given)
-NextFault limits given start bs (fault.Read at) = AtPart limits given start bs at (IsUnfinished limits)
+NextFault limits given start bs (fault.Read at) = Unit {0}
 NextFault limits given start bs fault.Memory = Unit {0}
 NextFault limits given start bs _ = ⊥
+
+-- Where the device failed, the bytes that came behind these end inside the field at the place: with no more of them they would be truncated there.
+abbrev pub FailsInMessage : Limits → ℕ → ℕ → List ℕ → Option (List ℕ) → Option (List ℕ) → PacketFault → Type 0
+FailsInMessage limits given start front old new (fault.Read at) = Came old new (λ came. AtPart limits given start (front ++ came) at (IsCut limits))
+FailsInMessage limits given start front old new _ = Unit {0}
+
+-- why the fields behind the number 2 were not read
+pub record FailsBehind (limits : Limits) (given start : ℕ) (old new : Option (List ℕ)) (f : PacketFault) : Type 0 where
+  pub fault : IfSome old (λ bs. NextFault limits given start (word 2 ++ bs) f)
+  pub inside : FailsInMessage limits given start (word 2) old new f
 
 -- the bytes of the message, or 00 00 where there is none
 abbrev pub next_bytes : Option Message → List ℕ

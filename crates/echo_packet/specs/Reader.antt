@@ -1,15 +1,15 @@
 -- What a clause reads of a `PacketReader`, and what its calls are to answer.
-use Rattle.std.specs.Prelude.{◌≡◌, ◌≢◌, ℕ, ◌+◌, ◌<◌, ◌≤◌, List, ◌++◌, length, Option, None, Some, Result, Ok, Err}
-use Rattle.echo_device.specs.Device.{Failed}
+use Rattle.std.specs.Prelude.{◌≡◌, ◌≢◌, ℕ, ◌+◌, ◌<◌, ◌≤◌, List, length, Option, None, Some, Result, Ok, Err}
 use Rattle.echo_packet.specs.declared.header.Header.{Header}
 use Rattle.echo_packet.specs.declared.limits.Limits.{Limits}
 use Rattle.echo_packet.specs.declared.fault.PacketFault.{PacketFault}
 use Rattle.echo_packet.specs.declared.fault.PacketFault.TheVariants as fault
 use Rattle.echo_packet.specs.declared.reader.PacketReader.{PacketReader}
-use Rattle.echo_packet.specs.declared.reader.Stage.{Stage}
 use Rattle.echo_packet.specs.declared.reader.Stage.TheVariants as stage
 use Rattle.echo_packet.specs.Header.{number_at}
 use Rattle.echo_packet.specs.Message.{Message}
+use Rattle.echo_packet.specs.Field.{FailsInField, IsShort}
+use Rattle.echo_packet.specs.Next.{CountsFailures}
 
 -- the source that is left
 abbrev pub reader_source : {R : Type 0} → PacketReader R → R
@@ -60,7 +60,9 @@ FrontFault bs (fault.NotType2 at) = (at ≡ 18) × (58 ≤ length bs) × (number
 FrontFault bs (fault.Read at) = at ≡ 0
 FrontFault bs _ = ⊥
 
--- at a read fault the source was left after one more failure
-abbrev pub FailedOnce : {R : Type 0} → (R → ℕ) → R → PacketFault → Type 0
-FailedOnce {R} failures source (fault.Read at) = (left : R) × Failed (failures source) (failures left)
-FailedOnce {R} failures source _ = Unit {0}
+-- A call failed that took the source by value: this is how it was left. At a read fault, and only there, the count of
+-- failures rose, and the bytes that it lost end inside the header.
+pub record IsDropped {R : Type 0} (remaining : R → Option (List ℕ)) (failures : R → ℕ) (source : R) (f : PacketFault) : Type 0 where
+  pub left : R
+  pub inside : FailsInField (IsShort 58) 0 (remaining source) (remaining left) f
+  pub device : CountsFailures {A = Header} (Err f) (failures source) (failures left)

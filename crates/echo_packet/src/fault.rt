@@ -1,5 +1,4 @@
 use std::alloc::{AllocError, AllocFailed};
-use std::fmt;
 use thiserror::Error;
 
 /// A field of a packed message whose bytes `Packed` refuses.
@@ -9,18 +8,6 @@ pub enum Field {
     FromName,
     Subject,
     Text,
-}
-
-impl fmt::Display for Field {
-    fn fmt<W: fmt::Write>(&self, f: &mut fmt::Formatter<W>) -> fmt::Result {
-        let name = match self {
-            Field::ToName => "toUserName",
-            Field::FromName => "fromUserName",
-            Field::Subject => "subject",
-            Field::Text => "text",
-        };
-        write!(f, "{name}")
-    }
 }
 
 /// Why a packet was not read or written. `at` is the place of the faulty field in bytes from the
@@ -57,8 +44,8 @@ pub enum PacketFault {
     /// A message begins after as many as the caller allows.
     #[error("P10 TooManyMessages at {at}")]
     TooManyMessages { at: u64 },
-    /// The field holds 00 or is too long.
-    #[error("P11 BadField {0}")]
+    /// This field is the first that holds 00 or is too long.
+    #[error("P11 BadField")]
     BadField(Field),
 }
 

@@ -2,7 +2,7 @@
 ghost use Rattle.std.specs.Prelude.{◌≡◌, ◌<◌, ◌≤◌, List, length, IfOk, IfErr, OnOk};
 ghost use Rattle.std.specs.Io.KnownBytes.{Consumes};
 ghost use Rattle.echo_packet.specs.Header.{AreBytes};
-ghost use Rattle.echo_packet.specs.Message.{IsString, ended};
+ghost use Rattle.echo_packet.specs.Message.{IsString, zero_ended};
 ghost use Rattle.echo_packet.specs.Field.{BreaksFixed, BreaksString, CountsBroken, IsPiece, StepsString};
 
 use echo_device::{Failure, Source, fill};
@@ -164,7 +164,7 @@ pub(crate) fn read_string<R: Source>(
     most: usize,
 ) -> Result<Vec<u8>, Broken>
     ensures found { IfOk result (λ s. IsString most s.items) }
-    ensures taken { IfOk result (λ s. Consumes (R.remaining reader.old) (R.remaining reader.new) (ended s.items)) }
+    ensures taken { IfOk result (λ s. Consumes (R.remaining reader.old) (R.remaining reader.new) (zero_ended s.items)) }
     ensures broken { IfErr result (BreaksString most (R.remaining reader.old) (R.remaining reader.new)) }
     ensures device { CountsBroken result (R.failures reader.old) (R.failures reader.new) }
 {

@@ -47,3 +47,10 @@ pub fn whole_runs()
     ensures fails { (limits : Limits) (bs : List ℕ) (h : Header) (ms : List Message) (left : List ℕ) (given at : ℕ) (f : PacketFault) → SoFar limits bs h ms left given at →
         NextFault limits given at left f → FaultOf bs limits ms f ⊎ IsOfCall f }
 {}
+
+/// Bytes that begin with no whole message and no terminator have one fault of `next`. So a fault of
+/// the reader has one place too, where the bytes that came would be truncated.
+pub fn one_next_fault()
+    ensures { (limits : Limits) (given start : ℕ) (bs : List ℕ) (f other : PacketFault) → NextFault limits given start bs f → NextFault limits given start bs other →
+        (other ≡ f) ⊎ (IsOfCall f ⊎ IsOfCall other) }
+{}

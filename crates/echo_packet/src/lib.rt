@@ -6,8 +6,8 @@
 //!
 //! Modules in reading order: `header` (the 58 bytes in front), `packed` (one message), `limits`,
 //! `fault` (what may be wrong, and where), `field` (one field from a source), `message` (one
-//! message), `reader` (a packet, message by message), `reading` (a packet in a slice), `encoding` and
-//! `writer` (a packet is written), and `laws` (what holds of the definitions).
+//! message), `reader` (a packet, message by message), `reading` (a packet in a slice), `encoding`,
+//! `sending` and `writer` (a packet is written), and `laws` (what holds of the definitions).
 #![tactic(auto)]
 
 mod encoding;
@@ -20,15 +20,17 @@ mod message;
 mod packed;
 mod reader;
 mod reading;
+mod sending;
 mod writer;
 
 pub use fault::{Field, PacketFault};
 pub use header::Header;
-pub use laws::{header_laws, one_answer, whole_runs, written_packet_reads_back};
-pub use limits::Limits;
+pub use laws::{header_laws, one_answer, one_next_fault, whole_runs, written_packet_reads_back};
+pub use limits::{Limits, MAX_NAME, MAX_SUBJECT};
 pub use packed::Packed;
-pub use reader::PacketReader;
-pub use reading::{read_header, read_packet};
+pub use reader::{PacketReader, read_header};
+pub use reading::read_packet;
+pub use sending::{send_header, send_message, send_terminator};
 pub use writer::PacketWriter;
 
 #[cfg(test)]

@@ -1,3 +1,9 @@
+/// How many bytes a name may have before its 00 (FTS-0001).
+pub const MAX_NAME: usize = 35;
+
+/// How many bytes a subject may have before its 00 (FTS-0001).
+pub const MAX_SUBJECT: usize = 71;
+
 /// How much a reader takes: a text has at most `text` bytes, a packet at most `messages` messages.
 #[derive(Clone, Copy, Debug, PartialEq, Eq)]
 pub struct Limits {

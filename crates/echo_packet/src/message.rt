@@ -1,24 +1,19 @@
 //! One message, or the terminator, taken from a source field by field.
-ghost use Rattle.std.specs.Prelude.{◌≡◌, ℕ, ◌+◌, ◌<◌, ◌≤◌, List, ◌++◌, length, IfOk, IfErr, IfSome, OnOk};
+ghost use Rattle.std.specs.Prelude.{◌≡◌, ℕ, ◌+◌, ◌<◌, ◌≤◌, List, [], length, IfOk, IfErr, IfSome, OnOk};
 ghost use Rattle.std.specs.Io.KnownBytes.{Consumes};
-ghost use Rattle.echo_packet.specs.Header.{AreBytes, word};
-ghost use Rattle.echo_packet.specs.Message.{IsString, ended};
+ghost use Rattle.echo_packet.specs.Header.{AreBytes};
+ghost use Rattle.echo_packet.specs.Message.{IsString, zero_ended};
 ghost use Rattle.echo_packet.specs.Fault.{place_of};
-ghost use Rattle.echo_packet.specs.Field.{FixedFault, NameFault, TakesMessage, TextFault, name_fault_at, text_fault_at};
-ghost use Rattle.echo_packet.specs.Next.{CountsFailures, IsWithin, NextFault, TakesNext, next_bytes};
+ghost use Rattle.echo_packet.specs.Field.{FailsInField, FixedFault, IsOpen, IsShort, NameFault, TakesMessage, TextFault, name_fault_at, text_fault_at};
+ghost use Rattle.echo_packet.specs.Next.{CountsFailures, FailsBehind, FailsInMessage, IsWithin, NextFault, TakesNext, next_bytes};
 
 use crate::fault::PacketFault;
 use crate::field::{Broken, are_bytes, read_fixed, read_string};
 use crate::header::number_at;
-use crate::limits::Limits;
+use crate::limits::{Limits, MAX_NAME, MAX_SUBJECT};
 use crate::packed::{Packed, from_parts};
 use echo_device::Source;
 use std::alloc::Global;
-
-/// How many bytes a name, and how many the subject may have before the 00.
-const NAME: usize = 35;
-
-const SUBJECT: usize = 71;
 
 pub(crate) fn name_fault(broken: Broken, at: u64) -> PacketFault
     ensures { result ≡ name_fault_at at broken }
@@ -42,7 +37,7 @@ fn text_fault(broken: Broken, at: u64) -> PacketFault
 
 // Past a string and its 00. The greatest place stays.
 fn past_string(place: u64, string: &[u8]) -> u64
-    ensures { result ≡ place_of (place + length (ended string.now)) }
+    ensures { result ≡ place_of (place + length (zero_ended string.now)) }
 {
     place.saturating_add(string.len() as u64).saturating_add(1)
 }
@@ -53,6 +48,7 @@ fn fixed_at<R: Source>(reader: &mut R, field: &mut [u8], place: &mut u64) -> Res
     ensures taken { OnOk result (Consumes (R.remaining reader.old) (R.remaining reader.new) field.new) }
     ensures place { OnOk result (place.new ≡ place_of (place.old + length field.new)) }
     ensures fault { IfSome (R.remaining reader.old) (λ bs. IfErr result (FixedFault (length field.old) place.old bs)) }
+    ensures inside { IfErr result (FailsInField (IsShort (length field.old)) place.old (R.remaining reader.old) (R.remaining reader.new)) }
     ensures device { CountsFailures result (R.failures reader.old) (R.failures reader.new) }
 {
     let read = read_fixed(reader, field);
@@ -74,9 +70,10 @@ fn name_at<R: Source>(
     place: &mut u64,
 ) -> Result<Vec<u8>, PacketFault>
     ensures found { IfOk result (λ s. IsString most s.items) }
-    ensures taken { IfOk result (λ s. Consumes (R.remaining reader.old) (R.remaining reader.new) (ended s.items)) }
-    ensures place { IfOk result (λ s. place.new ≡ place_of (place.old + length (ended s.items))) }
+    ensures taken { IfOk result (λ s. Consumes (R.remaining reader.old) (R.remaining reader.new) (zero_ended s.items)) }
+    ensures place { IfOk result (λ s. place.new ≡ place_of (place.old + length (zero_ended s.items))) }
     ensures fault { IfSome (R.remaining reader.old) (λ bs. IfErr result (NameFault most place.old bs)) }
+    ensures inside { IfErr result (FailsInField (IsOpen most) place.old (R.remaining reader.old) (R.remaining reader.new)) }
     ensures device { CountsFailures result (R.failures reader.old) (R.failures reader.new) }
 {
     match read_string(alloc, reader, most) {
@@ -96,9 +93,10 @@ fn text_at<R: Source>(
     place: &mut u64,
 ) -> Result<Vec<u8>, PacketFault>
     ensures found { IfOk result (λ s. IsString most s.items) }
-    ensures taken { IfOk result (λ s. Consumes (R.remaining reader.old) (R.remaining reader.new) (ended s.items)) }
-    ensures place { IfOk result (λ s. place.new ≡ place_of (place.old + length (ended s.items))) }
+    ensures taken { IfOk result (λ s. Consumes (R.remaining reader.old) (R.remaining reader.new) (zero_ended s.items)) }
+    ensures place { IfOk result (λ s. place.new ≡ place_of (place.old + length (zero_ended s.items))) }
     ensures fault { IfSome (R.remaining reader.old) (λ bs. IfErr result (TextFault most place.old bs)) }
+    ensures inside { IfErr result (FailsInField (IsOpen most) place.old (R.remaining reader.old) (R.remaining reader.new)) }
     ensures device { CountsFailures result (R.failures reader.old) (R.failures reader.new) }
 {
     match read_string(alloc, reader, most) {
@@ -118,16 +116,16 @@ fn read_fields<R: Source>(
     place: &mut u64,
 ) -> Result<Packed, PacketFault>
     ensures whole { (start : ℕ) → place.old ≡ place_of (start + 2) → IfOk result (λ m. TakesMessage limits.text start (R.remaining reader.old) (R.remaining reader.new) m place.new) }
-    ensures fault { (given start : ℕ) → given < limits.messages → place.old ≡ place_of (start + 2) → IfSome (R.remaining reader.old) (λ bs. IfErr result (NextFault limits given start (word 2 ++ bs))) }
+    ensures fails { (given start : ℕ) → given < limits.messages → place.old ≡ place_of (start + 2) → IfErr result (FailsBehind limits given start (R.remaining reader.old) (R.remaining reader.new)) }
     ensures device { CountsFailures result (R.failures reader.old) (R.failures reader.new) }
 {
     let mut numbers = [0u8; 12];
     fixed_at(reader, &mut numbers, place)?;
     let mut date = [0u8; 20];
     fixed_at(reader, &mut date, place)?;
-    let to_name = name_at(alloc, reader, NAME, place)?;
-    let from_name = name_at(alloc, reader, NAME, place)?;
-    let subject = name_at(alloc, reader, SUBJECT, place)?;
+    let to_name = name_at(alloc, reader, MAX_NAME, place)?;
+    let from_name = name_at(alloc, reader, MAX_NAME, place)?;
+    let subject = name_at(alloc, reader, MAX_SUBJECT, place)?;
     let text = text_at(alloc, reader, limits.text, place)?;
     Ok(from_parts(
         number_at(&numbers, 0),
@@ -158,6 +156,7 @@ pub(crate) fn read_next<R: Source>(
     ensures taken { TakesNext (R.remaining reader.old) (R.remaining reader.new) result }
     ensures place { IfOk result (λ next. place.new ≡ place_of (place.old + length (next_bytes next))) }
     ensures fault { IfSome (R.remaining reader.old) (λ bs. IfErr result (NextFault limits given place.old bs)) }
+    ensures inside { IfErr result (FailsInMessage limits given place.old [] (R.remaining reader.old) (R.remaining reader.new)) }
     ensures device { CountsFailures result (R.failures reader.old) (R.failures reader.new) }
 {
     let start = *place;

@@ -1,14 +1,15 @@
 ghost use Rattle.std.specs.Prelude.{◌≡◌, ◌↔◌, length, IsTrue, IfOk, IfErr, IfSome, IsNone, Err, Some};
 ghost use Rattle.echo_packet.specs.Header.{AreBytes};
-ghost use Rattle.echo_packet.specs.Message.{Message, IsMessage, IsString, AreStrings, IsFirstBad};
+ghost use Rattle.echo_packet.specs.Message.{Message, IsMessage, IsString, AreStrings, IsFirstBad, max_name, max_subject};
 ghost use Rattle.echo_packet.specs.declared.fault.Field.{Field};
 ghost use Rattle.echo_packet.specs.declared.fault.PacketFault.TheVariants.{BadField};
 
 use crate::fault::{Field, PacketFault};
+use crate::limits::{MAX_NAME, MAX_SUBJECT};
 use std::marker::Model;
 
-/// A packed message: three strings and a text without 00, of which the names have at most 35 bytes
-/// and the subject at most 71.
+/// A packed message: three strings and a text without 00, of which the names have at most `MAX_NAME`
+/// bytes and the subject at most `MAX_SUBJECT`.
 #[derive(Debug, Drop)]
 pub struct Packed {
     orig_node: u16,
@@ -53,9 +54,9 @@ pub(crate) fn from_parts(
     text: Vec<u8>,
 ) -> Packed
     requires date { AreBytes date }
-    requires to_name { IsString 35 to_name.items }
-    requires from_name { IsString 35 from_name.items }
-    requires subject { IsString 71 subject.items }
+    requires to_name { IsString max_name to_name.items }
+    requires from_name { IsString max_name from_name.items }
+    requires subject { IsString max_subject subject.items }
     requires text { IsString (length text.items) text.items }
     ensures { result ≡ record { orig_node = orig_node; dest_node = dest_node; orig_net = orig_net; dest_net = dest_net; attribute = attribute; cost = cost; date = date; to_name = to_name.items; from_name = from_name.items; subject = subject.items; text = text.items } }
 {
@@ -84,11 +85,11 @@ fn first_bad(to_name: &[u8], from_name: &[u8], subject: &[u8], text: &[u8]) -> O
     ensures found { IfSome result (IsFirstBad to_name.now from_name.now subject.now text.now) }
     ensures none { IsNone result → AreStrings to_name.now from_name.now subject.now text.now }
 {
-    if !is_string(to_name, 35) {
+    if !is_string(to_name, MAX_NAME) {
         Some(Field::ToName)
-    } else if !is_string(from_name, 35) {
+    } else if !is_string(from_name, MAX_NAME) {
         Some(Field::FromName)
-    } else if !is_string(subject, 71) {
+    } else if !is_string(subject, MAX_SUBJECT) {
         Some(Field::Subject)
     } else if !is_string(text, text.len()) {
         Some(Field::Text)
@@ -102,7 +103,7 @@ impl Packed {
     /// strings without their 00.
     ///
     /// It is `BadField` of the first of the names, the subject and the text that holds 00 or is too
-    /// long: a name may have 35 bytes, a subject 71, a text any number.
+    /// long: a name may have `MAX_NAME` bytes, a subject `MAX_SUBJECT`, a text any number.
     #[allow(clippy::too_many_arguments)]
     pub fn new(
         orig_node: u16,

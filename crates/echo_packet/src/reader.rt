@@ -5,6 +5,7 @@ mod calls;
 
 use crate::header::Header;
 use crate::limits::Limits;
+pub use calls::read_header;
 use std::alloc::Global;
 
 /// What the next call meets.

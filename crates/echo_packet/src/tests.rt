@@ -42,7 +42,7 @@ fn reads_a_packet(rt: HostRuntime) -> Result<(), Fail> {
         (header.baud, header.prod_code, header.serial_no),
         (0, 0, 0)
     );
-    assert_eq!(rt; read_header(&SIXTY)?, header);
+    assert_eq!(rt; read_header(&mut &SIXTY[..])?, header);
     Ok(())
 }
 
@@ -118,10 +118,7 @@ fn fault_texts(rt: HostRuntime) -> Result<(), Fail> {
             PacketFault::TooManyMessages { at: 58 },
             "P10 TooManyMessages at 58",
         ),
-        (
-            PacketFault::BadField(Field::Subject),
-            "P11 BadField subject",
-        ),
+        (PacketFault::BadField(Field::Subject), "P11 BadField"),
     ] {
         assert_eq!(rt; fault.to_string(alloc)?.as_str(), text);
     }

@@ -3,14 +3,14 @@ ghost use Rattle.std.specs.Io.KnownBytes.{Appends};
 ghost use Rattle.echo_device.specs.Device.{Failed, Sends};
 ghost use Rattle.echo_packet.specs.declared.fault.PacketFault.TheVariants.{Stopped, Write};
 ghost use Rattle.echo_packet.specs.Header.{IsHeader, header_bytes, word};
-ghost use Rattle.echo_packet.specs.Message.{IsMessage, ended, message_bytes};
+ghost use Rattle.echo_packet.specs.Message.{IsMessage, message_bytes};
 ghost use Rattle.echo_packet.specs.Writer.{IsLost, bytes_sent, has_stopped, writer_below};
 
-use crate::encoding::{fixed_bytes, write_header};
 use crate::fault::PacketFault;
-use crate::header::{HEADER_BYTES, Header};
+use crate::header::Header;
 use crate::packed::Packed;
-use echo_device::{Failure, Sink, send};
+use crate::sending::{send_header, send_message, send_terminator};
+use echo_device::{Failure, Sink};
 
 /// Writes a packet: its header, messages one by one, and the terminator (FTS-0001). It takes no
 /// memory.
@@ -19,30 +19,6 @@ pub struct PacketWriter<W> {
     writer: W,
     sent: u64,
     stopped: bool,
-}
-
-// A string and the 00 that ends it.
-fn send_string<W: Sink>(writer: &mut W, string: &[u8], sent: &mut u64) -> Result<(), Failure>
-    ensures bytes { Sends (W.contents writer.old) (W.contents writer.new) result (ended string.now) sent.old sent.new }
-    ensures ok { OnOk result (W.failures writer.new ≡ W.failures writer.old) }
-    ensures err { OnErr result (Failed (W.failures writer.old) (W.failures writer.new)) }
-{
-    send(writer, string, sent)?;
-    send(writer, &[0], sent)
-}
-
-// The bytes of a message.
-fn send_message<W: Sink>(writer: &mut W, message: &Packed, sent: &mut u64) -> Result<(), Failure>
-    ensures bytes { Sends (W.contents writer.old) (W.contents writer.new) result (message_bytes message.now) sent.old sent.new }
-    ensures ok { OnOk result (W.failures writer.new ≡ W.failures writer.old) }
-    ensures err { OnErr result (Failed (W.failures writer.old) (W.failures writer.new)) }
-    ensures message { OnOk result (IsMessage (length message.now.text) message.now) }
-{
-    send(writer, &fixed_bytes(message), sent)?;
-    send_string(writer, message.to_name(), sent)?;
-    send_string(writer, message.from_name(), sent)?;
-    send_string(writer, message.subject(), sent)?;
-    send_string(writer, message.text(), sent)
 }
 
 impl<W: Sink + Drop> PacketWriter<W> {
@@ -57,9 +33,7 @@ impl<W: Sink + Drop> PacketWriter<W> {
     {
         let mut writer = writer;
         let mut sent = 0;
-        let mut bytes = [0u8; HEADER_BYTES];
-        write_header(header, &mut bytes);
-        match send(&mut writer, &bytes, &mut sent) {
+        match send_header(&mut writer, header, &mut sent) {
             Ok(()) => Ok(PacketWriter {
                 writer,
                 sent,
@@ -106,7 +80,7 @@ impl<W: Sink + Drop> PacketWriter<W> {
         }
         let mut writer = self.writer;
         let mut sent = self.sent;
-        match send(&mut writer, &[0, 0], &mut sent) {
+        match send_terminator(&mut writer, &mut sent) {
             Ok(()) => Ok(writer),
             Err(Failure) => Err(PacketFault::Write { bytes: sent }),
         }

@@ -1,11 +1,12 @@
 //! Opening a packet, and its next message.
-ghost use Rattle.std.specs.Prelude.{◌≡◌, ◌+◌, length, Ok, Err, None, IfOk, IfErr, IfSome};
+ghost use Rattle.std.specs.Prelude.{◌≡◌, ◌+◌, [], length, Ok, Err, None, IfOk, IfErr, IfSome};
 ghost use Rattle.std.specs.Io.KnownBytes.{Consumes};
 ghost use Rattle.echo_packet.specs.declared.fault.PacketFault.TheVariants.{Stopped};
 ghost use Rattle.echo_packet.specs.Header.{IsHeader, header_bytes};
 ghost use Rattle.echo_packet.specs.Fault.{place_of};
-ghost use Rattle.echo_packet.specs.Next.{CountsFailures, IsWithin, NextFault, TakesNext, next_bytes};
-ghost use Rattle.echo_packet.specs.Reader.{FailedOnce, FrontFault, GoesOn, IsEnded, IsReading, IsStopped, KeepsFront, reader_given, reader_header, reader_limits, reader_place, reader_source};
+ghost use Rattle.echo_packet.specs.Field.{FailsInField, IsShort};
+ghost use Rattle.echo_packet.specs.Next.{CountsFailures, FailsInMessage, IsWithin, NextFault, TakesNext, next_bytes};
+ghost use Rattle.echo_packet.specs.Reader.{FrontFault, GoesOn, IsDropped, IsEnded, IsReading, IsStopped, KeepsFront, reader_given, reader_header, reader_limits, reader_place, reader_source};
 
 use crate::fault::PacketFault;
 use crate::field::{are_bytes, read_fixed};
@@ -17,11 +18,15 @@ use crate::reader::{PacketReader, Stage};
 use echo_device::Source;
 use std::alloc::Global;
 
-// The header at the front of what the source has.
-fn read_front<R: Source>(source: &mut R) -> Result<Header, PacketFault>
+/// The header at the front of what the source has, and no byte more.
+///
+/// It is `Truncated` at 0 where fewer than 58 bytes come, `NotType2` at 18 where these hold another
+/// packet type, and `Read` at 0 where the device failed.
+pub fn read_header<R: Source>(source: &mut R) -> Result<Header, PacketFault>
     ensures header { IfOk result IsHeader }
     ensures taken { IfOk result (λ h. Consumes (R.remaining source.old) (R.remaining source.new) (header_bytes h)) }
     ensures fault { IfSome (R.remaining source.old) (λ bs. IfErr result (FrontFault bs)) }
+    ensures inside { IfErr result (FailsInField (IsShort 58) 0 (R.remaining source.old) (R.remaining source.new)) }
     ensures device { CountsFailures result (R.failures source.old) (R.failures source.new) }
 {
     let mut bytes = [0u8; HEADER_BYTES];
@@ -38,10 +43,7 @@ fn read_front<R: Source>(source: &mut R) -> Result<Header, PacketFault>
 }
 
 impl<R: Source> PacketReader<R> {
-    /// Reads the header, and no byte more.
-    ///
-    /// It is `Truncated` at 0 where fewer than 58 bytes come, `NotType2` at 18 where these hold
-    /// another packet type, and `Read` at 0 where the device failed. The source is dropped then.
+    /// Reads the header by `read_header`, whose faults it gives. The source is dropped then.
     pub fn open(alloc: Global, reader: R, limits: Limits) -> Result<PacketReader<R>, PacketFault>
     where
         R: Drop,
@@ -50,10 +52,10 @@ impl<R: Source> PacketReader<R> {
         ensures begins { IfOk result (λ p. IsReading p × (reader_given p ≡ 0) × (reader_place p ≡ 58) × (reader_limits p ≡ limits)) }
         ensures device { IfOk result (λ p. R.failures (reader_source p) ≡ R.failures reader) }
         ensures fault { IfSome (R.remaining reader) (λ bs. IfErr result (FrontFault bs)) }
-        ensures failed { IfErr result (FailedOnce R.failures reader) }
+        ensures failed { IfErr result (IsDropped R.remaining R.failures reader) }
     {
         let mut source = reader;
-        let header = read_front(&mut source)?;
+        let header = read_header(&mut source)?;
         Ok(PacketReader {
             alloc,
             source,
@@ -75,6 +77,7 @@ impl<R: Source> PacketReader<R> {
         ensures place { IsReading self.old → IfOk result (λ next. reader_place self.new ≡ place_of (reader_place self.old + length (next_bytes next))) }
         ensures goes_on { IsReading self.old → GoesOn self.old self.new result }
         ensures fault { IsReading self.old → IfSome (R.remaining (reader_source self.old)) (λ bs. IfErr result (NextFault (reader_limits self.old) (reader_given self.old) (reader_place self.old) bs)) }
+        ensures inside { IsReading self.old → IfErr result (FailsInMessage (reader_limits self.old) (reader_given self.old) (reader_place self.old) [] (R.remaining (reader_source self.old)) (R.remaining (reader_source self.new))) }
         ensures ended { IsEnded self.old → (result ≡ Ok None) × (self.new ≡ self.old) }
         ensures stopped { IsStopped self.old → (result ≡ Err Stopped) × (self.new ≡ self.old) }
         ensures front { KeepsFront self.old self.new }

@@ -54,7 +54,7 @@ fn first_message(alloc: Global) -> Result<Packed, Fail> {
 
 // The packet with this message, written to the device.
 fn write_packet<W: Sink + Drop>(device: W, message: &Packed) -> Result<W, PacketFault> {
-    let header = read_header(&FIRST)?;
+    let header = read_header(&mut &FIRST[..])?;
     let mut packet = PacketWriter::begin(device, &header)?;
     packet.put(message)?;
     packet.finish()
@@ -93,7 +93,7 @@ fn failing_writers_are_told(rt: HostRuntime) -> Result<(), Fail> {
 #[test]
 fn stops_after_a_fault(rt: HostRuntime) -> Result<(), Fail> {
     let message = first_message(rt.alloc())?;
-    let header = read_header(&FIRST)?;
+    let header = read_header(&mut &FIRST[..])?;
     let mut out = [0u8; 212];
     let device = Watched::new(Trial::new(&mut out[..], 212, 0, 100));
     let mut packet = PacketWriter::begin(device, &header)?;

@@ -1,5 +1,5 @@
 use Rattle.std.proofs.Common.{◌∙◌, arith}
-use Rattle.echo_packet.proofs.Words.{little_bytes-words}
+use Rattle.echo_packet.proofs.LittleEndian.{little_bytes-words}
 use Rattle.echo_packet.proofs.encoding.write_numbers.Goals as goal
 
 pub returns : goal.returns

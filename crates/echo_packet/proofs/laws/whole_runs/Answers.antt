@@ -1,4 +1,4 @@
-use Rattle.echo_packet.proofs.Runs.{run-opens, run-gives, run-ends, run-fails}
+use Rattle.echo_packet.proofs.MessageByMessage.{run-opens, run-gives, run-ends, run-fails}
 use Rattle.echo_packet.proofs.laws.whole_runs.Goals as goal
 
 pub returns-clause-opens : goal.returns-clause-opens

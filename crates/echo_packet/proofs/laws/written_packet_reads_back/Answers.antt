@@ -1,4 +1,4 @@
-use Rattle.std.proofs.Common.{◌++◌, length, sym, arith, length-append}
+use Rattle.std.proofs.Common.{arith, length-append}
 use Rattle.std.proofs.Math.Seq.{take-append_seam}
 use Rattle.echo_packet.specs.Packet.{packet_bytes}
 use Rattle.echo_packet.proofs.laws.written_packet_reads_back.Goals as goal

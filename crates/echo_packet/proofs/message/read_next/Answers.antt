@@ -1,16 +1,15 @@
-use Rattle.std.proofs.Common.{◌≡◌, ◌≢◌, ◌∙◌, ◌<◌, ◌^◌, ap, sym, arith, Err}
-use Rattle.echo_packet.specs.Header.{number_at}
+use Rattle.std.proofs.Common.{◌∙◌, ap, sym, arith, [], Err}
 use Rattle.std.proofs.lemmas.Result.{err_from_is_err_and}
-use Rattle.echo_packet.specs.Next.{NextFault}
-use Rattle.echo_packet.proofs.Fields.{at_exit}
-use Rattle.echo_packet.proofs.Numbers.{number-cut, number-other, number-many, number-then, takes-whole}
+use Rattle.echo_packet.specs.Next.{FailsInMessage, NextFault}
+use Rattle.echo_packet.proofs.FieldsSoFar.{at_exit, at_exit_if}
+use Rattle.echo_packet.proofs.NextNumber.{number-cut, number-inside, then-inside, number-other, number-many, number-then, takes-whole}
 use Rattle.echo_packet.proofs.message.read_next.Goals as goal
 
 pub returns-in_err-fixed_at-clause-fault : goal.returns-in_err-fixed_at-clause-fault
 returns-in_err-fixed_at-clause-fault g c =
     let start = c.args.place.now in
     let p = err_from_is_err_and c.from_residual.result c.from_residual.ensures.1 in
-    at_exit _ c.from_residual.result _ (NextFault c.args.limits c.args.given start) (p.1 ∙ ap Err p.2)
+    at_exit_if _ c.from_residual.result _ (NextFault c.args.limits c.args.given start) (p.1 ∙ ap Err p.2)
     (number-cut c.args.limits c.args.given start _ _ (omega arith) c.in_err-fixed_at.ensures.fault)
 
 pub returns-then-given-limits-clause-fault : goal.returns-then-given-limits-clause-fault
@@ -21,11 +20,26 @@ returns-then-given-limits-clause-fault g c =
 pub returns-in_err-message-clause-fault : goal.returns-in_err-message-clause-fault
 returns-in_err-message-clause-fault g c =
     let start = c.args.place.now in
-    let behind = c.in_err-message.ensures.fault c.args.given start c.if-given-limits.false (omega (arith, c.in_ok-fixed_at.ensures.place)) in
+    let behind = c.in_err-message.ensures.fails c.args.given start c.if-given-limits.false (omega (arith, c.in_ok-fixed_at.ensures.place)) in
     let p = err_from_is_err_and c.from_residual-in_err-message.result c.from_residual-in_err-message.ensures.1 in
-    at_exit _ c.from_residual-in_err-message.result _ (NextFault c.args.limits c.args.given start) (p.1 ∙ ap Err p.2)
+    at_exit_if _ c.from_residual-in_err-message.result _ (NextFault c.args.limits c.args.given start) (p.1 ∙ ap Err p.2)
     (number-then c.args.limits c.args.given start _ _ c.fixed_at.new.field _ c.fixed_at.ensures.bytes (omega arith) c.in_ok-fixed_at.ensures.taken
-    (sym c.number_at-number.ensures ∙ c.if-number-ne2.false) behind)
+    (sym c.number_at-number.ensures ∙ c.if-number-ne2.false) behind.fault)
+
+pub returns-in_err-fixed_at-clause-inside : goal.returns-in_err-fixed_at-clause-inside
+returns-in_err-fixed_at-clause-inside g c =
+    let p = err_from_is_err_and c.from_residual.result c.from_residual.ensures.1 in
+    at_exit c.from_residual.result _ (FailsInMessage c.args.limits c.args.given c.args.place.now [] _ _) (p.1 ∙ ap Err p.2)
+    (number-inside c.args.limits c.args.given c.args.place.now _ _ _ (omega arith) c.in_err-fixed_at.ensures.inside)
+
+pub returns-in_err-message-clause-inside : goal.returns-in_err-message-clause-inside
+returns-in_err-message-clause-inside g c =
+    let start = c.args.place.now in
+    let behind = c.in_err-message.ensures.fails c.args.given start c.if-given-limits.false (omega (arith, c.in_ok-fixed_at.ensures.place)) in
+    let p = err_from_is_err_and c.from_residual-in_err-message.result c.from_residual-in_err-message.ensures.1 in
+    at_exit c.from_residual-in_err-message.result _ (FailsInMessage c.args.limits c.args.given start [] _ _) (p.1 ∙ ap Err p.2)
+    (then-inside c.args.limits c.args.given start _ _ _ c.fixed_at.new.field _ c.fixed_at.ensures.bytes (omega arith) c.in_ok-fixed_at.ensures.taken
+    (sym c.number_at-number.ensures ∙ c.if-number-ne2.false) behind.inside)
 
 pub returns-then-number-ne2-clause-fault : goal.returns-then-number-ne2-clause-fault
 returns-then-number-ne2-clause-fault g c =

@@ -1,9 +1,8 @@
-use Rattle.std.proofs.Common.{◌≡◌, ◌∙◌, ◌^◌, ◌<◌, Option, Err, Ok, inr, sym, subst, length, arith}
+use Rattle.std.proofs.Common.{Option, inr, subst, arith}
 use Rattle.std.proofs.lemmas.Result.{err_from_is_err_and}
-use Rattle.echo_packet.specs.Answer.{Describes, given}
 use Rattle.echo_packet.specs.Message.{Message}
 use Rattle.echo_packet.specs.Next.{NextFault}
-use Rattle.echo_packet.proofs.Slices.{IsJudged, slice-opens, slice-gives, slice-ends, slice-fails}
+use Rattle.echo_packet.proofs.Slices.{slice-opens, slice-gives, slice-ends, slice-fails}
 use Rattle.echo_packet.proofs.reading.read_messages.Goals as goal
 
 pub messages-init : goal.messages-init

@@ -1,5 +1,5 @@
 -- A packet read message by message is what the definitions say of its bytes.
-use Rattle.std.proofs.Common.{◌≡◌, ◌≢◌, ℕ, ◌+◌, ◌<◌, ◌≤◌, ◌⊎◌, min, List, [], ◌∷◌, ◌++◌, Option, None, Some, Result, Ok, Err, length, take, refl, sym, ap, ◌∙◌, subst, inl, inr, arith}
+use Rattle.std.proofs.Common.{◌≡◌, ℕ, ◌+◌, ◌<◌, ◌⊎◌, List, [], ◌∷◌, ◌++◌, Ok, length, take, refl, sym, ap, ◌∙◌, subst, inl, inr, arith}
 use Rattle.std.proofs.lemmas.List.{length-append, take_at, append_assoc, append-nil}
 use Rattle.std.specs.List.{AllByRecursion}
 use Rattle.echo_packet.specs.declared.header.Header.{Header}
@@ -7,8 +7,8 @@ use Rattle.echo_packet.specs.declared.limits.Limits.{Limits}
 use Rattle.echo_packet.specs.declared.fault.PacketFault.{PacketFault}
 use Rattle.echo_packet.specs.declared.fault.PacketFault.TheVariants as fault
 use Rattle.echo_packet.specs.Header.{header_bytes, IsHeader, word}
-use Rattle.echo_packet.specs.Message.{Message, Part, Number, before, message_bytes, messages_bytes, IsMessage, AreMessages}
-use Rattle.echo_packet.specs.Packet.{packet_bytes, PacketOf}
+use Rattle.echo_packet.specs.Message.{Message, Part, message_bytes, messages_bytes, IsMessage}
+use Rattle.echo_packet.specs.Packet.{packet_bytes}
 use Rattle.echo_packet.specs.Fault.{AtField, FaultOf, IsCut, IsLongField, IsLongText, IsOtherNumber, IsOneTooMany, place_of}
 use Rattle.echo_packet.specs.Answer.{Describes}
 use Rattle.echo_packet.specs.Next.{AtPart, NextFault}

@@ -1,9 +1,8 @@
-use Rattle.std.proofs.Common.{◌≡◌, ◌∙◌, sym, subst, arith}
-use Rattle.echo_packet.specs.Header.{IsHeader, header_bytes}
-use Rattle.std.specs.Io.KnownBytes.{Consumes}
+use Rattle.std.proofs.Common.{◌∙◌, sym, subst, arith}
+use Rattle.echo_packet.specs.Header.{IsHeader}
 use Rattle.echo_packet.proofs.Headers.{IsHeader-header_of}
 use Rattle.echo_packet.proofs.Fronts.{front-taken}
-use Rattle.echo_packet.proofs.reader.calls.read_front.Goals as goal
+use Rattle.echo_packet.proofs.reader.calls.read_header.Goals as goal
 
 pub returns-clause-header : goal.returns-clause-header
 returns-clause-header g c = subst IsHeader (sym c.header_of.ensures) (IsHeader-header_of c.read_fixed-read.new.field c.are_bytes.ensures (omega arith))

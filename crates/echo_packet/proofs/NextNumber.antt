@@ -1,5 +1,5 @@
 -- The number that stands where a message or the terminator begins.
-use Rattle.std.proofs.Common.{◌≡◌, ◌≢◌, ℕ, ◌+◌, ◌^◌, ◌<◌, ◌≤◌, min, List, [], ◌++◌, Option, None, Some, IfSome, length, get_or, take, refl, sym, ap, ◌∙◌, subst, arith}
+use Rattle.std.proofs.Common.{◌≡◌, ◌≢◌, ℕ, ◌^◌, ◌<◌, List, [], ◌++◌, Option, None, Some, IfSome, length, refl, sym, ap, ◌∙◌, subst, arith}
 use Rattle.std.proofs.lemmas.List.{length-append, get_or_append_left, take_all}
 use Rattle.std.specs.Io.KnownBytes.{Consumes}
 use Rattle.std.proofs.KnownBytes.{Consumes-trans}
@@ -8,11 +8,11 @@ use Rattle.echo_packet.specs.declared.fault.PacketFault.{PacketFault}
 use Rattle.echo_packet.specs.declared.fault.PacketFault.TheVariants as fault
 use Rattle.echo_packet.specs.Header.{AreBytes, word, number_at}
 use Rattle.echo_packet.specs.Message.{Message, Part, Number, message_bytes}
-use Rattle.echo_packet.specs.Fault.{IsCut, IsOtherNumber, IsOneTooMany, place_of}
-use Rattle.echo_packet.specs.Field.{FixedFault, TakesMessage}
-use Rattle.echo_packet.specs.Next.{AtPart, IsUnfinished, NextFault}
+use Rattle.echo_packet.specs.Fault.{IsCut, IsOtherNumber, IsOneTooMany}
+use Rattle.echo_packet.specs.Field.{FailsInField, FixedFault, IsShort, TakesMessage}
+use Rattle.echo_packet.specs.Next.{AtPart, FailsInMessage, NextFault}
 use Rattle.echo_packet.proofs.Headers.{word-number}
-use Rattle.echo_packet.proofs.Fields.{numbered, numbered-fits, Consumes-known, Consumes-front}
+use Rattle.echo_packet.proofs.FieldsSoFar.{numbered, numbered-fits, Consumes-known, Consumes-front}
 
 -- the number itself is at fault
 at_number : (limits : Limits) (given start at : ℕ) (bs : List ℕ) (Wrong : Part → List ℕ → Type 0) → start < 2 ^ 64 → at ≡ start → Wrong Number bs
@@ -30,7 +30,7 @@ at_number limits given start at bs Wrong fits here wrong = record {
 
 number_told : (limits : Limits) (given start : ℕ) (bs : List ℕ) (f : PacketFault) → start < 2 ^ 64 → FixedFault 2 start bs f → NextFault limits given start bs f
 number_told limits given start bs (fault.Truncated at) fits h = at_number limits given start at bs (IsCut limits) fits h.0 h.1
-number_told limits given start bs (fault.Read at) fits h = at_number limits given start at bs (IsUnfinished limits) fits h.0 h.1
+number_told limits given start bs (fault.Read at) fits h = tt
 number_told limits given start bs (fault.FieldTooLong at) fits h = absurd h.1
 number_told limits given start bs (fault.TextTooLong at) fits h = absurd h.1
 number_told limits given start bs fault.Memory fits h = tt
@@ -46,6 +46,12 @@ pub number-cut : (limits : Limits) (given start : ℕ) (a : Option (List ℕ)) (
     → IfSome a (λ bs. NextFault limits given start bs f)
 number-cut limits given start None f fits h = tt
 number-cut limits given start (Some bs) f fits h = number_told limits given start bs f fits h
+
+-- the device failed inside the number
+pub number-inside : (limits : Limits) (given start : ℕ) (a b : Option (List ℕ)) (f : PacketFault) → start < 2 ^ 64 → FailsInField (IsShort 2) start a b f
+    → FailsInMessage limits given start [] a b f
+number-inside limits given start a b (fault.Read at) fits (here, (part, came, cut)) = (part, came, at_number limits given start at part (IsCut limits) fits here cut)
+number-inside limits given start a b _ fits _ = tt
 
 -- the number at the front
 pub number_at-front : (ns r : List ℕ) → length ns ≡ 2 → number_at 0 (ns ++ r) ≡ number_at 0 ns
@@ -81,6 +87,14 @@ number-then limits given start a b ns f bytes size took two wrong =
     let is : ns ≡ word 2 = number-bytes ns bytes size ∙ ap word two in
     Consumes-known a b ns (λ bs. NextFault limits given start (word 2 ++ bs) f) (λ bs. NextFault limits given start bs f) took wrong
     (λ bs r split h. subst (λ x. NextFault limits given start x f) (sym (split ∙ ap (λ t. t ++ r) is)) h)
+
+-- the device failed inside a field after the number 2
+pub then-inside : (limits : Limits) (given start : ℕ) (a b c : Option (List ℕ)) (ns : List ℕ) (f : PacketFault) → AreBytes ns → length ns ≡ 2 → Consumes a b ns
+    → number_at 0 ns ≡ 2 → FailsInMessage limits given start (word 2) b c f → FailsInMessage limits given start [] a c f
+then-inside limits given start a b c ns (fault.Read at) bytes size took two (came, lost, cut) =
+    let is : ns ≡ word 2 = number-bytes ns bytes size ∙ ap word two in
+    (ns ++ came, Consumes-trans a b c ns came took lost, subst (λ t. AtPart limits given start (t ++ came) at (IsCut limits)) (sym is) cut)
+then-inside limits given start a b c ns _ bytes size took two _ = tt
 
 -- the number 2 and then the rest of a message
 pub takes-whole : (most start at : ℕ) (a b c : Option (List ℕ)) (ns : List ℕ) (m : Message) → AreBytes ns → length ns ≡ 2 → Consumes a b ns

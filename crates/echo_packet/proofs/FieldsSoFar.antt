@@ -1,6 +1,7 @@
 -- The fields of a message that came so far, and the fault of the next one.
-use Rattle.std.proofs.Common.{◌≡◌, ◌≢◌, ℕ, zero, suc, replicate, ◌+◌, ◌^◌, ◌<◌, ◌≤◌, min, List, [], ◌∷◌, ◌++◌, Option, None, Some, IfSome, Result, Err, length, take, drop, refl, sym, ap, ◌∙◌, subst, arith}
-use Rattle.std.proofs.lemmas.List.{length-append, take_at, append-nil, take_all}
+use Rattle.std.proofs.Common.{◌≡◌, ◌≢◌, ℕ, zero, suc, replicate, ◌+◌, ◌<◌, List, [], ◌++◌, Option, None, Some, IfSome, Result, Err, length, take, drop, refl, sym, ap, ◌∙◌, subst, arith}
+use Rattle.std.proofs.lemmas.List.{length-append, take_all}
+use Rattle.std.proofs.lemmas.List.Elements.{All-nil}
 use Rattle.std.specs.Prelude.{IfErr}
 use Rattle.std.specs.Io.KnownBytes.{Consumes}
 use Rattle.std.proofs.KnownBytes.{Consumes-nil, Consumes-trans}
@@ -8,10 +9,10 @@ use Rattle.echo_packet.specs.declared.limits.Limits.{Limits}
 use Rattle.echo_packet.specs.declared.fault.PacketFault.{PacketFault}
 use Rattle.echo_packet.specs.declared.fault.PacketFault.TheVariants as fault
 use Rattle.echo_packet.specs.Header.{AreBytes, word, number_at}
-use Rattle.echo_packet.specs.Message.{Message, Part, Number, Numbers, DateTime, ToName, FromName, Subject, Text, IsString, IsMessage, before, ended, numbers, message_bytes}
+use Rattle.echo_packet.specs.Message.{Message, Part, Number, Numbers, DateTime, ToName, FromName, Subject, Text, IsString, IsMessage, before, zero_ended, numbers, message_bytes, max_name, max_subject}
 use Rattle.echo_packet.specs.Fault.{IsCut, IsLongField, IsLongText, IsTooLong, place_of}
-use Rattle.echo_packet.specs.Field.{FieldFault, FixedFault, NameFault, TextFault, IsShort, IsOpen, Never, Begin, TakesMessage}
-use Rattle.echo_packet.specs.Next.{AtPart, IsUnfinished, NextFault}
+use Rattle.echo_packet.specs.Field.{FieldFault, IsShort, IsOpen, Never, FailsInField, TakesMessage}
+use Rattle.echo_packet.specs.Next.{AtPart, FailsBehind, FailsInMessage, NextFault}
 use Rattle.echo_packet.proofs.Headers.{word-number, word_then, number_at-fits}
 
 -- a message of these six numbers, its other fields empty
@@ -37,7 +38,7 @@ zeros_are_bytes (suc n) zero = omega arith
 zeros_are_bytes (suc n) (suc i) = zeros_are_bytes n i
 
 pub empty_string : (most : ℕ) → IsString most []
-empty_string most = record { bytes = λ i. omega arith; no_zero = λ i lt. absurd (omega arith); room = omega arith }
+empty_string most = record { bytes = λ i. omega arith; no_zero = All-nil (λ b. b ≢ 0); room = omega arith }
 
 pub numbered-fits : (most : ℕ) (ns : List ℕ) → AreBytes ns → IsMessage most (numbered ns)
 numbered-fits most ns bytes = record {
@@ -49,15 +50,15 @@ numbered-fits most ns bytes = record {
   cost = number_at-fits 10 ns bytes;
   date_len = refl;
   date = zeros_are_bytes 20;
-  to_name = empty_string 35;
-  from_name = empty_string 35;
-  subject = empty_string 71;
+  to_name = empty_string max_name;
+  from_name = empty_string max_name;
+  subject = empty_string max_subject;
   text = empty_string most;
 }
 
 -- the message with other fields, each of its size
-with_fields : (most : ℕ) (m : Message) (d to_name from_name subject text : List ℕ) → IsMessage most m → length d ≡ 20 → AreBytes d → IsString 35 to_name
-    → IsString 35 from_name → IsString 71 subject → IsString most text
+with_fields : (most : ℕ) (m : Message) (d to_name from_name subject text : List ℕ) → IsMessage most m → length d ≡ 20 → AreBytes d → IsString max_name to_name
+    → IsString max_name from_name → IsString max_subject subject → IsString most text
     → IsMessage most (record m { date = d; to_name = to_name; from_name = from_name; subject = subject; text = text })
 with_fields most m d to_name from_name subject text h size bytes to_fits from_fits subject_fits text_fits = record {
   orig_node = h.orig_node;
@@ -126,50 +127,50 @@ has-date most start p q a b c m d h bytes size took there = record {
 }
 
 pub has-to_name : (most start p q : ℕ) (a b c : Option (List ℕ)) (m : Message) (s : List ℕ) → HasFields most start a b ToName m p
-    → IsString 35 s → Consumes b c (ended s) → q ≡ place_of (p + length (ended s)) → HasFields most start a c FromName (record m { to_name = s }) q
+    → IsString max_name s → Consumes b c (zero_ended s) → q ≡ place_of (p + length (zero_ended s)) → HasFields most start a c FromName (record m { to_name = s }) q
 unfolding numbers
 has-to_name most start p q a b c m s h fits took there = record {
-  came = h.came ++ ended s;
-  is = ap (λ t. t ++ ended s) h.is;
+  came = h.came ++ zero_ended s;
+  is = ap (λ t. t ++ zero_ended s) h.is;
   fits = let f = h.fits in with_fields most m m.date s m.from_name m.subject m.text f f.date_len f.date fits f.from_name f.subject f.text;
-  took = Consumes-trans a b c h.came (ended s) h.took took;
-  place = further (start + 2) p q h.came (ended s) h.place there;
+  took = Consumes-trans a b c h.came (zero_ended s) h.took took;
+  place = further (start + 2) p q h.came (zero_ended s) h.place there;
 }
 
 pub has-from_name : (most start p q : ℕ) (a b c : Option (List ℕ)) (m : Message) (s : List ℕ) → HasFields most start a b FromName m p
-    → IsString 35 s → Consumes b c (ended s) → q ≡ place_of (p + length (ended s)) → HasFields most start a c Subject (record m { from_name = s }) q
+    → IsString max_name s → Consumes b c (zero_ended s) → q ≡ place_of (p + length (zero_ended s)) → HasFields most start a c Subject (record m { from_name = s }) q
 unfolding numbers
 has-from_name most start p q a b c m s h fits took there = record {
-  came = h.came ++ ended s;
-  is = ap (λ t. t ++ ended s) h.is;
+  came = h.came ++ zero_ended s;
+  is = ap (λ t. t ++ zero_ended s) h.is;
   fits = let f = h.fits in with_fields most m m.date m.to_name s m.subject m.text f f.date_len f.date f.to_name fits f.subject f.text;
-  took = Consumes-trans a b c h.came (ended s) h.took took;
-  place = further (start + 2) p q h.came (ended s) h.place there;
+  took = Consumes-trans a b c h.came (zero_ended s) h.took took;
+  place = further (start + 2) p q h.came (zero_ended s) h.place there;
 }
 
 pub has-subject : (most start p q : ℕ) (a b c : Option (List ℕ)) (m : Message) (s : List ℕ) → HasFields most start a b Subject m p
-    → IsString 71 s → Consumes b c (ended s) → q ≡ place_of (p + length (ended s)) → HasFields most start a c Text (record m { subject = s }) q
+    → IsString max_subject s → Consumes b c (zero_ended s) → q ≡ place_of (p + length (zero_ended s)) → HasFields most start a c Text (record m { subject = s }) q
 unfolding numbers
 has-subject most start p q a b c m s h fits took there = record {
-  came = h.came ++ ended s;
-  is = ap (λ t. t ++ ended s) h.is;
+  came = h.came ++ zero_ended s;
+  is = ap (λ t. t ++ zero_ended s) h.is;
   fits = let f = h.fits in with_fields most m m.date m.to_name m.from_name s m.text f f.date_len f.date f.to_name f.from_name fits f.text;
-  took = Consumes-trans a b c h.came (ended s) h.took took;
-  place = further (start + 2) p q h.came (ended s) h.place there;
+  took = Consumes-trans a b c h.came (zero_ended s) h.took took;
+  place = further (start + 2) p q h.came (zero_ended s) h.place there;
 }
 
 pub has-text : (most start p q : ℕ) (a b c : Option (List ℕ)) (m : Message) (s : List ℕ) → HasFields most start a b Text m p
-    → IsString most s → Consumes b c (ended s) → q ≡ place_of (p + length (ended s)) → TakesMessage most start a c (record m { text = s }) q
+    → IsString most s → Consumes b c (zero_ended s) → q ≡ place_of (p + length (zero_ended s)) → TakesMessage most start a c (record m { text = s }) q
 unfolding numbers
 has-text most start p q a b c m s h fits took there =
-    let bytes = h.came ++ ended s in
-    let whole : message_bytes (record m { text = s }) ≡ word 2 ++ bytes = ap (λ t. t ++ ended s) h.is in
-    let past : q ≡ place_of (start + 2 + length bytes) = further (start + 2) p q h.came (ended s) h.place there in
+    let bytes = h.came ++ zero_ended s in
+    let whole : message_bytes (record m { text = s }) ≡ word 2 ++ bytes = ap (λ t. t ++ zero_ended s) h.is in
+    let past : q ≡ place_of (start + 2 + length bytes) = further (start + 2) p q h.came (zero_ended s) h.place there in
     record {
       came = bytes;
       is = whole;
       fits = let f = h.fits in with_fields most m m.date m.to_name m.from_name m.subject s f f.date_len f.date f.to_name f.from_name f.subject fits;
-      took = Consumes-trans a b c h.came (ended s) h.took took;
+      took = Consumes-trans a b c h.came (zero_ended s) h.took took;
       place = omega (arith, ap length whole);
     }
 
@@ -209,15 +210,14 @@ at-part limits given start p a b field m at Wrong bs r h more split here wrong =
 
 told : (limits : Limits) (given start p : ℕ) (a b : Option (List ℕ)) (field : Part) (m : Message) (Cut Long LongText : List ℕ → Type 0) (bs r : List ℕ) (f : PacketFault)
     (h : HasFields limits.text start a b field m p) → Tells limits field Cut Long LongText → given < limits.messages → bs ≡ h.came ++ r
-    → FieldFault Cut Long LongText (Begin Cut) p r f → NextFault limits given start (word 2 ++ bs) f
+    → FieldFault Cut Long LongText p r f → NextFault limits given start (word 2 ++ bs) f
 told limits given start p a b field m Cut Long LongText bs r (fault.Truncated at) h tells more split is =
     at-part limits given start p a b field m at (IsCut limits) bs r h more split is.0 (tells.cut r is.1)
 told limits given start p a b field m Cut Long LongText bs r (fault.FieldTooLong at) h tells more split is =
     at-part limits given start p a b field m at IsLongField bs r h more split is.0 (tells.long r is.1)
 told limits given start p a b field m Cut Long LongText bs r (fault.TextTooLong at) h tells more split is =
     at-part limits given start p a b field m at (IsLongText limits) bs r h more split is.0 (tells.long_text r is.1)
-told limits given start p a b field m Cut Long LongText bs r (fault.Read at) h tells more split is =
-    at-part limits given start p a b field m at (IsUnfinished limits) bs r h more split is.0 (is.1.0, is.1.1, tells.cut is.1.0 is.1.2)
+told limits given start p a b field m Cut Long LongText bs r (fault.Read at) h tells more split is = tt
 told limits given start p a b field m Cut Long LongText bs r fault.Memory h tells more split is = tt
 told limits given start p a b field m Cut Long LongText bs r (fault.NotType2 at) h tells more split is = absurd is
 told limits given start p a b field m Cut Long LongText bs r (fault.NotMessage at) h tells more split is = absurd is
@@ -229,15 +229,39 @@ told limits given start p a b field m Cut Long LongText bs r (fault.BadField n) 
 -- the next field of a message is wrong
 pub next-field : (limits : Limits) (given start p : ℕ) (a b : Option (List ℕ)) (field : Part) (m : Message) (Cut Long LongText : List ℕ → Type 0) (f : PacketFault)
     (h : HasFields limits.text start a b field m p) → Tells limits field Cut Long LongText → given < limits.messages
-    → IfSome b (λ r. FieldFault Cut Long LongText (Begin Cut) p r f) → IfSome a (λ bs. NextFault limits given start (word 2 ++ bs) f)
+    → IfSome b (λ r. FieldFault Cut Long LongText p r f) → IfSome a (λ bs. NextFault limits given start (word 2 ++ bs) f)
 next-field limits given start p a b field m Cut Long LongText f h tells more is =
-    Consumes-known a b h.came (λ r. FieldFault Cut Long LongText (Begin Cut) p r f) (λ bs. NextFault limits given start (word 2 ++ bs) f)
+    Consumes-known a b h.came (λ r. FieldFault Cut Long LongText p r f) (λ bs. NextFault limits given start (word 2 ++ bs) f)
     h.took is (λ bs r split wrong. told limits given start p a b field m Cut Long LongText bs r f h tells more split wrong)
 
+-- the device failed inside the next field
+inside : (limits : Limits) (given start p : ℕ) (a b c : Option (List ℕ)) (field : Part) (m : Message) (Cut Long LongText : List ℕ → Type 0) (f : PacketFault)
+    → HasFields limits.text start a b field m p → Tells limits field Cut Long LongText → given < limits.messages → FailsInField Cut p b c f
+    → FailsInMessage limits given start (word 2) a c f
+inside limits given start p a b c field m Cut Long LongText (fault.Read at) h tells more (here, (part, came, cut)) = (
+  h.came ++ part,
+  Consumes-trans a b c h.came part h.took came,
+  at-part limits given start p a b field m at (IsCut limits) (h.came ++ part) part h more refl here (tells.cut part cut),
+)
+inside limits given start p a b c field m Cut Long LongText _ h tells more _ = tt
+
+-- the next field of a message is at fault, as the call that read it says
+pub field-fails : (limits : Limits) (given start p : ℕ) (a b c : Option (List ℕ)) (field : Part) (m : Message) (Cut Long LongText : List ℕ → Type 0) (f : PacketFault)
+    → HasFields limits.text start a b field m p → Tells limits field Cut Long LongText → given < limits.messages
+    → IfSome b (λ r. FieldFault Cut Long LongText p r f) → FailsInField Cut p b c f → FailsBehind limits given start a c f
+field-fails limits given start p a b c field m Cut Long LongText f h tells more is lost = record {
+  fault = next-field limits given start p a b field m Cut Long LongText f h tells more is;
+  inside = inside limits given start p a b c field m Cut Long LongText f h tells more lost;
+}
+
 -- what an error says, where the call answered it
-pub at_exit : {A : Type 0} (a : Option (List ℕ)) (r : Result A PacketFault) (y : PacketFault) (Q : List ℕ → PacketFault → Type 0) → r ≡ Err y
+pub at_exit : {A : Type 0} (r : Result A PacketFault) (y : PacketFault) (Q : PacketFault → Type 0) → r ≡ Err y → Q y → IfErr r Q
+at_exit r y Q e h = subst (λ x. IfErr x Q) (sym e) h
+
+-- the same of bytes that are known
+pub at_exit_if : {A : Type 0} (a : Option (List ℕ)) (r : Result A PacketFault) (y : PacketFault) (Q : List ℕ → PacketFault → Type 0) → r ≡ Err y
     → IfSome a (λ bs. Q bs y) → IfSome a (λ bs. IfErr r (Q bs))
-at_exit a r y Q e h = subst (λ x. IfSome a (λ bs. IfErr x (Q bs))) (sym e) h
+at_exit_if a r y Q e h = subst (λ x. IfSome a (λ bs. IfErr x (Q bs))) (sym e) h
 
 pub tells-numbers : (limits : Limits) → Tells limits Numbers (IsShort 12) Never Never
 tells-numbers limits = record { cut = λ r h. h; long = λ r h. absurd h; long_text = λ r h. absurd h; later = λ e. cc }
@@ -245,13 +269,13 @@ tells-numbers limits = record { cut = λ r h. h; long = λ r h. absurd h; long_t
 pub tells-date : (limits : Limits) → Tells limits DateTime (IsShort 20) Never Never
 tells-date limits = record { cut = λ r h. h; long = λ r h. absurd h; long_text = λ r h. absurd h; later = λ e. cc }
 
-pub tells-to_name : (limits : Limits) → Tells limits ToName (IsOpen 35) (IsTooLong 35) Never
+pub tells-to_name : (limits : Limits) → Tells limits ToName (IsOpen max_name) (IsTooLong max_name) Never
 tells-to_name limits = record { cut = λ r h. h; long = λ r h. h; long_text = λ r h. absurd h; later = λ e. cc }
 
-pub tells-from_name : (limits : Limits) → Tells limits FromName (IsOpen 35) (IsTooLong 35) Never
+pub tells-from_name : (limits : Limits) → Tells limits FromName (IsOpen max_name) (IsTooLong max_name) Never
 tells-from_name limits = record { cut = λ r h. h; long = λ r h. h; long_text = λ r h. absurd h; later = λ e. cc }
 
-pub tells-subject : (limits : Limits) → Tells limits Subject (IsOpen 71) (IsTooLong 71) Never
+pub tells-subject : (limits : Limits) → Tells limits Subject (IsOpen max_subject) (IsTooLong max_subject) Never
 tells-subject limits = record { cut = λ r h. h; long = λ r h. h; long_text = λ r h. absurd h; later = λ e. cc }
 
 pub tells-text : (limits : Limits) → Tells limits Text (IsOpen limits.text) Never (IsTooLong limits.text)

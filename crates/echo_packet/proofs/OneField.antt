@@ -1,45 +1,40 @@
 -- One field read from the front of bytes.
-use Rattle.std.proofs.Common.{◌≡◌, ◌≢◌, ℕ, zero, suc, ◌+◌, ◌<◌, ◌≤◌, ◌==◌, nat_lt, List, [], ◌∷◌, ◌++◌, length, get_or, take, drop, refl, sym, ap, ◌∙◌, subst, arith, add-one, cond}
+use Rattle.std.proofs.Common.{◌≡◌, ◌≢◌, ℕ, zero, suc, ◌<◌, ◌≤◌, ◌==◌, nat_lt, List, [], ◌∷◌, ◌++◌, length, take, drop, refl, ap, ◌∙◌, subst, arith, add-one, cond}
 use Rattle.std.proofs.lemmas.List.{length-append, take_at, drop_at}
 use Rattle.std.proofs.lemmas.Bool.{lt-ltb, le-ltb, ne_eqb, cond-true, cond-false}
-use Rattle.echo_packet.specs.Message.{HasNoZero, ended}
+use Rattle.std.proofs.lemmas.List.Elements.{All-head, All-tail}
+use Rattle.echo_packet.specs.Message.{HasNoZero, zero_ended}
 use Rattle.echo_packet.specs.Fault.{IsTooLong}
 
 -- a field and what follows it, or why there is none
-pub data Piece : Type 0 where
-  Got : List ℕ → List ℕ → Piece
-  Cut : Piece
-  Long : Piece
+pub data FieldRead : Type 0 where
+  Got : List ℕ → List ℕ → FieldRead
+  Cut : FieldRead
+  Long : FieldRead
 
-abbrev pub push : ℕ → Piece → Piece
+abbrev pub push : ℕ → FieldRead → FieldRead
 push x (Got s r) = Got (x ∷ s) r
 push x Cut = Cut
 push x Long = Long
 
 -- a string of at most so many bytes
-pub string : ℕ → List ℕ → Piece
+pub string : ℕ → List ℕ → FieldRead
 string zero [] = Cut
 string zero (x ∷ xs) = cond (x == 0) (Got [] xs) Long
 string (suc k) [] = Cut
 string (suc k) (x ∷ xs) = cond (x == 0) (Got [] xs) (push x (string k xs))
 
 -- a field of a fixed size
-pub fixed : ℕ → List ℕ → Piece
+pub fixed : ℕ → List ℕ → FieldRead
 fixed n r = cond (nat_lt (length r) n) Cut (Got (take n r) (drop n r))
 
-tail_no_zero : (x : ℕ) (s : List ℕ) → HasNoZero (x ∷ s) → HasNoZero s
-tail_no_zero x s h i lt = h (suc i) (omega arith)
-
-head_not_zero : (x : ℕ) (s : List ℕ) → HasNoZero (x ∷ s) → x ≢ 0
-head_not_zero x s h = h 0 (omega arith)
-
-pub string-whole : (most : ℕ) (s r : List ℕ) → HasNoZero s → length s ≤ most → string most (ended s ++ r) ≡ Got s r
+pub string-whole : (most : ℕ) (s r : List ℕ) → HasNoZero s → length s ≤ most → string most (zero_ended s ++ r) ≡ Got s r
 unfolding string
 string-whole zero [] r h fits = refl
 string-whole (suc k) [] r h fits = refl
 string-whole zero (x ∷ s) r h fits = absurd (omega arith)
 string-whole (suc k) (x ∷ s) r h fits =
-    cond-false (x == 0) _ _ (ne_eqb _ _ (head_not_zero x s h)) ∙ ap (push x) (string-whole k s r (tail_no_zero x s h) (omega arith))
+    cond-false (x == 0) _ _ (ne_eqb _ _ (All-head (λ b. b ≢ 0) x s h)) ∙ ap (push x) (string-whole k s r (All-tail (λ b. b ≢ 0) x s h) (omega arith))
 
 pub string-cut : (most : ℕ) (r : List ℕ) → HasNoZero r → length r ≤ most → string most r ≡ Cut
 unfolding string
@@ -47,16 +42,16 @@ string-cut zero [] h fits = refl
 string-cut (suc k) [] h fits = refl
 string-cut zero (x ∷ s) h fits = absurd (omega arith)
 string-cut (suc k) (x ∷ s) h fits =
-    cond-false (x == 0) _ _ (ne_eqb _ _ (head_not_zero x s h)) ∙ ap (push x) (string-cut k s (tail_no_zero x s h) (omega arith))
+    cond-false (x == 0) _ _ (ne_eqb _ _ (All-head (λ b. b ≢ 0) x s h)) ∙ ap (push x) (string-cut k s (All-tail (λ b. b ≢ 0) x s h) (omega arith))
 
 string_past : (most : ℕ) (r : List ℕ) → most < length r → HasNoZero (take (suc most) r) → string most r ≡ Long
 unfolding string
 string_past zero [] more h = absurd (omega arith)
 string_past (suc k) [] more h = absurd (omega arith)
-string_past zero (x ∷ s) more h = cond-false (x == 0) _ _ (ne_eqb _ _ (head_not_zero x (take 0 s) h))
+string_past zero (x ∷ s) more h = cond-false (x == 0) _ _ (ne_eqb _ _ (All-head (λ b. b ≢ 0) x (take 0 s) h))
 string_past (suc k) (x ∷ s) more h =
-    cond-false (x == 0) _ _ (ne_eqb _ _ (head_not_zero x (take (suc k) s) h))
-    ∙ ap (push x) (string_past k s (omega arith) (tail_no_zero x (take (suc k) s) h))
+    cond-false (x == 0) _ _ (ne_eqb _ _ (All-head (λ b. b ≢ 0) x (take (suc k) s) h))
+    ∙ ap (push x) (string_past k s (omega arith) (All-tail (λ b. b ≢ 0) x (take (suc k) s) h))
 
 pub string-long : (most : ℕ) (r : List ℕ) → IsTooLong most r → string most r ≡ Long
 string-long most r h = string_past most r h.0 (subst (λ n. HasNoZero (take n r)) (add-one most) h.1)
