@@ -1,6 +1,6 @@
 use Rattle.std.proofs.Common.{◌≡◌, ◌∙◌, ◌-◌, ap, arith, drop, length, sym, take}
 use Rattle.echo_text.proofs.Ids.{quoted_origin}
-use Rattle.echo_text.proofs.msgid.origin_of.Goals as goal
+use Rattle.echo_text.proofs.msgid.spelled_origin.Goals as goal
 
 pub returns-then-is_quoted : goal.returns-then-is_quoted
 returns-then-is_quoted c =

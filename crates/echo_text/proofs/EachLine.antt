@@ -49,6 +49,10 @@ module _ {X : Type 0} (f : X → List ℕ) (xs : List X) (i : ℕ) (d : X) (with
   next_seen =
       drop_more (map f xs) i [] (omega (arith, length-map xs f)) ∙ ap (λ l. l ∷ drop (i + 1) (map f xs)) (get_or-map f xs i d [] within)
 
+  -- where the element and its line are known under other names
+  pub next_lent : (line : List ℕ) → d ≡ get_or xs i d → line ≡ f d → drop i (map f xs) ≡ line ∷ drop (i + 1) (map f xs)
+  next_lent line is lent = next_seen ∙ ap (λ l. l ∷ drop (i + 1) (map f xs)) (sym (lent ∙ ap f is))
+
   filter_next : (p : List ℕ → Bool) → filter p (take (i + 1) (map f xs)) ≡ filter p (take i (map f xs)) ++ cond (p (f (get_or xs i d))) (f (get_or xs i d) ∷ []) []
   filter_next p =
       filter_more p (map f xs) i [] (omega (arith, length-map xs f))

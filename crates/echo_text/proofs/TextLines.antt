@@ -1,40 +1,19 @@
 -- Cutting a text into lines.
-use Rattle.std.proofs.Common.{◌≡◌, ℕ, ◌+◌, ◌<◌, ◌≤◌, ◌==◌, true, false, List, [], ◌∷◌, ◌++◌, length, get_or, take, drop, Some, None, refl, sym, ap, ◌∙◌, arith, inl, inr}
-use Rattle.std.specs.List.{All, AllByRecursion, flat_map, onto_first, slice_split}
+use Rattle.std.proofs.Common.{◌≡◌, ℕ, ◌+◌, ◌<◌, ◌≤◌, true, false, List, [], ◌∷◌, ◌++◌, length, get_or, take, drop, Some, None, refl, sym, ap, ◌∙◌, arith}
+use Rattle.std.specs.List.{All, AllByRecursion, flat_map}
 use Rattle.std.proofs.lemmas.List.{append-nil, append_assoc, drop_more, get_or-take, length-take-le, nil_from_length, take-append-drop}
 use Rattle.std.proofs.lemmas.List.Elements.{All-from_get_or}
-use Rattle.std.proofs.lemmas.List.Splits.{slice_split-cons_yes, slice_split-cons_no, slice_split_none, slice_split_at}
-use Rattle.std.proofs.lemmas.Bool.{cases_Bool, cond-false, eqb-true, false_from_ne_true, ne_eqb}
+use Rattle.std.proofs.lemmas.List.Splits.{slice_split_none, slice_split_at}
+use Rattle.std.proofs.lemmas.Bool.{eqb-true, false_from_ne_true}
 use Rattle.memchr.specs.Find.{IsFirstByte, is_byte}
-use Rattle.echo_text.specs.Lines.{first_line, is_return, later_lines, lines, without_empty_last}
+use Rattle.echo_addr.specs.Pieces.{without_empty_last}
+use Rattle.echo_addr.proofs.Pieces.{ended_piece, last_piece, some_pieces}
+use Rattle.echo_text.specs.Lines.{first_line, is_return, later_lines, lines}
 use Rattle.echo_text.specs.Echo.{ended}
 
 -- bytes among which no line ends
 abbrev pub IsPiece : List ℕ → Type 0
 IsPiece line = All (λ b. is_return b ≡ false) line
-
--- a split has a first piece
-record HasFirst (pieces : List (List ℕ)) : Type 0 where
-  first : List ℕ
-  more : List (List ℕ)
-  is : pieces ≡ first ∷ more
-
-first_onto : (b : ℕ) (pieces : List (List ℕ)) → HasFirst (onto_first b pieces)
-first_onto b [] = record { first = b ∷ []; more = []; is = refl }
-first_onto b (piece ∷ more) = record { first = b ∷ piece; more = more; is = refl }
-
-first_of_split : (text : List ℕ) → HasFirst (slice_split is_return text)
-first_of_split [] = record { first = []; more = []; is = refl }
-first_of_split (b ∷ text) = elim (cases_Bool (is_return b)) [
-  | inl y ↦ record { first = []; more = slice_split is_return text; is = slice_split-cons_yes is_return b text y }
-  | inr n ↦
-      let onto = first_onto b (slice_split is_return text) in
-      record { first = onto.first; more = onto.more; is = slice_split-cons_no is_return b text n ∙ onto.is }
-]
-
-kept_piece : (piece : List ℕ) (pieces : List (List ℕ)) → HasFirst pieces → without_empty_last (piece ∷ pieces) ≡ piece ∷ without_empty_last pieces
-kept_piece piece pieces h =
-    ap (λ ps. without_empty_last (piece ∷ ps)) h.is ∙ ap (λ ps. piece ∷ without_empty_last ps) (sym h.is)
 
 pub lines_nil : lines [] ≡ []
 unfolding lines
@@ -44,7 +23,7 @@ lines_nil = refl
 pub lines_cut : (line rest : List ℕ) → IsPiece line → lines (line ++ 13 ∷ rest) ≡ line ∷ lines rest
 unfolding lines
 lines_cut line rest piece =
-    ap without_empty_last (slice_split_at is_return line 13 rest piece refl) ∙ kept_piece line (slice_split is_return rest) (first_of_split rest)
+    ap without_empty_last (slice_split_at is_return line 13 rest piece refl) ∙ ended_piece is_return line rest
 
 pub lines_ended : (line rest : List ℕ) → IsPiece line → lines (ended line ++ rest) ≡ line ∷ lines rest
 lines_ended line rest piece = ap lines (append_assoc line (13 ∷ []) rest) ∙ lines_cut line rest piece
@@ -53,8 +32,7 @@ lines_ended line rest piece = ap lines (append_assoc line (13 ∷ []) rest) ∙ 
 pub lines_last : (line : List ℕ) → 0 < length line → IsPiece line → lines line ≡ line ∷ []
 unfolding lines
 lines_last line some piece =
-    ap without_empty_last (slice_split_none is_return line piece)
-    ∙ cond-false (length line == 0) [] (line ∷ []) (ne_eqb (length line) 0 (λ e. omega arith))
+    ap without_empty_last (slice_split_none is_return line piece) ∙ last_piece line some
 
 -- lines one after the other
 pub lines_of_ended : (some : List (List ℕ)) (rest : List ℕ) → AllByRecursion IsPiece some → lines (flat_map ended some ++ rest) ≡ some ++ lines rest
@@ -104,28 +82,9 @@ first_and_later [] first later some f l = absurd (omega arith)
 first_and_later (line ∷ more) first later some f l = sym (ap (λ x. x ∷ later) f ∙ ap (λ ls. line ∷ ls) l)
 
 -- some bytes are at least one line
-some_pieces : (b : ℕ) (pieces : List (List ℕ)) → 0 < length (without_empty_last (onto_first b pieces))
-some_pieces b [] = omega arith
-some_pieces b (piece ∷ []) = omega (arith, ap length (cond-false (length (b ∷ piece) == 0) [] ((b ∷ piece) ∷ []) (ne_eqb (length (b ∷ piece)) 0 (λ e. omega arith))))
-some_pieces b (piece ∷ (next ∷ more)) = omega arith
-
 some_lines : (text : List ℕ) → 0 < length text → 0 < length (lines text)
 unfolding lines
-some_lines [] some = absurd (omega arith)
-some_lines (b ∷ text) some = elim (cases_Bool (is_return b)) [
-  | inl y ↦
-      omega (
-        arith,
-        ap (λ ps. length (without_empty_last ps)) (slice_split-cons_yes is_return b text y),
-        ap length (kept_piece [] (slice_split is_return text) (first_of_split text)),
-      )
-  | inr n ↦
-      omega (
-        arith,
-        ap (λ ps. length (without_empty_last ps)) (slice_split-cons_no is_return b text n),
-        some_pieces b (slice_split is_return text),
-      )
-]
+some_lines text some = some_pieces is_return text some
 
 -- the lines of some bytes
 pub lines_with_first : (text first rest : List ℕ) → 0 < length text → Splits text first rest → lines text ≡ first ∷ lines rest
