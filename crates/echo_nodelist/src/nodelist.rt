@@ -1,6 +1,6 @@
 ghost use Rattle.std.specs.Prelude.{◌≡◌, ◌≢◌, ◌↔◌, ◌<◌, ℕ, Some, None, IsTrue, MatchOption, slice_index_or};
 
-use crate::cutting::text_of;
+use crate::cutting::before_end;
 use crate::fault::NodeFault;
 use crate::line::Line;
 use crate::reading::read_lines;
@@ -34,14 +34,14 @@ impl Nodelist {
     ghost use Rattle.std.specs.Prelude.{◌≡◌, IfOk};
     ghost use Rattle.echo_nodelist.specs.Back.{Finds, address_at, hub_at};
     ghost use Rattle.echo_nodelist.specs.Nodelist.{Answers, IsNodelist};
-    ghost use Rattle.echo_nodelist.specs.Written.{Writes, nodelist_text};
+    ghost use Rattle.echo_nodelist.specs.Written.{WritesOut, nodelist_text};
 
     /// The nodelist that the bytes are, up to the first 1A. A fault is that of the first faulty line,
     /// or `Memory`.
     pub fn read(alloc: Global, bytes: &[u8]) -> Result<Nodelist, NodeFault>
         ensures { Answers bytes.now result }
     {
-        let reading = read_lines(alloc, text_of(bytes))?;
+        let reading = read_lines(alloc, before_end(bytes))?;
         Ok(Nodelist {
             lines: reading.lines,
             addresses: reading.addresses,
@@ -52,7 +52,7 @@ impl Nodelist {
     /// Writes each line with 0D 0A, then 1A. A fault is `Write` with the number of bytes that went
     /// out, or `Memory`, where none did.
     pub fn write<W: Sink>(&self, alloc: Global, writer: &mut W) -> Result<(), NodeFault>
-        ensures { Writes (W.contents writer.old) (W.contents writer.new) (W.failures writer.old) (W.failures writer.new) (nodelist_text self.now) result }
+        ensures { WritesOut (W.contents writer.old) (W.contents writer.new) (W.failures writer.old) (W.failures writer.new) (nodelist_text self.now) result }
     {
         let text = nodelist_text(alloc, &self.lines)?;
         let mut sent = 0;

@@ -4,10 +4,10 @@ ghost use Rattle.echo_nodelist.specs.Raw.{lines_of};
 ghost use Rattle.echo_nodelist.specs.Nodelist.{placed};
 ghost use Rattle.echo_nodelist.specs.Reading.{IsInStep, Reads};
 
-use crate::area::{Area, tell};
 use crate::cutting::split_line;
 use crate::fault::NodeFault;
 use crate::line::{Line, read_line};
+use crate::place::{Place, tell};
 use echo_addr::Address;
 use std::alloc::Global;
 
@@ -17,7 +17,7 @@ pub(crate) struct Reading {
     pub(crate) lines: Vec<Line>,
     pub(crate) addresses: Vec<Option<Address>>,
     pub(crate) hubs: Vec<Option<Address>>,
-    place: Option<Area>,
+    place: Option<Place>,
 }
 
 impl Reading {

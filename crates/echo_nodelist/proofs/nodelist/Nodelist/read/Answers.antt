@@ -10,7 +10,7 @@ invariant_of-result c =
     let read =
     subst
     (λ text. AreRead (reverse (lines_of text)) (reverse lines))
-    c.text_of.ensures
+    c.before_end.ensures
     c.in_ok-reading.ensures.0
     in
     record {

@@ -1,5 +1,5 @@
 use Rattle.std.proofs.Common.{reverse}
-use Rattle.echo_nodelist.proofs.Areas.{follows_more}
+use Rattle.echo_nodelist.proofs.LookingBack.{follows_more}
 use Rattle.echo_nodelist.proofs.reading.Reading.push.Goals as goal
 
 pub returns-clause-step : goal.returns-clause-step

@@ -1,7 +1,8 @@
 -- The number that a first line states, beside the computed one.
-use Rattle.std.proofs.Common.{◌≡◌, ℕ, ◌+◌, ◌<◌, ◌≤◌, ◌==◌, ◌↔◌, Bool, true, false, List, length, drop, min, sym, ap, ◌∙◌, ◌≢◌, arith, Option, Some, None}
+use Rattle.std.proofs.Common.{◌≡◌, ℕ, ◌+◌, ◌<◌, ◌≤◌, ◌==◌, ◌↔◌, nat_lt, Bool, true, false, List, length, drop, min, sym, ap, ◌∙◌, ◌≢◌, arith, Option, Some, None}
 use Rattle.std.specs.Prelude.{IsNone, IfSome}
 use Rattle.std.specs.List.{after_first, before_first, position_or_len}
+use Rattle.std.specs.Str.{all_ascii_digits}
 use Rattle.std.specs.Str.Parse.{digits_value}
 use Rattle.std.specs.Io.BufRead.{strip_last}
 use Rattle.std.proofs.lemmas.List.{drop_all, take_all}
@@ -12,7 +13,7 @@ use Rattle.echo_addr.proofs.Decimals.{own}
 use Rattle.echo_nodelist.specs.declared.stated.CrcLine.TheVariants.{Absent, Match, Mismatch}
 use Rattle.echo_nodelist.specs.Crc.{crc}
 use Rattle.echo_nodelist.specs.Raw.{is_feed}
-use Rattle.echo_nodelist.specs.CrcLine.{compared, crc_of_text, first_line, later_bytes, stated_crc, states_crc}
+use Rattle.echo_nodelist.specs.CrcLine.{compared, crc_of_text, stating_line, later_bytes, stated_crc, states_crc}
 
 -- a text of one line
 pub before_whole : (p : ℕ → Bool) (text : List ℕ) → position_or_len p text ≡ length text → text ≡ before_first p text
@@ -28,17 +29,17 @@ pub five_digits : (r : Option ℕ) (ds : List ℕ) → length ds ≤ 5 → (IsNo
 five_digits None ds short none value = value
 five_digits (Some n) ds short none value =
     let numeral : is_number ds ≡ true = true_from_ne_false (is_number ds) (λ f. true≢false (none.1 f)) in
-    let small : digits_value 10 ds < 100000 = digits_value_short own ds 5 (and_parts _ _ numeral).1 short in
+    let small : digits_value 10 ds < 100000 = digits_value_short own ds 5 (and_parts (nat_lt 0 (length ds)) (all_ascii_digits ds) numeral).1 short in
     omega arith
 
 -- the line states nothing
 pub states_none : (text first line : List ℕ) → first ≡ before_first is_feed text → line ≡ strip_last 13 first → states_crc line ≡ false → Absent ≡ crc_of_text text
 states_none text first line before last none =
-    let same : line ≡ first_line text = last ∙ ap (strip_last 13) before in
+    let same : line ≡ stating_line text = last ∙ ap (strip_last 13) before in
     sym (
     cond-false
-    (states_crc (first_line text))
-    (compared (stated_crc (first_line text)) (crc (later_bytes text)))
+    (states_crc (stating_line text))
+    (compared (stated_crc (stating_line text)) (crc (later_bytes text)))
     Absent
     (ap states_crc (sym same) ∙ none)
     )
@@ -47,13 +48,13 @@ states_none text first line before last none =
 pub states_some : (text first line later : List ℕ) (stated computed : ℕ) → first ≡ before_first is_feed text → line ≡ strip_last 13 first
     → later ≡ after_first is_feed text → states_crc line ≡ true → stated ≡ stated_crc line → computed ≡ crc later → compared stated computed ≡ crc_of_text text
 states_some text first line later stated computed before last behind some stated_is computed_is =
-    let same : line ≡ first_line text = last ∙ ap (strip_last 13) before in
+    let same : line ≡ stating_line text = last ∙ ap (strip_last 13) before in
     ap (λ s. compared s computed) (stated_is ∙ ap stated_crc same)
-    ∙ ap (compared (stated_crc (first_line text))) (computed_is ∙ ap crc behind)
+    ∙ ap (compared (stated_crc (stating_line text))) (computed_is ∙ ap crc behind)
     ∙ sym (
     cond-true
-    (states_crc (first_line text))
-    (compared (stated_crc (first_line text)) (crc (later_bytes text)))
+    (states_crc (stating_line text))
+    (compared (stated_crc (stating_line text)) (crc (later_bytes text)))
     Absent
     (ap states_crc (sym same) ∙ some)
     )

@@ -2,7 +2,7 @@ ghost use Rattle.std.specs.Prelude.{◌≡◌, ℕ, List, ◌∷◌, Some};
 ghost use Rattle.echo_nodelist.specs.declared.line.Line.{Line};
 ghost use Rattle.echo_nodelist.specs.declared.line.Line.TheVariants.{Entry};
 ghost use Rattle.echo_nodelist.specs.Back.{address_back, hub_back};
-ghost use Rattle.echo_nodelist.specs.Place.{Stands, Tells};
+ghost use Rattle.echo_nodelist.specs.Place.{IsPlaceAfter, Tells};
 
 use crate::fault::NodeFault;
 use crate::keyword::Keyword;
@@ -11,7 +11,7 @@ use echo_addr::Address;
 
 /// Where a line stands, by the lines up to it: zone, net, and the hub of the systems there.
 #[derive(Clone, Copy)]
-pub(crate) struct Area {
+pub(crate) struct Place {
     zone: u16,
     net: u16,
     hub: Option<Address>,
@@ -22,12 +22,12 @@ pub(crate) struct Area {
 pub(crate) struct Told {
     pub(crate) address: Option<Address>,
     pub(crate) hub: Option<Address>,
-    pub(crate) place: Option<Area>,
+    pub(crate) place: Option<Place>,
 }
 
 /// What is told of a line after a place. `number` is the line's.
-pub(crate) fn tell(place: Option<Area>, number: usize, line: &Line) -> Result<Told, NodeFault>
-    ensures { (earlier : List Line) → Stands earlier place → Tells number earlier line.now result }
+pub(crate) fn tell(place: Option<Place>, number: usize, line: &Line) -> Result<Told, NodeFault>
+    ensures { (earlier : List Line) → IsPlaceAfter earlier place → Tells number earlier line.now result }
 {
     let Line::Entry {
         keyword,
@@ -41,61 +41,61 @@ pub(crate) fn tell(place: Option<Area>, number: usize, line: &Line) -> Result<To
             place,
         });
     };
-    let Some(area) = after(place, *keyword, *system) else {
+    let Some(here) = after(place, *keyword, *system) else {
         return Err(NodeFault::NoZone { line: number });
     };
     Ok(Told {
-        address: Some(address(area, *keyword, *system)),
-        hub: hub(area, *keyword),
-        place: Some(area),
+        address: Some(address(here, *keyword, *system)),
+        hub: hub(here, *keyword),
+        place: Some(here),
     })
 }
 
 /// The place after an entry; none where no Zone line came.
-fn after(place: Option<Area>, keyword: Keyword, number: u16) -> Option<Area>
-    ensures { (earlier : List Line) (fields : List (List ℕ)) → Stands earlier place → Stands (Entry keyword number fields ∷ earlier) result }
+fn after(place: Option<Place>, keyword: Keyword, number: u16) -> Option<Place>
+    ensures { (earlier : List Line) (fields : List (List ℕ)) → IsPlaceAfter earlier place → IsPlaceAfter (Entry keyword number fields ∷ earlier) result }
 {
     if keyword.is_zone() {
-        return Some(Area {
+        return Some(Place {
             zone: number,
             net: number,
             hub: None,
         });
     }
-    let mut area = place?;
+    let mut here = place?;
     if keyword.begins_net() {
-        area.net = number;
-        area.hub = None;
+        here.net = number;
+        here.hub = None;
     } else if keyword.is_hub() {
-        area.hub = Some(Address {
-            zone: area.zone,
-            net: area.net,
+        here.hub = Some(Address {
+            zone: here.zone,
+            net: here.net,
             node: number,
         });
     }
-    Some(area)
+    Some(here)
 }
 
 /// The address of an entry, by the place after it.
-fn address(area: Area, keyword: Keyword, number: u16) -> Address
-    ensures { (earlier : List Line) (fields : List (List ℕ)) → Stands (Entry keyword number fields ∷ earlier) (Some area)
+fn address(here: Place, keyword: Keyword, number: u16) -> Address
+    ensures { (earlier : List Line) (fields : List (List ℕ)) → IsPlaceAfter (Entry keyword number fields ∷ earlier) (Some here)
         → address_back (Entry keyword number fields ∷ earlier) ≡ Some result }
 {
     Address {
-        zone: area.zone,
-        net: area.net,
+        zone: here.zone,
+        net: here.net,
         node: if keyword.begins_net() { 0 } else { number },
     }
 }
 
 /// The hub of an entry, by the place after it.
-fn hub(area: Area, keyword: Keyword) -> Option<Address>
-    ensures { (earlier : List Line) (number : ℕ) (fields : List (List ℕ)) → Stands (Entry keyword number fields ∷ earlier) (Some area)
+fn hub(here: Place, keyword: Keyword) -> Option<Address>
+    ensures { (earlier : List Line) (number : ℕ) (fields : List (List ℕ)) → IsPlaceAfter (Entry keyword number fields ∷ earlier) (Some here)
         → hub_back (Entry keyword number fields ∷ earlier) ≡ result }
 {
     if keyword.begins_net() || keyword.is_hub() {
         None
     } else {
-        area.hub
+        here.hub
     }
 }

@@ -5,9 +5,9 @@ use Rattle.echo_nodelist.specs.declared.line.Line.{Line}
 use Rattle.echo_nodelist.specs.declared.fault.NodeFault.{NodeFault}
 use Rattle.echo_nodelist.specs.declared.fault.NodeFault.TheVariants.{Memory}
 use Rattle.echo_nodelist.specs.Raw.{lines_of}
-use Rattle.echo_nodelist.specs.Line.{line_of}
-use Rattle.echo_nodelist.specs.Nodelist.{AreRead, FaultIn, Gives, outcome, placed}
-use Rattle.echo_nodelist.proofs.Areas.{reverse-push}
+use Rattle.echo_nodelist.specs.Line.{line_in}
+use Rattle.echo_nodelist.specs.Nodelist.{AreRead, FaultIn, Gives, line_outcome, placed}
+use Rattle.echo_nodelist.proofs.LookingBack.{reverse-push}
 use Rattle.echo_nodelist.proofs.Pieces.{lines_nil}
 
 -- the first lines of a text were read, and `rest` is left
@@ -20,11 +20,11 @@ pub done_none : (text : List ℕ) → Done text [] text
 done_none text = record { front = []; pieces = refl; read = tt }
 
 -- what the line says, with its number counted
-outcome_is : (lines : List Line) (raw : List ℕ) (number : ℕ) (said : Result Line NodeFault) → number ≡ length lines + 1 → said ≡ line_of number raw
-    → outcome (reverse lines) raw ≡ placed number (reverse lines) said
+outcome_is : (lines : List Line) (raw : List ℕ) (number : ℕ) (said : Result Line NodeFault) → number ≡ length lines + 1 → said ≡ line_in number raw
+    → line_outcome (reverse lines) raw ≡ placed number (reverse lines) said
 outcome_is lines raw number said count is =
     let same : length (reverse lines) + 1 ≡ number = omega (arith, length-reverse lines) in
-    ap (λ n. placed n (reverse lines) (line_of n raw)) same ∙ ap (placed number (reverse lines)) (sym is)
+    ap (λ n. placed n (reverse lines) (line_in n raw)) same ∙ ap (placed number (reverse lines)) (sym is)
 
 -- an answer that is no want of memory
 said_ok : (line : Line) (expected : Result Line NodeFault) → Gives (Ok line) expected → Ok line ≡ expected
@@ -33,10 +33,10 @@ said_ok line expected (inr is) = is
 
 -- one more line
 pub done_more : (text rest raw after : List ℕ) (lines : List Line) (line : Line) (number : ℕ) → Done text lines rest → lines_of rest ≡ raw ∷ lines_of after
-    → number ≡ length lines + 1 → Gives (Ok line) (line_of number raw) → placed number (reverse lines) (Ok line) ≡ Ok line
+    → number ≡ length lines + 1 → Gives (Ok line) (line_in number raw) → placed number (reverse lines) (Ok line) ≡ Ok line
     → Done text (lines ++ line ∷ []) after
 done_more text rest raw after lines line number done cut count said good =
-    let here : outcome (reverse lines) raw ≡ Ok line = outcome_is lines raw number (Ok line) count (said_ok line (line_of number raw) said) ∙ good in
+    let here : line_outcome (reverse lines) raw ≡ Ok line = outcome_is lines raw number (Ok line) count (said_ok line (line_in number raw) said) ∙ good in
     let both : AreRead (raw ∷ reverse done.front) (line ∷ reverse lines) = (here, done.read) in
     record {
       front = done.front ++ raw ∷ [];
@@ -53,7 +53,7 @@ done_all text rest lines done none =
     subst (λ rs. AreRead (reverse rs) (reverse lines)) all done.read
 
 fault_here : (text rest raw after : List ℕ) (lines : List Line) (fault : NodeFault) → Done text lines rest → lines_of rest ≡ raw ∷ lines_of after
-    → outcome (reverse lines) raw ≡ Err fault → FaultIn (lines_of text) fault
+    → line_outcome (reverse lines) raw ≡ Err fault → FaultIn (lines_of text) fault
 fault_here text rest raw after lines fault done cut faulty = record {
   front = done.front;
   raw = raw;
@@ -66,15 +66,15 @@ fault_here text rest raw after lines fault done cut faulty = record {
 
 -- the line by itself is faulty, or memory ran out
 pub line_fault : (text rest raw after : List ℕ) (lines : List Line) (number : ℕ) (fault : NodeFault) → Done text lines rest → lines_of rest ≡ raw ∷ lines_of after
-    → number ≡ length lines + 1 → Gives (Err fault) (line_of number raw) → FaultIn (lines_of text) fault ⊎ (fault ≡ Memory)
+    → number ≡ length lines + 1 → Gives (Err fault) (line_in number raw) → FaultIn (lines_of text) fault ⊎ (fault ≡ Memory)
 line_fault text rest raw after lines number fault done cut count (inl memory) = inr cc
 line_fault text rest raw after lines number fault done cut count (inr said) =
     inl (fault_here text rest raw after lines fault done cut (outcome_is lines raw number (Err fault) count said))
 
 -- no Zone line came, or memory ran out
 pub push_fault : (text rest raw after : List ℕ) (lines : List Line) (line : Line) (number : ℕ) (fault : NodeFault) → Done text lines rest
-    → lines_of rest ≡ raw ∷ lines_of after → number ≡ length lines + 1 → Gives (Ok line) (line_of number raw)
+    → lines_of rest ≡ raw ∷ lines_of after → number ≡ length lines + 1 → Gives (Ok line) (line_in number raw)
     → (fault ≡ Memory) ⊎ (placed number (reverse lines) (Ok line) ≡ Err fault) → FaultIn (lines_of text) fault ⊎ (fault ≡ Memory)
 push_fault text rest raw after lines line number fault done cut count said (inl memory) = inr memory
 push_fault text rest raw after lines line number fault done cut count said (inr faulty) =
-    inl (fault_here text rest raw after lines fault done cut (outcome_is lines raw number (Ok line) count (said_ok line (line_of number raw) said) ∙ faulty))
+    inl (fault_here text rest raw after lines fault done cut (outcome_is lines raw number (Ok line) count (said_ok line (line_in number raw) said) ∙ faulty))

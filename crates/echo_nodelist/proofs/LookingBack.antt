@@ -5,15 +5,15 @@ use Rattle.std.proofs.lemmas.List.{get_or-append_right, get_or_append_left, leng
 use Rattle.std.proofs.Math.ListN.{get_or-eq_default}
 use Rattle.std.proofs.lemmas.Bool.{cases_lt, cond-false, cond-true, le-ltb, lt-ltb}
 use Rattle.echo_addr.specs.declared.address.Address.{Address}
-use Rattle.echo_nodelist.specs.declared.area.Area.{Area}
-use Rattle.echo_nodelist.specs.declared.area.Told.{Told}
+use Rattle.echo_nodelist.specs.declared.place.Place.{Place}
+use Rattle.echo_nodelist.specs.declared.place.Told.{Told}
 use Rattle.echo_nodelist.specs.declared.keyword.Keyword.{Keyword}
 use Rattle.echo_nodelist.specs.declared.line.Line.{Line}
 use Rattle.echo_nodelist.specs.declared.line.Line.TheVariants.{Entry}
 use Rattle.echo_nodelist.specs.declared.fault.NodeFault.TheVariants.{NoZone}
 use Rattle.echo_nodelist.specs.Back.{Finds, address_back, each_back, hub_back, lines_back, zone_back}
 use Rattle.echo_nodelist.specs.Nodelist.{in_zone, placed}
-use Rattle.echo_nodelist.specs.Place.{Follows, IsTold, Stands, Tells}
+use Rattle.echo_nodelist.specs.Place.{Follows, IsTold, IsPlaceAfter, Tells}
 
 -- an entry with no Zone line up to it
 pub tell_none : (at : ℕ) (earlier : List Line) (k : Keyword) (n : ℕ) (fields : List (List ℕ)) (line : Line) → line ≡ Entry k n fields
@@ -22,26 +22,26 @@ tell_none at earlier k n fields line is none =
     ap (λ l. placed at earlier (Ok l)) is ∙ ap (λ z. in_zone at z (Entry k n fields)) none
 
 -- an entry after a Zone line, or one itself
-pub tell_some : (at : ℕ) (earlier : List Line) (k : Keyword) (n : ℕ) (fields : List (List ℕ)) (line : Line) (area : Area) (address : Address) (hub : Option Address)
-    → line ≡ Entry k n fields → Stands (Entry k n fields ∷ earlier) (Some area) → address_back (Entry k n fields ∷ earlier) ≡ Some address
-    → hub_back (Entry k n fields ∷ earlier) ≡ hub → Tells at earlier line (Ok (record { address = Some address; hub = hub; place = Some area }))
-tell_some at earlier k n fields line area address hub is stands address_is hub_is =
-    let whole : Tells at earlier (Entry k n fields) (Ok (record { address = Some address; hub = hub; place = Some area })) = (
+pub tell_some : (at : ℕ) (earlier : List Line) (k : Keyword) (n : ℕ) (fields : List (List ℕ)) (line : Line) (here : Place) (address : Address) (hub : Option Address)
+    → line ≡ Entry k n fields → IsPlaceAfter (Entry k n fields ∷ earlier) (Some here) → address_back (Entry k n fields ∷ earlier) ≡ Some address
+    → hub_back (Entry k n fields ∷ earlier) ≡ hub → Tells at earlier line (Ok (record { address = Some address; hub = hub; place = Some here }))
+tell_some at earlier k n fields line here address hub is stands address_is hub_is =
+    let whole : Tells at earlier (Entry k n fields) (Ok (record { address = Some address; hub = hub; place = Some here })) = (
       ap (λ z. in_zone at z (Entry k n fields)) stands.0,
       record { place = stands; address = address_is; hub = hub_is },
     )
     in
-    subst (λ l. Tells at earlier l (Ok (record { address = Some address; hub = hub; place = Some area }))) (sym is) whole
+    subst (λ l. Tells at earlier l (Ok (record { address = Some address; hub = hub; place = Some here }))) (sym is) whole
 
 pub reverse-push : {A : Type 0} (xs : List A) (x : A) → reverse (xs ++ x ∷ []) ≡ x ∷ reverse xs
 reverse-push xs x = reverse-append xs (x ∷ [])
 
 -- one more line
-pub follows_more : (lines : List Line) (addresses hubs : List (Option Address)) (place : Option Area) (line : Line) (told : Told)
+pub follows_more : (lines : List Line) (addresses hubs : List (Option Address)) (place : Option Place) (line : Line) (told : Told)
     → Follows lines addresses hubs place → IsTold (reverse lines) line told
     → Follows (lines ++ line ∷ []) (addresses ++ told.address ∷ []) (hubs ++ told.hub ∷ []) told.place
 follows_more lines addresses hubs place line told before now = record {
-  stands = subst (λ ls. Stands ls told.place) (sym (reverse-push lines line)) now.place;
+  stands = subst (λ ls. IsPlaceAfter ls told.place) (sym (reverse-push lines line)) now.place;
   address_each =
       ap (λ l. l ++ told.address ∷ []) before.address_each
       ∙ ap (λ a. each_back address_back (reverse lines) ++ a ∷ []) (sym now.address)
