@@ -2,6 +2,7 @@ pub mod Division
 pub mod Registers
 pub mod Pieces
 pub mod LookingBack
+pub mod Hubs
 pub mod StatedNumber
 pub mod Entries
 pub mod LineBytes

@@ -11,7 +11,7 @@ use Rattle.echo_nodelist.specs.declared.keyword.Keyword.{Keyword}
 use Rattle.echo_nodelist.specs.declared.line.Line.{Line}
 use Rattle.echo_nodelist.specs.declared.line.Line.TheVariants.{Entry}
 use Rattle.echo_nodelist.specs.declared.fault.NodeFault.TheVariants.{NoZone}
-use Rattle.echo_nodelist.specs.Back.{Finds, address_back, each_back, hub_back, lines_back, zone_back}
+use Rattle.echo_nodelist.specs.Back.{Finds, address_back, each_back, lines_back, zone_back}
 use Rattle.echo_nodelist.specs.Nodelist.{in_zone, placed}
 use Rattle.echo_nodelist.specs.Place.{Follows, IsTold, IsPlaceAfter, Tells}
 
@@ -22,39 +22,34 @@ tell_none at earlier k n fields line is none =
     ap (λ l. placed at earlier (Ok l)) is ∙ ap (λ z. in_zone at z (Entry k n fields)) none
 
 -- an entry after a Zone line, or one itself
-pub tell_some : (at : ℕ) (earlier : List Line) (k : Keyword) (n : ℕ) (fields : List (List ℕ)) (line : Line) (here : Place) (address : Address) (hub : Option Address)
+pub tell_some : (at : ℕ) (earlier : List Line) (k : Keyword) (n : ℕ) (fields : List (List ℕ)) (line : Line) (here : Place) (address : Address)
     → line ≡ Entry k n fields → IsPlaceAfter (Entry k n fields ∷ earlier) (Some here) → address_back (Entry k n fields ∷ earlier) ≡ Some address
-    → hub_back (Entry k n fields ∷ earlier) ≡ hub → Tells at earlier line (Ok (record { address = Some address; hub = hub; place = Some here }))
-tell_some at earlier k n fields line here address hub is stands address_is hub_is =
-    let whole : Tells at earlier (Entry k n fields) (Ok (record { address = Some address; hub = hub; place = Some here })) = (
+    → Tells at earlier line (Ok (record { address = Some address; place = Some here }))
+tell_some at earlier k n fields line here address is stands address_is =
+    let whole : Tells at earlier (Entry k n fields) (Ok (record { address = Some address; place = Some here })) = (
       ap (λ z. in_zone at z (Entry k n fields)) stands.0,
-      record { place = stands; address = address_is; hub = hub_is },
+      record { place = stands; address = address_is },
     )
     in
-    subst (λ l. Tells at earlier l (Ok (record { address = Some address; hub = hub; place = Some here }))) (sym is) whole
+    subst (λ l. Tells at earlier l (Ok (record { address = Some address; place = Some here }))) (sym is) whole
 
 pub reverse-push : {A : Type 0} (xs : List A) (x : A) → reverse (xs ++ x ∷ []) ≡ x ∷ reverse xs
 reverse-push xs x = reverse-append xs (x ∷ [])
 
 -- one more line
-pub follows_more : (lines : List Line) (addresses hubs : List (Option Address)) (place : Option Place) (line : Line) (told : Told)
-    → Follows lines addresses hubs place → IsTold (reverse lines) line told
-    → Follows (lines ++ line ∷ []) (addresses ++ told.address ∷ []) (hubs ++ told.hub ∷ []) told.place
-follows_more lines addresses hubs place line told before now = record {
+pub follows_more : (lines : List Line) (addresses : List (Option Address)) (place : Option Place) (line : Line) (told : Told)
+    → Follows lines addresses place → IsTold (reverse lines) line told → Follows (lines ++ line ∷ []) (addresses ++ told.address ∷ []) told.place
+follows_more lines addresses place line told before now = record {
   stands = subst (λ ls. IsPlaceAfter ls told.place) (sym (reverse-push lines line)) now.place;
   address_each =
       ap (λ l. l ++ told.address ∷ []) before.address_each
       ∙ ap (λ a. each_back address_back (reverse lines) ++ a ∷ []) (sym now.address)
       ∙ ap (each_back address_back) (sym (reverse-push lines line));
-  hub_each =
-      ap (λ l. l ++ told.hub ∷ []) before.hub_each
-      ∙ ap (λ h. each_back hub_back (reverse lines) ++ h ∷ []) (sym now.hub)
-      ∙ ap (each_back hub_back) (sym (reverse-push lines line));
 }
 
 -- ---- what is kept of the line at an index
 
-length-each_back : (f : List Line → Option Address) (lines : List Line) → length (each_back f lines) ≡ length lines
+pub length-each_back : (f : List Line → Option Address) (lines : List Line) → length (each_back f lines) ≡ length lines
 length-each_back f [] = refl
 length-each_back f (line ∷ earlier) = omega (arith, length-append (each_back f earlier) (f (line ∷ earlier) ∷ []), length-each_back f earlier)
 

@@ -9,7 +9,7 @@ use Rattle.echo_nodelist.specs.declared.fault.NodeFault.{NodeFault}
 use Rattle.echo_nodelist.specs.declared.fault.NodeFault.TheVariants.{Memory, NoZone}
 use Rattle.echo_nodelist.specs.Raw.{is_comma, is_end, is_feed, node_lines}
 use Rattle.echo_nodelist.specs.Line.{is_fit, is_note, line_in}
-use Rattle.echo_nodelist.specs.Back.{address_back, each_back, hub_back, zone_back}
+use Rattle.echo_nodelist.specs.Back.{address_back, each_back, zone_back}
 
 -- an entry, where a Zone line stands at or before it
 abbrev pub in_zone : ℕ → Option ℕ → Line → Result Line NodeFault
@@ -86,8 +86,7 @@ AreLines (line ∷ earlier) = IsGoodLine earlier line × AreLines earlier
 abbrev pub IsNodelist : List Line → Type 0
 IsNodelist lines = AreLines (reverse lines)
 
--- what a `Nodelist` keeps beside its lines: the address of each and that of its hub
-pub record IsIndexed (lines : List Line) (addresses hubs : List (Option Address)) : Type 0 where
+-- what a `Nodelist` keeps beside its lines: the address of each
+pub record IsIndexed (lines : List Line) (addresses : List (Option Address)) : Type 0 where
   pub whole : IsNodelist lines
   pub address_each : addresses ≡ each_back address_back (reverse lines)
-  pub hub_each : hubs ≡ each_back hub_back (reverse lines)

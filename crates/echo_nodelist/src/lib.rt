@@ -6,7 +6,7 @@
 //!
 //! Modules in reading order: `fault` (why a nodelist is not read or written), `crc_table` and `crc`
 //! (the checksum), `cutting` (pieces of a text), `stated` (the checksum that the first line states),
-//! `keyword`, `line` (what a line says), `place` (where it stands), `reading`, `writing`, `nodelist`,
+//! `keyword`, `line` (what a line says), `place` (where it stands), `hub` (the hub over it), `reading`, `writing`, `nodelist`,
 //! and `laws` (what holds of the definitions).
 #![tactic(auto)]
 
@@ -14,6 +14,7 @@ mod crc;
 mod crc_table;
 mod cutting;
 mod fault;
+mod hub;
 mod keyword;
 mod laws;
 mod line;

@@ -2,6 +2,7 @@ ghost use Rattle.std.specs.Prelude.{◌≡◌, ◌≢◌, ◌↔◌, ◌<◌, �
 
 use crate::cutting::before_end;
 use crate::fault::NodeFault;
+use crate::hub::hub_at;
 use crate::line::Line;
 use crate::reading::read_lines;
 use crate::writing::nodelist_text;
@@ -10,12 +11,11 @@ use echo_device::{Failure, Sink, send};
 use std::alloc::Global;
 use std::marker::Model;
 
-/// A nodelist (FTS-5000): its lines, and beside them the address of each line and that of its hub.
+/// A nodelist (FTS-5000): its lines, and beside them the address of each line.
 #[derive(Debug, Drop)]
 pub struct Nodelist {
     lines: Vec<Line>,
     addresses: Vec<Option<Address>>,
-    hubs: Vec<Option<Address>>,
 }
 
 impl Model for Nodelist {
@@ -27,7 +27,7 @@ impl Model for Nodelist {
 
     ghost view = { λ list. list.lines.items };
 
-    ghost invariant = { λ list. IsIndexed list.lines.items list.addresses.items list.hubs.items };
+    ghost invariant = { λ list. IsIndexed list.lines.items list.addresses.items };
 }
 
 impl Nodelist {
@@ -45,7 +45,6 @@ impl Nodelist {
         Ok(Nodelist {
             lines: reading.lines,
             addresses: reading.addresses,
-            hubs: reading.hubs,
         })
     }
 
@@ -79,11 +78,11 @@ impl Nodelist {
 
     /// The address of the Hub over the line at an index, from 0: for an entry with the keyword Pvt,
     /// Hold, Down or none, that of the nearest Hub line before it with no Zone, Region or Host line
-    /// between them.
+    /// between them. It goes back from the line, as far as its net.
     pub fn hub_of(&self, i: usize) -> Option<Address>
         ensures { result ≡ hub_at self.now i }
     {
-        kept_at(&self.hubs, i)
+        hub_at(&self.lines, &self.addresses, i)
     }
 
     /// The index of the first line with the address. It goes over the addresses alone, eight bytes a

@@ -1,7 +1,7 @@
 ghost use Rattle.std.specs.Prelude.{◌≡◌, ℕ, List, ◌∷◌, Some};
 ghost use Rattle.echo_nodelist.specs.declared.line.Line.{Line};
 ghost use Rattle.echo_nodelist.specs.declared.line.Line.TheVariants.{Entry};
-ghost use Rattle.echo_nodelist.specs.Back.{address_back, hub_back};
+ghost use Rattle.echo_nodelist.specs.Back.{address_back};
 ghost use Rattle.echo_nodelist.specs.Place.{IsPlaceAfter, Tells};
 
 use crate::fault::NodeFault;
@@ -9,19 +9,17 @@ use crate::keyword::Keyword;
 use crate::line::Line;
 use echo_addr::Address;
 
-/// Where a line stands, by the lines up to it: zone, net, and the hub of the systems there.
+/// Where a line stands, by the lines up to it: zone and net.
 #[derive(Clone, Copy)]
 pub(crate) struct Place {
     zone: u16,
     net: u16,
-    hub: Option<Address>,
 }
 
-/// What the lines up to a line tell of it: its address, its hub, and the place after it.
+/// What the lines up to a line tell of it: its address, and the place after it.
 #[derive(Clone, Copy)]
 pub(crate) struct Told {
     pub(crate) address: Option<Address>,
-    pub(crate) hub: Option<Address>,
     pub(crate) place: Option<Place>,
 }
 
@@ -37,7 +35,6 @@ pub(crate) fn tell(place: Option<Place>, number: usize, line: &Line) -> Result<T
     else {
         return Ok(Told {
             address: None,
-            hub: None,
             place,
         });
     };
@@ -46,7 +43,6 @@ pub(crate) fn tell(place: Option<Place>, number: usize, line: &Line) -> Result<T
     };
     Ok(Told {
         address: Some(address(here, *keyword, *system)),
-        hub: hub(here, *keyword),
         place: Some(here),
     })
 }
@@ -59,19 +55,11 @@ fn after(place: Option<Place>, keyword: Keyword, number: u16) -> Option<Place>
         return Some(Place {
             zone: number,
             net: number,
-            hub: None,
         });
     }
     let mut here = place?;
     if keyword.begins_net() {
         here.net = number;
-        here.hub = None;
-    } else if keyword.is_hub() {
-        here.hub = Some(Address {
-            zone: here.zone,
-            net: here.net,
-            node: number,
-        });
     }
     Some(here)
 }
@@ -85,17 +73,5 @@ fn address(here: Place, keyword: Keyword, number: u16) -> Address
         zone: here.zone,
         net: here.net,
         node: if keyword.begins_net() { 0 } else { number },
-    }
-}
-
-/// The hub of an entry, by the place after it.
-fn hub(here: Place, keyword: Keyword) -> Option<Address>
-    ensures { (earlier : List Line) (number : ℕ) (fields : List (List ℕ)) → IsPlaceAfter (Entry keyword number fields ∷ earlier) (Some here)
-        → hub_back (Entry keyword number fields ∷ earlier) ≡ result }
-{
-    if keyword.begins_net() || keyword.is_hub() {
-        None
-    } else {
-        here.hub
     }
 }

@@ -11,12 +11,11 @@ use crate::place::{Place, tell};
 use echo_addr::Address;
 use std::alloc::Global;
 
-/// Lines that were read, with the address of each and that of its hub, and the place after them.
+/// Lines that were read, with the address of each, and the place after them.
 #[derive(Drop)]
 pub(crate) struct Reading {
     pub(crate) lines: Vec<Line>,
     pub(crate) addresses: Vec<Option<Address>>,
-    pub(crate) hubs: Vec<Option<Address>>,
     place: Option<Place>,
 }
 
@@ -31,7 +30,6 @@ impl Reading {
     {
         let told = tell(self.place, number, &line)?;
         self.addresses.push(told.address)?;
-        self.hubs.push(told.hub)?;
         self.lines.push(line)?;
         self.place = told.place;
         Ok(())
@@ -45,7 +43,6 @@ pub(crate) fn read_lines(alloc: Global, text: &[u8]) -> Result<Reading, NodeFaul
     let mut reading = Reading {
         lines: Vec::new(alloc),
         addresses: Vec::new(alloc),
-        hubs: Vec::new(alloc),
         place: None,
     };
     let mut rest = text;

@@ -10,5 +10,4 @@ pub returns : goal.returns
 returns c = λ earlier stands.
     let after = c.in-Some.ensures earlier c.in-Entry.fields stands in
     tell_some c.args.number earlier c.in-Entry.keyword c.in-Entry.system c.in-Entry.fields c.args.line.now c.in-Some.here c.address.result
-    c.hub.result c.in-Entry.is after (c.address.ensures earlier c.in-Entry.fields after)
-    (c.hub.ensures earlier c.in-Entry.system c.in-Entry.fields after)
+    c.in-Entry.is after (c.address.ensures earlier c.in-Entry.fields after)

@@ -16,5 +16,4 @@ invariant_of-result c =
     record {
       whole = good_lines c.args.bytes.now lines read;
       address_each = c.in_ok-reading.ensures.1.address_each;
-      hub_each = c.in_ok-reading.ensures.1.hub_each;
     }
