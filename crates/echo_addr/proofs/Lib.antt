@@ -1,12 +1,13 @@
 pub mod Each
+pub mod Pieces
 pub mod Decimals
 pub mod Tokens
 pub mod ReadBack
 pub mod Runs
-pub mod Writing
-pub mod Numbers
+pub mod LineEntries
+pub mod CappedNumbers
 pub mod Positions
-pub mod Cutting
+pub mod NextToken
 pub mod Shapes
 pub mod Carrying
 pub mod Outcomes

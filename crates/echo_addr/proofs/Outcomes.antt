@@ -156,22 +156,22 @@ pub outcome_refused : (b : List ℕ) (f : AddrFault) → refusal b ≡ Some f �
 outcome_refused b f some = sym (ap (λ o. answer_of o (address_in b)) some)
 
 -- a value that was cut off is out of range, as the whole one is
-capped_range : (low v c : ℕ) → c ≡ min v 65536 → is_in_range low 32767 c ≡ is_in_range low 32767 v
-capped_range low v c is = elim (cases_lt 65536 v) [
+capped_range : (low v c : ℕ) → c ≡ min v 32768 → is_in_range low 32767 c ≡ is_in_range low 32767 v
+capped_range low v c is = elim (cases_lt 32768 v) [
   | inl large ↦
       and_right (nat_le low c) (nat_le c 32767) (lt-leb c 32767 (omega arith))
       ∙ sym (and_right (nat_le low v) (nat_le v 32767) (lt-leb v 32767 (omega arith)))
   | inr small ↦ let same : c ≡ v = omega arith in ap (is_in_range low 32767) same
 ]
 
-capped_value : (low v c : ℕ) → c ≡ min v 65536 → is_in_range low 32767 c ≡ true → c ≡ v
+capped_value : (low v c : ℕ) → c ≡ min v 32768 → is_in_range low 32767 c ≡ true → c ≡ v
 capped_value low v c is fits = omega (arith, (in_fact low 32767 c fits).1)
 
 -- the numbers of the three parts
 pub record Capped (b : List ℕ) (zone net node : ℕ) : Type 0 where
-  pub zone_is : zone ≡ min (digits_value 10 (zone_part b)) 65536
-  pub net_is : net ≡ min (digits_value 10 (net_part b)) 65536
-  pub node_is : node ≡ min (digits_value 10 (node_part b)) 65536
+  pub zone_is : zone ≡ min (digits_value 10 (zone_part b)) 32768
+  pub net_is : net ≡ min (digits_value 10 (net_part b)) 32768
+  pub node_is : node ≡ min (digits_value 10 (node_part b)) 32768
 
 same_tests : (x y z u v w : Bool) → x ≡ u → y ≡ v → z ≡ w → (x && y && z) ≡ (u && v && w)
 same_tests x y z u v w ex ey ez = ap (λ t. t && y && z) ex ∙ ap (λ t. u && t && z) ey ∙ ap (λ t. u && v && t) ez
@@ -198,10 +198,10 @@ pub parts_test : (b z n d : List ℕ) → z ≡ zone_part b → n ≡ net_part b
 parts_test b z n d ez en ed = same_tests _ _ _ _ _ _ (ap is_number ez) (ap is_number en) (ap is_number ed)
 
 pub Capped-from_parts : (b z n d : List ℕ) (zone net node : ℕ) → z ≡ zone_part b → n ≡ net_part b → d ≡ node_part b
-    → zone ≡ min (digits_value 10 z) 65536 → net ≡ min (digits_value 10 n) 65536 → node ≡ min (digits_value 10 d) 65536
+    → zone ≡ min (digits_value 10 z) 32768 → net ≡ min (digits_value 10 n) 32768 → node ≡ min (digits_value 10 d) 32768
     → Capped b zone net node
 Capped-from_parts b z n d zone net node ez en ed vz vn vd = record {
-  zone_is = vz ∙ ap (λ t. min (digits_value 10 t) 65536) ez;
-  net_is = vn ∙ ap (λ t. min (digits_value 10 t) 65536) en;
-  node_is = vd ∙ ap (λ t. min (digits_value 10 t) 65536) ed;
+  zone_is = vz ∙ ap (λ t. min (digits_value 10 t) 32768) ez;
+  net_is = vn ∙ ap (λ t. min (digits_value 10 t) 32768) en;
+  node_is = vd ∙ ap (λ t. min (digits_value 10 t) 32768) ed;
 }

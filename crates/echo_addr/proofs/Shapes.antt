@@ -1,5 +1,5 @@
 -- The shape of an address, and the parts that it has.
-use Rattle.std.proofs.Common.{◌≡◌, ℕ, ◌+◌, ◌-◌, ◌<◌, ◌==◌, cond, not, Bool, true, false, List, [], ◌∷◌, ◌++◌, length, get_or, take, drop, refl, sym, ap, ◌∙◌, arith, None, append_assoc, inl, inr}
+use Rattle.std.proofs.Common.{◌≡◌, ℕ, ◌+◌, ◌-◌, ◌<◌, ◌==◌, ◌&&◌, nat_lt, cond, not, Bool, true, false, List, [], ◌∷◌, ◌++◌, length, get_or, take, drop, refl, sym, ap, ◌∙◌, arith, None, append_assoc, inl, inr}
 use Rattle.std.specs.List.{AllByRecursion, position, position_or_len, count_by, slice_range}
 use Rattle.std.proofs.lemmas.Bool.{and_left, and_right, and_from, and_parts, le-ltb, lt-ltb, ltb-true, ne_eqb, eq-eqb, eqb-true, cases_lt}
 use Rattle.std.proofs.lemmas.List.{take_at, drop_at, length-append, drop-drop, drop_more, take-append-drop}
@@ -122,11 +122,11 @@ spelled_net b z n d h =
 -- bytes of that shape are their parts, with colon and slash between them
 pub shape_parts : (b : List ℕ) → has_shape b ≡ true → b ≡ zone_part b ++ 58 ∷ (net_part b ++ 47 ∷ node_part b)
 shape_parts b shape =
-    let tests = and_parts _ _ shape in
-    let counts = and_parts _ _ tests.0 in
-    let one = eqb-true (count_by is_slash b) 1 counts.1 in
     let c = position_or_len is_colon b in
     let s = position_or_len is_slash b in
+    let tests = and_parts ((count_by is_colon b == 1) && (count_by is_slash b == 1)) (nat_lt c s) shape in
+    let counts = and_parts (count_by is_colon b == 1) (count_by is_slash b == 1) tests.0 in
+    let one : count_by is_slash b ≡ 1 = eqb-true (count_by is_slash b) 1 counts.1 in
     let order : c < s = ltb-true c s tests.1 in
     let within : s < length b = elim (cases_lt s (length b)) [
       | inl lt ↦ lt

@@ -26,13 +26,17 @@ pub record AddressOf (b : List ℕ) (a : Address) : Type 0 where
   pub node : Writes node_digits a.node
   pub in_range : IsAddress a
 
--- `zone:net/node` without leading zeros
-abbrev pub address_text : Address → List ℕ
-address_text a = decimal a.zone ++ (codes ":" ++ (decimal a.net ++ (codes "/" ++ decimal a.node)))
+-- `net/node` without leading zeros
+abbrev pub net_node_text : NetNode → List ℕ
+net_node_text e = decimal e.net ++ (codes "/" ++ decimal e.node)
 
 -- the net and the node of an address
 abbrev pub net_node_of : Address → NetNode
 net_node_of a = record { net = a.net; node = a.node }
+
+-- `zone:net/node` without leading zeros
+abbrev pub address_text : Address → List ℕ
+address_text a = decimal a.zone ++ (codes ":" ++ net_node_text (net_node_of a))
 
 -- `:` and `/`
 abbrev pub is_colon : ℕ → Bool

@@ -1,4 +1,5 @@
 pub mod Bytes
+pub mod Pieces
 pub mod Digits
 pub mod Address
 pub mod Entries

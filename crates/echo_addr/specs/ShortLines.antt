@@ -2,6 +2,7 @@
 use Rattle.std.specs.Prelude.{◌≡◌, ℕ, ◌==◌, ◌^◌, ◌<◌, ◌≤◌, ◌⊎◌, ⊤, Bool, true, not, if◌then◌else◌, List, [], ◌∷◌, ◌++◌, length, decimal, codes, Option, Some, None}
 use Rattle.std.specs.List.{flat_map, AllByRecursion}
 use Rattle.echo_addr.specs.declared.address.NetNode.{NetNode}
+use Rattle.echo_addr.specs.Address.{net_node_text}
 use Rattle.echo_addr.specs.Entries.{entries, dropped}
 
 -- the most bytes of a line before its 0D
@@ -23,7 +24,7 @@ shows_net (Some before) net = not (before == net)
 -- an entry as it is written, where the net of the entry before it is given
 abbrev pub entry_token : Option ℕ → NetNode → List ℕ
 entry_token before e =
-    if shows_net before e.net then decimal e.net ++ (codes "/" ++ decimal e.node) else decimal e.node
+    if shows_net before e.net then net_node_text e else decimal e.node
 
 -- the same after a blank
 abbrev pub entry_text : Option ℕ → NetNode → List ℕ

@@ -1,7 +1,7 @@
 ghost use Rattle.std.specs.Prelude.{◌≡◌, ◌↔◌, ◌&&◌, false, min, IsNone, IfSome};
 ghost use Rattle.std.specs.Str.Parse.{digits_value};
 ghost use Rattle.echo_addr.specs.Digits.{is_number};
-ghost use Rattle.echo_addr.specs.Address.{AddressOf, address_text, address_within, has_shape, net_node_of, net_part, node_part, outcome, refusal, zone_part};
+ghost use Rattle.echo_addr.specs.Address.{AddressOf, address_text, address_within, has_shape, net_node_of, net_node_text, net_part, node_part, outcome, refusal, zone_part};
 ghost use Rattle.echo_addr.specs.declared.fault.AddrFault.{AddrFault};
 
 use crate::digits::number;
@@ -36,9 +36,21 @@ impl fmt::Display for Address {
 
     fn fmt<W: fmt::Write>(&self, f: &mut fmt::Formatter<W>) -> fmt::Result {
         let zone = self.zone;
+        let entry = self.net_node();
+        write!(f, "{zone}:{entry}")
+    }
+}
+
+/// Writes `net/node` in decimal without leading zeros.
+impl fmt::Display for NetNode {
+    ghost use Rattle.std.specs.Prelude.{Some};
+
+    ghost output = { λ e. Some (net_node_text e) };
+
+    fn fmt<W: fmt::Write>(&self, f: &mut fmt::Formatter<W>) -> fmt::Result {
         let net = self.net;
         let node = self.node;
-        write!(f, "{zone}:{net}/{node}")
+        write!(f, "{net}/{node}")
     }
 }
 
@@ -78,14 +90,18 @@ fn judged(bytes: &[u8]) -> Result<Address, AddrFault>
     in_range(zone, net, node)
 }
 
-/// The numbers of three parts, as `number` gives them.
+/// The numbers of three parts, each at most 32,768.
 fn numbers(zone: &[u8], net: &[u8], node: &[u8]) -> Option<(u32, u32, u32)>
     ensures none { IsNone result ↔ ((is_number zone.now && is_number net.now && is_number node.now) ≡ false) }
-    ensures zone { IfSome result (λ p. p.0 ≡ min (digits_value 10 zone.now) 65536) }
-    ensures net { IfSome result (λ p. p.1 ≡ min (digits_value 10 net.now) 65536) }
-    ensures node { IfSome result (λ p. p.2 ≡ min (digits_value 10 node.now) 65536) }
+    ensures zone { IfSome result (λ p. p.0 ≡ min (digits_value 10 zone.now) 32768) }
+    ensures net { IfSome result (λ p. p.1 ≡ min (digits_value 10 net.now) 32768) }
+    ensures node { IfSome result (λ p. p.2 ≡ min (digits_value 10 node.now) 32768) }
 {
-    Some((number(zone)?, number(net)?, number(node)?))
+    Some((
+        number(MOST + 1, zone)?,
+        number(MOST + 1, net)?,
+        number(MOST + 1, node)?,
+    ))
 }
 
 /// What stands before the colon, between colon and slash, and after the slash.

@@ -1,15 +1,13 @@
-ghost use Rattle.std.specs.Prelude.{◌≡◌, ◌↔◌, false, min, IsNone, IfSome};
+ghost use Rattle.std.specs.Prelude.{◌≡◌, ◌<◌, ◌^◌, ◌↔◌, false, min, IsNone, IfSome};
 ghost use Rattle.std.specs.Str.Parse.{digits_value};
 ghost use Rattle.echo_addr.specs.Digits.{is_number};
 
-/// Numbers from here on count as this one: it is above each limit of an address or a list.
-const TOO_LARGE: u32 = 65536;
-
-/// The number that the digits write, or `TOO_LARGE` for any greater one; nothing where a byte is no
-/// digit or there is none. Zeros may stand in front.
-pub(crate) fn number(digits: &[u8]) -> Option<u32>
+/// The number that decimal digits write, or `cap` for any greater one; nothing where a byte is no
+/// digit or there is none. Zeros may stand in front. Takes no memory.
+pub fn number(cap: u32, digits: &[u8]) -> Option<u32>
+    requires { cap < 2 ^ 28 }
     ensures none { IsNone result ↔ (is_number digits.now ≡ false) }
-    ensures value { IfSome result (λ n. n ≡ min (digits_value 10 digits.now) 65536) }
+    ensures value { IfSome result (λ n. n ≡ min (digits_value 10 digits.now) cap) }
 {
     if digits.is_empty() {
         return None;
@@ -19,7 +17,7 @@ pub(crate) fn number(digits: &[u8]) -> Option<u32>
         if !byte.is_ascii_digit() {
             return None;
         }
-        value = (value * 10 + u32::from(*byte - b'0')).min(TOO_LARGE);
+        value = (value * 10 + u32::from(*byte - b'0')).min(cap);
     }
     Some(value)
 }

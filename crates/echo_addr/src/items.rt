@@ -3,6 +3,7 @@ ghost use Rattle.std.specs.Cmp.Lexicographic.{pointwise, lists_per, lists_equiv}
 ghost use Rattle.std.specs.Hash as fed;
 ghost use Rattle.std.specs.Hash.{items_Alike};
 
+use std::convert::AsSlice;
 use std::fmt;
 use std::fmt::Debug;
 use std::hash::{Hash, Hasher};
@@ -56,6 +57,14 @@ impl<T> Items<T> {
         ensures { IsTrue result ↔ (self.now ≡ []) }
     {
         self.all.is_empty()
+    }
+}
+
+impl<T> AsSlice<T> for Items<T> {
+    ghost items = { λ s. s };
+
+    fn as_slice(&self) -> &[T] {
+        self.as_slice()
     }
 }
 

@@ -1,15 +1,16 @@
-//! Addresses of FidoNet systems, the shortened lists of SEEN-BY and PATH lines (FTS-0004), and the one
-//! small type for lists.
+//! Addresses of FidoNet systems, the shortened lists of SEEN-BY and PATH lines (FTS-0004), and what all
+//! formats share: decimal numbers, blanks, and the one small type for lists.
 //!
 //! The contract for the layers above: `read_list` of a written line gives its entries, none dropped
 //! (`written_lines_read_back`).
 //!
-//! Modules in reading order: `fault` (why bytes are no address), `digits` (decimal numbers), `places`
-//! (where a byte stands), `address`, `listing` (reading lists), `shortening` (writing them), `laws`
-//! (what holds of the definitions); `items` (a list that no later call grows).
+//! Modules in reading order: `fault` (why bytes are no address), `digits` (decimal numbers), `blanks`,
+//! `places` (where a byte stands), `address`, `listing` (reading lists), `shortening` (writing them),
+//! `laws` (what holds of the definitions); `items` (a list that no later call grows).
 #![tactic(auto)]
 
 mod address;
+mod blanks;
 mod digits;
 mod fault;
 mod items;
@@ -19,6 +20,8 @@ mod places;
 mod shortening;
 
 pub use address::{Address, NetNode};
+pub use blanks::is_blank;
+pub use digits::number;
 pub use fault::AddrFault;
 pub use items::Items;
 pub use laws::{address_read_back, one_spelling, written_lines_read_back};

@@ -3,9 +3,13 @@ ghost use Rattle.std.specs.Option.{option_or};
 ghost use Rattle.echo_addr.specs.Entries.{dropped, entries, entry_from, is_blank, pair_of, part_of, tokens};
 
 use crate::address::NetNode;
+use crate::blanks::is_blank;
 use crate::digits::number;
 use crate::places::place;
 use std::alloc::{AllocError, Global};
+
+/// The greatest net or node of an entry.
+const MOST: u32 = 65535;
 
 /// The entries of what follows the colon of a SEEN-BY or PATH line (FTS-0004), in order, and how
 /// many tokens were dropped. A token is `net/node`, or a node with the net of the nearest such token
@@ -29,13 +33,6 @@ pub fn read_list(alloc: Global, bytes: &[u8]) -> Result<(Vec<NetNode>, usize), A
         rest = after;
     }
     Ok((found, dropped))
-}
-
-/// Whether lists are cut at the byte.
-fn is_blank(byte: u8) -> bool
-    ensures { result ≡ is_blank byte }
-{
-    byte == b' ' || byte == b'\t' || byte == b'\n'
 }
 
 /// The first token, and what stands after it.
@@ -92,8 +89,8 @@ fn alone(net: Option<u16>, token: &[u8]) -> Option<NetNode>
 fn part(digits: &[u8]) -> Option<u16>
     ensures { result ≡ part_of digits.now }
 {
-    match number(digits) {
-        Some(value) if value <= 65535 => Some(value as u16),
+    match number(MOST + 1, digits) {
+        Some(value) if value <= MOST => Some(value as u16),
         _ => None,
     }
 }

@@ -120,11 +120,10 @@ fn push_run(line: &mut String, run: &[NetNode]) -> Result<(), AllocError>
 fn push_entry(line: &mut String, before: Option<u16>, entry: NetNode) -> Result<(), AllocError>
     ensures { OnOk result (string_bytes line.new ≡ string_bytes line.old ++ entry_text before entry) }
 {
-    let net = entry.net;
-    let node = entry.node;
-    if shows_net(before, net) {
-        write!(line, " {net}/{node}")
+    if shows_net(before, entry.net) {
+        write!(line, " {entry}")
     } else {
+        let node = entry.node;
         write!(line, " {node}")
     }
 }

@@ -15,10 +15,11 @@ use Rattle.echo_nodelist.specs.declared.keyword.Keyword.{Keyword}
 use Rattle.echo_nodelist.specs.declared.line.Line.{Line}
 use Rattle.echo_nodelist.specs.declared.line.Line.TheVariants.{Entry, Note}
 use Rattle.echo_nodelist.specs.declared.fault.NodeFault.TheVariants.{TooFewFields}
-use Rattle.echo_nodelist.specs.Raw.{is_comma, is_end, is_feed, lines_of, node_lines, text_of, without_empty_last}
-use Rattle.echo_nodelist.specs.Line.{entry_of, is_fit, is_note, keyword_of, number_of, with_keyword, with_number}
+use Rattle.echo_addr.specs.Pieces.{without_empty_last}
+use Rattle.echo_nodelist.specs.Raw.{is_comma, is_end, is_feed, lines_of, node_lines, before_end}
+use Rattle.echo_nodelist.specs.Line.{entry_in, is_fit, is_note, keyword_of, number_of, with_keyword, with_number}
 use Rattle.echo_nodelist.specs.Back.{zone_back}
-use Rattle.echo_nodelist.specs.Nodelist.{AreLines, AreRead, IsLine, IsNodelist, NodelistOf, in_zone, is_field_byte, is_inner, outcome, placed}
+use Rattle.echo_nodelist.specs.Nodelist.{AreLines, AreRead, IsGoodLine, IsNodelist, NodelistOf, in_zone, is_field_byte, is_inner, line_outcome, placed}
 
 -- ---- bytes of pieces
 
@@ -71,12 +72,12 @@ lines_clean text h =
     strips_clean is_inner (without_empty_last (slice_split is_feed text))
     (without_last_clean (list_all is_inner) (slice_split is_feed text) (split_clean (λ b. not (is_end b)) is_feed text h))
 
-text_clean : (bytes : List ℕ) → list_all (λ b. not (is_end b)) (text_of bytes) ≡ true
+text_clean : (bytes : List ℕ) → list_all (λ b. not (is_end b)) (before_end bytes) ≡ true
 text_clean bytes =
     let k = position_or_len is_end bytes in
     let within : k ≤ length bytes = prefix_len-le-length (λ b. not (is_end b)) bytes in
-    list_all-from_AllPass (λ b. not (is_end b)) (text_of bytes)
-    (All-from_get_or (λ b. not (is_end b) ≡ true) (text_of bytes) 0 (λ i below.
+    list_all-from_AllPass (λ b. not (is_end b)) (before_end bytes)
+    (All-from_get_or (λ b. not (is_end b) ≡ true) (before_end bytes) 0 (λ i below.
     let at : i < k = omega (arith, below, length-take-le k bytes within) in
     rw (get_or-take k bytes i 0 at) (ap not (fails_before_first is_end bytes i 0 at))))
 
@@ -106,26 +107,28 @@ fit_number k digits n is = elim (cases_Bool (is_number digits && is_fit k (digit
 ]
 
 module _ (at : ℕ) (earlier : List Line) (line : Line) (fields : List (List ℕ)) (enough : 5 ≤ length fields) (clean : list_all (list_all is_field_byte) fields ≡ true) where
-  by_zone : (k : Keyword) (n : ℕ) (z : Option ℕ) → is_fit k n ≡ true → zone_back (Entry k n fields ∷ earlier) ≡ z → in_zone at z (Entry k n fields) ≡ Ok line → IsLine earlier line
+  by_zone : (k : Keyword) (n : ℕ) (z : Option ℕ) → is_fit k n ≡ true → zone_back (Entry k n fields ∷ earlier) ≡ z → in_zone at z (Entry k n fields) ≡ Ok line → IsGoodLine earlier line
   by_zone k n None fit zone is = absurd cc
   by_zone k n (Some z) fit zone is =
       let same : Entry k n fields ≡ line = cc in
-      subst (IsLine earlier) same (record { number = fit; enough = enough; bytes = clean; zone = subst IsSome (sym zone) refl })
+      subst (IsGoodLine earlier) same (record { number = fit; enough = enough; bytes = clean; zone = subst IsSome (sym zone) refl })
 
-  by_number : (k : Keyword) (digits : List ℕ) (m : Option ℕ) → number_of k digits ≡ m → placed at earlier (with_number at k m fields) ≡ Ok line → IsLine earlier line
+  by_number : (k : Keyword) (digits : List ℕ) (m : Option ℕ) → number_of k digits ≡ m → placed at earlier (with_number at k m fields) ≡ Ok line → IsGoodLine earlier line
   by_number k digits None number is = absurd cc
   by_number k digits (Some n) number is = by_zone k n (zone_back (Entry k n fields ∷ earlier)) (fit_number k digits n number) refl is
 
-  by_keyword : (o : Option Keyword) (digits : List ℕ) → placed at earlier (with_keyword at o digits fields) ≡ Ok line → IsLine earlier line
+  by_keyword : (o : Option Keyword) (digits : List ℕ) → placed at earlier (with_keyword at o digits fields) ≡ Ok line → IsGoodLine earlier line
   by_keyword None digits is = absurd cc
   by_keyword (Some k) digits is = by_number k digits (number_of k digits) refl is
 
 entry_good : (at : ℕ) (earlier : List Line) (line : Line) (pieces : List (List ℕ)) → list_all (list_all is_field_byte) pieces ≡ true
-    → placed at earlier (entry_of at pieces) ≡ Ok line → IsLine earlier line
+    → placed at earlier (entry_in at pieces) ≡ Ok line → IsGoodLine earlier line
 entry_good at earlier line [] clean is = absurd cc
 entry_good at earlier line (word ∷ []) clean is = absurd cc
 entry_good at earlier line (word ∷ (digits ∷ fields)) clean is =
-    let rest = (and_parts _ _ (and_parts _ _ clean).1).1 in
+    let inner = list_all is_field_byte in
+    let rest : list_all inner fields ≡ true =
+    (and_parts (inner digits) (list_all inner fields) (and_parts (inner word) (list_all inner (digits ∷ fields)) clean).1).1 in
     elim (cases_lt (length fields) 5) [
       | inl few ↦
           let fault : Err (TooFewFields at) ≡ Ok line =
@@ -137,17 +140,17 @@ entry_good at earlier line (word ∷ (digits ∷ fields)) clean is =
           (sym (ap (placed at earlier) (cond-false (nat_lt (length fields) 5) (Err (TooFewFields at)) (with_keyword at (keyword_of word) digits fields) (le-ltb (length fields) 5 enough))) ∙ is)
     ]
 
-line_good : (earlier : List Line) (raw : List ℕ) (line : Line) → outcome earlier raw ≡ Ok line → list_all is_inner raw ≡ true → IsLine earlier line
+line_good : (earlier : List Line) (raw : List ℕ) (line : Line) → line_outcome earlier raw ≡ Ok line → list_all is_inner raw ≡ true → IsGoodLine earlier line
 line_good earlier raw line is clean =
     let at = length earlier + 1 in
     elim (cases_Bool (is_note raw)) [
       | inl y ↦
-          let said : Ok (Note raw) ≡ Ok line = sym (ap (placed at earlier) (cond-true (is_note raw) (Ok (Note raw)) (entry_of at (slice_split is_comma raw)) y)) ∙ is in
+          let said : Ok (Note raw) ≡ Ok line = sym (ap (placed at earlier) (cond-true (is_note raw) (Ok (Note raw)) (entry_in at (slice_split is_comma raw)) y)) ∙ is in
           let same : Note raw ≡ line = cc in
-          subst (IsLine earlier) same (y, clean)
+          subst (IsGoodLine earlier) same (y, clean)
       | inr n ↦
           entry_good at earlier line (slice_split is_comma raw) (split_clean is_inner is_comma raw clean)
-          (sym (ap (placed at earlier) (cond-false (is_note raw) (Ok (Note raw)) (entry_of at (slice_split is_comma raw)) n)) ∙ is)
+          (sym (ap (placed at earlier) (cond-false (is_note raw) (Ok (Note raw)) (entry_in at (slice_split is_comma raw)) n)) ∙ is)
     ]
 
 lines_good : (raws : List (List ℕ)) (lines : List Line) → AreRead raws lines → list_all (list_all is_inner) raws ≡ true → AreLines lines
@@ -162,4 +165,4 @@ lines_good (raw ∷ raws) (line ∷ earlier) read clean =
 pub good_lines : (bytes : List ℕ) (lines : List Line) → NodelistOf bytes lines → IsNodelist lines
 good_lines bytes lines read =
     lines_good (reverse (node_lines bytes)) (reverse lines) read
-    (list_all-reverse (list_all is_inner) (node_lines bytes) (lines_clean (text_of bytes) (text_clean bytes)))
+    (list_all-reverse (list_all is_inner) (node_lines bytes) (lines_clean (before_end bytes) (text_clean bytes)))

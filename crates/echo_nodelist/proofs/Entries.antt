@@ -7,7 +7,7 @@ use Rattle.echo_nodelist.specs.declared.keyword.Keyword.{Keyword}
 use Rattle.echo_nodelist.specs.declared.line.Line.TheVariants.{Entry}
 use Rattle.echo_nodelist.specs.declared.fault.NodeFault.TheVariants.{BadKeyword, BadNumber, TooFewFields}
 use Rattle.echo_nodelist.specs.Raw.{is_comma}
-use Rattle.echo_nodelist.specs.Line.{entry_of, keyword_of, number_of, with_keyword, with_number}
+use Rattle.echo_nodelist.specs.Line.{entry_in, keyword_of, number_of, with_keyword, with_number}
 use Rattle.echo_nodelist.proofs.Pieces.{one_piece}
 
 -- the first field, and the fields after it
@@ -18,13 +18,13 @@ field_cut text field rest found before behind =
     ∙ ap (λ f. f ∷ slice_split is_comma (after_first is_comma text)) (sym before)
     ∙ ap (λ t. field ∷ slice_split is_comma t) (sym behind)
 
-pub one_field : (at : ℕ) (text : List ℕ) → position_or_len is_comma text ≡ length text → entry_of at (slice_split is_comma text) ≡ Err (TooFewFields at)
-one_field at text none = ap (entry_of at) (one_piece is_comma text none)
+pub one_field : (at : ℕ) (text : List ℕ) → position_or_len is_comma text ≡ length text → entry_in at (slice_split is_comma text) ≡ Err (TooFewFields at)
+one_field at text none = ap (entry_in at) (one_piece is_comma text none)
 
 pub two_fields : (at : ℕ) (text word rest : List ℕ) → slice_split is_comma text ≡ word ∷ slice_split is_comma rest → position_or_len is_comma rest ≡ length rest
-    → entry_of at (slice_split is_comma text) ≡ Err (TooFewFields at)
+    → entry_in at (slice_split is_comma text) ≡ Err (TooFewFields at)
 two_fields at text word rest cut none =
-    ap (entry_of at) (cut ∙ ap (λ fs. word ∷ fs) (one_piece is_comma rest none))
+    ap (entry_in at) (cut ∙ ap (λ fs. word ∷ fs) (one_piece is_comma rest none))
     ∙ cond-true (nat_lt 0 5) (Err (TooFewFields at)) (with_keyword at (keyword_of word) rest []) refl
 
 module _ (at : ℕ) (text word rest digits last : List ℕ) (fields : List (List ℕ)) (first : slice_split is_comma text ≡ word ∷ slice_split is_comma rest)
@@ -32,26 +32,26 @@ module _ (at : ℕ) (text word rest digits last : List ℕ) (fields : List (List
   whole : slice_split is_comma text ≡ word ∷ (digits ∷ fields)
   whole = first ∙ ap (λ fs. word ∷ fs) second ∙ ap (λ fs. word ∷ (digits ∷ fs)) (sym others)
 
-  pub few_fields : length fields < 5 → entry_of at (slice_split is_comma text) ≡ Err (TooFewFields at)
+  pub few_fields : length fields < 5 → entry_in at (slice_split is_comma text) ≡ Err (TooFewFields at)
   few_fields few =
-      ap (entry_of at) whole
+      ap (entry_in at) whole
       ∙ cond-true (nat_lt (length fields) 5) (Err (TooFewFields at)) (with_keyword at (keyword_of word) digits fields) (lt-ltb (length fields) 5 few)
 
   module _ (enough : 5 ≤ length fields) where
-    by_keyword : entry_of at (slice_split is_comma text) ≡ with_keyword at (keyword_of word) digits fields
+    by_keyword : entry_in at (slice_split is_comma text) ≡ with_keyword at (keyword_of word) digits fields
     by_keyword =
-        ap (entry_of at) whole
+        ap (entry_in at) whole
         ∙ cond-false (nat_lt (length fields) 5) (Err (TooFewFields at)) (with_keyword at (keyword_of word) digits fields) (le-ltb (length fields) 5 enough)
 
-    pub no_keyword : None ≡ keyword_of word → entry_of at (slice_split is_comma text) ≡ Err (BadKeyword at)
+    pub no_keyword : None ≡ keyword_of word → entry_in at (slice_split is_comma text) ≡ Err (BadKeyword at)
     no_keyword none = by_keyword ∙ ap (λ k. with_keyword at k digits fields) (sym none)
 
     module _ (k : Keyword) (is : Some k ≡ keyword_of word) where
-      by_number : entry_of at (slice_split is_comma text) ≡ with_number at k (number_of k digits) fields
+      by_number : entry_in at (slice_split is_comma text) ≡ with_number at k (number_of k digits) fields
       by_number = by_keyword ∙ ap (λ o. with_keyword at o digits fields) (sym is)
 
-      pub no_number : None ≡ number_of k digits → entry_of at (slice_split is_comma text) ≡ Err (BadNumber at)
+      pub no_number : None ≡ number_of k digits → entry_in at (slice_split is_comma text) ≡ Err (BadNumber at)
       no_number none = by_number ∙ ap (λ n. with_number at k n fields) (sym none)
 
-      pub an_entry : (n : ℕ) → Some n ≡ number_of k digits → entry_of at (slice_split is_comma text) ≡ Ok (Entry k n fields)
+      pub an_entry : (n : ℕ) → Some n ≡ number_of k digits → entry_in at (slice_split is_comma text) ≡ Ok (Entry k n fields)
       an_entry n some = by_number ∙ ap (λ o. with_number at k o fields) (sym some)

@@ -1,12 +1,12 @@
 pub mod Division
 pub mod Registers
-pub mod Numbers
 pub mod Pieces
-pub mod Areas
-pub mod Stating
+pub mod LookingBack
+pub mod Hubs
+pub mod StatedNumber
 pub mod Entries
-pub mod WrittenText
-pub mod ReadingOn
+pub mod LineBytes
+pub mod OneMoreLine
 pub mod Clean
 pub mod ReadBack
 pub mod OneNodelist

@@ -4,7 +4,7 @@ use Rattle.std.proofs.lemmas.List.{append_assoc, reverse-append, reverse-reverse
 use Rattle.echo_nodelist.specs.declared.line.Line.{Line}
 use Rattle.echo_nodelist.specs.declared.fault.NodeFault.{NodeFault}
 use Rattle.echo_nodelist.specs.Raw.{node_lines}
-use Rattle.echo_nodelist.specs.Nodelist.{AreRead, FaultOf, NodelistOf, outcome}
+use Rattle.echo_nodelist.specs.Nodelist.{AreRead, FaultOf, NodelistOf, line_outcome}
 
 same_read : (raws : List (List ℕ)) (some others : List Line) → AreRead raws some → AreRead raws others → some ≡ others
 same_read [] [] [] s o = refl
@@ -14,7 +14,7 @@ same_read (raw ∷ raws) [] others s o = absurd s
 same_read (raw ∷ raws) (line ∷ some) [] s o = absurd o
 same_read (raw ∷ raws) (line ∷ some) (other ∷ others) s o =
     let earlier = same_read raws some others s.1 o.1 in
-    let both : Ok line ≡ Ok other = sym s.0 ∙ ap (λ ls. outcome ls raw) earlier ∙ o.0 in
+    let both : Ok line ≡ Ok other = sym s.0 ∙ ap (λ ls. line_outcome ls raw) earlier ∙ o.0 in
     let here : line ≡ other = cc in
     ap (λ l. l ∷ some) here ∙ ap (λ ls. other ∷ ls) earlier
 
@@ -26,7 +26,7 @@ same_nodelist bytes some others s o =
 record Before (raw : List ℕ) (raws : List (List ℕ)) : Type 0 where
   line : Line
   earlier : List Line
-  said : outcome earlier raw ≡ Ok line
+  said : line_outcome earlier raw ≡ Ok line
   read : AreRead raws earlier
 
 before : (later : List (List ℕ)) (raw : List ℕ) (raws : List (List ℕ)) (lines : List Line) → AreRead (later ++ raw ∷ raws) lines → Before raw raws
@@ -37,7 +37,7 @@ before (next ∷ later) raw raws (line ∷ earlier) r = before later raw raws ea
 
 -- a good front that goes on past a faulty line
 front_faulty : (front : List (List ℕ)) (raw : List ℕ) (later : List (List ℕ)) (lines earlier : List Line) (fault : NodeFault)
-    → AreRead (reverse (front ++ raw ∷ later)) lines → AreRead (reverse front) earlier → outcome earlier raw ≡ Err fault → ⊥
+    → AreRead (reverse (front ++ raw ∷ later)) lines → AreRead (reverse front) earlier → line_outcome earlier raw ≡ Err fault → ⊥
 front_faulty front raw later lines earlier fault read good faulty =
     let pieces : reverse (front ++ raw ∷ later) ≡ reverse later ++ raw ∷ reverse front =
     reverse-append front (raw ∷ later)
@@ -46,7 +46,7 @@ front_faulty front raw later lines earlier fault read good faulty =
     in
     let b = before (reverse later) raw (reverse front) lines (subst (λ rs. AreRead rs lines) pieces read) in
     let same : b.earlier ≡ earlier = same_read (reverse front) b.earlier earlier b.read good in
-    let both : Ok b.line ≡ Err fault = sym b.said ∙ ap (λ ls. outcome ls raw) same ∙ faulty in
+    let both : Ok b.line ≡ Err fault = sym b.said ∙ ap (λ ls. line_outcome ls raw) same ∙ faulty in
     absurd cc
 
 pub none_faulty : (bytes : List ℕ) (lines : List Line) (fault : NodeFault) → NodelistOf bytes lines → FaultOf bytes fault → ⊥
@@ -80,7 +80,7 @@ same_fault bytes one other f g = by (places f.front g.front f.raw g.raw f.later 
     by : Places f.front f.raw g.front g.raw → one ≡ other
     by (together e h) =
         let lines : reverse f.lines ≡ reverse g.lines = same_read (reverse f.front) (reverse f.lines) (reverse g.lines) f.good (subst (λ fs. AreRead (reverse fs) (reverse g.lines)) (sym e) g.good) in
-        let both : Err one ≡ Err other = sym f.faulty ∙ ap (λ ls. outcome ls f.raw) lines ∙ ap (outcome (reverse g.lines)) h ∙ g.faulty in
+        let both : Err one ≡ Err other = sym f.faulty ∙ ap (λ ls. line_outcome ls f.raw) lines ∙ ap (line_outcome (reverse g.lines)) h ∙ g.faulty in
         cc
     by (earlier m e) =
         absurd (front_faulty f.front f.raw m (reverse g.lines) (reverse f.lines) one (subst (λ fs. AreRead (reverse fs) (reverse g.lines)) e g.good) f.good f.faulty)

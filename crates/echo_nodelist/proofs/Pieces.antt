@@ -1,14 +1,16 @@
 -- Cutting a text into pieces.
-use Rattle.std.proofs.Common.{◌≡◌, ℕ, ◌+◌, ◌-◌, ◌<◌, ◌==◌, Bool, false, List, [], ◌∷◌, ◌++◌, length, get_or, take, drop, map, Some, None, refl, sym, ap, ◌∙◌, arith, inl, inr}
-use Rattle.std.specs.List.{All, after_first, before_first, onto_first, position_or_len, slice_split}
+use Rattle.std.proofs.Common.{◌≡◌, ℕ, ◌+◌, ◌-◌, ◌<◌, ◌==◌, Bool, false, List, [], ◌∷◌, ◌++◌, length, get_or, take, drop, map, Some, None, refl, sym, ap, ◌∙◌, arith}
+use Rattle.std.specs.List.{All, after_first, before_first, position_or_len, slice_split}
 use Rattle.std.specs.Io.BufRead.{strip_last}
 use Rattle.std.proofs.lemmas.List.{append_assoc, drop_all, take_rest}
 use Rattle.std.proofs.lemmas.List.Elements.{All-from_get_or}
 use Rattle.std.proofs.lemmas.List.Sums.{fails_before_first, position_or_len_is}
-use Rattle.std.proofs.lemmas.List.Splits.{slice_split-cons_no, slice_split-cons_yes, slice_split_first, slice_split_none}
-use Rattle.std.proofs.lemmas.Bool.{cases_Bool, cond-false, false_from_ne_true, ne_eqb}
+use Rattle.std.proofs.lemmas.List.Splits.{slice_split_first, slice_split_none}
+use Rattle.std.proofs.lemmas.Bool.{false_from_ne_true}
 use Rattle.memchr.specs.Find.{IsFirstByte, is_byte}
-use Rattle.echo_nodelist.specs.Raw.{is_comma, is_feed, lines_of, without_empty_last}
+use Rattle.echo_addr.specs.Pieces.{without_empty_last}
+use Rattle.echo_addr.proofs.Pieces.{ended_piece, last_piece}
+use Rattle.echo_nodelist.specs.Raw.{is_comma, is_feed, lines_of}
 
 module _ (byte : ℕ) (text : List ℕ) where
   abbrev is : ℕ → Bool
@@ -40,29 +42,6 @@ one_piece p text none = slice_split_none p text (none_passes p text none)
 
 -- ---- lines
 
--- a split has a first piece
-record HasFirst (pieces : List (List ℕ)) : Type 0 where
-  first : List ℕ
-  more : List (List ℕ)
-  is : pieces ≡ first ∷ more
-
-first_onto : (b : ℕ) (pieces : List (List ℕ)) → HasFirst (onto_first b pieces)
-first_onto b [] = record { first = b ∷ []; more = []; is = refl }
-first_onto b (piece ∷ more) = record { first = b ∷ piece; more = more; is = refl }
-
-first_of_split : (text : List ℕ) → HasFirst (slice_split is_feed text)
-first_of_split [] = record { first = []; more = []; is = refl }
-first_of_split (b ∷ text) = elim (cases_Bool (is_feed b)) [
-  | inl y ↦ record { first = []; more = slice_split is_feed text; is = slice_split-cons_yes is_feed b text y }
-  | inr n ↦
-      let onto = first_onto b (slice_split is_feed text) in
-      record { first = onto.first; more = onto.more; is = slice_split-cons_no is_feed b text n ∙ onto.is }
-]
-
-kept_piece : (piece : List ℕ) (pieces : List (List ℕ)) → HasFirst pieces → without_empty_last (piece ∷ pieces) ≡ piece ∷ without_empty_last pieces
-kept_piece piece pieces h =
-    ap (λ ps. without_empty_last (piece ∷ ps)) h.is ∙ ap (λ ps. piece ∷ without_empty_last ps) (sym h.is)
-
 pub lines_nil : lines_of [] ≡ []
 unfolding lines_of
 lines_nil = refl
@@ -70,7 +49,7 @@ lines_nil = refl
 pub lines_split : (text piece rest : List ℕ) → slice_split is_feed text ≡ piece ∷ slice_split is_feed rest → lines_of text ≡ strip_last 13 piece ∷ lines_of rest
 unfolding lines_of
 lines_split text piece rest cut =
-    ap (λ ps. map (strip_last 13) (without_empty_last ps)) cut ∙ ap (map (strip_last 13)) (kept_piece piece (slice_split is_feed rest) (first_of_split rest))
+    ap (λ ps. map (strip_last 13) (without_empty_last ps)) cut ∙ ap (map (strip_last 13)) (ended_piece is_feed piece rest)
 
 -- the first line, where it has an end, and those after it
 pub lines_cut : (text line piece rest : List ℕ) → position_or_len is_feed text < length text → piece ≡ before_first is_feed text → rest ≡ after_first is_feed text
@@ -86,7 +65,7 @@ pub lines_last : (text line rest : List ℕ) → 0 < length text → position_or
 unfolding lines_of
 lines_last text line rest some none last nothing =
     ap (λ ps. map (strip_last 13) (without_empty_last ps)) (one_piece is_feed text none)
-    ∙ ap (map (strip_last 13)) (cond-false (length text == 0) [] (text ∷ []) (ne_eqb (length text) 0 (λ e. omega arith)))
+    ∙ ap (map (strip_last 13)) (last_piece text some)
     ∙ ap (λ l. l ∷ []) (sym last)
     ∙ ap (λ t. line ∷ map (strip_last 13) (without_empty_last (slice_split is_feed t))) (sym nothing)
 

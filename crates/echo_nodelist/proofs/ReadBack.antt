@@ -1,5 +1,5 @@
 -- What was written of a nodelist is read as that nodelist.
-use Rattle.std.proofs.Common.{◌≡◌, ℕ, ◌+◌, ◌-◌, ◌^◌, ◌<◌, ◌==◌, ◌&&◌, ◌||◌, not, nat_lt, Bool, true, false, List, [], ◌∷◌, ◌++◌, length, get_or, take, map, reverse, codes, decimal, refl, sym, ap, ◌∙◌, subst, arith, Option, Some, None, Ok, Err}
+use Rattle.std.proofs.Common.{◌≡◌, ℕ, ◌+◌, ◌-◌, ◌^◌, ◌<◌, ◌≤◌, nat_le, ◌==◌, ◌&&◌, ◌||◌, not, nat_lt, Bool, true, false, List, [], ◌∷◌, ◌++◌, length, get_or, take, map, reverse, codes, decimal, refl, sym, ap, ◌∙◌, subst, arith, Option, Some, None, Ok, Err}
 use Rattle.std.specs.Prelude.{IsSome}
 use Rattle.std.specs.List.{All, AllByRecursion, flat_map, join_with_byte, list_all, position_or_len, slice_split}
 use Rattle.std.specs.Str.Parse.{digits_value}
@@ -18,11 +18,11 @@ use Rattle.echo_nodelist.specs.declared.keyword.Keyword.TheVariants.{Down, Hold,
 use Rattle.echo_nodelist.specs.declared.line.Line.{Line}
 use Rattle.echo_nodelist.specs.declared.line.Line.TheVariants.{Entry, Note}
 use Rattle.echo_nodelist.specs.declared.fault.NodeFault.TheVariants.{TooFewFields}
-use Rattle.echo_nodelist.specs.Raw.{is_comma, is_end, is_feed, lines_of, node_lines, text_of}
-use Rattle.echo_nodelist.specs.Line.{entry_of, is_fit, is_note, keyword_of, keyword_text, line_of, number_of, with_keyword, with_number}
+use Rattle.echo_nodelist.specs.Raw.{is_comma, is_end, is_feed, lines_of, node_lines, before_end}
+use Rattle.echo_nodelist.specs.Line.{entry_in, is_fit, is_note, keyword_of, keyword_text, least_of, line_in, number_of, with_keyword, with_number}
 use Rattle.echo_nodelist.specs.Back.{zone_back}
-use Rattle.echo_nodelist.specs.Nodelist.{AreLines, AreRead, IsEntry, IsLine, IsNodelist, NodelistOf, in_zone, is_field_byte, is_inner, outcome, placed}
-use Rattle.echo_nodelist.specs.Written.{ended, line_text, nodelist_text}
+use Rattle.echo_nodelist.specs.Nodelist.{AreLines, AreRead, IsEntry, IsGoodLine, IsNodelist, NodelistOf, in_zone, is_field_byte, is_inner, line_outcome, placed}
+use Rattle.echo_nodelist.specs.Written.{line_and_end, line_text, nodelist_text}
 use Rattle.echo_nodelist.proofs.Pieces.{lines_nil, lines_split}
 
 -- ---- bytes
@@ -117,7 +117,7 @@ no_note Down rest = no_note_of 68 (codes "own" ++ 44 ∷ rest) refl
 no_note Node rest = no_note_of 44 rest refl
 
 fit_small : (k : Keyword) (n : ℕ) → is_fit k n ≡ true → n < 2 ^ 64
-fit_small k n h = let most = leb-true n 32767 (and_parts _ _ h).1 in omega arith
+fit_small k n h = let most : n ≤ 32767 = leb-true n 32767 (and_parts (nat_le (least_of k) n) (nat_le n 32767) h).1 in omega arith
 
 number_again : (k : Keyword) (n : ℕ) → is_fit k n ≡ true → number_of k (decimal n) ≡ Some n
 number_again k n fit =
@@ -138,26 +138,26 @@ entry_fields k n fields fit clean =
     (and_from (list_all is_field_byte (decimal n)) (list_all (list_all is_field_byte) fields) (digits_field (decimal n) (digits_of_decimal n (fit_small k n fit))) clean)
 
 entry_again : (earlier : List Line) (k : Keyword) (n : ℕ) (fields : List (List ℕ)) → IsEntry earlier k n fields
-    → outcome earlier (line_text (Entry k n fields)) ≡ Ok (Entry k n fields)
+    → line_outcome earlier (line_text (Entry k n fields)) ≡ Ok (Entry k n fields)
 entry_again earlier k n fields h =
     let at = length earlier + 1 in
     let text = line_text (Entry k n fields) in
     let clean = entry_fields k n fields h.number h.bytes in
-    let said : line_of at text ≡ Ok (Entry k n fields) =
-    cond-false (is_note text) (Ok (Note text)) (entry_of at (slice_split is_comma text)) (no_note k (join_with_byte 44 (decimal n ∷ fields)))
-    ∙ ap (entry_of at) (joined_split (keyword_text k) (decimal n ∷ fields) clean)
+    let said : line_in at text ≡ Ok (Entry k n fields) =
+    cond-false (is_note text) (Ok (Note text)) (entry_in at (slice_split is_comma text)) (no_note k (join_with_byte 44 (decimal n ∷ fields)))
+    ∙ ap (entry_in at) (joined_split (keyword_text k) (decimal n ∷ fields) clean)
     ∙ cond-false (nat_lt (length fields) 5) (Err (TooFewFields at)) (with_keyword at (keyword_of (keyword_text k)) (decimal n) fields) (le-ltb (length fields) 5 h.enough)
     ∙ ap (λ o. with_keyword at o (decimal n) fields) (keyword_again k)
     ∙ ap (λ m. with_number at k m fields) (number_again k n h.number)
     in
     ap (placed at earlier) said ∙ zone_there at (Entry k n fields) (zone_back (Entry k n fields ∷ earlier)) h.zone
 
-line_again : (earlier : List Line) (line : Line) → IsLine earlier line → outcome earlier (line_text line) ≡ Ok line
+line_again : (earlier : List Line) (line : Line) → IsGoodLine earlier line → line_outcome earlier (line_text line) ≡ Ok line
 line_again earlier (Note text) h =
-    ap (placed (length earlier + 1) earlier) (cond-true (is_note text) (Ok (Note text)) (entry_of (length earlier + 1) (slice_split is_comma text)) h.0)
+    ap (placed (length earlier + 1) earlier) (cond-true (is_note text) (Ok (Note text)) (entry_in (length earlier + 1) (slice_split is_comma text)) h.0)
 line_again earlier (Entry k n fields) h = entry_again earlier k n fields h
 
-line_inner : (earlier : List Line) (line : Line) → IsLine earlier line → list_all is_inner (line_text line) ≡ true
+line_inner : (earlier : List Line) (line : Line) → IsGoodLine earlier line → list_all is_inner (line_text line) ≡ true
 line_inner earlier (Note text) h = h.1
 line_inner earlier (Entry k n fields) h = joined_inner (keyword_text k) (decimal n ∷ fields) (entry_fields k n fields h.number h.bytes)
 
@@ -195,28 +195,28 @@ strip_return x =
     ∙ ap (λ n. take n all) last
     ∙ take-append_seam x (13 ∷ [])
 
-written_lines : (lines : List Line) → AllInner lines → lines_of (flat_map ended lines) ≡ map line_text lines
+written_lines : (lines : List Line) → AllInner lines → lines_of (flat_map line_and_end lines) ≡ map line_text lines
 written_lines [] h = lines_nil
 written_lines (line ∷ lines) h =
     let q = λ (l : Line). list_all is_inner (line_text l) in
     let parts = and_parts (q line) (list_all q lines) h in
     let text = line_text line in
-    let rest = flat_map ended lines in
+    let rest = flat_map line_and_end lines in
     let with_return : list_all is_inner (text ++ 13 ∷ []) ≡ true = list_all-append is_inner text (13 ∷ []) ∙ and_from (list_all is_inner text) true parts.0 refl in
-    let regrouped : ended line ++ rest ≡ (text ++ 13 ∷ []) ++ 10 ∷ rest = append_assoc text (13 ∷ (10 ∷ [])) rest ∙ sym (append_assoc text (13 ∷ []) (10 ∷ rest)) in
-    lines_split (ended line ++ rest) (text ++ 13 ∷ []) rest
+    let regrouped : line_and_end line ++ rest ≡ (text ++ 13 ∷ []) ++ 10 ∷ rest = append_assoc text (13 ∷ (10 ∷ [])) rest ∙ sym (append_assoc text (13 ∷ []) (10 ∷ rest)) in
+    lines_split (line_and_end line ++ rest) (text ++ 13 ∷ []) rest
     (ap (slice_split is_feed) regrouped ∙ slice_split_at is_feed (text ++ 13 ∷ []) 10 rest (fails_of is_feed is_inner inner_feed (text ++ 13 ∷ []) with_return) refl)
     ∙ ap (λ l. l ∷ lines_of rest) (strip_return text)
     ∙ ap (λ ls. text ∷ ls) (written_lines lines parts.1)
 
 -- the lines have no 1A, so the text ends behind them
-no_end : (lines : List Line) → AllInner lines → list_all (λ b. not (is_end b)) (flat_map ended lines) ≡ true
+no_end : (lines : List Line) → AllInner lines → list_all (λ b. not (is_end b)) (flat_map line_and_end lines) ≡ true
 no_end [] h = refl
 no_end (line ∷ lines) h =
     let q = λ (l : Line). list_all is_inner (line_text l) in
     let parts = and_parts (q line) (list_all q lines) h in
-    list_all-append (λ b. not (is_end b)) (ended line) (flat_map ended lines)
-    ∙ and_from (list_all (λ b. not (is_end b)) (ended line)) (list_all (λ b. not (is_end b)) (flat_map ended lines))
+    list_all-append (λ b. not (is_end b)) (line_and_end line) (flat_map line_and_end lines)
+    ∙ and_from (list_all (λ b. not (is_end b)) (line_and_end line)) (list_all (λ b. not (is_end b)) (flat_map line_and_end lines))
     (list_all-append (λ b. not (is_end b)) (line_text line) (13 ∷ (10 ∷ [])) ∙ and_from (list_all (λ b. not (is_end b)) (line_text line)) true (weaken (line_text line) parts.0) refl)
     (no_end lines parts.1)
   where
@@ -226,7 +226,7 @@ no_end (line ∷ lines) h =
         let parts = and_parts (is_inner b) (list_all is_inner xs) h in
         and_from (not (is_end b)) (list_all (λ c. not (is_end c)) xs) (and_parts (not (is_end b)) (not (is_feed b)) parts.0).0 (weaken xs parts.1)
 
-text_again : (xs : List ℕ) → list_all (λ b. not (is_end b)) xs ≡ true → text_of (xs ++ 26 ∷ []) ≡ xs
+text_again : (xs : List ℕ) → list_all (λ b. not (is_end b)) xs ≡ true → before_end (xs ++ 26 ∷ []) ≡ xs
 text_again xs h =
     let all = xs ++ 26 ∷ [] in
     let fails = fails_of is_end (λ b. not (is_end b)) (λ b. not_true (is_end b)) xs h in
@@ -254,7 +254,7 @@ pub written_again : (lines : List Line) → IsNodelist lines → NodelistOf (nod
 unfolding nodelist_text
 written_again lines h =
     let inner = reverse_inner lines (all_inner (reverse lines) h) in
-    let raws : node_lines (flat_map ended lines ++ 26 ∷ []) ≡ map line_text lines =
-    ap lines_of (text_again (flat_map ended lines) (no_end lines inner)) ∙ written_lines lines inner
+    let raws : node_lines (flat_map line_and_end lines ++ 26 ∷ []) ≡ map line_text lines =
+    ap lines_of (text_again (flat_map line_and_end lines) (no_end lines inner)) ∙ written_lines lines inner
     in
     subst (λ rs. AreRead rs (reverse lines)) (sym (ap reverse raws ∙ reverse-map lines)) (lines_again (reverse lines) h)

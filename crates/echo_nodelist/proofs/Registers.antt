@@ -11,7 +11,7 @@ use Rattle.std.proofs.lemmas.List.{append-nil}
 use Rattle.std.proofs.lemmas.List.Sums.{fold-append}
 use Rattle.std.proofs.lemmas.List.Concat.{flat_map-append}
 use Rattle.echo_nodelist.specs.declared.crc_table.TheConstants.{TABLE}
-use Rattle.echo_nodelist.specs.Crc.{added, bits_of, crc, number_of, sum_of, zeros}
+use Rattle.echo_nodelist.specs.Crc.{added, bits_of, crc, bits_value, sum_of, zeros}
 use Rattle.echo_nodelist.proofs.Division.{divided_register, fold_byte, length-fold, shifted}
 
 -- ---- numbers and their bits
@@ -36,17 +36,17 @@ pub length-bits_of : (k n : ℕ) → length (bits_of k n) ≡ k
 length-bits_of zero n = refl
 length-bits_of (suc k) n = ap suc (length-bits_of k n)
 
-number_of-lt : (bits : List Bool) → number_of bits < 2 ^ length bits
-number_of-lt [] = omega arith
-number_of-lt (true ∷ rest) = omega (arith, number_of-lt rest, pow-suc 2 (length rest))
-number_of-lt (false ∷ rest) = omega (arith, number_of-lt rest, pow-suc 2 (length rest))
+bits_value-lt : (bits : List Bool) → bits_value bits < 2 ^ length bits
+bits_value-lt [] = omega arith
+bits_value-lt (true ∷ rest) = omega (arith, bits_value-lt rest, pow-suc 2 (length rest))
+bits_value-lt (false ∷ rest) = omega (arith, bits_value-lt rest, pow-suc 2 (length rest))
 
-bits_of_number : (bits : List Bool) → bits_of (length bits) (number_of bits) ≡ bits
+bits_of_number : (bits : List Bool) → bits_of (length bits) (bits_value bits) ≡ bits
 bits_of_number [] = refl
 bits_of_number (true ∷ rest) =
     let k = length rest in
-    let m = number_of rest in
-    let below : m < 2 ^ k = number_of-lt rest in
+    let m = bits_value rest in
+    let below : m < 2 ^ k = bits_value-lt rest in
     let one : 2 ^ k + m ≡ 1 * 2 ^ k + m = omega arith in
     let none : k - k ≡ 0 = omega arith in
     let top : bit_at (1 * 2 ^ k + m) k ≡ 1 = bit_at_cat_high 1 k m k below (omega arith) ∙ ap (bit_at 1) none in
@@ -55,9 +55,9 @@ bits_of_number (true ∷ rest) =
     ∙ ap (λ l. true ∷ l) (same_bits k (1 * 2 ^ k + m) m (λ i low. bit_at_cat_low 1 k m i low) ∙ bits_of_number rest)
 bits_of_number (false ∷ rest) =
     let k = length rest in
-    let m = number_of rest in
+    let m = bits_value rest in
     ap (λ n. (bit_at n k == 1) ∷ bits_of k n) (zero-add m)
-    ∙ ap (λ t. (t == 1) ∷ bits_of k m) (bit_at_above m k k (number_of-lt rest) (omega arith))
+    ∙ ap (λ t. (t == 1) ∷ bits_of k m) (bit_at_above m k k (bits_value-lt rest) (omega arith))
     ∙ ap (λ l. false ∷ l) (bits_of_number rest)
 
 bit_value : (d k : ℕ) → d < 2 → cond (d == 1) (2 ^ k) 0 ≡ d * 2 ^ k
@@ -65,12 +65,12 @@ bit_value zero k h = omega arith
 bit_value (suc zero) k h = omega arith
 bit_value (suc (suc d)) k h = absurd (omega arith)
 
-number_of_bits : (k n : ℕ) → number_of (bits_of k n) ≡ n % 2 ^ k
+number_of_bits : (k n : ℕ) → bits_value (bits_of k n) ≡ n % 2 ^ k
 number_of_bits zero n = omega arith
 number_of_bits (suc k) n =
     let more : suc k ≡ 1 + k = omega arith in
-    ap (λ j. cond (bit_at n k == 1) (2 ^ j) 0 + number_of (bits_of k n)) (length-bits_of k n)
-    ∙ ap (λ v. v + number_of (bits_of k n)) (bit_value (bit_at n k) k (bit_at-lt n k))
+    ap (λ j. cond (bit_at n k == 1) (2 ^ j) 0 + bits_value (bits_of k n)) (length-bits_of k n)
+    ∙ ap (λ v. v + bits_value (bits_of k n)) (bit_value (bit_at n k) k (bit_at-lt n k))
     ∙ ap (λ v. bit_at n k * 2 ^ k + v) (number_of_bits k n)
     ∙ sym (ap (λ j. n % 2 ^ j) more ∙ mod-pow-add n 1 k)
 
@@ -103,16 +103,16 @@ length-register : (bytes : List ℕ) → length (register bytes) ≡ 16
 unfolding register
 length-register bytes = length-fold (zeros 16) (flat_map (bits_of 8) bytes)
 
-crc_register : (bytes : List ℕ) → crc bytes ≡ number_of (register bytes)
+crc_register : (bytes : List ℕ) → crc bytes ≡ bits_value (register bytes)
 unfolding crc register
-crc_register bytes = ap number_of (divided_register (flat_map (bits_of 8) bytes))
+crc_register bytes = ap bits_value (divided_register (flat_map (bits_of 8) bytes))
 
 register_bits : (bytes : List ℕ) → register bytes ≡ bits_of 16 (crc bytes)
 register_bits bytes =
-    sym (ap (bits_of 16) (crc_register bytes) ∙ ap (λ k. bits_of k (number_of (register bytes))) (sym (length-register bytes)) ∙ bits_of_number (register bytes))
+    sym (ap (bits_of 16) (crc_register bytes) ∙ ap (λ k. bits_of k (bits_value (register bytes))) (sym (length-register bytes)) ∙ bits_of_number (register bytes))
 
 pub crc-lt : (bytes : List ℕ) → crc bytes < 2 ^ 16
-crc-lt bytes = subst (λ n. n < 2 ^ 16) (sym (crc_register bytes)) (subst (λ k. number_of (register bytes) < 2 ^ k) (length-register bytes) (number_of-lt (register bytes)))
+crc-lt bytes = subst (λ n. n < 2 ^ 16) (sym (crc_register bytes)) (subst (λ k. bits_value (register bytes) < 2 ^ k) (length-register bytes) (bits_value-lt (register bytes)))
 
 pub crc_nil : crc [] ≡ 0
 unfolding crc
@@ -162,7 +162,7 @@ crc-push bytes byte =
     in
     let below : bit_xor (crc (at ∷ [])) up < 2 ^ 16 = xor_of_16 (crc (at ∷ [])) up (crc-lt (at ∷ [])) (omega arith) in
     let fits : bit_xor (crc (at ∷ [])) up % 2 ^ 16 ≡ bit_xor (crc (at ∷ [])) up = omega arith in
-    crc_register (bytes ++ byte ∷ []) ∙ ap number_of bits ∙ number_of_bits 16 (bit_xor (crc (at ∷ [])) up) ∙ fits
+    crc_register (bytes ++ byte ∷ []) ∙ ap bits_value bits ∙ number_of_bits 16 (bit_xor (crc (at ∷ [])) up) ∙ fits
 
 -- ---- the table
 

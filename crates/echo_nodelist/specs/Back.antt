@@ -1,5 +1,5 @@
 -- Addresses of a nodelist (FTS-5000), looked up from a line back to the first. Lists of lines have the nearest first.
-use Rattle.std.specs.Prelude.{◌≡◌, ◌≢◌, ℕ, ◌+◌, ◌<◌, nat_lt, List, [], ◌∷◌, ◌++◌, length, take, reverse, Option, Some, None, if◌then◌else◌, MatchOption}
+use Rattle.std.specs.Prelude.{◌≡◌, ◌≢◌, ℕ, ◌+◌, ◌<◌, ◌&&◌, not, nat_lt, Bool, false, List, [], ◌∷◌, ◌++◌, length, take, reverse, Option, Some, None, if◌then◌else◌, MatchOption}
 use Rattle.echo_addr.specs.declared.address.Address.{Address}
 use Rattle.echo_nodelist.specs.declared.keyword.Keyword.{Keyword}
 use Rattle.echo_nodelist.specs.declared.line.Line.{Line}
@@ -46,6 +46,11 @@ abbrev pub hub_back : List Line → Option Address
 hub_back [] = None
 hub_back (Note text ∷ earlier) = None
 hub_back (Entry k n fields ∷ earlier) = if begins_net k then None else if is_hub k then None else nearest_hub earlier
+
+-- whether a hub may stand over a line: an entry that is neither Zone, Region, Host nor Hub
+abbrev pub is_below_hub : Line → Bool
+is_below_hub (Note text) = false
+is_below_hub (Entry k n fields) = not (begins_net k) && not (is_hub k)
 
 -- the line at the index and those before it, nearest first
 abbrev pub lines_back : List Line → ℕ → List Line

@@ -9,9 +9,9 @@ bits_of zero n = []
 bits_of (suc k) n = (bit_at n k == 1) ∷ bits_of k n
 
 -- the number that bits write, the highest first
-abbrev pub number_of : List Bool → ℕ
-number_of [] = 0
-number_of (b ∷ rest) = (if b then 2 ^ length rest else 0) + number_of rest
+abbrev pub bits_value : List Bool → ℕ
+bits_value [] = 0
+bits_value (b ∷ rest) = (if b then 2 ^ length rest else 0) + bits_value rest
 
 -- so many 0 bits
 abbrev pub zeros : ℕ → List Bool
@@ -50,4 +50,4 @@ divided bits = steps (length bits - 16) bits
 
 -- the bits of the bytes and sixteen 0 bits, divided: the sixteen bits left
 unfoldable pub crc : List ℕ → ℕ
-crc bytes = number_of (divided (flat_map (bits_of 8) bytes ++ zeros 16))
+crc bytes = bits_value (divided (flat_map (bits_of 8) bytes ++ zeros 16))

@@ -7,11 +7,11 @@ use Rattle.std.specs.Io.BufRead.{ends_with_byte, strip_last}
 use Rattle.echo_nodelist.specs.declared.stated.CrcLine.{CrcLine}
 use Rattle.echo_nodelist.specs.declared.stated.CrcLine.TheVariants.{Absent, Match, Mismatch}
 use Rattle.echo_nodelist.specs.Crc.{crc}
-use Rattle.echo_nodelist.specs.Raw.{is_feed, text_of}
+use Rattle.echo_nodelist.specs.Raw.{is_feed, before_end}
 
 -- the first line of a text without 0D at its end, and the bytes from the second line on
-abbrev pub first_line : List ℕ → List ℕ
-first_line text = strip_last 13 (before_first is_feed text)
+abbrev pub stating_line : List ℕ → List ℕ
+stating_line text = strip_last 13 (before_first is_feed text)
 
 abbrev pub later_bytes : List ℕ → List ℕ
 later_bytes text = after_first is_feed text
@@ -44,8 +44,8 @@ compared stated computed = if stated == computed then Match stated else Mismatch
 
 -- what the first line of a text says of the bytes after it
 abbrev pub crc_of_text : List ℕ → CrcLine
-crc_of_text text = if states_crc (first_line text) then compared (stated_crc (first_line text)) (crc (later_bytes text)) else Absent
+crc_of_text text = if states_crc (stating_line text) then compared (stated_crc (stating_line text)) (crc (later_bytes text)) else Absent
 
 -- the same of a nodelist, up to its first 1A
 abbrev pub crc_line_of : List ℕ → CrcLine
-crc_line_of bytes = crc_of_text (text_of bytes)
+crc_line_of bytes = crc_of_text (before_end bytes)

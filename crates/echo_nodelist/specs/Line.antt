@@ -73,11 +73,11 @@ with_keyword at None digits fields = Err (BadKeyword at)
 with_keyword at (Some k) digits fields = with_number at k (number_of k digits) fields
 
 -- what the fields of line `at` say: a keyword, a number, and at least five more
-abbrev pub entry_of : ℕ → List (List ℕ) → Result Line NodeFault
-entry_of at (word ∷ (digits ∷ fields)) =
+abbrev pub entry_in : ℕ → List (List ℕ) → Result Line NodeFault
+entry_in at (word ∷ (digits ∷ fields)) =
     if nat_lt (length fields) 5 then Err (TooFewFields at) else with_keyword at (keyword_of word) digits fields
-entry_of at _ = Err (TooFewFields at)
+entry_in at _ = Err (TooFewFields at)
 
 -- what line `at` says, apart from the lines before it
-abbrev pub line_of : ℕ → List ℕ → Result Line NodeFault
-line_of at line = if is_note line then Ok (Note line) else entry_of at (slice_split is_comma line)
+abbrev pub line_in : ℕ → List ℕ → Result Line NodeFault
+line_in at line = if is_note line then Ok (Note line) else entry_in at (slice_split is_comma line)

@@ -8,8 +8,8 @@ use Rattle.echo_nodelist.specs.declared.line.Line.TheVariants.{Note, Entry}
 use Rattle.echo_nodelist.specs.declared.fault.NodeFault.{NodeFault}
 use Rattle.echo_nodelist.specs.declared.fault.NodeFault.TheVariants.{Memory, NoZone}
 use Rattle.echo_nodelist.specs.Raw.{is_comma, is_end, is_feed, node_lines}
-use Rattle.echo_nodelist.specs.Line.{is_fit, is_note, line_of}
-use Rattle.echo_nodelist.specs.Back.{address_back, each_back, hub_back, zone_back}
+use Rattle.echo_nodelist.specs.Line.{is_fit, is_note, line_in}
+use Rattle.echo_nodelist.specs.Back.{address_back, each_back, zone_back}
 
 -- an entry, where a Zone line stands at or before it
 abbrev pub in_zone : ℕ → Option ℕ → Line → Result Line NodeFault
@@ -23,13 +23,13 @@ placed at earlier (Ok (Note text)) = Ok (Note text)
 placed at earlier (Ok (Entry k n fields)) = in_zone at (zone_back (Entry k n fields ∷ earlier)) (Entry k n fields)
 
 -- what bytes of a line say after earlier lines, or the first fault of it
-abbrev pub outcome : List Line → List ℕ → Result Line NodeFault
-outcome earlier raw = placed (length earlier + 1) earlier (line_of (length earlier + 1) raw)
+abbrev pub line_outcome : List Line → List ℕ → Result Line NodeFault
+line_outcome earlier raw = placed (length earlier + 1) earlier (line_in (length earlier + 1) raw)
 
 -- the bytes of each line say the line, after those before it; both lists have the nearest first
 abbrev pub AreRead : List (List ℕ) → List Line → Type 0
 AreRead [] [] = Unit {0}
-AreRead (raw ∷ raws) (line ∷ earlier) = (outcome earlier raw ≡ Ok line) × AreRead raws earlier
+AreRead (raw ∷ raws) (line ∷ earlier) = (line_outcome earlier raw ≡ Ok line) × AreRead raws earlier
 AreRead _ _ = ⊥
 
 -- the bytes are a nodelist of these lines
@@ -44,7 +44,7 @@ pub record FaultIn (raws : List (List ℕ)) (fault : NodeFault) : Type 0 where
   pub lines : List Line
   pub pieces : raws ≡ front ++ raw ∷ later
   pub good : AreRead (reverse front) (reverse lines)
-  pub faulty : outcome (reverse lines) raw ≡ Err fault
+  pub faulty : line_outcome (reverse lines) raw ≡ Err fault
 
 -- the same of a nodelist
 abbrev pub FaultOf : List ℕ → NodeFault → Type 0
@@ -74,20 +74,19 @@ pub record IsEntry (earlier : List Line) (k : Keyword) (n : ℕ) (fields : List 
   pub zone : IsSome (zone_back (Entry k n fields ∷ earlier))
 
 -- what holds of each line after earlier ones
-abbrev pub IsLine : List Line → Line → Type 0
-IsLine earlier (Note text) = (is_note text ≡ true) × (list_all is_inner text ≡ true)
-IsLine earlier (Entry k n fields) = IsEntry earlier k n fields
+abbrev pub IsGoodLine : List Line → Line → Type 0
+IsGoodLine earlier (Note text) = (is_note text ≡ true) × (list_all is_inner text ≡ true)
+IsGoodLine earlier (Entry k n fields) = IsEntry earlier k n fields
 
 abbrev pub AreLines : List Line → Type 0
 AreLines [] = Unit {0}
-AreLines (line ∷ earlier) = IsLine earlier line × AreLines earlier
+AreLines (line ∷ earlier) = IsGoodLine earlier line × AreLines earlier
 
 -- what holds of the lines of each `Nodelist`
 abbrev pub IsNodelist : List Line → Type 0
 IsNodelist lines = AreLines (reverse lines)
 
--- what a `Nodelist` keeps beside its lines: the address of each and that of its hub
-pub record IsIndexed (lines : List Line) (addresses hubs : List (Option Address)) : Type 0 where
+-- what a `Nodelist` keeps beside its lines: the address of each
+pub record IsIndexed (lines : List Line) (addresses : List (Option Address)) : Type 0 where
   pub whole : IsNodelist lines
   pub address_each : addresses ≡ each_back address_back (reverse lines)
-  pub hub_each : hubs ≡ each_back hub_back (reverse lines)

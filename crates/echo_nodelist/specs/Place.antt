@@ -1,24 +1,22 @@
 -- What is known of the lines before a line. Lists of lines have the nearest first.
 use Rattle.std.specs.Prelude.{◌≡◌, ℕ, List, ◌∷◌, reverse, Option, Some, None, Result, Ok, Err}
 use Rattle.echo_addr.specs.declared.address.Address.{Address}
-use Rattle.echo_nodelist.specs.declared.area.Area.{Area}
-use Rattle.echo_nodelist.specs.declared.area.Told.{Told}
+use Rattle.echo_nodelist.specs.declared.place.Place.{Place}
+use Rattle.echo_nodelist.specs.declared.place.Told.{Told}
 use Rattle.echo_nodelist.specs.declared.line.Line.{Line}
 use Rattle.echo_nodelist.specs.declared.fault.NodeFault.{NodeFault}
-use Rattle.echo_nodelist.specs.Back.{address_back, each_back, hub_back, nearest_hub, net_back, zone_back}
+use Rattle.echo_nodelist.specs.Back.{address_back, each_back, net_back, zone_back}
 use Rattle.echo_nodelist.specs.Nodelist.{placed}
 
 -- the place after these lines: none where no Zone line is among them
-abbrev pub Stands : List Line → Option Area → Type 0
-Stands earlier None = zone_back earlier ≡ None
-Stands earlier (Some area) =
-    (zone_back earlier ≡ Some area.zone) × (net_back earlier ≡ Some area.net) × (nearest_hub earlier ≡ area.hub)
+abbrev pub IsPlaceAfter : List Line → Option Place → Type 0
+IsPlaceAfter earlier None = zone_back earlier ≡ None
+IsPlaceAfter earlier (Some here) = (zone_back earlier ≡ Some here.zone) × (net_back earlier ≡ Some here.net)
 
--- what is told of a line after earlier ones: its address, its hub and the place after it
+-- what is told of a line after earlier ones: its address and the place after it
 pub record IsTold (earlier : List Line) (line : Line) (told : Told) : Type 0 where
-  pub place : Stands (line ∷ earlier) told.place
+  pub place : IsPlaceAfter (line ∷ earlier) told.place
   pub address : address_back (line ∷ earlier) ≡ told.address
-  pub hub : hub_back (line ∷ earlier) ≡ told.hub
 
 -- the same, or that line `at` lacks a zone
 abbrev pub Tells : ℕ → List Line → Line → Result Told NodeFault → Type 0
@@ -26,7 +24,6 @@ Tells at earlier line (Ok told) = (placed at earlier (Ok line) ≡ Ok line) × I
 Tells at earlier line (Err fault) = placed at earlier (Ok line) ≡ Err fault
 
 -- what a reader keeps of the lines that it has read, in their order
-pub record Follows (lines : List Line) (addresses hubs : List (Option Address)) (place : Option Area) : Type 0 where
-  pub stands : Stands (reverse lines) place
+pub record Follows (lines : List Line) (addresses : List (Option Address)) (place : Option Place) : Type 0 where
+  pub stands : IsPlaceAfter (reverse lines) place
   pub address_each : addresses ≡ each_back address_back (reverse lines)
-  pub hub_each : hubs ≡ each_back hub_back (reverse lines)

@@ -1,7 +1,8 @@
 -- The lines of a nodelist (FTS-5000), before what they say.
-use Rattle.std.specs.Prelude.{ℕ, ◌==◌, Bool, List, [], ◌∷◌, length, map, if◌then◌else◌}
+use Rattle.std.specs.Prelude.{ℕ, ◌==◌, Bool, List, map}
 use Rattle.std.specs.List.{before_first, slice_split}
 use Rattle.std.specs.Io.BufRead.{strip_last}
+use Rattle.echo_addr.specs.Pieces.{without_empty_last}
 
 -- 1A, which ends the file, 0A, which ends a line, and the comma between fields
 abbrev pub is_end : ℕ → Bool
@@ -14,14 +15,8 @@ abbrev pub is_comma : ℕ → Bool
 is_comma b = b == 44
 
 -- what stands before the first 1A
-abbrev pub text_of : List ℕ → List ℕ
-text_of bytes = before_first is_end bytes
-
--- the pieces, but for an empty last one
-abbrev pub without_empty_last : List (List ℕ) → List (List ℕ)
-without_empty_last [] = []
-without_empty_last (piece ∷ []) = if length piece == 0 then [] else piece ∷ []
-without_empty_last (piece ∷ (next ∷ more)) = piece ∷ without_empty_last (next ∷ more)
+abbrev pub before_end : List ℕ → List ℕ
+before_end bytes = before_first is_end bytes
 
 -- the lines of a text: the pieces between 0A bytes, without an empty last one, one 0D at the end of each removed
 unfoldable pub lines_of : List ℕ → List (List ℕ)
@@ -29,4 +24,4 @@ lines_of text = map (strip_last 13) (without_empty_last (slice_split is_feed tex
 
 -- the lines of a nodelist
 abbrev pub node_lines : List ℕ → List (List ℕ)
-node_lines bytes = lines_of (text_of bytes)
+node_lines bytes = lines_of (before_end bytes)

@@ -8,7 +8,7 @@ use Rattle.echo_nodelist.specs.Place.{Follows}
 
 -- what a reader holds belongs to its lines
 abbrev pub IsInStep : Reading → Type 0
-IsInStep r = Follows r.lines.items r.addresses.items r.hubs.items r.place
+IsInStep r = Follows r.lines.items r.addresses.items r.place
 
 -- the lines were read, or the first fault among them
 abbrev pub Reads : List (List ℕ) → Result Reading NodeFault → Type 0

@@ -15,18 +15,18 @@ line_text (Note text) = text
 line_text (Entry k n fields) = join_with_byte 44 (keyword_text k ∷ (decimal n ∷ fields))
 
 -- a line with 0D 0A
-abbrev pub ended : Line → List ℕ
-ended line = line_text line ++ 13 ∷ (10 ∷ [])
+abbrev pub line_and_end : Line → List ℕ
+line_and_end line = line_text line ++ 13 ∷ (10 ∷ [])
 
 -- the lines, and 1A
 unfoldable pub nodelist_text : List Line → List ℕ
-nodelist_text lines = flat_map ended lines ++ 26 ∷ []
+nodelist_text lines = flat_map line_and_end lines ++ 26 ∷ []
 
 -- What a call did that had these bytes to write. Ok: all of them went out. A write fault: the device failed, and so
 -- many bytes went out, a beginning that lacks some. Want of memory: nothing went out.
-abbrev pub Writes : {A : Type 0} → Option (List ℕ) → Option (List ℕ) → ℕ → ℕ → List ℕ → Result A NodeFault → Type 0
-Writes old new before after bytes (Ok done) = Appends old new bytes × (after ≡ before)
-Writes old new before after bytes (Err (Write n)) =
+abbrev pub WritesOut : {A : Type 0} → Option (List ℕ) → Option (List ℕ) → ℕ → ℕ → List ℕ → Result A NodeFault → Type 0
+WritesOut old new before after bytes (Ok done) = Appends old new bytes × (after ≡ before)
+WritesOut old new before after bytes (Err (Write n)) =
     (k : ℕ) × (k < length bytes) × Appends old new (take k bytes) × (n ≡ counted k) × Failed before after
-Writes old new before after bytes (Err Memory) = (new ≡ old) × (after ≡ before)
-Writes old new before after bytes (Err _) = ⊥
+WritesOut old new before after bytes (Err Memory) = (new ≡ old) × (after ≡ before)
+WritesOut old new before after bytes (Err _) = ⊥

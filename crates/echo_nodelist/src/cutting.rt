@@ -1,7 +1,7 @@
 ghost use Rattle.std.specs.Prelude.{◌≡◌, ◌+◌, ◌<◌, ◌≤◌, ◌==◌, ◌∷◌, length, IfSome, IsNone};
 ghost use Rattle.std.specs.List.{after_first, before_first, position_or_len};
 ghost use Rattle.std.specs.Io.BufRead.{strip_last};
-ghost use Rattle.echo_nodelist.specs.Raw.{lines_of, text_of};
+ghost use Rattle.echo_nodelist.specs.Raw.{lines_of, before_end};
 
 use memchr::memchr;
 
@@ -21,8 +21,8 @@ pub(crate) fn cut(byte: u8, text: &[u8]) -> Option<(&[u8], &[u8])>
 }
 
 /// What stands before the first 1A.
-pub(crate) fn text_of(bytes: &[u8]) -> &[u8]
-    ensures { result.now ≡ text_of bytes.now }
+pub(crate) fn before_end(bytes: &[u8]) -> &[u8]
+    ensures { result.now ≡ before_end bytes.now }
 {
     match cut(END, bytes) {
         Some((text, _)) => text,

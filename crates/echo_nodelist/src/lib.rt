@@ -5,21 +5,21 @@
 //! those told by looking back from a line.
 //!
 //! Modules in reading order: `fault` (why a nodelist is not read or written), `crc_table` and `crc`
-//! (the checksum), `cutting` (pieces of a text), `digits` (decimal numbers), `stated` (the checksum
-//! that the first line states), `keyword`, `line` (what a line says), `area` (where it stands),
-//! `reading`, `writing`, `nodelist`, and `laws` (what holds of the definitions).
+//! (the checksum), `cutting` (pieces of a text), `stated` (the checksum that the first line states),
+//! `keyword`, `line` (what a line says), `place` (where it stands), `hub` (the hub over it), `reading`, `writing`, `nodelist`,
+//! and `laws` (what holds of the definitions).
 #![tactic(auto)]
 
-mod area;
 mod crc;
 mod crc_table;
 mod cutting;
-mod digits;
 mod fault;
+mod hub;
 mod keyword;
 mod laws;
 mod line;
 mod nodelist;
+mod place;
 mod reading;
 mod stated;
 mod writing;

@@ -1,14 +1,13 @@
 ghost use Rattle.std.specs.Prelude.{◌≡◌, IfOk};
 ghost use Rattle.std.specs.List.{slice_split};
 ghost use Rattle.echo_nodelist.specs.Raw.{is_comma};
-ghost use Rattle.echo_nodelist.specs.Line.{entry_of, is_note, line_of, number_of};
+ghost use Rattle.echo_nodelist.specs.Line.{entry_in, is_note, line_in, number_of};
 ghost use Rattle.echo_nodelist.specs.Nodelist.{Gives};
 
 use crate::cutting::cut;
-use crate::digits::number;
 use crate::fault::NodeFault;
 use crate::keyword::Keyword;
-use echo_addr::Items;
+use echo_addr::{Items, number};
 use std::alloc::{AllocError, Global};
 
 /// A line of a nodelist (FTS-5000), without what ended it.
@@ -33,7 +32,7 @@ const MOST: u32 = 32767;
 
 /// What the bytes of a line say, apart from the lines before it. `line` is its number.
 pub(crate) fn read_line(alloc: Global, line: usize, bytes: &[u8]) -> Result<Line, NodeFault>
-    ensures { Gives result (line_of line bytes.now) }
+    ensures { Gives result (line_in line bytes.now) }
 {
     if is_note(bytes) {
         let text = Vec::from_slice(alloc, bytes)?;
@@ -51,7 +50,7 @@ fn is_note(bytes: &[u8]) -> bool
 
 /// What the bytes of an entry say.
 fn read_entry(alloc: Global, line: usize, bytes: &[u8]) -> Result<Line, NodeFault>
-    ensures { Gives result (entry_of line (slice_split is_comma bytes.now)) }
+    ensures { Gives result (entry_in line (slice_split is_comma bytes.now)) }
 {
     let Some((word, rest)) = cut(b',', bytes) else {
         return Err(NodeFault::TooFewFields { line });
@@ -94,7 +93,7 @@ fn fields_of(alloc: Global, text: &[u8]) -> Result<Vec<Items<u8>>, AllocError>
 fn number_of(keyword: Keyword, digits: &[u8]) -> Option<u16>
     ensures { result ≡ number_of keyword digits.now }
 {
-    let value = number(digits)?;
+    let value = number(MOST + 1, digits)?;
     let least = u32::from(keyword.begins_net());
     if value < least || value > MOST {
         return None;

@@ -1,7 +1,8 @@
 ghost use Rattle.std.specs.Prelude.{◌≡◌, ◌≢◌, ◌↔◌, ◌<◌, ℕ, Some, None, IsTrue, MatchOption, slice_index_or};
 
-use crate::cutting::text_of;
+use crate::cutting::before_end;
 use crate::fault::NodeFault;
+use crate::hub::hub_at;
 use crate::line::Line;
 use crate::reading::read_lines;
 use crate::writing::nodelist_text;
@@ -10,12 +11,11 @@ use echo_device::{Failure, Sink, send};
 use std::alloc::Global;
 use std::marker::Model;
 
-/// A nodelist (FTS-5000): its lines, and beside them the address of each line and that of its hub.
+/// A nodelist (FTS-5000): its lines, and beside them the address of each line.
 #[derive(Debug, Drop)]
 pub struct Nodelist {
     lines: Vec<Line>,
     addresses: Vec<Option<Address>>,
-    hubs: Vec<Option<Address>>,
 }
 
 impl Model for Nodelist {
@@ -27,32 +27,31 @@ impl Model for Nodelist {
 
     ghost view = { λ list. list.lines.items };
 
-    ghost invariant = { λ list. IsIndexed list.lines.items list.addresses.items list.hubs.items };
+    ghost invariant = { λ list. IsIndexed list.lines.items list.addresses.items };
 }
 
 impl Nodelist {
     ghost use Rattle.std.specs.Prelude.{◌≡◌, IfOk};
     ghost use Rattle.echo_nodelist.specs.Back.{Finds, address_at, hub_at};
     ghost use Rattle.echo_nodelist.specs.Nodelist.{Answers, IsNodelist};
-    ghost use Rattle.echo_nodelist.specs.Written.{Writes, nodelist_text};
+    ghost use Rattle.echo_nodelist.specs.Written.{WritesOut, nodelist_text};
 
     /// The nodelist that the bytes are, up to the first 1A. A fault is that of the first faulty line,
     /// or `Memory`.
     pub fn read(alloc: Global, bytes: &[u8]) -> Result<Nodelist, NodeFault>
         ensures { Answers bytes.now result }
     {
-        let reading = read_lines(alloc, text_of(bytes))?;
+        let reading = read_lines(alloc, before_end(bytes))?;
         Ok(Nodelist {
             lines: reading.lines,
             addresses: reading.addresses,
-            hubs: reading.hubs,
         })
     }
 
     /// Writes each line with 0D 0A, then 1A. A fault is `Write` with the number of bytes that went
     /// out, or `Memory`, where none did.
     pub fn write<W: Sink>(&self, alloc: Global, writer: &mut W) -> Result<(), NodeFault>
-        ensures { Writes (W.contents writer.old) (W.contents writer.new) (W.failures writer.old) (W.failures writer.new) (nodelist_text self.now) result }
+        ensures { WritesOut (W.contents writer.old) (W.contents writer.new) (W.failures writer.old) (W.failures writer.new) (nodelist_text self.now) result }
     {
         let text = nodelist_text(alloc, &self.lines)?;
         let mut sent = 0;
@@ -79,11 +78,11 @@ impl Nodelist {
 
     /// The address of the Hub over the line at an index, from 0: for an entry with the keyword Pvt,
     /// Hold, Down or none, that of the nearest Hub line before it with no Zone, Region or Host line
-    /// between them.
+    /// between them. It goes back from the line, as far as its net.
     pub fn hub_of(&self, i: usize) -> Option<Address>
         ensures { result ≡ hub_at self.now i }
     {
-        kept_at(&self.hubs, i)
+        hub_at(&self.lines, &self.addresses, i)
     }
 
     /// The index of the first line with the address. It goes over the addresses alone, eight bytes a

@@ -4,20 +4,19 @@ ghost use Rattle.echo_nodelist.specs.Raw.{lines_of};
 ghost use Rattle.echo_nodelist.specs.Nodelist.{placed};
 ghost use Rattle.echo_nodelist.specs.Reading.{IsInStep, Reads};
 
-use crate::area::{Area, tell};
 use crate::cutting::split_line;
 use crate::fault::NodeFault;
 use crate::line::{Line, read_line};
+use crate::place::{Place, tell};
 use echo_addr::Address;
 use std::alloc::Global;
 
-/// Lines that were read, with the address of each and that of its hub, and the place after them.
+/// Lines that were read, with the address of each, and the place after them.
 #[derive(Drop)]
 pub(crate) struct Reading {
     pub(crate) lines: Vec<Line>,
     pub(crate) addresses: Vec<Option<Address>>,
-    pub(crate) hubs: Vec<Option<Address>>,
-    place: Option<Area>,
+    place: Option<Place>,
 }
 
 impl Reading {
@@ -31,7 +30,6 @@ impl Reading {
     {
         let told = tell(self.place, number, &line)?;
         self.addresses.push(told.address)?;
-        self.hubs.push(told.hub)?;
         self.lines.push(line)?;
         self.place = told.place;
         Ok(())
@@ -45,7 +43,6 @@ pub(crate) fn read_lines(alloc: Global, text: &[u8]) -> Result<Reading, NodeFaul
     let mut reading = Reading {
         lines: Vec::new(alloc),
         addresses: Vec::new(alloc),
-        hubs: Vec::new(alloc),
         place: None,
     };
     let mut rest = text;

@@ -4,8 +4,8 @@ ghost use Rattle.echo_nodelist.specs.Raw.{is_feed};
 ghost use Rattle.echo_nodelist.specs.CrcLine.{crc_line_of, is_space, states_crc, stated_crc, without_spaces};
 
 use crate::crc::crc16;
-use crate::cutting::{cut, text_of, without_return};
-use crate::digits::number;
+use crate::cutting::{before_end, cut, without_return};
+use echo_addr::number;
 
 /// What the first line of a nodelist says of the checksum of the bytes after it.
 #[derive(Clone, Copy, Debug, PartialEq, Eq, Hash)]
@@ -20,12 +20,15 @@ pub enum CrcLine {
 /// How many digits state a checksum.
 const DIGITS: usize = 5;
 
+/// A number above each that those digits write.
+const TOO_LARGE: u32 = 100_000;
+
 /// What the first line states, beside the checksum of the bytes from the second line on, up to the
 /// first 1A.
 pub fn crc_line(bytes: &[u8]) -> CrcLine
     ensures { result ≡ crc_line_of bytes.now }
 {
-    let text = text_of(bytes);
+    let text = before_end(bytes);
     let (first, later) = first_piece(text);
     let Some(stated) = stated_number(without_return(first)) else {
         return CrcLine::Absent;
@@ -59,7 +62,7 @@ fn stated_number(line: &[u8]) -> Option<u32>
     if without_spaces(before).last() != Some(&b':') {
         return None;
     }
-    number(digits)
+    number(TOO_LARGE, digits)
 }
 
 /// The bytes without the blanks 20 at their end.

@@ -11,7 +11,7 @@ use Rattle.echo_addr.specs.ShortLines.{path_prefix, seen_prefix}
 use Rattle.echo_text.specs.Lines.{after_feeds, after_word, begins, control_word, is_control, is_feed, is_path, is_return, is_seen, lines, without_empty_last}
 use Rattle.echo_text.specs.Tail.{all_dropped, lists_of, tail}
 use Rattle.echo_text.proofs.LineKinds.{control_is_not_seen}
-use Rattle.echo_text.proofs.Listing.{listed_no, listed_yes}
+use Rattle.echo_text.proofs.EachLine.{listed_no, listed_yes}
 use Rattle.echo_text.proofs.Tails.{all_tail, tail_later, tail_whole}
 
 -- how many pieces are not empty

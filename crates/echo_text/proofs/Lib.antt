@@ -1,4 +1,4 @@
-pub mod Cutting
+pub mod TextLines
 pub mod Tails
 pub mod OneReading
 pub mod Seeking
@@ -7,7 +7,7 @@ pub mod SaidAfter
 pub mod Bounds
 pub mod Reread
 pub mod EntryRanges
-pub mod Listing
+pub mod EachLine
 pub mod Sets
 pub mod Written
 pub mod Tags
@@ -16,9 +16,9 @@ pub mod Ids
 pub mod Serials
 pub mod IdTests
 pub mod OwnIds
-pub mod OwnIdsRead
-pub mod IdsOnce
+pub mod OwnIdParts
+pub mod OneId
 pub mod KeptLines
-pub mod SpelledIds
-pub mod WrittenBytes
-pub mod Readers
+pub mod PassedTests
+pub mod NoZeros
+pub mod Agreement

@@ -1,9 +1,8 @@
 -- The first and the last line of a kind, as lines are gone through one by one.
-use Rattle.std.proofs.Common.{◌≡◌, ℕ, ◌+◌, ◌<◌, ◌&&◌, nat_lt, Bool, true, false, cond, List, ◌∷◌, length, map, get_or, drop, Option, Some, None, refl, sym, ap, ◌∙◌}
+use Rattle.std.proofs.Common.{◌≡◌, ℕ, ◌&&◌, nat_lt, Bool, true, false, cond, List, ◌∷◌, length, map, Option, Some, None, refl, sym, ap, ◌∙◌}
 use Rattle.std.specs.List.{filter, find, last_or}
 use Rattle.std.specs.Option.{option_or}
 use Rattle.std.proofs.lemmas.Bool.{cond-false, cond-true}
-use Rattle.std.proofs.lemmas.List.{drop_more}
 use Rattle.echo_text.specs.Lines.{after_word, begins, trimmed}
 use Rattle.echo_text.specs.Echo.{first_after, id_in}
 
@@ -45,7 +44,3 @@ module _ (f : List ℕ → List ℕ) (p : List ℕ → Bool) (left : List (List 
   pub last_next : (o total : Option (List ℕ)) → last_or o (map f (filter p left)) ≡ total → p line ≡ false → last_or o (map f (filter p more)) ≡ total
   last_next o total so_far other =
       sym (ap (λ ls. last_or o (map f (filter p ls))) is ∙ ap (λ ls. last_or o (map f ls)) (cond-false (p line) (line ∷ filter p more) (filter p more) other)) ∙ so_far
-
--- the next of the lines, where it is known under another name
-pub next_item : (xs : List (List ℕ)) (i : ℕ) (x y : List ℕ) → i < length xs → x ≡ get_or xs i x → y ≡ x → drop i xs ≡ y ∷ drop (i + 1) xs
-next_item xs i x y within is same = drop_more xs i x within ∙ ap (λ l. l ∷ drop (i + 1) xs) (sym (same ∙ is))

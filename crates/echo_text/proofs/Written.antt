@@ -13,7 +13,7 @@ use Rattle.echo_addr.proofs.ReadBack.{read_back}
 use Rattle.echo_text.specs.Lines.{after_word, area_tag, area_word, first_line, is_area, is_path, is_return, is_seen, later_lines, lines}
 use Rattle.echo_text.specs.Tail.{all_dropped, all_entries, body, is_kept_control, is_tail_line, kept_of, path_lists, seen_lists, tail}
 use Rattle.echo_text.specs.Echo.{EchoText, EchoOf, IsEcho, IsLine, IsSetOf, TextOf, ended, is_shed}
-use Rattle.echo_text.proofs.Cutting.{IsPiece, lines_ended, lines_nil, lines_of_ended}
+use Rattle.echo_text.proofs.TextLines.{IsPiece, lines_ended, lines_nil, lines_of_ended}
 use Rattle.echo_text.proofs.LineKinds.{after_path, after_seen, area_is_area, kept_no_path, kept_no_seen, kept_unless_shed, path_in_tail, path_is_not_seen, path_is_path, path_not_kept, seen_in_tail, seen_is_not_path, seen_is_seen, seen_not_kept}
 use Rattle.echo_text.proofs.Tags.{area_tag_back, tag_piece}
 use Rattle.echo_text.proofs.Tails.{all_tail, body-append, body_and_tail, tail-append, tail_is_tail}

@@ -2,6 +2,7 @@
 use Rattle.std.specs.Prelude.{◌≡◌, ◌≢◌, ℕ, ◌+◌, nat_lt, ◌↔◌, ◌||◌, ◌&&◌, not, if◌then◌else◌, Bool, true, List, [], ◌∷◌, ◌++◌, length, All, AllPairs, Contains, Option, Some, None, filter, find, map}
 use Rattle.std.specs.List.{AllPass, flat_map, last_or}
 use Rattle.echo_addr.specs.declared.address.NetNode.{NetNode}
+pub use Rattle.echo_addr.specs.Bytes.{HasNoZero}
 use Rattle.echo_addr.specs.ShortLines.{ComesBefore, IsNetNode, ShortLines, path_prefix, seen_prefix}
 use Rattle.echo_text.specs.Lines.{after_feeds, after_word, area_tag, area_word, begins, first_line, is_area, is_blank_line, is_origin, is_path, is_seen, is_tag, is_tear, later_lines, lines, msgid_word, reply_word, trimmed}
 use Rattle.echo_text.specs.Tail.{all_dropped, all_entries, kept_of, path_lists, seen_lists, tail}
@@ -12,10 +13,6 @@ pub record EchoText : Type 0 where
   pub kept : List (List ℕ)
   pub seen : List NetNode
   pub path : List NetNode
-
--- no byte is 00
-abbrev pub HasNoZero : List ℕ → Type 0
-HasNoZero bytes = All (λ b. b ≢ 0) bytes
 
 -- bytes that are one line of a text: none is 00 or 0D
 abbrev pub IsLine : List ℕ → Type 0

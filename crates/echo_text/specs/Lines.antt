@@ -1,9 +1,10 @@
 -- The lines of a text and their kinds (FTS-0001, FTS-0004, FTS-0009).
-use Rattle.std.specs.Prelude.{ℕ, ◌-◌, ◌==◌, ◌||◌, ◌&&◌, not, nat_eq, nat_lt, nat_le, Bool, List, [], ◌∷◌, ◌++◌, map, length, take, drop, codes, if◌then◌else◌}
+use Rattle.std.specs.Prelude.{ℕ, ◌-◌, ◌==◌, ◌||◌, ◌&&◌, not, nat_eq, nat_lt, nat_le, Bool, List, [], ◌∷◌, ◌++◌, map, length, take, drop, codes}
 use Rattle.std.specs.Char.{to_ascii_uppercase}
 use Rattle.std.specs.List.{slice_split, prefix_len, suffix_len, starts_with, list_all}
 use Rattle.std.specs.Int.{is_in_range}
 use Rattle.echo_addr.specs.Entries.{is_blank}
+pub use Rattle.echo_addr.specs.Pieces.{without_empty_last}
 use Rattle.echo_addr.specs.ShortLines.{path_prefix, seen_prefix}
 
 -- 0D, which ends a line, and 0A
@@ -12,12 +13,6 @@ is_return b = b == 13
 
 abbrev pub is_feed : ℕ → Bool
 is_feed b = b == 10
-
--- the pieces, but for an empty last one
-abbrev pub without_empty_last : List (List ℕ) → List (List ℕ)
-without_empty_last [] = []
-without_empty_last (piece ∷ []) = if length piece == 0 then [] else piece ∷ []
-without_empty_last (piece ∷ (next ∷ more)) = piece ∷ without_empty_last (next ∷ more)
 
 -- the lines of a text: the pieces between 0D bytes, without an empty last piece
 unfoldable pub lines : List ℕ → List (List ℕ)

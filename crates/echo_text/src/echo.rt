@@ -1,8 +1,5 @@
 use crate::copying::copies;
-use crate::found::{
-    first_id, first_id_of_slices, last_of_slices, last_tear, last_tear_of_slices, last_with,
-};
-use crate::words::{MSGID, ORIGIN, REPLY};
+use crate::found;
 use echo_addr::{Items, NetNode};
 use std::alloc::{AllocError, Global};
 use std::marker::Model;
@@ -60,28 +57,28 @@ impl Echo {
     pub fn msgid(&self) -> Option<&[u8]>
         ensures { option_copied result ≡ msgid_of self.now.kept }
     {
-        first_id(MSGID, self.kept.as_slice())
+        found::msgid(self.kept.as_slice())
     }
 
     /// The id of the message replied to, read likewise from the REPLY lines (FTS-0009).
     pub fn reply(&self) -> Option<&[u8]>
         ensures { option_copied result ≡ reply_of self.now.kept }
     {
-        first_id(REPLY, self.kept.as_slice())
+        found::reply(self.kept.as_slice())
     }
 
     /// The last tear line, without the line feeds at its front (FTS-0004).
     pub fn tear(&self) -> Option<&[u8]>
         ensures { option_copied result ≡ tear_of self.now.kept }
     {
-        last_tear(self.kept.as_slice())
+        found::tear(self.kept.as_slice())
     }
 
     /// The last origin line, without the line feeds at its front (FTS-0004).
     pub fn origin(&self) -> Option<&[u8]>
         ensures { option_copied result ≡ origin_of self.now.kept }
     {
-        last_with(ORIGIN, self.kept.as_slice())
+        found::origin(self.kept.as_slice())
     }
 }
 
@@ -93,28 +90,28 @@ impl<'a> EchoView<'a> {
     pub fn msgid(&self) -> Option<&[u8]>
         ensures { option_copied result ≡ msgid_of self.now.kept }
     {
-        first_id_of_slices(MSGID, self.kept.as_slice())
+        found::msgid(self.kept.as_slice())
     }
 
     /// The id of the message replied to, as `Echo` has it.
     pub fn reply(&self) -> Option<&[u8]>
         ensures { option_copied result ≡ reply_of self.now.kept }
     {
-        first_id_of_slices(REPLY, self.kept.as_slice())
+        found::reply(self.kept.as_slice())
     }
 
     /// The last tear line, as `Echo` has it.
     pub fn tear(&self) -> Option<&[u8]>
         ensures { option_copied result ≡ tear_of self.now.kept }
     {
-        last_tear_of_slices(self.kept.as_slice())
+        found::tear(self.kept.as_slice())
     }
 
     /// The last origin line, as `Echo` has it.
     pub fn origin(&self) -> Option<&[u8]>
         ensures { option_copied result ≡ origin_of self.now.kept }
     {
-        last_of_slices(ORIGIN, self.kept.as_slice())
+        found::origin(self.kept.as_slice())
     }
 
     /// The same parts, with lines of their own.

@@ -1,10 +1,42 @@
 ghost use Rattle.std.specs.Prelude.{◌≡◌, None, map, option_copied, filter};
 ghost use Rattle.std.specs.List.{last_or};
 ghost use Rattle.echo_text.specs.Lines.{after_feeds, begins, is_tear};
-ghost use Rattle.echo_text.specs.Echo.{first_after, id_in};
+ghost use Rattle.echo_text.specs.Echo.{first_after, id_in, msgid_of, origin_of, reply_of, tear_of};
 
-use crate::words::{after_feeds, after_word, begins, is_tear, trimmed};
-use echo_addr::Items;
+use crate::words::{MSGID, ORIGIN, REPLY, after_feeds, after_word, begins, is_tear, trimmed};
+use std::convert::AsSlice;
+
+/// The id of the message, in its kept lines.
+#[tactic(auto, unfolding(crate::specs::Echo::msgid_of))]
+pub(crate) fn msgid<L: AsSlice<u8>>(kept: &[L]) -> Option<&[u8]>
+    ensures { option_copied result ≡ msgid_of (map L.items kept.now) }
+{
+    first_id(MSGID, kept)
+}
+
+/// The id of the message replied to.
+#[tactic(auto, unfolding(crate::specs::Echo::reply_of))]
+pub(crate) fn reply<L: AsSlice<u8>>(kept: &[L]) -> Option<&[u8]>
+    ensures { option_copied result ≡ reply_of (map L.items kept.now) }
+{
+    first_id(REPLY, kept)
+}
+
+/// The last tear line, without the line feeds at its front.
+#[tactic(auto, unfolding(crate::specs::Echo::tear_of))]
+pub(crate) fn tear<L: AsSlice<u8>>(kept: &[L]) -> Option<&[u8]>
+    ensures { option_copied result ≡ tear_of (map L.items kept.now) }
+{
+    last_tear(kept)
+}
+
+/// The last origin line, without the line feeds at its front.
+#[tactic(auto, unfolding(crate::specs::Echo::origin_of))]
+pub(crate) fn origin<L: AsSlice<u8>>(kept: &[L]) -> Option<&[u8]>
+    ensures { option_copied result ≡ origin_of (map L.items kept.now) }
+{
+    last_with(ORIGIN, kept)
+}
 
 /// What follows the word in the line, where that is more than blanks, without blanks at both ends.
 fn id_in<'a>(word: &[u8], line: &'a [u8]) -> Option<&'a [u8]>
@@ -15,8 +47,8 @@ fn id_in<'a>(word: &[u8], line: &'a [u8]) -> Option<&'a [u8]>
 }
 
 /// What follows the word in the first of the lines where that is more than blanks.
-pub(crate) fn first_id<'a>(word: &[u8], kept: &'a [Items<u8>]) -> Option<&'a [u8]>
-    ensures { option_copied result ≡ first_after word.now kept.now }
+fn first_id<'a, L: AsSlice<u8>>(word: &[u8], kept: &'a [L]) -> Option<&'a [u8]>
+    ensures { option_copied result ≡ first_after word.now (map L.items kept.now) }
 {
     'lines: for line in kept {
         if let Some(id) = id_in(word, line.as_slice()) {
@@ -26,50 +58,13 @@ pub(crate) fn first_id<'a>(word: &[u8], kept: &'a [Items<u8>]) -> Option<&'a [u8
     None
 }
 
-/// The same of slices.
-pub(crate) fn first_id_of_slices<'a>(word: &[u8], kept: &[&'a [u8]]) -> Option<&'a [u8]>
-    ensures { option_copied result ≡ first_after word.now (map (λ line. line.now) kept.now) }
-{
-    'lines: for line in kept {
-        if let Some(id) = id_in(word, line) {
-            return Some(id);
-        }
-    }
-    None
-}
-
 /// The last tear line, without the line feeds at its front.
-pub(crate) fn last_tear(kept: &[Items<u8>]) -> Option<&[u8]>
-    ensures { option_copied result ≡ last_or None (map after_feeds (filter is_tear kept.now)) }
+fn last_tear<L: AsSlice<u8>>(kept: &[L]) -> Option<&[u8]>
+    ensures { option_copied result ≡ last_or None (map after_feeds (filter is_tear (map L.items kept.now))) }
 {
     let mut found = None;
     'lines: for line in kept {
-        if is_tear(line.as_slice()) {
-            found = Some(after_feeds(line.as_slice()));
-        }
-    }
-    found
-}
-
-/// The last line that begins with the word, without the line feeds at its front.
-pub(crate) fn last_with<'a>(word: &[u8], kept: &'a [Items<u8>]) -> Option<&'a [u8]>
-    ensures { option_copied result ≡ last_or None (map after_feeds (filter (begins word.now) kept.now)) }
-{
-    let mut found = None;
-    'lines: for line in kept {
-        if begins(word, line.as_slice()) {
-            found = Some(after_feeds(line.as_slice()));
-        }
-    }
-    found
-}
-
-/// The last tear line of slices, likewise.
-pub(crate) fn last_tear_of_slices<'a>(kept: &[&'a [u8]]) -> Option<&'a [u8]>
-    ensures { option_copied result ≡ last_or None (map after_feeds (filter is_tear (map (λ line. line.now) kept.now))) }
-{
-    let mut found = None;
-    'lines: for line in kept {
+        let line = line.as_slice();
         if is_tear(line) {
             found = Some(after_feeds(line));
         }
@@ -77,12 +72,13 @@ pub(crate) fn last_tear_of_slices<'a>(kept: &[&'a [u8]]) -> Option<&'a [u8]>
     found
 }
 
-/// The last of the slices that begins with the word, likewise.
-pub(crate) fn last_of_slices<'a>(word: &[u8], kept: &[&'a [u8]]) -> Option<&'a [u8]>
-    ensures { option_copied result ≡ last_or None (map after_feeds (filter (begins word.now) (map (λ line. line.now) kept.now))) }
+/// The last line that begins with the word, without the line feeds at its front.
+fn last_with<'a, L: AsSlice<u8>>(word: &[u8], kept: &'a [L]) -> Option<&'a [u8]>
+    ensures { option_copied result ≡ last_or None (map after_feeds (filter (begins word.now) (map L.items kept.now))) }
 {
     let mut found = None;
     'lines: for line in kept {
+        let line = line.as_slice();
         if begins(word, line) {
             found = Some(after_feeds(line));
         }

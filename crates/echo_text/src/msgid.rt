@@ -7,7 +7,7 @@ ghost use Rattle.echo_text.specs.Ids.{IdOf, IdParts, NoId, SpellsOrigin, ends_qu
 
 use crate::fault::TextFault;
 use crate::words::trimmed;
-use echo_addr::Address;
+use echo_addr::{Address, is_blank};
 use std::alloc::{AllocError, Global};
 
 /// How many digits to the base 16 a serial has.
@@ -69,7 +69,7 @@ fn parts_of(id: &[u8]) -> Option<MsgId>
         return None;
     }
     let serial = serial_of(digits)?;
-    let (origin, quoted) = origin_of(spelled)?;
+    let (origin, quoted) = spelled_origin(spelled)?;
     Some(MsgId {
         origin,
         quoted,
@@ -114,7 +114,7 @@ fn serial_of(digits: &[u8]) -> Option<u32>
 }
 
 /// The origin, and whether it was quoted.
-fn origin_of(spelled: &[u8]) -> Option<(&[u8], bool)>
+fn spelled_origin(spelled: &[u8]) -> Option<(&[u8], bool)>
     ensures { MatchOption result ((is_quoted_origin spelled.now || is_bare_origin spelled.now) ≡ false) (λ o. SpellsOrigin o.1 spelled.now o.0.now) }
 {
     if is_quoted(spelled) {
@@ -173,13 +173,6 @@ fn has_no_blank(bytes: &[u8]) -> bool
     ensures { result ≡ list_all (λ b. not (is_blank b)) bytes.now }
 {
     bytes.iter().all(|b| !is_blank(*b))
-}
-
-/// Whether the byte is a blank of message texts.
-fn is_blank(byte: u8) -> bool
-    ensures { result ≡ is_blank byte }
-{
-    byte == b' ' || byte == b'\t' || byte == b'\n'
 }
 
 /// The bytes with each doubled double quote made one.

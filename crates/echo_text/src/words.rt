@@ -3,6 +3,8 @@ ghost use Rattle.echo_addr.specs.Entries.{is_blank};
 ghost use Rattle.echo_text.specs.Lines.{after_feeds, after_word, begins, is_blank_line, is_feed, is_tear, trimmed};
 ghost use Rattle.echo_text.specs.Tail.{is_kept_control, is_tail_line};
 
+use echo_addr::is_blank;
+
 /// What SEEN-BY, PATH, MSGID, REPLY and origin lines begin with.
 pub(crate) const SEEN_BY: &[u8] = b"SEEN-BY:";
 
@@ -50,13 +52,6 @@ pub(crate) fn after_word<'a>(word: &[u8], line: &'a [u8]) -> Option<&'a [u8]>
     } else {
         None
     }
-}
-
-/// Whether the byte is a blank of message texts.
-fn is_blank(byte: u8) -> bool
-    ensures { result ≡ is_blank byte }
-{
-    byte == b' ' || byte == b'\t' || byte == b'\n'
 }
 
 /// Whether there is nothing but blanks.

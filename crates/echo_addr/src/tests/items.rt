@@ -1,6 +1,7 @@
 //! The small type in a struct.
 use crate::Items;
 use std::alloc::{AllocError, Global};
+use std::convert::AsSlice;
 use std::hash::{DefaultHasher, Hash, Hasher};
 
 #[derive(Debug, Drop, PartialEq, Eq, Hash)]
@@ -22,6 +23,17 @@ fn hash_of(note: &Note) -> u64 {
     let mut hasher = DefaultHasher::new();
     note.hash(&mut hasher);
     hasher.finish()
+}
+
+fn bytes_of<L: AsSlice<u8>>(line: &L) -> &[u8] {
+    line.as_slice()
+}
+
+#[test]
+fn small_type_lends_a_slice(rt: HostRuntime) {
+    if let Ok(name) = b"Ann".as_slice().to_vec(rt.alloc()) {
+        assert!(rt; bytes_of(&Items::new(name)) == b"Ann".as_slice());
+    }
 }
 
 #[test]

@@ -1,6 +1,6 @@
 use Rattle.std.proofs.Common.{◌≡◌, ◌≢◌, ◌+◌, ◌-◌, ◌*◌, length, get_or, min, refl, sym, subst, ◌∙◌, arith}
 use Rattle.std.proofs.lemmas.Bool.{both_ways, eqb-false, true≢false}
-use Rattle.echo_addr.proofs.Numbers.{Digested, Digested-more, Digested-all, no_number}
+use Rattle.echo_addr.proofs.CappedNumbers.{Digested, Digested-more, Digested-all, no_number}
 use Rattle.echo_addr.proofs.digits.number.Goals as goal
 
 pub returns-then-not-is_ascii_digit-clause-none : goal.returns-then-not-is_ascii_digit-clause-none
@@ -11,13 +11,13 @@ returns-then-not-is_ascii_digit-clause-none c =
 
 pub loop-byte-preserved : goal.loop-byte-preserved
 loop-byte-preserved c =
-    let more = Digested-more c.args.digits.now c.loop-byte.byte-index c.loop-byte.value c.loop-byte-test.true
+    let more = Digested-more c.args.cap c.args.digits.now c.loop-byte.byte-index c.loop-byte.value c.loop-byte-test.true
     (sym c.is_ascii_digit.ensures.value ∙ c.if-not-is_ascii_digit.false) c.loop-byte.invariant in
-    let same : c.min-value.result ≡ min (c.loop-byte.value * 10 + (get_or c.args.digits.now c.loop-byte.byte-index 0 - 48)) 65536 = omega arith in
-    subst (Digested c.args.digits.now (c.loop-byte.byte-index + 1)) (sym same) more
+    let same : c.min-value.result ≡ min (c.loop-byte.value * 10 + (get_or c.args.digits.now c.loop-byte.byte-index 0 - 48)) c.args.cap = omega arith in
+    subst (Digested c.args.cap c.args.digits.now (c.loop-byte.byte-index + 1)) (sym same) more
 
 pub returns-clause-none : goal.returns-clause-none
 returns-clause-none c =
     let more : length c.args.digits.now ≢ 0 = eqb-false _ _ (sym c.is_empty.ensures ∙ c.if-is_empty.false) in
-    let all = Digested-all c.args.digits.now c.loop-byte.byte-index c.loop-byte.value (omega arith) (omega arith) c.loop-byte.invariant in
+    let all = Digested-all c.args.cap c.args.digits.now c.loop-byte.byte-index c.loop-byte.value (omega arith) (omega arith) c.loop-byte.invariant in
     (λ e. absurd (true≢false e), λ e. absurd (both_ways _ e all.0))

@@ -1,5 +1,5 @@
 use Rattle.std.proofs.Common.{sym, ◌∙◌, refl}
-use Rattle.echo_addr.proofs.Cutting.{next_none, next_some}
+use Rattle.echo_addr.proofs.NextToken.{next_none, next_some}
 use Rattle.echo_addr.proofs.listing.next_token.Goals as goal
 
 pub returns-in_err-begun-clause-token : goal.returns-in_err-begun-clause-token

@@ -1,5 +1,5 @@
 use Rattle.std.proofs.Common.{sym, ◌∙◌}
-use Rattle.echo_addr.proofs.Cutting.{pair_none, pair_no_net, pair_no_node, pair_both}
+use Rattle.echo_addr.proofs.NextToken.{pair_none, pair_no_net, pair_no_node, pair_both}
 use Rattle.echo_addr.proofs.listing.pair.Goals as goal
 
 pub returns-in_err-slash : goal.returns-in_err-slash

@@ -1,4 +1,4 @@
-use Rattle.echo_addr.proofs.Writing.{Written-none, Written-more, Written-all}
+use Rattle.echo_addr.proofs.LineEntries.{Written-none, Written-more, Written-all}
 use Rattle.echo_addr.proofs.shortening.push_run.Goals as goal
 
 pub loop-entry-init : goal.loop-entry-init

@@ -1,7 +1,7 @@
 use Rattle.std.proofs.Common.{◌++◌, None}
 use Rattle.std.specs.String.{string_bytes}
 use Rattle.echo_addr.specs.ShortLines.{entries_text}
-use Rattle.echo_addr.proofs.Writing.{Written}
+use Rattle.echo_addr.proofs.LineEntries.{Written}
 use Rattle.echo_addr.proofs.shortening.push_run.Given as goal
 
 abbrev pub invariant-loop-entry : goal.invariant-loop-entry

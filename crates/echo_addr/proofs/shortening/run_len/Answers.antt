@@ -1,7 +1,7 @@
 use Rattle.std.proofs.Common.{◌≡◌, ℕ, sym, subst, get_or, length, take, Some, None, ◌+◌, inl, inr, arith}
 use Rattle.std.proofs.lemmas.Bool.{cases_lt}
 use Rattle.echo_addr.specs.ShortLines.{entries_text}
-use Rattle.echo_addr.proofs.Writing.{Measured, Measured-none, Measured-more, Measured-now, Measured-next, Measured-all}
+use Rattle.echo_addr.proofs.LineEntries.{Measured, Measured-none, Measured-more, Measured-now, Measured-next, Measured-all}
 use Rattle.echo_addr.proofs.shortening.run_len.Goals as goal
 
 pub loop-i-init : goal.loop-i-init

@@ -1,5 +1,5 @@
 use Rattle.std.proofs.Common.{◌≤◌}
-use Rattle.echo_addr.proofs.Writing.{Measured}
+use Rattle.echo_addr.proofs.LineEntries.{Measured}
 use Rattle.echo_addr.proofs.shortening.run_len.Given as goal
 
 abbrev pub invariant-loop-i : goal.invariant-loop-i

@@ -1,7 +1,7 @@
 use Rattle.std.proofs.Common.{◌≡◌, ◌+◌, [], ◌∷◌, length, sym, ap, ◌∙◌, subst, arith}
 use Rattle.std.proofs.lemmas.List.{length-append}
 use Rattle.std.proofs.lemmas.Bool.{eqb-true}
-use Rattle.echo_nodelist.proofs.ReadingOn.{Done, done_all, done_more}
+use Rattle.echo_nodelist.proofs.OneMoreLine.{Done, done_all, done_more}
 use Rattle.echo_nodelist.proofs.reading.read_lines.Goals as goal
 
 pub lines-preserved : goal.lines-preserved

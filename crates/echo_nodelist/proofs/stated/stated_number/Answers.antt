@@ -2,7 +2,7 @@ use Rattle.std.proofs.Common.{◌≡◌, ◌≤◌, length, drop, ap, ◌∙◌,
 use Rattle.std.specs.Prelude.{IfSome}
 use Rattle.std.specs.Str.Parse.{digits_value}
 use Rattle.echo_nodelist.specs.CrcLine.{last_five}
-use Rattle.echo_nodelist.proofs.Stating.{five_digits}
+use Rattle.echo_nodelist.proofs.StatedNumber.{five_digits}
 use Rattle.echo_nodelist.proofs.stated.stated_number.Goals as goal
 
 pub returns-clause-value : goal.returns-clause-value

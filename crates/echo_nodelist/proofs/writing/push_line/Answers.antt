@@ -1,5 +1,5 @@
 use Rattle.std.proofs.Common.{◌++◌, ap, ◌∙◌}
-use Rattle.echo_nodelist.proofs.WrittenText.{OnOk-map, commas, entry_written}
+use Rattle.echo_nodelist.proofs.LineBytes.{OnOk-map, commas, entry_written}
 use Rattle.echo_nodelist.proofs.writing.push_line.Goals as goal
 
 pub returns-in_ok-push_number-in-Entry : goal.returns-in_ok-push_number-in-Entry

@@ -1,4 +1,4 @@
-use Rattle.echo_text.proofs.SpelledIds.{passed_where_spelled, spelled_where_passed}
+use Rattle.echo_text.proofs.PassedTests.{passed_where_spelled, spelled_where_passed}
 use Rattle.echo_text.proofs.id_laws.test_of_ids.Goals as goal
 
 pub returns : goal.returns

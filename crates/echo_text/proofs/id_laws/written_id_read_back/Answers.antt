@@ -1,4 +1,4 @@
-use Rattle.echo_text.proofs.OwnIdsRead.{own_id}
+use Rattle.echo_text.proofs.OwnIdParts.{own_id}
 use Rattle.echo_text.proofs.id_laws.written_id_read_back.Goals as goal
 
 pub returns : goal.returns

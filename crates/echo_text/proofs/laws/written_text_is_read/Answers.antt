@@ -1,5 +1,5 @@
-use Rattle.echo_text.proofs.Readers.{written_is_read}
-use Rattle.echo_text.proofs.WrittenBytes.{written_has_no_zero}
+use Rattle.echo_text.proofs.Agreement.{written_is_read}
+use Rattle.echo_text.proofs.NoZeros.{written_has_no_zero}
 use Rattle.echo_text.proofs.laws.written_text_is_read.Goals as goal
 
 pub returns : goal.returns

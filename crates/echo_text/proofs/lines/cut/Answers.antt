@@ -2,7 +2,7 @@ use Rattle.std.proofs.Common.{ap, ◌++◌, length, map, ◌∙◌, sym, arith}
 use Rattle.std.proofs.lemmas.Bool.{eqb-false, eqb-true}
 use Rattle.std.proofs.lemmas.List.{map_push}
 use Rattle.echo_text.specs.Lines.{lines}
-use Rattle.echo_text.proofs.Cutting.{cut_all, cut_more, lines_with_first}
+use Rattle.echo_text.proofs.TextLines.{cut_all, cut_more, lines_with_first}
 use Rattle.echo_text.proofs.lines.cut.Goals as goal
 
 pub lines-preserved : goal.lines-preserved

@@ -1,7 +1,7 @@
 use Rattle.std.proofs.Common.{ap, ◌+◌, length, ◌∙◌, arith}
 use Rattle.std.proofs.lemmas.List.{drop_all, take_rest}
 use Rattle.echo_text.specs.Lines.{lines}
-use Rattle.echo_text.proofs.Cutting.{split_found, split_whole}
+use Rattle.echo_text.proofs.TextLines.{split_found, split_whole}
 use Rattle.echo_text.proofs.lines.split_line.Goals as goal
 
 pub returns-in-Some-clause-first : goal.returns-in-Some-clause-first

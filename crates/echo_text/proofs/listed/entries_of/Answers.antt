@@ -1,6 +1,6 @@
 use Rattle.std.proofs.Common.{ap, map, ◌∙◌, ◌+◌, ◌++◌, drop, arith}
 use Rattle.echo_addr.specs.Entries.{dropped, entries}
-use Rattle.echo_text.proofs.Listing.{dropped_more, dropped_same, found_more, found_same, next_seen}
+use Rattle.echo_text.proofs.EachLine.{dropped_more, dropped_same, found_more, found_same, next_seen}
 use Rattle.echo_text.specs.Tail.{all_dropped, all_entries, lists_of}
 use Rattle.echo_text.proofs.listed.entries_of.Goals as goal
 use Rattle.echo_text.proofs.listed.entries_of.Goals.{in-Some+in_ok-entries+in_ok-extend_from_slice, in_default}

@@ -1,6 +1,6 @@
 use Rattle.std.proofs.Common.{ap, map, sym, ◌∙◌}
 use Rattle.echo_text.specs.Tail.{is_kept_control}
-use Rattle.echo_text.proofs.Listing.{kept_more, kept_same}
+use Rattle.echo_text.proofs.EachLine.{kept_more, kept_same}
 use Rattle.echo_text.proofs.tail.kept_lines.Goals as goal
 use Rattle.echo_text.proofs.tail.kept_lines.Goals.{then-is_kept_control+in_ok-push, else-is_kept_control}
 

@@ -1,6 +1,6 @@
 use Rattle.std.proofs.Common.{get_or, None, ap, ◌∙◌}
 use Rattle.echo_nodelist.specs.Back.{address_at, address_back}
-use Rattle.echo_nodelist.proofs.Areas.{kept_at}
+use Rattle.echo_nodelist.proofs.LookingBack.{kept_at}
 use Rattle.echo_nodelist.proofs.nodelist.Nodelist.address_of.Goals as goal
 
 pub returns : goal.returns

@@ -1,6 +1,6 @@
 use Rattle.std.proofs.Common.{subst, ◌∙◌}
 use Rattle.echo_nodelist.specs.Back.{Finds}
-use Rattle.echo_nodelist.proofs.Areas.{finds_first}
+use Rattle.echo_nodelist.proofs.LookingBack.{finds_first}
 use Rattle.echo_nodelist.proofs.nodelist.Nodelist.find.Goals as goal
 
 pub returns : goal.returns

@@ -10,11 +10,10 @@ invariant_of-result c =
     let read =
     subst
     (λ text. AreRead (reverse (lines_of text)) (reverse lines))
-    c.text_of.ensures
+    c.before_end.ensures
     c.in_ok-reading.ensures.0
     in
     record {
       whole = good_lines c.args.bytes.now lines read;
       address_each = c.in_ok-reading.ensures.1.address_each;
-      hub_each = c.in_ok-reading.ensures.1.hub_each;
     }

@@ -1,0 +1,52 @@
+-- Steps of reading a number digit by digit, where values above a cap count as that.
+use Rattle.std.proofs.Common.{◌≡◌, ℕ, ◌+◌, ◌-◌, ◌*◌, ◌<◌, nat_lt, true, false, List, length, get_or, take, min, refl, ap, ◌∙◌, arith, below_more}
+use Rattle.std.specs.Char.{is_ascii_digit}
+use Rattle.std.specs.Str.{all_ascii_digits}
+use Rattle.std.specs.Str.Parse.{digits_value}
+use Rattle.std.proofs.lemmas.Int.Digits.{digits_value_more}
+use Rattle.std.proofs.lemmas.Str.{digit_value_digit}
+use Rattle.std.proofs.lemmas.List.{take_all}
+use Rattle.std.proofs.lemmas.List.Recursion.{and_fails_at, and_from_places}
+use Rattle.std.proofs.lemmas.Bool.{and_parts, and_from, and_left, and_right, leb-true, le-ltb, lt-ltb}
+use Rattle.echo_addr.specs.Digits.{is_number}
+use Rattle.echo_addr.proofs.Decimals.{IsDigit}
+
+-- the first i bytes are digits, and this is their value
+pub record Digested (cap : ℕ) (ds : List ℕ) (i value : ℕ) : Type 0 where
+  pub each : (k : ℕ) → k < i → is_ascii_digit (get_or ds k 0) ≡ true
+  pub value_is : value ≡ min (digits_value 10 (take i ds)) cap
+
+pub Digested-none : (cap : ℕ) (ds : List ℕ) → Digested cap ds 0 0
+Digested-none cap ds = record { each = λ k lt. absurd (omega arith); value_is = omega arith }
+
+digit_range : (c : ℕ) → is_ascii_digit c ≡ true → IsDigit c
+digit_range c h = let parts = and_parts _ _ h in (leb-true 48 c parts.0, leb-true c 57 parts.1)
+
+pub Digested-more : (cap : ℕ) (ds : List ℕ) (i value : ℕ) → i < length ds → is_ascii_digit (get_or ds i 0) ≡ true → Digested cap ds i value
+    → Digested cap ds (i + 1) (min (value * 10 + (get_or ds i 0 - 48)) cap)
+Digested-more cap ds i value lt digit d = record {
+  each = below_more (λ k. is_ascii_digit (get_or ds k 0) ≡ true) i d.each digit;
+  value_is =
+      let range = digit_range (get_or ds i 0) digit in
+      let worth = digit_value_digit (get_or ds i 0) range in
+      let more = digits_value_more 10 ds i lt in
+      let before = d.value_is in
+      omega (arith, range.0, range.1);
+}
+
+-- all bytes are digits
+pub Digested-all : (cap : ℕ) (ds : List ℕ) (i value : ℕ) → 0 < length ds → length ds ≡ i → Digested cap ds i value
+    → (is_number ds ≡ true) × (value ≡ min (digits_value 10 ds) cap)
+Digested-all cap ds i value some all d = (
+  and_from _ _ (lt-ltb 0 (length ds) some)
+      (and_from_places all_ascii_digits is_ascii_digit refl (λ c cs. refl) ds 0 (λ k lt. d.each k (omega arith))),
+  d.value_is ∙ ap (λ t. min (digits_value 10 t) cap) (take_all i ds (omega arith)),
+)
+
+-- a byte is no digit
+pub no_number : (ds : List ℕ) (i : ℕ) → i < length ds → is_ascii_digit (get_or ds i 0) ≡ false → is_number ds ≡ false
+no_number ds i lt other =
+    and_right (nat_lt 0 (length ds)) (all_ascii_digits ds) (and_fails_at all_ascii_digits is_ascii_digit refl (λ c cs. refl) ds i 0 lt other)
+
+pub empty_number : (ds : List ℕ) → length ds ≡ 0 → is_number ds ≡ false
+empty_number ds empty = and_left (nat_lt 0 (length ds)) (all_ascii_digits ds) (le-ltb 0 (length ds) (omega arith))

@@ -1,0 +1,104 @@
+-- What is told of a line by those before it.
+use Rattle.std.specs.Prelude.{MatchOption}
+use Rattle.std.proofs.Common.{◌≡◌, ◌≢◌, ℕ, ◌+◌, ◌<◌, ◌≤◌, nat_lt, ◌-◌, List, [], ◌∷◌, ◌++◌, length, get_or, take, reverse, cond, refl, sym, ap, ◌∙◌, subst, arith, Option, Some, None, Ok, Err, inl, inr}
+use Rattle.std.proofs.lemmas.List.{get_or-append_right, get_or_append_left, length-append, length-reverse, reverse-append, reverse-reverse, take-append-le, take_all}
+use Rattle.std.proofs.Math.ListN.{get_or-eq_default}
+use Rattle.std.proofs.lemmas.Bool.{cases_lt, cond-false, cond-true, le-ltb, lt-ltb}
+use Rattle.echo_addr.specs.declared.address.Address.{Address}
+use Rattle.echo_nodelist.specs.declared.place.Place.{Place}
+use Rattle.echo_nodelist.specs.declared.place.Told.{Told}
+use Rattle.echo_nodelist.specs.declared.keyword.Keyword.{Keyword}
+use Rattle.echo_nodelist.specs.declared.line.Line.{Line}
+use Rattle.echo_nodelist.specs.declared.line.Line.TheVariants.{Entry}
+use Rattle.echo_nodelist.specs.declared.fault.NodeFault.TheVariants.{NoZone}
+use Rattle.echo_nodelist.specs.Back.{Finds, address_back, each_back, lines_back, zone_back}
+use Rattle.echo_nodelist.specs.Nodelist.{in_zone, placed}
+use Rattle.echo_nodelist.specs.Place.{Follows, IsTold, IsPlaceAfter, Tells}
+
+-- an entry with no Zone line up to it
+pub tell_none : (at : ℕ) (earlier : List Line) (k : Keyword) (n : ℕ) (fields : List (List ℕ)) (line : Line) → line ≡ Entry k n fields
+    → zone_back (Entry k n fields ∷ earlier) ≡ None → placed at earlier (Ok line) ≡ Err (NoZone at)
+tell_none at earlier k n fields line is none =
+    ap (λ l. placed at earlier (Ok l)) is ∙ ap (λ z. in_zone at z (Entry k n fields)) none
+
+-- an entry after a Zone line, or one itself
+pub tell_some : (at : ℕ) (earlier : List Line) (k : Keyword) (n : ℕ) (fields : List (List ℕ)) (line : Line) (here : Place) (address : Address)
+    → line ≡ Entry k n fields → IsPlaceAfter (Entry k n fields ∷ earlier) (Some here) → address_back (Entry k n fields ∷ earlier) ≡ Some address
+    → Tells at earlier line (Ok (record { address = Some address; place = Some here }))
+tell_some at earlier k n fields line here address is stands address_is =
+    let whole : Tells at earlier (Entry k n fields) (Ok (record { address = Some address; place = Some here })) = (
+      ap (λ z. in_zone at z (Entry k n fields)) stands.0,
+      record { place = stands; address = address_is },
+    )
+    in
+    subst (λ l. Tells at earlier l (Ok (record { address = Some address; place = Some here }))) (sym is) whole
+
+pub reverse-push : {A : Type 0} (xs : List A) (x : A) → reverse (xs ++ x ∷ []) ≡ x ∷ reverse xs
+reverse-push xs x = reverse-append xs (x ∷ [])
+
+-- one more line
+pub follows_more : (lines : List Line) (addresses : List (Option Address)) (place : Option Place) (line : Line) (told : Told)
+    → Follows lines addresses place → IsTold (reverse lines) line told → Follows (lines ++ line ∷ []) (addresses ++ told.address ∷ []) told.place
+follows_more lines addresses place line told before now = record {
+  stands = subst (λ ls. IsPlaceAfter ls told.place) (sym (reverse-push lines line)) now.place;
+  address_each =
+      ap (λ l. l ++ told.address ∷ []) before.address_each
+      ∙ ap (λ a. each_back address_back (reverse lines) ++ a ∷ []) (sym now.address)
+      ∙ ap (each_back address_back) (sym (reverse-push lines line));
+}
+
+-- ---- what is kept of the line at an index
+
+pub length-each_back : (f : List Line → Option Address) (lines : List Line) → length (each_back f lines) ≡ length lines
+length-each_back f [] = refl
+length-each_back f (line ∷ earlier) = omega (arith, length-append (each_back f earlier) (f (line ∷ earlier) ∷ []), length-each_back f earlier)
+
+reverse-cons : {A : Type 0} (x : A) (xs : List A) → reverse (x ∷ xs) ≡ reverse xs ++ x ∷ []
+reverse-cons x xs = reverse-append (x ∷ []) xs
+
+each_back_at : (f : List Line → Option Address) (lines : List Line) (i : ℕ) → i < length lines
+    → get_or (each_back f lines) i None ≡ f (reverse (take (i + 1) (reverse lines)))
+each_back_at f [] i below = absurd (omega arith)
+each_back_at f (line ∷ earlier) i below = elim (cases_lt i (length earlier)) [
+  | inl low ↦
+      let before : i < length (each_back f earlier) = omega (arith, length-each_back f earlier) in
+      let within : i + 1 ≤ length (reverse earlier) = omega (arith, length-reverse earlier) in
+      get_or_append_left (each_back f earlier) (f (line ∷ earlier) ∷ []) None i before
+      ∙ each_back_at f earlier i low
+      ∙ ap (λ ls. f (reverse ls)) (sym (ap (take (i + 1)) (reverse-cons line earlier) ∙ take-append-le (i + 1) (reverse earlier) (line ∷ []) within))
+  | inr high ↦
+      let last : i ≡ length earlier = omega arith in
+      let none : i - length earlier ≡ 0 = omega arith in
+      get_or-append_right (each_back f earlier) (f (line ∷ earlier) ∷ []) (length earlier) i None (length-each_back f earlier) high
+      ∙ ap (λ j. get_or (f (line ∷ earlier) ∷ []) j None) none
+      ∙ ap f (sym (ap reverse (take_all (i + 1) (reverse (line ∷ earlier)) (omega (arith, length-reverse (line ∷ earlier)))) ∙ reverse-reverse (line ∷ earlier)))
+]
+
+pub kept_at : (f : List Line → Option Address) (lines : List Line) (kept : List (Option Address)) (i : ℕ) → kept ≡ each_back f (reverse lines)
+    → get_or kept i None ≡ cond (nat_lt i (length lines)) (f (lines_back lines i)) None
+kept_at f lines kept i is = elim (cases_lt i (length lines)) [
+  | inl low ↦
+      ap (λ ks. get_or ks i None) is
+      ∙ each_back_at f (reverse lines) i (omega (arith, length-reverse lines))
+      ∙ ap (λ ls. f (reverse (take (i + 1) ls))) (reverse-reverse lines)
+      ∙ sym (cond-true (nat_lt i (length lines)) (f (lines_back lines i)) None (lt-ltb i (length lines) low))
+  | inr high ↦
+      ap (λ ks. get_or ks i None) is
+      ∙ past (each_back f (reverse lines)) i (omega (arith, length-each_back f (reverse lines), length-reverse lines))
+      ∙ sym (cond-false (nat_lt i (length lines)) (f (lines_back lines i)) None (le-ltb i (length lines) high))
+]
+  where
+    past : (xs : List (Option Address)) (j : ℕ) → length xs ≤ j → get_or xs j None ≡ None
+    past xs j h = get_or-eq_default xs None h
+
+-- the first address that was found is that of the first line with it
+pub finds_first : (lines : List Line) (addresses : List (Option Address)) (wanted : Address) (found : Option ℕ) → addresses ≡ each_back address_back (reverse lines)
+    → MatchOption found
+    ((i : ℕ) → get_or addresses i None ≢ Some wanted)
+    (λ i. (get_or addresses i None ≡ Some wanted) × ((j : ℕ) → j < i → get_or addresses j None ≢ Some wanted))
+    → Finds lines wanted found
+finds_first lines addresses wanted None is none = λ i here. none i (kept_at address_back lines addresses i is ∙ here)
+finds_first lines addresses wanted (Some i) is some = record {
+  here = sym (kept_at address_back lines addresses i is) ∙ some.0;
+  before = λ j below here. some.1 j below (kept_at address_back lines addresses j is ∙ here);
+}

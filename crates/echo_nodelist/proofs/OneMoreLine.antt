@@ -1,0 +1,80 @@
+-- Reading line after line.
+use Rattle.std.proofs.Common.{◌≡◌, ℕ, ◌+◌, List, [], ◌∷◌, ◌++◌, length, reverse, refl, sym, ap, ◌∙◌, subst, arith, inl, inr, ◌⊎◌, Result, Ok, Err}
+use Rattle.std.proofs.lemmas.List.{append_assoc, append-nil, length-reverse, nil_from_length}
+use Rattle.echo_nodelist.specs.declared.line.Line.{Line}
+use Rattle.echo_nodelist.specs.declared.fault.NodeFault.{NodeFault}
+use Rattle.echo_nodelist.specs.declared.fault.NodeFault.TheVariants.{Memory}
+use Rattle.echo_nodelist.specs.Raw.{lines_of}
+use Rattle.echo_nodelist.specs.Line.{line_in}
+use Rattle.echo_nodelist.specs.Nodelist.{AreRead, FaultIn, Gives, line_outcome, placed}
+use Rattle.echo_nodelist.proofs.LookingBack.{reverse-push}
+use Rattle.echo_nodelist.proofs.Pieces.{lines_nil}
+
+-- the first lines of a text were read, and `rest` is left
+pub record Done (text : List ℕ) (lines : List Line) (rest : List ℕ) : Type 0 where
+  pub front : List (List ℕ)
+  pub pieces : front ++ lines_of rest ≡ lines_of text
+  pub read : AreRead (reverse front) (reverse lines)
+
+pub done_none : (text : List ℕ) → Done text [] text
+done_none text = record { front = []; pieces = refl; read = tt }
+
+-- what the line says, with its number counted
+outcome_is : (lines : List Line) (raw : List ℕ) (number : ℕ) (said : Result Line NodeFault) → number ≡ length lines + 1 → said ≡ line_in number raw
+    → line_outcome (reverse lines) raw ≡ placed number (reverse lines) said
+outcome_is lines raw number said count is =
+    let same : length (reverse lines) + 1 ≡ number = omega (arith, length-reverse lines) in
+    ap (λ n. placed n (reverse lines) (line_in n raw)) same ∙ ap (placed number (reverse lines)) (sym is)
+
+-- an answer that is no want of memory
+said_ok : (line : Line) (expected : Result Line NodeFault) → Gives (Ok line) expected → Ok line ≡ expected
+said_ok line expected (inl memory) = cc
+said_ok line expected (inr is) = is
+
+-- one more line
+pub done_more : (text rest raw after : List ℕ) (lines : List Line) (line : Line) (number : ℕ) → Done text lines rest → lines_of rest ≡ raw ∷ lines_of after
+    → number ≡ length lines + 1 → Gives (Ok line) (line_in number raw) → placed number (reverse lines) (Ok line) ≡ Ok line
+    → Done text (lines ++ line ∷ []) after
+done_more text rest raw after lines line number done cut count said good =
+    let here : line_outcome (reverse lines) raw ≡ Ok line = outcome_is lines raw number (Ok line) count (said_ok line (line_in number raw) said) ∙ good in
+    let both : AreRead (raw ∷ reverse done.front) (line ∷ reverse lines) = (here, done.read) in
+    record {
+      front = done.front ++ raw ∷ [];
+      pieces = append_assoc done.front (raw ∷ []) (lines_of after) ∙ ap (λ ls. done.front ++ ls) (sym cut) ∙ done.pieces;
+      read = subst (λ ls. AreRead (reverse (done.front ++ raw ∷ [])) ls) (sym (reverse-push lines line)) (subst (λ rs. AreRead rs (line ∷ reverse lines)) (sym (reverse-push done.front raw)) both);
+    }
+
+-- nothing left
+pub done_all : (text rest : List ℕ) (lines : List Line) → Done text lines rest → length rest ≡ 0 → AreRead (reverse (lines_of text)) (reverse lines)
+done_all text rest lines done none =
+    let all : done.front ≡ lines_of text =
+    sym (append-nil done.front) ∙ ap (λ ls. done.front ++ ls) (sym (ap lines_of (nil_from_length rest none) ∙ lines_nil)) ∙ done.pieces
+    in
+    subst (λ rs. AreRead (reverse rs) (reverse lines)) all done.read
+
+fault_here : (text rest raw after : List ℕ) (lines : List Line) (fault : NodeFault) → Done text lines rest → lines_of rest ≡ raw ∷ lines_of after
+    → line_outcome (reverse lines) raw ≡ Err fault → FaultIn (lines_of text) fault
+fault_here text rest raw after lines fault done cut faulty = record {
+  front = done.front;
+  raw = raw;
+  later = lines_of after;
+  lines = lines;
+  pieces = sym done.pieces ∙ ap (λ ls. done.front ++ ls) cut;
+  good = done.read;
+  faulty = faulty;
+}
+
+-- the line by itself is faulty, or memory ran out
+pub line_fault : (text rest raw after : List ℕ) (lines : List Line) (number : ℕ) (fault : NodeFault) → Done text lines rest → lines_of rest ≡ raw ∷ lines_of after
+    → number ≡ length lines + 1 → Gives (Err fault) (line_in number raw) → FaultIn (lines_of text) fault ⊎ (fault ≡ Memory)
+line_fault text rest raw after lines number fault done cut count (inl memory) = inr cc
+line_fault text rest raw after lines number fault done cut count (inr said) =
+    inl (fault_here text rest raw after lines fault done cut (outcome_is lines raw number (Err fault) count said))
+
+-- no Zone line came, or memory ran out
+pub push_fault : (text rest raw after : List ℕ) (lines : List Line) (line : Line) (number : ℕ) (fault : NodeFault) → Done text lines rest
+    → lines_of rest ≡ raw ∷ lines_of after → number ≡ length lines + 1 → Gives (Ok line) (line_in number raw)
+    → (fault ≡ Memory) ⊎ (placed number (reverse lines) (Ok line) ≡ Err fault) → FaultIn (lines_of text) fault ⊎ (fault ≡ Memory)
+push_fault text rest raw after lines line number fault done cut count said (inl memory) = inr memory
+push_fault text rest raw after lines line number fault done cut count said (inr faulty) =
+    inl (fault_here text rest raw after lines fault done cut (outcome_is lines raw number (Ok line) count (said_ok line (line_in number raw) said) ∙ faulty))

@@ -1,0 +1,70 @@
+-- The number that a first line states, beside the computed one.
+use Rattle.std.proofs.Common.{◌≡◌, ℕ, ◌+◌, ◌<◌, ◌≤◌, ◌==◌, ◌↔◌, nat_lt, Bool, true, false, List, length, drop, min, sym, ap, ◌∙◌, ◌≢◌, arith, Option, Some, None}
+use Rattle.std.specs.Prelude.{IsNone, IfSome}
+use Rattle.std.specs.List.{after_first, before_first, position_or_len}
+use Rattle.std.specs.Str.{all_ascii_digits}
+use Rattle.std.specs.Str.Parse.{digits_value}
+use Rattle.std.specs.Io.BufRead.{strip_last}
+use Rattle.std.proofs.lemmas.List.{drop_all, take_all}
+use Rattle.std.proofs.lemmas.Str.Parse.{digits_value_short}
+use Rattle.std.proofs.lemmas.Bool.{and_parts, cond-false, cond-true, eq-eqb, ne_eqb, true_from_ne_false, true≢false}
+use Rattle.echo_addr.specs.Digits.{is_number}
+use Rattle.echo_addr.proofs.Decimals.{own}
+use Rattle.echo_nodelist.specs.declared.stated.CrcLine.TheVariants.{Absent, Match, Mismatch}
+use Rattle.echo_nodelist.specs.Crc.{crc}
+use Rattle.echo_nodelist.specs.Raw.{is_feed}
+use Rattle.echo_nodelist.specs.CrcLine.{compared, crc_of_text, stating_line, later_bytes, stated_crc, states_crc}
+
+-- a text of one line
+pub before_whole : (p : ℕ → Bool) (text : List ℕ) → position_or_len p text ≡ length text → text ≡ before_first p text
+before_whole p text none = sym (take_all (position_or_len p text) text (omega arith))
+
+pub after_whole : (p : ℕ → Bool) (text rest : List ℕ) → position_or_len p text ≡ length text → rest ≡ drop (length text) text → rest ≡ after_first p text
+after_whole p text rest none is =
+    is ∙ drop_all (length text) text (omega arith) ∙ sym (drop_all (position_or_len p text + 1) text (omega arith))
+
+-- five digits write a number that wasn't cut down
+pub five_digits : (r : Option ℕ) (ds : List ℕ) → length ds ≤ 5 → (IsNone r ↔ (is_number ds ≡ false)) → IfSome r (λ n. n ≡ min (digits_value 10 ds) 100000)
+    → IfSome r (λ n. n ≡ digits_value 10 ds)
+five_digits None ds short none value = value
+five_digits (Some n) ds short none value =
+    let numeral : is_number ds ≡ true = true_from_ne_false (is_number ds) (λ f. true≢false (none.1 f)) in
+    let small : digits_value 10 ds < 100000 = digits_value_short own ds 5 (and_parts (nat_lt 0 (length ds)) (all_ascii_digits ds) numeral).1 short in
+    omega arith
+
+-- the line states nothing
+pub states_none : (text first line : List ℕ) → first ≡ before_first is_feed text → line ≡ strip_last 13 first → states_crc line ≡ false → Absent ≡ crc_of_text text
+states_none text first line before last none =
+    let same : line ≡ stating_line text = last ∙ ap (strip_last 13) before in
+    sym (
+    cond-false
+    (states_crc (stating_line text))
+    (compared (stated_crc (stating_line text)) (crc (later_bytes text)))
+    Absent
+    (ap states_crc (sym same) ∙ none)
+    )
+
+-- the line states a number
+pub states_some : (text first line later : List ℕ) (stated computed : ℕ) → first ≡ before_first is_feed text → line ≡ strip_last 13 first
+    → later ≡ after_first is_feed text → states_crc line ≡ true → stated ≡ stated_crc line → computed ≡ crc later → compared stated computed ≡ crc_of_text text
+states_some text first line later stated computed before last behind some stated_is computed_is =
+    let same : line ≡ stating_line text = last ∙ ap (strip_last 13) before in
+    ap (λ s. compared s computed) (stated_is ∙ ap stated_crc same)
+    ∙ ap (compared (stated_crc (stating_line text))) (computed_is ∙ ap crc behind)
+    ∙ sym (
+    cond-true
+    (states_crc (stating_line text))
+    (compared (stated_crc (stating_line text)) (crc (later_bytes text)))
+    Absent
+    (ap states_crc (sym same) ∙ some)
+    )
+
+pub compared_same : (stated computed : ℕ) → stated ≡ computed → Match stated ≡ compared stated computed
+compared_same stated computed same = sym (cond-true (stated == computed) (Match stated) (Mismatch stated computed) (eq-eqb stated computed same))
+
+pub compared_other : (stated computed : ℕ) → stated ≢ computed → Mismatch stated computed ≡ compared stated computed
+compared_other stated computed other = sym (cond-false (stated == computed) (Match stated) (Mismatch stated computed) (ne_eqb stated computed other))
+
+-- what a line says after `text`, by what it states
+pub some_stated : (line : List ℕ) → (states_crc line ≡ false → true ≡ false) → states_crc line ≡ true
+some_stated line h = true_from_ne_false (states_crc line) (λ f. true≢false (h f))

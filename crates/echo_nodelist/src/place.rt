@@ -1,0 +1,77 @@
+ghost use Rattle.std.specs.Prelude.{◌≡◌, ℕ, List, ◌∷◌, Some};
+ghost use Rattle.echo_nodelist.specs.declared.line.Line.{Line};
+ghost use Rattle.echo_nodelist.specs.declared.line.Line.TheVariants.{Entry};
+ghost use Rattle.echo_nodelist.specs.Back.{address_back};
+ghost use Rattle.echo_nodelist.specs.Place.{IsPlaceAfter, Tells};
+
+use crate::fault::NodeFault;
+use crate::keyword::Keyword;
+use crate::line::Line;
+use echo_addr::Address;
+
+/// Where a line stands, by the lines up to it: zone and net.
+#[derive(Clone, Copy)]
+pub(crate) struct Place {
+    zone: u16,
+    net: u16,
+}
+
+/// What the lines up to a line tell of it: its address, and the place after it.
+#[derive(Clone, Copy)]
+pub(crate) struct Told {
+    pub(crate) address: Option<Address>,
+    pub(crate) place: Option<Place>,
+}
+
+/// What is told of a line after a place. `number` is the line's.
+pub(crate) fn tell(place: Option<Place>, number: usize, line: &Line) -> Result<Told, NodeFault>
+    ensures { (earlier : List Line) → IsPlaceAfter earlier place → Tells number earlier line.now result }
+{
+    let Line::Entry {
+        keyword,
+        number: system,
+        fields: _,
+    } = line
+    else {
+        return Ok(Told {
+            address: None,
+            place,
+        });
+    };
+    let Some(here) = after(place, *keyword, *system) else {
+        return Err(NodeFault::NoZone { line: number });
+    };
+    Ok(Told {
+        address: Some(address(here, *keyword, *system)),
+        place: Some(here),
+    })
+}
+
+/// The place after an entry; none where no Zone line came.
+fn after(place: Option<Place>, keyword: Keyword, number: u16) -> Option<Place>
+    ensures { (earlier : List Line) (fields : List (List ℕ)) → IsPlaceAfter earlier place → IsPlaceAfter (Entry keyword number fields ∷ earlier) result }
+{
+    if keyword.is_zone() {
+        return Some(Place {
+            zone: number,
+            net: number,
+        });
+    }
+    let mut here = place?;
+    if keyword.begins_net() {
+        here.net = number;
+    }
+    Some(here)
+}
+
+/// The address of an entry, by the place after it.
+fn address(here: Place, keyword: Keyword, number: u16) -> Address
+    ensures { (earlier : List Line) (fields : List (List ℕ)) → IsPlaceAfter (Entry keyword number fields ∷ earlier) (Some here)
+        → address_back (Entry keyword number fields ∷ earlier) ≡ Some result }
+{
+    Address {
+        zone: here.zone,
+        net: here.net,
+        node: if keyword.begins_net() { 0 } else { number },
+    }
+}

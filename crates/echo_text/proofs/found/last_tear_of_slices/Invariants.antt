@@ -1,9 +1,0 @@
-use Rattle.std.proofs.Common.{◌≡◌, drop, map, None, option_copied}
-use Rattle.std.specs.List.{filter, last_or}
-use Rattle.echo_text.specs.Lines.{after_feeds, is_tear}
-use Rattle.echo_text.proofs.found.last_tear_of_slices.Given as goal
-
-abbrev pub invariant-lines : goal.invariant-lines
-invariant-lines l =
-    last_or (option_copied l.found) (map after_feeds (filter is_tear (drop l.line-index (map (λ line. line.now) l.kept))))
-    ≡ last_or None (map after_feeds (filter is_tear (map (λ line. line.now) l.kept)))
