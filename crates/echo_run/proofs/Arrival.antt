@@ -5,7 +5,7 @@ use Rattle.echo_graph.specs.Beyond.{IsWay}
 use Rattle.echo_graph.proofs.Members.{Among-append_cases}
 use Rattle.echo_graph.proofs.Cuts.{along_ways}
 use Rattle.echo_run.proofs.Counts.{count-names_one, count-has}
-use Rattle.echo_run.proofs.View.{Parts, Parcel, View, held, At, times, sent_times, Has, IsNet, Sent, Invariant}
+use Rattle.echo_run.proofs.Invariant.{Parts, Parcel, View, held, At, times, sent_times, Has, IsNet, Sent, Invariant}
 use Rattle.echo_run.proofs.Targets.{net_can}
 use Rattle.echo_run.proofs.Growth.{Among-in, Has-key, sent-cases}
 

@@ -15,7 +15,7 @@ use Rattle.echo_run.specs.Run.{System, filing, nth}
 use Rattle.echo_run.specs.Orderly.{count}
 use Rattle.echo_base.specs.Base.{IsFile}
 use Rattle.echo_run.proofs.Counts as counts
-use Rattle.echo_run.proofs.Tosser.{Laws}
+use Rattle.echo_run.proofs.TosserPremises.{Laws}
 use Rattle.echo_run.proofs.Lists.{any-to, any-from, and-parts, some_same}
 
 -- a message of the base is the one that was filed, or what a purge leaves of it

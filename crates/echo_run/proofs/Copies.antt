@@ -22,9 +22,9 @@ use Rattle.echo_run.specs.Run.{destination}
 use Rattle.echo_run.specs.Orderly.{copies}
 use Rattle.echo_base.specs.Base.{IsFile}
 use Rattle.echo_run.proofs.Counts.{one_if, count}
-use Rattle.echo_run.proofs.Tosser.{Laws}
+use Rattle.echo_run.proofs.TosserPremises.{Laws}
 use Rattle.echo_run.proofs.Lists.{not_both, yes_or_no, and-parts, and-from, any-to, any-from, filter-yes, filter-no, Among-filter_from, Among-filter_to}
-use Rattle.echo_run.proofs.Viewing.{content_of, in_area}
+use Rattle.echo_run.proofs.AreaView.{content_of, in_area}
 
 -- the copy of a message, as whoever gets it files it
 unfoldable pub copied : LinkFile → Filed → Filed

@@ -4,7 +4,7 @@ use Rattle.echo_graph.specs.Walk.{Among}
 use Rattle.echo_graph.specs.Beyond.{Beyond}
 use Rattle.echo_graph.proofs.Members.{Among-append_left, Among-append_right, Among-append_cases}
 use Rattle.echo_run.proofs.Counts.{Tells-can, count-append, count-none, one_if-most}
-use Rattle.echo_run.proofs.View.{Parts, Parcel, View, held, At, times, sent_times, Has, IsNet, Good, Sent, Invariant, Files, Marks}
+use Rattle.echo_run.proofs.Invariant.{Parts, Parcel, View, held, At, times, sent_times, Has, IsNet, Good, Sent, Invariant, Files, Marks}
 use Rattle.echo_run.proofs.Targets.{net_can}
 use Rattle.echo_run.proofs.Growth.{Among-in, Has-in, Grows, Poster-grows, Good-grows, Sent-grows}
 

@@ -3,7 +3,7 @@ use Rattle.std.proofs.Common.{◌≡◌, ◌⊎◌, inl, inr, refl, subst, ◌�
 use Rattle.std.specs.Prelude.{true, false}
 use Rattle.echo_graph.specs.Walk.{Among}
 use Rattle.echo_run.proofs.Counts.{Tells, Tells-can, count-cases}
-use Rattle.echo_run.proofs.View.{Parts, Parcel, View, held, times, sent_times, Has, Poster, Good, Sent}
+use Rattle.echo_run.proofs.Invariant.{Parts, Parcel, View, held, times, sent_times, Has, Poster, Good, Sent}
 
 pub Among-in : {X : Type 0} (x : X) (xs ys : List X) → xs ≡ ys → Among x xs → Among x ys
 Among-in {X} x xs ys e h = let P : List X → Type 0 = λ zs. Among x zs in subst P e h

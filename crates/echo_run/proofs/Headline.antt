@@ -1,5 +1,5 @@
 -- Every run of a tidy area is orderly.
-use Rattle.std.proofs.Common.{◌≡◌, inl, inr, refl, sym, subst, ap, ◌∙◌, ℕ, ◌≤◌, arith, IsTrue, List, [], ◌∷◌, ◌++◌, length, drop, map, cond}
+use Rattle.std.proofs.Common.{◌≡◌, ◌⊎◌, inl, inr, refl, sym, subst, ap, ◌∙◌, ℕ, ◌≤◌, arith, IsTrue, List, [], ◌∷◌, ◌++◌, length, drop, map, cond}
 use Rattle.std.specs.Prelude.{false, filter}
 use Rattle.std.proofs.lemmas.Bool.{cond-false}
 use Rattle.std.proofs.lemmas.List.{length-map, map-append}
@@ -9,21 +9,23 @@ use Rattle.echo_steps.specs.declared.packet.Packet.{Packet}
 use Rattle.echo_base.specs.declared.key.Key.{Key}
 use Rattle.echo_base.specs.Sets.{same_address}
 use Rattle.echo_base.specs.Base.{Filed, LinkFile, key_of, same_key, has_area}
+use Rattle.echo_base.specs.Stubs.{stub_of}
 use Rattle.echo_run.specs.Event.{RunEvent}
 use Rattle.echo_run.specs.Run.{System, Run, destination, run_of}
 use Rattle.echo_run.specs.Orderly.{count, copies, sent_count, tag_of, IsPosting, Settled, SameContent, FiledUnchanged, Orderly}
 use Rattle.echo_run.specs.Tidy.{Tidy, lists, Carries}
 use Rattle.echo_run.specs.Fits.{FilesFit}
-use Rattle.echo_run.proofs.View.{Parcel, View, held, At, times, sent_times}
-use Rattle.echo_run.proofs.Tosser.{Laws}
+use Rattle.echo_run.proofs.Invariant.{Parcel, View, held, At, times, sent_times}
+use Rattle.echo_run.proofs.TosserPremises.{Laws}
 use Rattle.echo_run.proofs.Lists.{not_both, yes_or_no, filter-yes, filter-no, filter-none, Among-map_from, Among-filter_from, Among-filter_to}
-use Rattle.echo_run.proofs.Bases.{Kept-waiting, Kept-count, Kept-back}
+use Rattle.echo_run.proofs.Counts as counts
+use Rattle.echo_run.proofs.Bases.{Kept-waiting, Kept-count, Kept-back, SystemOk, count-is}
 use Rattle.echo_run.proofs.Arrival.{AtRest, never-own, arrives, same-content, held-once}
-use Rattle.echo_run.proofs.Running.{RunOk}
-use Rattle.echo_run.proofs.Viewing.{Content, parts, content_of, part_at-none, in_area, waiting_of, parcel_of, view_of, Wrote, address_of, in_area-tag, tag-in_area, net, area-carries, none-before}
-use Rattle.echo_run.proofs.Changes.{with_systems, held-is}
-use Rattle.echo_run.proofs.Delivered.{key-tag}
-use Rattle.echo_run.proofs.Runs.{State, run-state}
+use Rattle.echo_run.proofs.WellFormed.{RunOk}
+use Rattle.echo_run.proofs.AreaView.{Content, parts, content_of, part_at-none, in_area, waiting_of, parcel_of, view_of, Wrote, address_of, in_area-tag, tag-in_area, net, area-carries, none-before}
+use Rattle.echo_run.proofs.OneSystem.{with_systems, held-is}
+use Rattle.echo_run.proofs.DeliveryView.{key-tag}
+use Rattle.echo_run.proofs.TidyRuns.{State, run-state}
 
 pub among-split : {X : Type 0} (x : X) (xs : List X) → Among x xs → (before : List X) × (after : List X) × (xs ≡ before ++ x ∷ after)
 among-split x [] h = absurd h
@@ -39,6 +41,21 @@ module _ (laws : Laws) where
   filed-once run ok s h key =
       let at_s = ok.systems s h in
       omega (arith, at_s.once key, Kept-count key s.cursor s.base s.history at_s.kept)
+
+  -- a key that was filed once, with the content of the posting, is that of the posting filed unchanged
+  filed-unchanged : (s : System) → SystemOk s → (o : Filed) → count (key_of o) s.history ≡ 1 →
+      ((m : Filed) → Among m s.history → key_of m ≡ key_of o → SameContent m o) → FiledUnchanged s o
+  filed-unchanged s ok o filed same = record {
+    once = Kept-count (key_of o) s.cursor s.base s.history ok.kept ∙ filed;
+    filed_once = filed;
+    kept = λ m n i j e e'.
+        let (h, at_h, kept) = Kept-back s.cursor s.base s.history ok.kept m i in
+        let few : counts.count key_of same_key (key_of o) s.history ≤ 1 = omega (arith, count-is (key_of o) s.history, filed) in
+        let one : h ≡ n = counts.count-names_one key_of same_key laws.keys (key_of o) s.history few h n at_h j (sym kept.key ∙ e) e' in
+        let P : Filed → Type 0 = λ x. (m ≡ x) ⊎ (m ≡ stub_of x) in
+        subst P one kept.form;
+    unchanged = same;
+  }
 
   -- messages of other areas have other keys
   count-area : (tag : List ℕ) (key : Key) → tag_of key ≡ tag → (ms : List Filed) → count key ms ≡ times parts key (filter (in_area tag) ms)
@@ -137,15 +154,11 @@ module _ (laws : Laws) where
         let once = held-once parts (lists files tag) (Carries files tag) (Wrote tag) (net laws files tag tidy) view state.watched (address_of s) (key_of o) there in
         let tag_k = key-tag o ∙ posted.area in
         let size : List Filed → ℕ = λ ms. times parts (key_of o) ms in
-        record {
-          once =
-              Kept-count (key_of o) s.cursor s.base s.history (state.ok.systems s at_s).kept
-              ∙ (count-area tag (key_of o) tag_k s.history ∙ (ap size (sym (seen-held s at_s)) ∙ once));
-          unchanged = λ m i e.
-              let tag_m : m.echo.tag ≡ tag = sym (key-tag m) ∙ (ap tag_of e ∙ tag_k) in
-              same-parts m o (same-content parts (lists files tag) (Carries files tag) (Wrote tag) (net laws files tag tidy) view state.watched
-              (address_of f) o held_o posted.own (address_of s) m (held-to s at_s m i tag_m) e);
-        }
+        let filed = count-area tag (key_of o) tag_k s.history ∙ (ap size (sym (seen-held s at_s)) ∙ once) in
+        filed-unchanged s (state.ok.systems s at_s) o filed (λ m i e.
+        let tag_m : m.echo.tag ≡ tag = sym (key-tag m) ∙ (ap tag_of e ∙ tag_k) in
+        same-parts m o (same-content parts (lists files tag) (Carries files tag) (Wrote tag) (net laws files tag tidy) view state.watched
+        (address_of f) o held_o posted.own (address_of s) m (held-to s at_s m i tag_m) e))
 
     pub orderly : Orderly run tag
     orderly = record {

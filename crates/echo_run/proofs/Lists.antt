@@ -1,10 +1,10 @@
 -- Items of lists by their index, and members of lists that were made of others.
 use Rattle.std.proofs.Common.{◌≡◌, ◌≢◌, ◌⊎◌, inl, inr, refl, sym, subst, ap, ◌∙◌, ℕ, zero, suc, ◌+◌, arith, List, [], ◌∷◌, ◌++◌, length, take, drop, map, Option, Some, None}
-use Rattle.std.specs.Prelude.{Bool, true, false, filter, not, ◌&&◌, ◌||◌}
+use Rattle.std.specs.Prelude.{Bool, true, false, filter, not, ◌&&◌, ◌||◌, ◌==◌, if◌then◌else◌}
 use Rattle.std.specs.List.{list_any, position_or_len}
-use Rattle.std.proofs.lemmas.Bool.{cond-true, cond-false}
-use Rattle.echo_graph.specs.Walk.{Among}
-use Rattle.echo_run.specs.Run.{nth, change}
+use Rattle.std.proofs.lemmas.Bool.{cond-true, cond-false, eq-eqb}
+use Rattle.echo_graph.specs.Walk.{Among, Different}
+use Rattle.echo_run.specs.Run.{nth, change, with_index}
 
 -- a test says yes or no
 pub yes_or_no : (b : Bool) → (b ≡ true) ⊎ (b ≡ false)
@@ -239,6 +239,27 @@ pub map-change : {X Y : Type 0} (g : X → Y) (i : ℕ) (f : X → X) → ((x : 
 map-change g i f same [] = refl
 map-change g zero f same (x ∷ xs) = (let e = same x in cc)
 map-change g (suc i) f same (x ∷ xs) = (let e = map-change g i f same xs in cc)
+
+-- an index that was put to others is the new one or one of them
+pub with_index-from : (k j : ℕ) (ks : List ℕ) → Among j (with_index k ks) → (j ≡ k) ⊎ Among j ks
+with_index-from k j ks h = cases (list_any (λ d. d == k) ks) h
+  where
+    cases : (b : Bool) → Among j (if b then ks else k ∷ ks) → (j ≡ k) ⊎ Among j ks
+    cases true h = inr h
+    cases false h = h
+
+-- and all stay different
+pub with_index-different : (k : ℕ) (ks : List ℕ) → Different ks → Different (with_index k ks)
+with_index-different k ks d = cases (list_any (λ d. d == k) ks) refl
+  where
+    cases : (b : Bool) → list_any (λ d. d == k) ks ≡ b → Different (if b then ks else k ∷ ks)
+    cases true e = d
+    cases false e = (λ h. not_both (list_any (λ d. d == k) ks) (any-to (λ d. d == k) k ks h (eq-eqb k k refl)) e, d)
+
+pub nth-append : {X : Type 0} (i : ℕ) (x : X) (xs ys : List X) → nth i xs ≡ Some x → nth i (xs ++ ys) ≡ Some x
+nth-append {X} i x [] ys h = absurd (none_some h)
+nth-append zero x (z ∷ xs) ys h = h
+nth-append (suc i) x (z ∷ xs) ys h = nth-append i x xs ys h
 
 -- what holds of each item, and of what it is changed to, holds of each item after the change
 pub change-all : {X : Type 0} (P : X → Type 0) (i : ℕ) (f : X → X) → ((x : X) → P x → P (f x)) → (xs : List X) →

@@ -6,7 +6,7 @@ use Rattle.echo_graph.specs.Beyond.{Beyond, IsWay}
 use Rattle.echo_graph.proofs.Members.{Among-append_left, Among-append_right, Among-append_cases}
 use Rattle.echo_graph.proofs.Cuts.{one_way}
 use Rattle.echo_run.proofs.Counts.{count-append, count-has}
-use Rattle.echo_run.proofs.View.{Parts, Parcel, View, held, At, times, sent_times, Has, IsNet, Sent, Invariant, IsTarget, IsCopy, Scans}
+use Rattle.echo_run.proofs.Invariant.{Parts, Parcel, View, held, At, times, sent_times, Has, IsNet, Sent, Invariant, IsTarget, IsCopy, Scans}
 use Rattle.echo_run.proofs.Targets.{net_can, carriers_to, beyond-target, copy-parent}
 use Rattle.echo_run.proofs.Growth.{Among-in, Has-in, Has-key, sent_times-append, sent-cases, Grows, Poster-grows, Good-grows, Sent-grows}
 

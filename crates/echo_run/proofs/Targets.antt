@@ -6,7 +6,7 @@ use Rattle.echo_graph.proofs.Members.{CanTell, Among-at}
 use Rattle.echo_graph.proofs.Walks.{linked_differ, walk_ends}
 use Rattle.echo_graph.proofs.Cuts.{Beyond-trans, way-not_beyond, link_cases, further}
 use Rattle.echo_run.proofs.Counts.{Tells-can}
-use Rattle.echo_run.proofs.View.{Parts, IsNet, Parent, Source, IsTarget, IsCopy}
+use Rattle.echo_run.proofs.Invariant.{Parts, IsNet, Parent, Source, IsTarget, IsCopy}
 
 module _ {A K N C M : Type 0} (parts : Parts A K N C M) (linked : A → A → Bool) (Carrier : A → Type 0) (Wrote : A → K → Type 0)
     (net : IsNet parts linked Carrier Wrote) where

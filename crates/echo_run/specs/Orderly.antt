@@ -1,5 +1,5 @@
 -- What a run is to keep of an area.
-use Rattle.std.specs.Prelude.{◌≡◌, ◌≢◌, ℕ, ◌+◌, ◌≤◌, IsTrue, List, [], ◌∷◌, ◌++◌, map, filter, length, drop, is_none, None, if◌then◌else◌}
+use Rattle.std.specs.Prelude.{◌≡◌, ◌≢◌, ◌⊎◌, ℕ, ◌+◌, ◌≤◌, IsTrue, List, [], ◌∷◌, ◌++◌, map, filter, length, drop, is_none, None, if◌then◌else◌}
 use Rattle.echo_addr.specs.declared.address.Address.{Address}
 use Rattle.echo_text.specs.Refusal.{refusal}
 use Rattle.echo_graph.specs.Walk.{Among}
@@ -7,6 +7,7 @@ use Rattle.echo_steps.specs.declared.packet.Packet.{Packet}
 use Rattle.echo_base.specs.declared.key.Key.{Key}
 use Rattle.echo_base.specs.declared.key.Key.TheVariants.{ByContent, ById}
 use Rattle.echo_base.specs.Sets.{same_address}
+use Rattle.echo_base.specs.Stubs.{stub_of}
 use Rattle.echo_base.specs.Base.{Filed, has_area, key_of, same_key}
 use Rattle.echo_steps.specs.Tossing.{received}
 use Rattle.echo_run.specs.Run.{System, Run, destination}
@@ -54,10 +55,16 @@ pub record SameContent (m o : Filed) : Type 0 where
   pub subject : m.subject ≡ o.subject
   pub kept : m.echo.kept ≡ o.echo.kept
 
--- a message of the key was filed exactly once, with the content of the posting
+-- the system has filed the posting exactly once, unchanged
 pub record FiledUnchanged (s : System) (posting : Filed) : Type 0 where
+  -- just one message of its base has the key, and just one of those that it filed
   pub once : count (key_of posting) s.base ≡ 1
-  pub unchanged : (m : Filed) → Among m s.history → key_of m ≡ key_of posting → SameContent m posting
+  pub filed_once : count (key_of posting) s.history ≡ 1
+  -- that of the base is the one that it filed, or what a purge leaves of it
+  pub kept : (m filed : Filed) → Among m s.base → Among filed s.history → key_of m ≡ key_of posting → key_of filed ≡ key_of posting →
+      (m ≡ filed) ⊎ (m ≡ stub_of filed)
+  -- and that one has the content of the posting
+  pub unchanged : (filed : Filed) → Among filed s.history → key_of filed ≡ key_of posting → SameContent filed posting
 
 -- of the carriers of the area and its keys
 pub record Orderly (run : Run) (tag : List ℕ) : Type 0 where

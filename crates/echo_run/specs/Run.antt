@@ -1,6 +1,6 @@
 -- Systems, and what events do to them.
-use Rattle.std.specs.Prelude.{◌≡◌, ◌≤◌, ℕ, zero, suc, List, [], ◌∷◌, ◌++◌, map, length, take, Option, Some, None, if◌then◌else◌}
-use Rattle.std.specs.List.{position_or_len}
+use Rattle.std.specs.Prelude.{◌≡◌, ◌≤◌, ◌==◌, ℕ, zero, suc, List, [], ◌∷◌, ◌++◌, map, length, take, Option, Some, None, if◌then◌else◌}
+use Rattle.std.specs.List.{list_any, position_or_len}
 use Rattle.echo_addr.specs.declared.address.Address.{Address}
 use Rattle.echo_packet.specs.Message.{Message}
 use Rattle.echo_steps.specs.declared.packet.Packet.{Packet}
@@ -22,7 +22,7 @@ pub record System : Type 0 where
   pub cursor : ℕ
   pub history : List Filed
 
--- the systems, all packets ever exported, and the indexes of those that were delivered
+-- the systems, all packets ever exported, and the indexes of those that were delivered, each once
 pub record Run : Type 0 where
   pub systems : List System
   pub packets : List Packet
@@ -101,13 +101,17 @@ scanning run i stamp (Some s) =
 abbrev pub taking : Packet → ℕ → System → System
 taking packet messages s = tossing_at (origin_of s.file packet.header) (take messages packet.messages) s
 
+-- the index is one of them: there once, however often it comes
+abbrev pub with_index : ℕ → List ℕ → List ℕ
+with_index k delivered = if list_any (λ d. d == k) delivered then delivered else k ∷ delivered
+
 -- the packet of this index comes, where the system is there
 abbrev pub coming : Run → ℕ → Packet → Option System → Run
 coming run k packet None = run
 coming run k packet (Some s) = record {
   systems = change (receiver run packet) (taking packet (length packet.messages)) run.systems;
   packets = run.packets;
-  delivered = k ∷ run.delivered;
+  delivered = with_index k run.delivered;
 }
 
 -- the packet comes, if there is one

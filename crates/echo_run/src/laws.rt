@@ -1,12 +1,16 @@
 //! What holds of every run. Each law is the contract of a function that does nothing.
 
-ghost use Rattle.std.specs.Prelude.{◌≡◌, ◌⊎◌, ℕ, ◌≤◌, ◌++◌, IsTrue, List, map, drop, length, take, Some};
+ghost use Rattle.std.specs.Prelude.{◌≡◌, ◌⊎◌, ℕ, ◌≤◌, ◌++◌, IsTrue, List, map, drop, length, take, None, Some};
 ghost use Rattle.echo_addr.specs.declared.address.Address.{Address};
-ghost use Rattle.echo_graph.specs.Walk.{Among};
+ghost use Rattle.echo_graph.specs.Walk.{Among, Different};
 ghost use Rattle.echo_graph.specs.Cycle.{NoCycle};
 ghost use Rattle.echo_base.specs.declared.key.Key.{Key};
 ghost use Rattle.echo_base.specs.Base.{Filed, LinkFile, key_of};
+ghost use Rattle.echo_packet.specs.Message.{Message};
+ghost use Rattle.echo_text.specs.Refusal.{refusal};
+ghost use Rattle.echo_steps.specs.declared.packet.Packet.{Packet};
 ghost use Rattle.echo_steps.specs.Scanning.{targets};
+ghost use Rattle.echo_steps.specs.Tossing.{received};
 ghost use Rattle.echo_base.specs.Stubs.{stub_of};
 ghost use Rattle.echo_run.specs.Event.{RunEvent};
 ghost use Rattle.echo_run.specs.Run.{IsLater, Run, System, destination, nth, run_of};
@@ -92,6 +96,22 @@ pub fn each_message_was_posted()
     ensures { (files : List LinkFile) → FilesFit files → (events : List RunEvent) →
         (s : System) → Among s (run_of files events).systems → (m : Filed) → Among m s.history →
         (f : System) × Among f (run_of files events).systems × ((o : Filed) × Among o f.history × IsPosting m.echo.tag o × SameContent m o) }
+{}
+
+/// On every net a packet holds no text that is refused: what is said of the copies in packets is said of
+/// all their messages.
+pub fn packets_hold_echomail()
+    ensures accepted { (files : List LinkFile) → FilesFit files → (events : List RunEvent) →
+        (packet : Packet) → Among packet (run_of files events).packets → (packed : Message) → Among packed packet.messages → refusal packed.text ≡ None }
+    ensures copies { (files : List LinkFile) → FilesFit files → (events : List RunEvent) →
+        (packet : Packet) → Among packet (run_of files events).packets → copies packet ≡ map (received (origin packet)) packet.messages }
+{}
+
+/// On every net the delivered packets are packets of the run, and each is there once, however often it came.
+pub fn delivered_packets_are_a_set()
+    ensures once { (files : List LinkFile) (events : List RunEvent) → Different (run_of files events).delivered }
+    ensures there { (files : List LinkFile) (events : List RunEvent) → (k : ℕ) → Among k (run_of files events).delivered →
+        (packet : Packet) × (nth k (run_of files events).packets ≡ Some packet) }
 {}
 
 /// Where no message waits for a scan and every packet was delivered, each area has settled.

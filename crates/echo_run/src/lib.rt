@@ -12,7 +12,8 @@ mod laws;
 
 pub use event::Event;
 pub use laws::{
-    bases_are_what_was_filed, each_message_is_exported_by_one_scan, each_message_is_filed_once,
-    each_message_was_posted, every_run_of_a_tidy_area_is_orderly, exports_go_to_targets,
-    packets_are_exports, settled_runs_settle_each_area, trees_are_tidy, what_is_filed_stays,
+    bases_are_what_was_filed, delivered_packets_are_a_set, each_message_is_exported_by_one_scan,
+    each_message_is_filed_once, each_message_was_posted, every_run_of_a_tidy_area_is_orderly,
+    exports_go_to_targets, packets_are_exports, packets_hold_echomail,
+    settled_runs_settle_each_area, trees_are_tidy, what_is_filed_stays,
 };

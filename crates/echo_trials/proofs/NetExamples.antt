@@ -123,6 +123,7 @@ first_key = ById (codes "TEST") (codes "1:10/1 00000001")
 -- ids alone are left, what comes again is known, and a known serial is refused.
 record Runs : Type 0 where
   chain_shown : shown chain_run ≡ line (1 ∷ (1 ∷ (1 ∷ []))) (0 ∷ (0 ∷ (0 ∷ []))) 2 0 true
+  came_twice : chain_run.delivered ≡ 1 ∷ (0 ∷ [])
   star_shown : shown star_run ≡ line (1 ∷ (1 ∷ (0 ∷ (1 ∷ [])))) (0 ∷ (0 ∷ (0 ∷ (0 ∷ [])))) 3 1 false
   triangle_shown : shown triangle_run ≡ line (1 ∷ (1 ∷ (1 ∷ []))) (0 ∷ (0 ∷ (0 ∷ []))) 2 0 true
   triangle_once : sent_count (address 2) first_key triangle_run.packets ≡ 1
@@ -136,6 +137,7 @@ runs : Runs
 unfolding posted posted_lines posting post_refusal id_of trimmed lines digits date_of scanned packets_of recipients packet_to targets links_of address_set header_to copy_to exported entry_set text_of short_lines received toss_outcome tossing refusal echo_of kept_of path_lists seen_lists begins after_word entries tokens pair_of key_of msgid_of purged stub_of
 runs = record {
   chain_shown = refl;
+  came_twice = refl;
   star_shown = refl;
   triangle_shown = refl;
   triangle_once = refl;

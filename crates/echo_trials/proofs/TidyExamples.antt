@@ -9,7 +9,7 @@ use Rattle.echo_graph.specs.Cycle.{Cycle}
 use Rattle.echo_base.specs.Sets.{same_address}
 use Rattle.echo_base.specs.Base.{LinkFile, has_area, is_link, links_of}
 use Rattle.echo_run.specs.Tidy.{Carries, Tidy, lists}
-use Rattle.echo_run.proofs.TheLaws.{the_laws}
+use Rattle.echo_run.proofs.TosserLaws.{the_laws}
 use Rattle.echo_graph.proofs.Members.{Among-at}
 use Rattle.echo_run.proofs.Lists.{and-parts, any-from, not_both, Among-map_to}
 use Rattle.echo_trials.proofs.NetExamples.{address, beside, far, file, one_sided, over_zones, own_link, ring, triangle, two_files}

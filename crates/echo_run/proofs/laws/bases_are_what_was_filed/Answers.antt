@@ -1,6 +1,6 @@
-use Rattle.echo_run.proofs.TheLaws.{the_laws}
+use Rattle.echo_run.proofs.TosserLaws.{the_laws}
 use Rattle.echo_run.proofs.Bases.{Kept-at, Kept-length, Kept-waiting}
-use Rattle.echo_run.proofs.Keeping.{run-kept}
+use Rattle.echo_run.proofs.EachSystem.{run-kept}
 use Rattle.echo_run.proofs.laws.bases_are_what_was_filed.Goals as goal
 
 pub returns : goal.returns

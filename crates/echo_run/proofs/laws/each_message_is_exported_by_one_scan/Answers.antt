@@ -1,8 +1,8 @@
 use Rattle.echo_run.specs.Run.{run_of}
 use Rattle.echo_run.specs.Exports.{exports}
-use Rattle.echo_run.proofs.TheLaws.{the_laws}
-use Rattle.echo_run.proofs.Runs.{run-ok}
-use Rattle.echo_run.proofs.Exporting.{run-logged, sent-once, sent-to_others, waits-unsent}
+use Rattle.echo_run.proofs.TosserLaws.{the_laws}
+use Rattle.echo_run.proofs.TidyRuns.{run-ok}
+use Rattle.echo_run.proofs.ExportLog.{run-logged, sent-once, sent-to_others, waits-unsent}
 use Rattle.echo_run.proofs.laws.each_message_is_exported_by_one_scan.Goals as goal
 
 pub returns : goal.returns

@@ -1,7 +1,7 @@
 use Rattle.echo_run.specs.Run.{run_of}
-use Rattle.echo_run.proofs.TheLaws.{the_laws}
+use Rattle.echo_run.proofs.TosserLaws.{the_laws}
 use Rattle.echo_run.proofs.Headline.{filed-once}
-use Rattle.echo_run.proofs.Runs.{run-ok}
+use Rattle.echo_run.proofs.TidyRuns.{run-ok}
 use Rattle.echo_run.proofs.laws.each_message_is_filed_once.Goals as goal
 
 pub returns : goal.returns

@@ -1,9 +1,9 @@
 use Rattle.std.proofs.Common.{sym, ap, ◌∙◌}
 use Rattle.echo_run.specs.Orderly.{tag_of}
-use Rattle.echo_run.proofs.TheLaws.{the_laws}
-use Rattle.echo_run.proofs.Delivered.{key-tag}
-use Rattle.echo_run.proofs.Tracing.{run-traced}
-use Rattle.echo_run.proofs.Viewing.{Content}
+use Rattle.echo_run.proofs.TosserLaws.{the_laws}
+use Rattle.echo_run.proofs.DeliveryView.{key-tag}
+use Rattle.echo_run.proofs.Origins.{run-traced}
+use Rattle.echo_run.proofs.AreaView.{Content}
 use Rattle.echo_run.proofs.laws.each_message_was_posted.Goals as goal
 
 pub returns : goal.returns

@@ -1,4 +1,4 @@
-use Rattle.echo_run.proofs.TheLaws.{the_laws}
+use Rattle.echo_run.proofs.TosserLaws.{the_laws}
 use Rattle.echo_run.proofs.Headline.{every_run-orderly}
 use Rattle.echo_run.proofs.laws.every_run_of_a_tidy_area_is_orderly.Goals as goal
 

@@ -1,5 +1,5 @@
-use Rattle.echo_run.proofs.TheLaws.{the_laws}
-use Rattle.echo_run.proofs.Exporting.{run-logged}
+use Rattle.echo_run.proofs.TosserLaws.{the_laws}
+use Rattle.echo_run.proofs.ExportLog.{run-logged}
 use Rattle.echo_run.proofs.laws.exports_go_to_targets.Goals as goal
 
 pub returns : goal.returns

@@ -1,6 +1,6 @@
 use Rattle.std.proofs.Common.{sym}
 use Rattle.echo_run.specs.Run.{start}
-use Rattle.echo_run.proofs.SentBy.{events-packets}
+use Rattle.echo_run.proofs.ExportLists.{events-packets}
 use Rattle.echo_run.proofs.laws.packets_are_exports.Goals as goal
 
 pub returns : goal.returns

@@ -15,10 +15,10 @@ use Rattle.echo_steps.specs.Scanning.{exported, goes_to, header_to, packet_to, p
 use Rattle.echo_run.specs.Run.{System, destination}
 use Rattle.echo_run.specs.Orderly.{SameContent, copies, count, origin, sent_count}
 use Rattle.echo_run.specs.Exports.{IsSentCopy}
-use Rattle.echo_run.proofs.Tosser.{Laws}
+use Rattle.echo_run.proofs.TosserPremises.{Laws}
 use Rattle.echo_run.proofs.Lists.{not_both, yes_or_no, any-from, any-to, filter-none, Among-filter_from, Among-map_from}
 use Rattle.echo_run.proofs.Bases.{Kept-waiting, SystemOk}
-use Rattle.echo_run.proofs.Running.{scanned-from, waiting-valid}
+use Rattle.echo_run.proofs.WellFormed.{scanned-from, waiting-valid}
 use Rattle.echo_run.proofs.Copies.{copied, copied-key, copies-are, goes-from, packet-destination, target-recipient, targets-to, recipients-differ}
 
 packet-origin : (file : LinkFile) (stamp : Stamp) (waiting : List Filed) (address : Address) → origin (packet_to file stamp waiting address) ≡ file.system

@@ -21,8 +21,8 @@ use Rattle.echo_run.specs.Run.{System, Run, destination}
 use Rattle.echo_run.specs.Orderly.{copies}
 use Rattle.echo_run.specs.Tidy.{Tidy, lists, Carries}
 use Rattle.echo_run.proofs.Counts.{Tells-can}
-use Rattle.echo_run.proofs.View.{Parts, Parcel, View, IsNet}
-use Rattle.echo_run.proofs.Tosser.{Laws}
+use Rattle.echo_run.proofs.Invariant.{Parts, Parcel, View, IsNet}
+use Rattle.echo_run.proofs.TosserPremises.{Laws}
 use Rattle.echo_run.proofs.Lists.{not_both, yes_or_no, and-parts, and-from, any-to, any-from, Among-middle, Among-map_to, Among-map_from}
 
 -- what stays of a message on its way

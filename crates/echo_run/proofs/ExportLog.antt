@@ -17,17 +17,17 @@ use Rattle.echo_steps.specs.Scanning.{goes_to, scanned, targets}
 use Rattle.echo_steps.specs.Stamps.{is_stamp}
 use Rattle.echo_steps.specs.Tossing.{origin_of, tossing}
 use Rattle.echo_run.specs.Event.{RunEvent, Posting, Scanning, Delivery, PartDelivery, Purging}
-use Rattle.echo_run.specs.Run.{System, Run, after_event, after_events, change, coming, delivery, destination, filing, fresh, nth, part_delivery, posting_at, purging_at, receiver, run_of, scanning, scanning_at, start, taking, tossing_at}
+use Rattle.echo_run.specs.Run.{System, Run, after_event, after_events, change, coming, delivery, destination, filing, fresh, nth, part_delivery, posting_at, purging_at, receiver, run_of, scanning, scanning_at, start, taking, tossing_at, with_index}
 use Rattle.echo_run.specs.Orderly.{copies, count, origin, sent_count}
 use Rattle.echo_run.specs.Exports.{Export, IsSentCopy, event_exports, export_of, exports, exports_after, scan_exports, sent_by}
 use Rattle.echo_run.specs.Fits.{FilesFit}
 use Rattle.echo_run.proofs.Counts as counts
-use Rattle.echo_run.proofs.Tosser.{Laws}
+use Rattle.echo_run.proofs.TosserPremises.{Laws}
 use Rattle.echo_run.proofs.Lists.{any-from, any-to, nth-among, nth-change, nth-changed, Among-filter_from, Among-filter_to, Among-map_from, Among-take, Among-drop}
 use Rattle.echo_run.proofs.Bases.{Kept-cursor, Kept-length, SystemOk, count-is}
-use Rattle.echo_run.proofs.Running.{RunOk, event-ok, start-ok}
-use Rattle.echo_run.proofs.Exports.{scanned-copy, scanned-count, scanned-origin}
-use Rattle.echo_run.proofs.SentBy.{count-append, sent-append, count-filter, sent_by-append, sent_by-own, sent_by-other}
+use Rattle.echo_run.proofs.WellFormed.{RunOk, event-ok, start-ok}
+use Rattle.echo_run.proofs.ScanPackets.{scanned-copy, scanned-count, scanned-origin}
+use Rattle.echo_run.proofs.ExportLists.{count-append, sent-append, count-filter, sent_by-append, sent_by-own, sent_by-other}
 
 -- what was scanned of a system stays
 record SameDone (s z : System) : Type 0 where
@@ -305,7 +305,7 @@ module _ (laws : Laws) where
     where
       came : (o : Option System) → Logged (coming run k p o) (n + 1) all
       came None = idle-logged run n all logged
-      came (Some s) = change-logged run n all ok logged (receiver run p) (taking p (length p.messages)) (k ∷ run.delivered) (taking-done p (length p.messages))
+      came (Some s) = change-logged run n all ok logged (receiver run p) (taking p (length p.messages)) (with_index k run.delivered) (taking-done p (length p.messages))
 
   part-logged : (run : Run) (n : ℕ) (all : List Export) → RunOk run → Logged run n all → (messages : ℕ) (found : Option Packet) →
       Logged (part_delivery run messages found) (n + 1) all

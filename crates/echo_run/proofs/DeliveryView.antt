@@ -15,18 +15,18 @@ use Rattle.echo_base.specs.Base.{Filed, LinkFile, key_of, key_with, has_area, is
 use Rattle.echo_text.specs.Echo.{msgid_of}
 use Rattle.echo_steps.specs.Tossing.{received, tossing, origin_of}
 use Rattle.echo_base.specs.Written.{echo_of}
-use Rattle.echo_run.specs.Run.{System, Run, filing, tossing_at, destination}
+use Rattle.echo_run.specs.Run.{System, Run, filing, tossing_at, destination, with_index}
 use Rattle.echo_run.specs.Orderly.{copies, origin, tag_of}
 use Rattle.echo_run.specs.Tidy.{Tidy, lists, Carries}
-use Rattle.echo_run.proofs.View.{held, At, Has}
-use Rattle.echo_run.proofs.Tosser.{Laws}
-use Rattle.echo_run.proofs.Lists.{Among-map_to, Among-map_from, Among-filter_from, Among-filter_to, Among-middle, none_some, some_same}
-use Rattle.echo_run.proofs.Choices.{tossing-cases}
+use Rattle.echo_run.proofs.Invariant.{held, At, Has}
+use Rattle.echo_run.proofs.TosserPremises.{Laws}
+use Rattle.echo_run.proofs.Lists.{Among-map_to, Among-map_from, Among-filter_from, Among-filter_to, Among-middle, none_some, some_same, with_index-from}
+use Rattle.echo_run.proofs.TosserCases.{tossing-cases}
 use Rattle.echo_run.proofs.Bases.{SystemOk, HasKey, known-in_history}
-use Rattle.echo_run.proofs.Running.{PacketOk, tossed-fresh, tossing_one-ok}
+use Rattle.echo_run.proofs.WellFormed.{PacketOk, tossed-fresh, tossing_one-ok}
 use Rattle.echo_run.proofs.Filing.{Marks-keeps}
-use Rattle.echo_run.proofs.Viewing.{parts, in_area, parcel_of, view_of, Wrote, address_of, NoneAt, in_area-tag, tag-in_area, link-has_area, net, lists-link}
-use Rattle.echo_run.proofs.Changes.{Watched, with_systems, MayFile, filing-keeps, view-from_has}
+use Rattle.echo_run.proofs.AreaView.{parts, in_area, parcel_of, view_of, Wrote, address_of, NoneAt, in_area-tag, tag-in_area, link-has_area, net, lists-link}
+use Rattle.echo_run.proofs.OneSystem.{Watched, with_systems, MayFile, filing-keeps, view-from_has}
 
 pub filing-file : (s : System) (o : Option Filed) → (filing s o).file ≡ s.file
 filing-file s None = refl
@@ -166,14 +166,14 @@ module _ (laws : Laws) (files : List LinkFile) (tag : List ℕ) (tidy : Tidy fil
   pub delivered-keeps : (s z : System) → NoneAt (address_of z) before → address_of z ≡ destination p →
       ((c : Filed) → Among c (parcel_of tag p).copies → HasKey (key_of c) z.history) → (k : ℕ) → At run.packets k p →
       Watched laws files tag tidy (around z) →
-      Watched laws files tag tidy (record { systems = before ++ z ∷ after; packets = run.packets; delivered = k ∷ run.delivered })
+      Watched laws files tag tidy (record { systems = before ++ z ∷ after; packets = run.packets; delivered = with_index k run.delivered })
   delivered-keeps s z none here known k at inv =
       Marks-keeps parts (lists files tag) (Carries files tag) (Wrote tag) (net laws files tag tidy) (view_of tag (around z))
-      (view_of tag (record { systems = before ++ z ∷ after; packets = run.packets; delivered = k ∷ run.delivered })) inv (record {
+      (view_of tag (record { systems = before ++ z ∷ after; packets = run.packets; delivered = with_index k run.delivered })) inv (record {
         done = λ a. refl;
         waiting = λ a. refl;
         packets = refl;
-        delivered = λ j h. elim h [
+        delivered = λ j h. elim (with_index-from k j run.delivered h) [
           | inr old ↦ inl old
           | inl e ↦ inr (
             parcel_of tag p,

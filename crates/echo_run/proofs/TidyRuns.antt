@@ -18,20 +18,20 @@ use Rattle.echo_steps.specs.Tossing.{origin_of}
 use Rattle.echo_steps.specs.Scanning.{scanned}
 use Rattle.echo_steps.specs.Stamps.{is_stamp}
 use Rattle.echo_run.specs.Event.{RunEvent, Posting, Scanning, Delivery, PartDelivery, Purging}
-use Rattle.echo_run.specs.Run.{System, Run, fresh, posting_at, tossing_at, scanning_at, purging_at, nth, change, receiver, destination, changing, scanning, taking, coming, delivery, part_delivery, after_event, after_events, run_of, start}
+use Rattle.echo_run.specs.Run.{System, Run, fresh, posting_at, tossing_at, scanning_at, purging_at, nth, change, receiver, destination, changing, scanning, taking, coming, delivery, part_delivery, after_event, after_events, run_of, start, with_index}
 use Rattle.echo_run.specs.Tidy.{Tidy, Carries}
 use Rattle.echo_run.specs.Fits.{FilesFit}
-use Rattle.echo_run.proofs.View.{At, held, times}
-use Rattle.echo_run.proofs.Tosser.{Laws}
+use Rattle.echo_run.proofs.Invariant.{At, held, times}
+use Rattle.echo_run.proofs.TosserPremises.{Laws}
 use Rattle.echo_run.proofs.Lists.{Among-map_from, Split, nth-cases, nth-split, change-none, first_passes, map-change, Among-middle, Among-take, none_some, some_same}
-use Rattle.echo_run.proofs.Choices.{posting-cases}
+use Rattle.echo_run.proofs.TosserCases.{posting-cases}
 use Rattle.echo_run.proofs.Bases.{SystemOk, HasKey}
-use Rattle.echo_run.proofs.Running.{RunOk, PacketOk, posted-fresh, event-ok, start-ok}
-use Rattle.echo_run.proofs.Viewing.{in_area, in_area-tag, parcel_of, parts, part_at, part_at-none, done_of, waiting_of, view_of, Wrote, address_of, NoneAt, area-carries, none-before}
-use Rattle.echo_run.proofs.Changes.{Watched, with_systems, MayFile, filing-keeps, purging-keeps}
-use Rattle.echo_run.proofs.Scanned.{scanning-keeps}
-use Rattle.echo_run.proofs.Delivered as delivered
-use Rattle.echo_run.proofs.Delivered.{filing-file, tossing-file, origin-is}
+use Rattle.echo_run.proofs.WellFormed.{RunOk, PacketOk, posted-fresh, event-ok, start-ok}
+use Rattle.echo_run.proofs.AreaView.{in_area, in_area-tag, parcel_of, parts, part_at, part_at-none, done_of, waiting_of, view_of, Wrote, address_of, NoneAt, area-carries, none-before}
+use Rattle.echo_run.proofs.OneSystem.{Watched, with_systems, MayFile, filing-keeps, purging-keeps}
+use Rattle.echo_run.proofs.ScanView.{scanning-keeps}
+use Rattle.echo_run.proofs.DeliveryView as delivered
+use Rattle.echo_run.proofs.DeliveryView.{filing-file, tossing-file, origin-is}
 
 posted-tag : (file : LinkFile) (tag : List ℕ) (draft : Draft) (serial : ℕ) (stamp : Stamp) → (posted file tag draft serial stamp).echo.tag ≡ upper tag
 unfolding posted
@@ -174,7 +174,7 @@ module _ (laws : Laws) (files : List LinkFile) (tag : List ℕ) (tidy : Tidy fil
       nth (receiver run p) run.systems ≡ found → Watched laws files tag tidy (coming run k p found)
   coming-watched run state k p h at_k None e = state.watched
   coming-watched run state k p h at_k (Some s) e =
-      let R : List System → Type 0 = λ ss. Watched laws files tag tidy (record { systems = ss; packets = run.packets; delivered = k ∷ run.delivered }) in
+      let R : List System → Type 0 = λ ss. Watched laws files tag tidy (record { systems = ss; packets = run.packets; delivered = with_index k run.delivered }) in
       subst R (sym (at.split.changed (taking p (length p.messages)))) (
       delivered.delivered-keeps laws files tag tidy run at.split.before at.split.after p ok_p h s z none_z (same ∙ here) known k at_k
       (taking-watched run state p h (length p.messages) s at here)

@@ -10,12 +10,12 @@ use Rattle.echo_base.specs.Base.{Filed, LinkFile, key_of}
 use Rattle.echo_run.specs.Run.{System, Run, filing, purging_at}
 use Rattle.echo_run.specs.Tidy.{Tidy, lists, Carries}
 use Rattle.echo_run.proofs.Counts.{Tells-can}
-use Rattle.echo_run.proofs.View.{Parcel, held, Has, Invariant, Files}
-use Rattle.echo_run.proofs.Tosser.{Laws}
+use Rattle.echo_run.proofs.Invariant.{Parcel, held, Has, Invariant, Files}
+use Rattle.echo_run.proofs.TosserPremises.{Laws}
 use Rattle.echo_run.proofs.Lists.{yes_or_no, filter-yes, filter-no, Among-filter_from, Among-filter_to}
 use Rattle.echo_run.proofs.Bases.{Kept-cursor, SystemOk, HasKey}
 use Rattle.echo_run.proofs.Filing.{posting-keeps, tossing-keeps, Marks-keeps}
-use Rattle.echo_run.proofs.Viewing.{parts, part_at, in_area, done_of, waiting_of, parcel_of, view_of, Wrote, address_of, NoneAt, history-parts, part_at-here, part_at-other, net}
+use Rattle.echo_run.proofs.AreaView.{parts, part_at, in_area, done_of, waiting_of, parcel_of, view_of, Wrote, address_of, NoneAt, history-parts, part_at-here, part_at-other, net}
 
 -- the run with other systems
 abbrev pub with_systems : Run → List System → Run

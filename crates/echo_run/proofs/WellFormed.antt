@@ -24,9 +24,9 @@ use Rattle.echo_run.specs.Event.{RunEvent, Posting, Scanning, Delivery, PartDeli
 use Rattle.echo_run.specs.Run.{System, Run, fresh, filing, posting_at, tossing_at, scanning_at, purging_at, nth, change, receiver, changing, scanning, taking, coming, delivery, part_delivery, after_event, start}
 use Rattle.echo_base.specs.Base.{IsFile}
 use Rattle.echo_run.specs.Fits.{FilesFit}
-use Rattle.echo_run.proofs.Tosser.{Laws}
+use Rattle.echo_run.proofs.TosserPremises.{Laws}
 use Rattle.echo_run.proofs.Lists.{not_both, Among-map_from, Among-filter_from, Among-take, Among-drop, change-all, nth-among, none_some, some_same}
-use Rattle.echo_run.proofs.Choices.{posting-cases, tossing-cases}
+use Rattle.echo_run.proofs.TosserCases.{posting-cases, tossing-cases}
 use Rattle.echo_run.proofs.Bases.{Kept-scanned, Kept-purged, Kept-waiting, SystemOk, HasKey, known-from_history, id-from_history, filing-ok}
 
 -- of a packet at any time

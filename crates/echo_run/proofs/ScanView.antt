@@ -18,14 +18,14 @@ use Rattle.echo_run.specs.Run.{System, Run, scanning_at}
 use Rattle.echo_run.specs.Orderly.{copies}
 use Rattle.echo_run.specs.Tidy.{Tidy, lists, Carries}
 use Rattle.echo_run.proofs.Counts.{Tells-can}
-use Rattle.echo_run.proofs.View.{Parcel, View, Has, sent_times, times, IsTarget, IsCopy, Scans}
-use Rattle.echo_run.proofs.Tosser.{Laws}
+use Rattle.echo_run.proofs.Invariant.{Parcel, View, Has, sent_times, times, IsTarget, IsCopy, Scans}
+use Rattle.echo_run.proofs.TosserPremises.{Laws}
 use Rattle.echo_run.proofs.Lists.{yes_or_no, any-to, any-from, Among-map_to, Among-map_from, Among-filter_from, Among-filter_to, Among-middle}
 use Rattle.echo_run.proofs.Bases.{Kept-waiting, Kept-length, SystemOk}
-use Rattle.echo_run.proofs.Running.{waiting-valid}
+use Rattle.echo_run.proofs.WellFormed.{waiting-valid}
 use Rattle.echo_run.proofs.Sending.{Scans-keeps}
-use Rattle.echo_run.proofs.Viewing.{parts, in_area, done_of, waiting_of, parcel_of, view_of, Wrote, address_of, NoneAt, history-parts, in_area-tag, tag-in_area, net, lists-link, link-lists}
-use Rattle.echo_run.proofs.Changes.{Watched, placed, elsewhere, at_s, at_z}
+use Rattle.echo_run.proofs.AreaView.{parts, in_area, done_of, waiting_of, parcel_of, view_of, Wrote, address_of, NoneAt, history-parts, in_area-tag, tag-in_area, net, lists-link, link-lists}
+use Rattle.echo_run.proofs.OneSystem.{Watched, placed, elsewhere, at_s, at_z}
 use Rattle.echo_run.proofs.Copies.{copied, copied-key, copied-tag, copied-content, copied-sender, copied-seen, seen-copied, copies-are, packet-destination, Targeted, goes-from, goes-to, target-recipient, recipients-differ, copies-few}
 
 module _ (laws : Laws) (files : List LinkFile) (tag : List ℕ) (tidy : Tidy files tag) (run : Run)

@@ -17,7 +17,7 @@ use Rattle.echo_base.specs.Base.{IsFile, LinkFile, key_of, key_with}
 use Rattle.echo_text.specs.Ids.{id_of, serial_text}
 use Rattle.echo_base.specs.Base.{upper}
 use Rattle.echo_steps.specs.Posting.{posted}
-use Rattle.echo_base.proofs.Choices.{IsIn}
+use Rattle.echo_base.proofs.Choices.{contained_in, in_contained}
 use Rattle.echo_base.proofs.Sets.{IsOrder, Ascending, set_ascending, set_only, set_keeps}
 use Rattle.echo_base.proofs.Orders.{address_order, entry_set_is_set, same_address_decides, same_entry_decides}
 use Rattle.echo_base.proofs.Keys.{same_key_decides, stub_keeps_key, stub_of_stub}
@@ -25,7 +25,7 @@ use Rattle.echo_steps.proofs.Posted.{allowed, posted_id, posted_is_echo}
 use Rattle.echo_steps.proofs.Copies.{exported_is_echo}
 use Rattle.echo_base.proofs.Texts.{written_accepted, written_back}
 use Rattle.echo_run.proofs.Lists.{not_both}
-use Rattle.echo_run.proofs.Tosser.{Laws}
+use Rattle.echo_run.proofs.TosserPremises.{Laws}
 
 -- an own id names its system
 ids-differ : (a b : Address) (serial other : ℕ) → IsAddress a → IsAddress b → id_of a serial ≡ id_of b other → a ≡ b
@@ -51,14 +51,6 @@ unfolding key_of posted
 posted-key file tag draft serial stamp fits =
     ap (λ (o : Option (List ℕ)). key_with (posted file tag draft serial stamp) o) (posted_id file fits tag draft serial stamp)
 
-Among-in : {X : Type 0} (x : X) (xs : List X) → IsIn x xs → Among x xs
-Among-in x [] h = h
-Among-in x (y ∷ xs) h = elim h [ inl e ↦ inl e | inr t ↦ inr (Among-in x xs t) ]
-
-In-among : {X : Type 0} (x : X) (xs : List X) → Among x xs → IsIn x xs
-In-among x [] h = h
-In-among x (y ∷ xs) h = elim h [ inl e ↦ inl e | inr t ↦ inr (In-among x xs t) ]
-
 -- what ascends has no member twice
 ascending-differ : {X : Type 0} (before : X → X → Bool) → IsOrder before → (xs : List X) → Ascending before xs → Different xs
 ascending-differ before order [] up = tt
@@ -74,11 +66,15 @@ ascending-differ {X} before order (x ∷ xs) up = (later xs up.0, ascending-diff
 
 addresses-only : (a : Address) (all : List Address) → Among a (address_set all) → Among a all
 unfolding address_set
-addresses-only a all h = Among-in a all (set_only address_before a all (In-among a (set_of address_before all) h))
+addresses-only a all h =
+    let there = contained_in a (set_of address_before all) (Contains-from_Among a (set_of address_before all) h) in
+    Among-from_Contains a all (in_contained a all (set_only address_before a all there))
 
 addresses-all : (a : Address) (all : List Address) → Among a all → Among a (address_set all)
 unfolding address_set
-addresses-all a all h = Among-in a (set_of address_before all) (set_keeps address_before address_order a all (In-among a all h))
+addresses-all a all h =
+    let there = set_keeps address_before address_order a all (contained_in a all (Contains-from_Among a all h)) in
+    Among-from_Contains a (set_of address_before all) (in_contained a (set_of address_before all) there)
 
 addresses-once : (all : List Address) → Different (address_set all)
 unfolding address_set

@@ -15,8 +15,8 @@ use Rattle.echo_run.specs.Event.{RunEvent, Posting, Scanning, Delivery, PartDeli
 use Rattle.echo_run.specs.Run.{System, Run, after_event, change, coming, delivery, filing, fresh, nth, part_delivery, posting_at, purging_at, receiver, run_of, scanning, scanning_at, start, taking, tossing_at}
 use Rattle.echo_run.proofs.Lists.{Among-map_from, change-all}
 use Rattle.echo_run.proofs.Bases.{Kept, Kept-filed, Kept-purged, Kept-scanned}
-use Rattle.echo_run.proofs.Runs.{along}
-use Rattle.echo_run.proofs.Tosser.{Laws}
+use Rattle.echo_run.proofs.TidyRuns.{along}
+use Rattle.echo_run.proofs.TosserPremises.{Laws}
 
 module _ (P : System → Type 0) (filed : (s : System) (o : Option Filed) → P s → P (filing s o))
     (scans : (s : System) → P s → P (scanning_at s)) (purges : (s : System) → P s → P (purging_at s)) where

@@ -18,18 +18,25 @@ use Rattle.echo_run.specs.Event.{RunEvent, Posting, Scanning, Delivery, PartDeli
 use Rattle.echo_run.specs.Fits.{FilesFit}
 use Rattle.echo_steps.specs.Stamps.{is_stamp}
 use Rattle.echo_run.specs.Orderly.{copies, origin}
-use Rattle.echo_run.proofs.Tosser.{Laws}
+use Rattle.echo_run.proofs.TosserPremises.{Laws}
 use Rattle.echo_run.proofs.Lists.{Among-change, Among-map_from, Among-map_to, Among-filter_from, Among-filter_to, Among-drop, Among-take, nth-among, none_some, some_same}
-use Rattle.echo_run.proofs.Choices.{posting-cases, tossing-cases}
+use Rattle.echo_run.proofs.TosserCases.{posting-cases, tossing-cases}
 use Rattle.echo_run.proofs.Bases.{Kept-waiting, SystemOk}
-use Rattle.echo_run.proofs.Running.{RunOk, event-ok, start-ok, scanned-from, waiting-valid}
-use Rattle.echo_run.proofs.Viewing.{content_of}
+use Rattle.echo_run.proofs.WellFormed.{RunOk, event-ok, start-ok, scanned-from, waiting-valid}
+use Rattle.echo_run.proofs.AreaView.{content_of}
 use Rattle.echo_run.proofs.Copies.{copied, copied-content, copied-key, copies-are}
-use Rattle.echo_run.proofs.Delivered.{origin-is}
+use Rattle.echo_run.proofs.DeliveryView.{origin-is}
 
 -- a posting of some system has the key and the content of the message
 abbrev pub Origin : List System → Filed → Type 0
 Origin ss m = (f : System) × Among f ss × ((o : Filed) × Among o f.history × (o.sender ≡ None) × (key_of o ≡ key_of m) × (content_of o ≡ content_of m))
+
+-- what has the key and the content of a message has its origin
+Origin-same : (ss : List System) (m n : Filed) → key_of n ≡ key_of m → content_of n ≡ content_of m → Origin ss m → Origin ss n
+Origin-same ss m n key content from =
+    let (f, at_f, rest) = from in
+    let (o, at_o, own, same_key, same_content) = rest in
+    (f, at_f, (o, at_o, own, same_key ∙ sym key, same_content ∙ sym content))
 
 pub record Traced (run : Run) : Type 0 where
   pub systems : (s : System) → Among s run.systems → (m : Filed) → Among m s.history → Origin run.systems m
@@ -122,18 +129,8 @@ module _ (laws : Laws) where
       let (k, goes) = Among-filter_from (goes_to s.file address) m waits j in
       let R : List Filed → Type 0 = λ ms. Among m ms in
       let held = Among-drop s.cursor m s.history (subst R (Kept-waiting s.cursor s.base s.history ok.kept) k) in
-      let (f, at_f, rest) = traced.systems s at_s m held in
-      let (o, at_o, own, key, content) = rest in (
-        f,
-        at_f,
-        (
-          o,
-          at_o,
-          own,
-          key ∙ (sym (copied-key s.file m) ∙ ap key_of (sym is_copy)),
-          content ∙ (sym (copied-content s.file m) ∙ ap content_of (sym is_copy)),
-        ),
-      )
+      let S : Filed → Type 0 = λ n. Origin run.systems n in
+      subst S (sym is_copy) (Origin-same run.systems m (copied s.file m) (copied-key s.file m) (copied-content s.file m) (traced.systems s at_s m held))
 
   posting-new : (tag : List ℕ) (draft : Draft) (serial : ℕ) (stamp : Stamp) (ss : List System) (t : System) →
       Among (posting_at tag draft serial stamp t) ss → (m : Filed) → Among m (posting_at tag draft serial stamp t).history →

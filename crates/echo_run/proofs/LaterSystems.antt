@@ -13,10 +13,10 @@ use Rattle.echo_steps.specs.Stamps.{is_stamp}
 use Rattle.echo_steps.specs.Tossing.{origin_of, tossing}
 use Rattle.echo_run.specs.Event.{RunEvent, Posting, Scanning, Delivery, PartDelivery, Purging}
 use Rattle.echo_run.specs.Run.{IsLater, System, Run, after_event, after_events, change, coming, delivery, filing, nth, part_delivery, posting_at, purging_at, receiver, run_of, scanning, scanning_at, start, taking, tossing_at}
-use Rattle.echo_run.proofs.Tosser.{Laws}
+use Rattle.echo_run.proofs.TosserPremises.{Laws}
 use Rattle.echo_run.proofs.Lists.{nth-among, nth-changed}
 use Rattle.echo_run.proofs.Bases.{Kept-cursor, Kept-length}
-use Rattle.echo_run.proofs.Keeping.{AllKept, event-kept, run-kept}
+use Rattle.echo_run.proofs.EachSystem.{AllKept, event-kept, run-kept}
 
 later-itself : (s : System) → IsLater s s
 later-itself s = record { file = refl; cursor = omega arith; filed = ([], sym (append-nil s.history)) }
