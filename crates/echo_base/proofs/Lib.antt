@@ -5,6 +5,7 @@ pub mod Trims
 pub mod Keys
 pub mod DerivedKeys
 pub mod Runs
+pub mod StubTests
 pub mod Texts
 pub mod Plain
 pub mod Bytes
