@@ -58,12 +58,12 @@ impl Key {
         subject: &[u8],
     ) -> Result<Key, AllocError>
         ensures { IfOk result (λ key. (sender : Option Sender) → key ≡ key_of (record {
-            sender = sender;
-            date = date.now;
-            to_name = to_name.now;
-            from_name = from_name.now;
-            subject = subject.now;
-            echo = view.now;
+          sender = sender;
+          date = date.now;
+          to_name = to_name.now;
+          from_name = from_name.now;
+          subject = subject.now;
+          echo = view.now;
         })) }
     {
         let tag = view.tag.as_slice();

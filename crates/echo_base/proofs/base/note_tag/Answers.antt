@@ -1,9 +1,8 @@
-use Rattle.std.proofs.Common.{rules, ◌≡◌, ℕ, List, not, [], ◌∷◌, ◌++◌, false, true, bytes_eq, length, map, take, drop, count_by, slice_get, option_copied, IfOk, OnOk, OnErr, ◌+◌, ◌-◌, ◌*◌, ◌<◌, ◌≤◌, ◌/◌, ◌%◌, Bool, nat_eq, nat_lt, slice_index_or, slice_set, bit_and, bit_or, Fits, w8, w32, w64, Bor, MutBor}
-use Rattle.std.specs.List.{list_any}
-use Rattle.echo_base.specs.Base.{IsBase, has_id, is_known, key_of}
-use Rattle.echo_base.specs.Stubs.{is_stub, stub_of}
+use Rattle.std.proofs.Common.{◌∙◌, sym}
+use Rattle.std.specs.Prelude.{bytes_eq}
+use Rattle.echo_base.proofs.Entries.{any_map}
 use Rattle.echo_base.proofs.base.note_tag.Goals as goal
 
--- src/base.rt:137:9
 pub returns-then-contains-clause-found : goal.returns-then-contains-clause-found
-returns-then-contains-clause-found c = ?
+returns-then-contains-clause-found c =
+    any_map (λ t. t.items) (bytes_eq c.args.tag.now) c.args.tags.now.keys ∙ sym c.contains.ensures ∙ c.if-contains.true

@@ -1,9 +1,10 @@
-use Rattle.std.proofs.Common.{rules, ◌≡◌, ℕ, List, not, [], ◌∷◌, ◌++◌, false, true, bytes_eq, length, map, take, drop, count_by, slice_get, option_copied, IfOk, OnOk, OnErr, ◌+◌, ◌-◌, ◌*◌, ◌<◌, ◌≤◌, ◌/◌, ◌%◌, Bool, nat_eq, nat_lt, slice_index_or, slice_set, bit_and, bit_or, Fits, w8, w32, w64, Bor, MutBor}
-use Rattle.std.specs.List.{list_any}
-use Rattle.echo_base.specs.Base.{IsBase, has_id, is_known, key_of}
-use Rattle.echo_base.specs.Stubs.{is_stub, stub_of}
+use Rattle.std.proofs.Common.{◌∙◌, ap}
+use Rattle.echo_base.specs.Base.{is_known}
+use Rattle.echo_base.proofs.Entries.{looked_up}
 use Rattle.echo_base.proofs.base.Base.knows.Goals as goal
 
--- src/base.rt:74:5
 pub returns : goal.returns
-returns g c = ?
+returns g c =
+    c.contains_key.ensures
+    ∙ looked_up c.self.inside.entries.entries c.args.key.now c.self.invariant.own_keys
+    ∙ ap (λ b. is_known b.messages c.args.key.now) c.self.view_is
