@@ -4,6 +4,7 @@ pub mod Orders
 pub mod Trims
 pub mod Keys
 pub mod DerivedKeys
+pub mod Entries
 pub mod Runs
 pub mod StubTests
 pub mod Texts

@@ -1,4 +1,5 @@
 -- Posting: what is filed for a draft, and why a draft is refused.
+pub use Rattle.echo_base.specs.Base.{has_id}
 use Rattle.std.specs.Prelude.{◌≡◌, ℕ, ◌⊎◌, ◌==◌, ◌||◌, not, nat_lt, Bool, true, false, List, [], ◌∷◌, ◌++◌, map, length, codes, if◌then◌else◌, Option, Some, None, is_none, option_map, unwrap_or, bytes_eq, Result, Ok, Err}
 use Rattle.std.specs.List.{list_any}
 use Rattle.echo_addr.specs.Address.{address_text}
@@ -49,10 +50,6 @@ holds_zero draft =
 abbrev pub is_too_long : Draft → Bool
 is_too_long draft =
     nat_lt 35 (length draft.to_name) || (nat_lt 35 (length draft.from_name) || nat_lt 71 (length draft.subject))
-
--- a message with this id
-abbrev pub has_id : List ℕ → Filed → Bool
-has_id id m = unwrap_or (option_map (bytes_eq id) (msgid_of m.echo.kept)) false
 
 -- the first refusal that applies to a posting
 unfoldable pub post_refusal : LinkFile → List Filed → List ℕ → Draft → ℕ → Stamp → Option PostFault
