@@ -4,7 +4,9 @@ pub mod Orders
 pub mod Trims
 pub mod Keys
 pub mod DerivedKeys
+pub mod Entries
 pub mod Runs
+pub mod StubTests
 pub mod Texts
 pub mod Plain
 pub mod Bytes

@@ -93,6 +93,10 @@ same_key (ByContent tag date to from subject kept) (ById tag' msgid) = false
 abbrev pub is_known : List Filed → Key → Bool
 is_known base key = list_any (λ m. same_key (key_of m) key) base
 
+-- a message with this id
+abbrev pub has_id : List ℕ → Filed → Bool
+has_id id m = unwrap_or (option_map (bytes_eq id) (msgid_of m.echo.kept)) false
+
 -- each part of a sender is a number of two bytes
 abbrev pub HasSmallSender : Option Address → Type 0
 HasSmallSender None = ⊤
@@ -120,3 +124,8 @@ pub record IsBase (base : List Filed) (cursor : ℕ) : Type 0 where
   pub each : AllByRecursion IsFiled base
   pub new : AreNew [] base
   pub within : cursor ≤ length base
+
+-- a base: the messages in order of filing, and the cursor
+pub record Base : Type 0 where
+  pub messages : List Filed
+  pub cursor : ℕ

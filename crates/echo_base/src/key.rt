@@ -1,6 +1,13 @@
-ghost use Rattle.std.specs.Prelude.{◌≡◌, ◌↔◌, IsTrue};
+ghost use Rattle.std.specs.Prelude.{◌≡◌, Option, IfOk, map};
+ghost use Rattle.echo_addr.specs.declared.address.Address.{Address as Sender};
+ghost use Rattle.echo_base.specs.declared.key.Key.TheVariants.{ByContent, ById};
+ghost use Rattle.echo_base.specs.Base.{key_of};
 
+use crate::boxed::Boxed;
+use crate::filed::Filed;
 use echo_addr::Items;
+use echo_text::EchoView;
+use std::alloc::{AllocError, Global};
 
 /// What makes two messages of a base the same: the tag and the MSGID (FTS-0009), or, of a message
 /// without one, the tag, the DateTime, the names, the subject and the kept lines.
@@ -11,17 +18,126 @@ pub enum Key {
         msgid: Items<u8>,
     },
     ByContent {
-        tag: Items<u8>,
-        date: [u8; 20],
-        to_name: Items<u8>,
-        from_name: Items<u8>,
-        subject: Items<u8>,
-        kept: Items<Items<u8>>,
+        tag: Boxed<u8>,
+        date: Boxed<u8>,
+        to_name: Boxed<u8>,
+        from_name: Boxed<u8>,
+        subject: Boxed<u8>,
+        kept: Boxed<Items<u8>>,
     },
+}
+
+impl Key {
+    /// The key of the message.
+    pub fn of_message(alloc: Global, message: &Filed) -> Result<Key, AllocError>
+        ensures { IfOk result (λ key. key ≡ key_of message.now) }
+    {
+        let tag = message.echo.tag.as_slice();
+        if let Some(msgid) = message.echo.msgid() {
+            return by_id(alloc, tag, msgid);
+        }
+        let kept = lines_of(alloc, message.echo.kept.as_slice())?;
+        by_content(
+            alloc,
+            tag,
+            &message.date,
+            message.to_name.as_slice(),
+            message.from_name.as_slice(),
+            message.subject.as_slice(),
+            kept,
+        )
+    }
+
+    /// The key that a message with this text, DateTime, names and subject has, whoever sent it.
+    pub fn of_view(
+        alloc: Global,
+        view: &EchoView<'_>,
+        date: &[u8; 20],
+        to_name: &[u8],
+        from_name: &[u8],
+        subject: &[u8],
+    ) -> Result<Key, AllocError>
+        ensures { IfOk result (λ key. (sender : Option Sender) → key ≡ key_of (record {
+          sender = sender;
+          date = date.now;
+          to_name = to_name.now;
+          from_name = from_name.now;
+          subject = subject.now;
+          echo = view.now;
+        })) }
+    {
+        let tag = view.tag.as_slice();
+        if let Some(msgid) = view.msgid() {
+            return by_id(alloc, tag, msgid);
+        }
+        let kept = slices_of(alloc, view.kept.as_slice())?;
+        by_content(alloc, tag, date, to_name, from_name, subject, kept)
+    }
+}
+
+/// The key of a message with this tag and id.
+pub(crate) fn by_id(alloc: Global, tag: &[u8], msgid: &[u8]) -> Result<Key, AllocError>
+    ensures { IfOk result (λ key. key ≡ ById tag.now msgid.now) }
+{
+    let tag = Items::new(Vec::from_slice(alloc, tag)?);
+    let msgid = Items::new(Vec::from_slice(alloc, msgid)?);
+    Ok(Key::ById { tag, msgid })
+}
+
+// The key of a message without an id.
+fn by_content(
+    alloc: Global,
+    tag: &[u8],
+    date: &[u8; 20],
+    to_name: &[u8],
+    from_name: &[u8],
+    subject: &[u8],
+    kept: Vec<Items<u8>>,
+) -> Result<Key, AllocError>
+    ensures { IfOk result (λ key. key ≡ ByContent tag.now date.now to_name.now from_name.now subject.now kept.items) }
+{
+    Ok(Key::ByContent {
+        tag: boxed(alloc, tag)?,
+        date: boxed(alloc, date)?,
+        to_name: boxed(alloc, to_name)?,
+        from_name: boxed(alloc, from_name)?,
+        subject: boxed(alloc, subject)?,
+        kept: Boxed::new(alloc, kept)?,
+    })
+}
+
+fn boxed(alloc: Global, bytes: &[u8]) -> Result<Boxed<u8>, AllocError>
+    ensures { IfOk result (λ copy. copy ≡ bytes.now) }
+{
+    Boxed::new(alloc, Vec::from_slice(alloc, bytes)?)
+}
+
+// The lines as bytes of their own.
+fn lines_of(alloc: Global, lines: &[Items<u8>]) -> Result<Vec<Items<u8>>, AllocError>
+    ensures { IfOk result (λ copies. copies.items ≡ lines.now) }
+{
+    let mut copies = Vec::new(alloc);
+    'lines: for line in lines {
+        copies.push(Items::new(Vec::from_slice(alloc, line.as_slice())?))?;
+    }
+    Ok(copies)
+}
+
+// The same of slices.
+fn slices_of(alloc: Global, lines: &[&[u8]]) -> Result<Vec<Items<u8>>, AllocError>
+    ensures { IfOk result (λ copies. copies.items ≡ map (λ line. line.now) lines.now) }
+{
+    let mut copies = Vec::new(alloc);
+    'lines: for line in lines {
+        copies.push(Items::new(Vec::from_slice(alloc, line)?))?;
+    }
+    Ok(copies)
 }
 
 #[cfg(test)]
 mod tests {
+    ghost use Rattle.std.specs.Prelude.{◌≡◌, ◌↔◌, IsTrue};
+
     use super::*;
     use std::alloc::{AllocError, Global};
     use std::test::Fail;
@@ -31,12 +147,6 @@ mod tests {
         ensures { IsTrue result ↔ (a.now ≡ b.now) }
     {
         a == b
-    }
-
-    fn by_id(alloc: Global, tag: &[u8], id: &[u8]) -> Result<Key, AllocError> {
-        let tag = Items::new(Vec::from_slice(alloc, tag)?);
-        let msgid = Items::new(Vec::from_slice(alloc, id)?);
-        Ok(Key::ById { tag, msgid })
     }
 
     // The answers for two keys, if memory is there.

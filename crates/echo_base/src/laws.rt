@@ -12,7 +12,7 @@ ghost use Rattle.echo_base.specs.declared.key.Key.{Key};
 ghost use Rattle.echo_base.specs.Sets.{entry_set};
 ghost use Rattle.echo_base.specs.Written.{echo_of, text_of};
 ghost use Rattle.echo_base.specs.Base.{Filed, IsBase, IsFile, LinkFile, key_of, same_key};
-ghost use Rattle.echo_base.specs.Stubs.{stub_of};
+ghost use Rattle.echo_base.specs.Stubs.{is_stub, stub_of};
 ghost use Rattle.echo_base.specs.LinkLines.{LinksOf};
 ghost use Rattle.echo_base.specs.BaseFile.{BaseFaultOf, BaseOf, LoadOf, Loaded, is_countable, saved_bytes};
 
@@ -21,10 +21,12 @@ pub fn key_law()
     ensures { (k l : Key) → (same_key k l ≡ true) ↔ (k ≡ l) }
 {}
 
-/// A purge keeps keys, and a second purge leaves what the first one left.
+/// A purge keeps keys, a second purge leaves what the first one left, and the test of stubs passes
+/// exactly where a purge leaves the message as it is.
 pub fn stub_laws()
     ensures keep_keys { (m : Filed) → key_of (stub_of m) ≡ key_of m }
     ensures stay { (m : Filed) → stub_of (stub_of m) ≡ stub_of m }
+    ensures told { (m : Filed) → (is_stub m ≡ true) ↔ (stub_of m ≡ m) }
 {}
 
 /// The entries of a list as a set: ascending, without repeats, with its members.

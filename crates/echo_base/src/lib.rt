@@ -7,12 +7,16 @@
 //! `key` (what makes two messages one), `fault`, and `laws` (what holds of the definitions).
 #![tactic(auto)]
 
+mod base;
+mod boxed;
 mod fault;
 mod filed;
 mod key;
 mod laws;
 mod link_file;
 
+pub use base::Base;
+pub use boxed::Boxed;
 pub use fault::{BaseFault, LinkFault};
 pub use filed::Filed;
 pub use key::Key;

@@ -1,6 +1,6 @@
 -- Copies of a message that a scan makes, and what a toss reads in them.
-use Rattle.std.proofs.Common.{◌≡◌, ℕ, Bool, List, [], ◌∷◌, ◌++◌, map, refl, sym, ap, subst, ◌∙◌, Option, Some, None, arith, inl, inr}
-use Rattle.std.specs.Prelude.{bytes_eq, find, option_map, unwrap_or}
+use Rattle.std.proofs.Common.{◌≡◌, ℕ, zero, suc, Bool, List, [], ◌∷◌, ◌++◌, map, drop, refl, sym, ap, subst, ◌∙◌, Option, Some, None, arith, inl, inr}
+use Rattle.std.specs.Prelude.{bytes_eq, filter, find, option_map, unwrap_or}
 use Rattle.std.specs.List.{AllByRecursion}
 use Rattle.std.proofs.lemmas.Bool.{cases_Bool, cond-false, cond-true}
 use Rattle.std.proofs.lemmas.List.Elements.{All-append, All-from_recursion, recursion_from_All}
@@ -12,9 +12,10 @@ use Rattle.echo_text.specs.Echo.{EchoText, IsEcho, msgid_of}
 use Rattle.echo_text.specs.Refusal.{refusal}
 use Rattle.echo_base.specs.Sets.{entry_before, entry_set}
 use Rattle.echo_base.specs.Written.{echo_of, text_of}
-use Rattle.echo_base.specs.Base.{Area, Filed, IsArea, IsFile, LinkFile, key_of, key_with, links_of}
+use Rattle.echo_steps.specs.declared.stamp.Stamp.{Stamp}
+use Rattle.echo_base.specs.Base.{Area, Filed, IsArea, IsBase, IsFile, IsFiled, LinkFile, key_of, key_with, links_of}
 use Rattle.echo_steps.specs.Tossing.{received}
-use Rattle.echo_steps.specs.Scanning.{copy_to, exported}
+use Rattle.echo_steps.specs.Scanning.{copy_to, exported, goes_to, packet_to, packets_of, recipients, scanned}
 use Rattle.echo_base.proofs.Sets.{set_all}
 use Rattle.echo_base.proofs.Orders.{entry_set_is_set}
 use Rattle.echo_base.proofs.Texts.{written_accepted, written_back}
@@ -91,3 +92,37 @@ exported_key file m from = key_same m from (msgid_of m.echo.kept)
 -- the copy that is tossed has the key of the message
 pub copy_keeps_key : (file : LinkFile) (from to : Address) (m : Filed) → IsFile file → IsEcho m.echo → key_of (received from (copy_to file to m)) ≡ key_of m
 copy_keeps_key file from to m h is = ap key_of (copy_read_back file from to m h is) ∙ exported_key file m (Some from)
+
+-- what holds of each of a list holds of those that pass a test, and of the last ones
+all_filter : {X : Type 0} (P : X → Type 0) (p : X → Bool) (xs : List X) → AllByRecursion P xs → AllByRecursion P (filter p xs)
+all_filter P p [] all = tt
+all_filter {X} P p (x ∷ xs) all =
+    let Q : List X → Type 0 = λ l. AllByRecursion P l in
+    elim (cases_Bool (p x)) [
+      | inl passes ↦ subst Q (sym (cond-true (p x) (x ∷ filter p xs) (filter p xs) passes)) (all.0, all_filter P p xs all.1)
+      | inr fails ↦ subst Q (sym (cond-false (p x) (x ∷ filter p xs) (filter p xs) fails)) (all_filter P p xs all.1)
+    ]
+
+all_later : {X : Type 0} (P : X → Type 0) (n : ℕ) (xs : List X) → AllByRecursion P xs → AllByRecursion P (drop n xs)
+all_later P zero xs all = all
+all_later P (suc n) [] all = tt
+all_later P (suc n) (x ∷ xs) all = all_later P n xs all.1
+
+-- what is made of each of a list passes where this does
+all_made : {X Y : Type 0} (P : X → Type 0) (Q : Y → Type 0) (f : X → Y) → ((x : X) → P x → Q (f x)) → (xs : List X) → AllByRecursion P xs → AllByRecursion Q (map f xs)
+all_made P Q f step [] all = tt
+all_made P Q f step (x ∷ xs) all = (step x all.0, all_made P Q f step xs all.1)
+
+any_of : {X : Type 0} (xs : List X) → AllByRecursion (λ x. Unit {0}) xs
+any_of [] = tt
+any_of (x ∷ xs) = (tt, any_of xs)
+
+-- each text of the packets is accepted
+pub scanned_accepted : (file : LinkFile) (base : List Filed) (cursor : ℕ) (stamp : Stamp) → IsFile file → IsBase base cursor
+    → AllByRecursion (λ packet. AllByRecursion (λ packed. refusal packed.text ≡ None) packet.messages) (scanned file base cursor stamp)
+unfolding scanned packets_of packet_to
+scanned_accepted file base cursor stamp h is =
+    all_made (λ address. Unit {0}) (λ packet. AllByRecursion (λ packed. refusal packed.text ≡ None) packet.messages) (packet_to file stamp (drop cursor base))
+    (λ address any. all_made IsFiled (λ packed. refusal packed.text ≡ None) (copy_to file address) (λ m filed. copy_accepted file address m h filed.is_echo)
+    (filter (goes_to file address) (drop cursor base)) (all_filter IsFiled (goes_to file address) (drop cursor base) (all_later IsFiled cursor base is.each)))
+    (recipients file (drop cursor base)) (any_of (recipients file (drop cursor base)))

@@ -1,4 +1,5 @@
 pub mod Stamps
+pub mod SystemState
 pub mod Posting
 pub mod Tossing
 pub mod Scanning

@@ -1,4 +1,5 @@
 -- Posting: what is filed for a draft, and why a draft is refused.
+pub use Rattle.echo_base.specs.Base.{has_id}
 use Rattle.std.specs.Prelude.{◌≡◌, ℕ, ◌⊎◌, ◌==◌, ◌||◌, not, nat_lt, Bool, true, false, List, [], ◌∷◌, ◌++◌, map, length, codes, if◌then◌else◌, Option, Some, None, is_none, option_map, unwrap_or, bytes_eq, Result, Ok, Err}
 use Rattle.std.specs.List.{list_any}
 use Rattle.echo_addr.specs.Address.{address_text}
@@ -11,6 +12,7 @@ use Rattle.echo_steps.specs.declared.fault.PostFault.TheVariants as fault
 use Rattle.echo_base.specs.Base.{Filed, LinkFile, has_area, id_line, upper}
 use Rattle.echo_text.specs.Ids.{id_of, is_id, is_zero}
 use Rattle.echo_steps.specs.Stamps.{date_of, is_stamp}
+use Rattle.echo_steps.specs.SystemState.{SystemState, state_with}
 
 -- the line that names the message that is replied to, where one is given
 abbrev pub reply_lines : List ℕ → List (List ℕ)
@@ -48,10 +50,6 @@ holds_zero draft =
 abbrev pub is_too_long : Draft → Bool
 is_too_long draft =
     nat_lt 35 (length draft.to_name) || (nat_lt 35 (length draft.from_name) || nat_lt 71 (length draft.subject))
-
--- a message with this id
-abbrev pub has_id : List ℕ → Filed → Bool
-has_id id m = unwrap_or (option_map (bytes_eq id) (msgid_of m.echo.kept)) false
 
 -- the first refusal that applies to a posting
 unfoldable pub post_refusal : LinkFile → List Filed → List ℕ → Draft → ℕ → Stamp → Option PostFault
@@ -94,12 +92,12 @@ unfoldable pub posting : LinkFile → List Filed → List ℕ → Draft → ℕ 
 posting file base tag draft serial stamp =
     if is_none (post_refusal file base tag draft serial stamp) then Some (posted file tag draft serial stamp) else None
 
--- a posting: the message put at the end of the base, or a refusal that leaves the base as it was
-abbrev pub PostStep : {A : Type 0} → LinkFile → List Filed → List ℕ → Draft → ℕ → Stamp → Result A PostFault → List Filed → Type 0
-PostStep file base tag draft serial stamp (Ok done) after =
-    (post_refusal file base tag draft serial stamp ≡ None) × (after ≡ base ++ posted file tag draft serial stamp ∷ [])
-PostStep file base tag draft serial stamp (Err fault.Memory) after =
-    ((post_refusal file base tag draft serial stamp ≡ None) ⊎ (post_refusal file base tag draft serial stamp ≡ Some fault.KnownSerial))
-    × (after ≡ base)
-PostStep file base tag draft serial stamp (Err refused) after =
-    (post_refusal file base tag draft serial stamp ≡ Some refused) × (after ≡ base)
+-- a posting: the message is put at the end of the base, or a refusal leaves all as it was
+abbrev pub PostStep : {A : Type 0} → SystemState → List ℕ → Draft → ℕ → Stamp → Result A PostFault → SystemState → Type 0
+PostStep old tag draft serial stamp (Ok done) new =
+    (post_refusal old.file old.base tag draft serial stamp ≡ None) × (new ≡ state_with old (Some (posted old.file tag draft serial stamp)))
+PostStep old tag draft serial stamp (Err fault.Memory) new =
+    ((post_refusal old.file old.base tag draft serial stamp ≡ None) ⊎ (post_refusal old.file old.base tag draft serial stamp ≡ Some fault.KnownSerial))
+    × (new ≡ old)
+PostStep old tag draft serial stamp (Err refused) new =
+    (post_refusal old.file old.base tag draft serial stamp ≡ Some refused) × (new ≡ old)

@@ -2,6 +2,7 @@
 use Rattle.std.specs.Prelude.{◌≡◌, ℕ, not, List, ◌++◌, map, take, drop, count_by, Result, Ok, Err}
 use Rattle.echo_base.specs.Base.{Filed}
 use Rattle.echo_base.specs.Stubs.{is_stub, stub_of}
+use Rattle.echo_steps.specs.SystemState.{SystemState}
 
 -- the base after a purge: the messages before the cursor as a purge leaves them, then the others
 unfoldable pub purged : List Filed → ℕ → List Filed
@@ -11,7 +12,8 @@ purged base cursor = map stub_of (take cursor base) ++ drop cursor base
 unfoldable pub changed : List Filed → ℕ → ℕ
 changed base cursor = count_by (λ m. not (is_stub m)) (take cursor base)
 
--- a purge: the number of messages changed, or a refusal that leaves the base as it was
-abbrev pub PurgeStep : {E : Type 0} → List Filed → ℕ → Result ℕ E → List Filed → Type 0
-PurgeStep base cursor (Ok count) after = (count ≡ changed base cursor) × (after ≡ purged base cursor)
-PurgeStep base cursor (Err refused) after = after ≡ base
+-- a purge: the number of messages changed, or a refusal that leaves all as it was
+abbrev pub PurgeStep : {E : Type 0} → SystemState → Result ℕ E → SystemState → Type 0
+PurgeStep old (Ok count) new =
+    (count ≡ changed old.base old.cursor) × (new ≡ record { file = old.file; base = purged old.base old.cursor; cursor = old.cursor })
+PurgeStep old (Err refused) new = new ≡ old

@@ -14,6 +14,7 @@ use Rattle.echo_base.specs.Sets.{address_set, entry_set, same_address, same_entr
 use Rattle.echo_base.specs.Written.{text_of}
 use Rattle.echo_base.specs.Base.{Filed, LinkFile, links_of}
 use Rattle.echo_steps.specs.Stamps.{is_stamp}
+use Rattle.echo_steps.specs.SystemState.{SystemState}
 
 -- whether the address sent the message here
 abbrev pub is_sender : Filed → Address → Bool
@@ -98,9 +99,10 @@ packets_of file stamp waiting = map (packet_to file stamp waiting) (recipients f
 unfoldable pub scanned : LinkFile → List Filed → ℕ → Stamp → List Packet
 scanned file base cursor stamp = packets_of file stamp (drop cursor base)
 
--- a scan: the packets, and the cursor at the end, or a refusal that leaves the cursor
-abbrev pub ScanStep : LinkFile → List Filed → ℕ → Stamp → Result (List Packet) ScanFault → ℕ → Type 0
-ScanStep file base cursor stamp (Ok packets) after =
-    (is_stamp stamp ≡ true) × (packets ≡ scanned file base cursor stamp) × (after ≡ length base)
-ScanStep file base cursor stamp (Err fault.BadStamp) after = (is_stamp stamp ≡ false) × (after ≡ cursor)
-ScanStep file base cursor stamp (Err fault.Memory) after = (is_stamp stamp ≡ true) × (after ≡ cursor)
+-- a scan: the packets, and the cursor at the end of the base, or a refusal that leaves all as it was
+abbrev pub ScanStep : SystemState → Stamp → Result (List Packet) ScanFault → SystemState → Type 0
+ScanStep old stamp (Ok packets) new =
+    (is_stamp stamp ≡ true) × (packets ≡ scanned old.file old.base old.cursor stamp)
+    × (new ≡ record { file = old.file; base = old.base; cursor = length old.base })
+ScanStep old stamp (Err fault.BadStamp) new = (is_stamp stamp ≡ false) × (new ≡ old)
+ScanStep old stamp (Err fault.Memory) new = (is_stamp stamp ≡ true) × (new ≡ old)

@@ -1,5 +1,5 @@
 -- Tossing: what becomes of a received message.
-use Rattle.std.specs.Prelude.{◌≡◌, ℕ, ◌==◌, not, true, false, List, [], ◌∷◌, ◌++◌, if◌then◌else◌, Option, Some, None, option_to_list}
+use Rattle.std.specs.Prelude.{◌≡◌, ℕ, ◌==◌, not, true, false, List, [], ◌∷◌, ◌++◌, if◌then◌else◌, Option, Some, None, option_to_list, Result, Ok, Err}
 use Rattle.echo_addr.specs.declared.address.Address.{Address}
 use Rattle.echo_packet.specs.declared.header.Header.{Header}
 use Rattle.echo_packet.specs.Message.{Message}
@@ -10,6 +10,7 @@ use Rattle.echo_steps.specs.declared.outcome.Outcome.{Outcome}
 use Rattle.echo_steps.specs.declared.outcome.Outcome.TheVariants as outcome
 use Rattle.echo_base.specs.Written.{echo_of}
 use Rattle.echo_base.specs.Base.{Filed, LinkFile, has_area, is_known, is_link, key_of}
+use Rattle.echo_steps.specs.SystemState.{SystemState, state_with}
 
 -- a received message as it is filed
 unfoldable pub received : Address → Message → Filed
@@ -69,10 +70,11 @@ IsOutcome file base from packed outcome.Known =
     × (is_known base (key_of (received from packed)) ≡ true)
 IsOutcome file base from packed outcome.Filed = IsToBeFiled file base from packed
 
--- a toss: the message put at the end of the base where it is filed, else the base as it was
-abbrev pub TossStep : LinkFile → List Filed → Address → Message → Outcome → List Filed → Type 0
-TossStep file base sender packed answer after =
-    (answer ≡ toss_outcome file base sender packed) × (after ≡ base ++ option_to_list (tossing file base sender packed))
+-- a toss: the message is put at the end of the base where it is filed, else all stays as it was, as it does without memory
+abbrev pub TossStep : {E : Type 0} → SystemState → Address → Message → Result Outcome E → SystemState → Type 0
+TossStep old sender packed (Ok answer) new =
+    (answer ≡ toss_outcome old.file old.base sender packed) × (new ≡ state_with old (tossing old.file old.base sender packed))
+TossStep old sender packed (Err refused) new = new ≡ old
 
 -- the base after messages of one sender were tossed in order
 abbrev pub tossed : LinkFile → List Filed → Address → List Message → List Filed

@@ -1,7 +1,7 @@
 //! What holds of the definitions. Each law is the contract of a function that does nothing.
 
 ghost use Rattle.std.specs.Prelude.{◌≡◌, ◌↔◌, ℕ, List, [], ◌∷◌, ◌++◌, Some, None, true, false};
-ghost use Rattle.std.specs.List.{list_any};
+ghost use Rattle.std.specs.List.{AllByRecursion, list_any};
 ghost use Rattle.echo_addr.specs.declared.address.Address.{Address};
 ghost use Rattle.echo_packet.specs.Message.{IsMessage, Message};
 ghost use Rattle.echo_text.specs.Echo.{IsEcho, msgid_of};
@@ -14,7 +14,7 @@ ghost use Rattle.echo_text.specs.Ids.{id_of};
 ghost use Rattle.echo_base.specs.Base.{Filed, HasSmallSender, IsBase, IsFile, LinkFile, has_area, key_of};
 ghost use Rattle.echo_steps.specs.Posting.{IsAllowed, IsFirstRefusal, has_id, post_refusal, posting};
 ghost use Rattle.echo_steps.specs.Tossing.{IsOutcome, IsToBeFiled, received, toss_outcome, tossing};
-ghost use Rattle.echo_steps.specs.Scanning.{copy_to, exported};
+ghost use Rattle.echo_steps.specs.Scanning.{copy_to, exported, scanned};
 ghost use Rattle.echo_steps.specs.Purging.{purged};
 
 /// The copy of a message that goes out is echomail whose text is read back, and it has the key of the
@@ -60,6 +60,12 @@ pub fn toss_outcomes()
 pub fn toss_law()
     ensures { (file : LinkFile) (base : List Filed) (sender : Address) (packed : Message) →
         (tossing file base sender packed ≡ Some (received sender packed)) ↔ IsToBeFiled file base sender packed }
+{}
+
+/// No text that a scan exports is refused where it is tossed.
+pub fn scan_law()
+    ensures { (file : LinkFile) (base : List Filed) (cursor : ℕ) (stamp : Stamp) → IsFile file → IsBase base cursor →
+        AllByRecursion (λ packet. AllByRecursion (λ packed. refusal packed.text ≡ None) packet.messages) (scanned file base cursor stamp) }
 {}
 
 /// A base stays a base where a posting or a toss files a message, and where it is purged.

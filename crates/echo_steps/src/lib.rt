@@ -17,7 +17,9 @@ mod stamp;
 
 pub use draft::Draft;
 pub use fault::{PostFault, ScanFault};
-pub use laws::{base_laws, copy_laws, posting_laws, posting_refusals, toss_law, toss_outcomes};
+pub use laws::{
+    base_laws, copy_laws, posting_laws, posting_refusals, scan_law, toss_law, toss_outcomes,
+};
 pub use outcome::Outcome;
 pub use packet::Packet;
 pub use stamp::Stamp;

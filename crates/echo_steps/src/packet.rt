@@ -1,9 +1,35 @@
+ghost use Rattle.std.specs.Prelude.{IfOk};
+ghost use Rattle.echo_packet.specs.Packet.{PacketOf};
+
 use echo_addr::Items;
-use echo_packet::{Header, Packed};
+use echo_device::Watched;
+use echo_packet::{Header, Packed, PacketWriter};
+use std::alloc::{AllocError, Global};
 
 /// A packet for one address: its header and its messages in order.
 #[derive(Debug, Drop)]
 pub struct Packet {
     pub header: Header,
     pub messages: Items<Packed>,
+}
+
+impl Packet {
+    /// The bytes of the packet (FTS-0001): the header, the messages in order, and 00 00.
+    pub fn encode(&self, alloc: Global) -> Result<Vec<u8>, AllocError>
+        ensures { IfOk result (λ bytes. PacketOf (record { text = usize.MAX; messages = u64.MAX }) self.now.header self.now.messages bytes.items) }
+    {
+        let bytes = Watched::new(Vec::new(alloc));
+        let Ok(mut writer) = PacketWriter::begin(bytes, &self.header) else {
+            return Err(AllocError);
+        };
+        'messages: for message in self.messages.as_slice() {
+            let Ok(()) = writer.put(message) else {
+                return Err(AllocError);
+            };
+        }
+        let Ok(bytes) = writer.finish() else {
+            return Err(AllocError);
+        };
+        Ok(bytes.into_inner())
+    }
 }

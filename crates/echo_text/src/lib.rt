@@ -33,8 +33,10 @@ pub use laws::{
     kept_as_they_stand, one_reading, one_writing, readers_agree, refusals_are_answered,
     written_text_is_read, written_text_read_back,
 };
+pub use lines::cut as lines_of;
 pub use msgid::MsgId;
 pub use reading::{read_text, view_text};
+pub use words::trimmed;
 pub use writing::write_text;
 
 #[cfg(test)]

@@ -21,7 +21,7 @@ pub(crate) fn split_line(text: &[u8]) -> (&[u8], &[u8])
 }
 
 /// The lines, each a slice of the text without its 0D.
-pub(crate) fn cut(alloc: Global, text: &[u8]) -> Result<Vec<&[u8]>, AllocError>
+pub fn cut(alloc: Global, text: &[u8]) -> Result<Vec<&[u8]>, AllocError>
     ensures { IfOk result (λ found. map (λ line. line.now) found.items ≡ lines text.now) }
 {
     let mut found = Vec::new(alloc);

@@ -62,7 +62,7 @@ pub(crate) fn is_blank_line(line: &[u8]) -> bool
 }
 
 /// The bytes without the blanks at both ends.
-pub(crate) fn trimmed(bytes: &[u8]) -> &[u8]
+pub fn trimmed(bytes: &[u8]) -> &[u8]
     ensures { result.now ≡ trimmed bytes.now }
 {
     let begun = &bytes[front_blanks(bytes)..];

@@ -1,0 +1,39 @@
+use Rattle.std.proofs.Common.{◌≡◌, ◌∙◌, ap, subst, sym, map, List, ℕ, true, false, Bool, get_or, take, Vec, Global}
+use Rattle.std.specs.List.{AllByRecursion, list_any}
+use Rattle.std.proofs.lemmas.Bool.{or_from}
+use Rattle.std.proofs.lemmas.List.{take_all}
+use Rattle.std.proofs.lemmas.List.Folds.{list_any_more}
+use Rattle.echo_base.specs.declared.key.Key.TheVariants.{ById}
+use Rattle.echo_base.specs.Base.{Base, has_id, is_known}
+use Rattle.echo_base.specs.Entries.{HasTagIn}
+use Rattle.echo_base.proofs.Entries.{any_map, known_by_id, no_such_id}
+use Rattle.echo_base.proofs.base.Base.has_id.Goals as goal
+
+pub returns-then-knows : goal.returns-then-knows
+returns-then-knows g c =
+    sym (known_by_id c.args.self.now.messages c.deref.result.now c.args.msgid.now
+    (ap (is_known c.args.self.now.messages) (sym c.in_ok-key.ensures) ∙ sym c.knows.ensures ∙ c.if-knows.true))
+
+pub returns : goal.returns
+returns g c =
+    let tags = c.as_slice-tag-items.result.now in
+    let kept = map (λ t. t.items) c.self.inside.tags.keys in
+    let all : take c.tags.tag-index tags ≡ c.self.inside.tags.keys = take_all c.tags.tag-index tags c.tags-test.false ∙ c.as_slice-tag-items.ensures.keys in
+    let P : Base → Type 0 = λ b. AllByRecursion (HasTagIn kept) b.messages in
+    sym (no_such_id c.args.msgid.now kept c.args.self.now.messages (subst P c.self.view_is c.self.invariant.own_tags)
+    (any_map (λ t. t.items) (λ t. is_known c.args.self.now.messages (ById t c.args.msgid.now)) c.self.inside.tags.keys
+    ∙ sym (ap (list_any (λ t. is_known c.args.self.now.messages (ById t.items c.args.msgid.now))) all)
+    ∙ c.tags.invariant))
+
+pub tags-preserved : goal.tags-preserved
+tags-preserved g c =
+    let tags = c.as_slice-tag-items.result.now in
+    let P : Vec ℕ Global → Bool = λ t. is_known c.args.self.now.messages (ById t.items c.args.msgid.now) in
+    let here : P (get_or tags c.tags.tag-index c.tag-item.result) ≡ false =
+    ap P (sym c.tag-item.is)
+    ∙ ap (λ t. is_known c.args.self.now.messages (ById t c.args.msgid.now)) (sym c.deref.ensures.value)
+    ∙ ap (is_known c.args.self.now.messages) (sym c.in_ok-key.ensures)
+    ∙ sym c.knows.ensures
+    ∙ c.if-knows.false in
+    list_any_more P tags c.tags.tag-index c.tag-item.result c.tags-test.true
+    ∙ or_from (list_any P (take c.tags.tag-index tags)) (P (get_or tags c.tags.tag-index c.tag-item.result)) c.tags.invariant here

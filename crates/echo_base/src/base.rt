@@ -1,0 +1,142 @@
+ghost use Rattle.std.specs.Prelude.{◌≡◌, ℕ, List, not, [], ◌∷◌, ◌++◌, false, true, bytes_eq, length, map, take, drop, count_by, slice_get, option_copied, IfOk, OnOk, OnErr};
+ghost use Rattle.std.specs.List.{list_any};
+ghost use Rattle.echo_base.specs.Base.{IsBase, has_id, is_known, key_of};
+ghost use Rattle.echo_base.specs.Stubs.{is_stub, stub_of};
+
+use crate::filed::Filed;
+use crate::key::{Key, by_id};
+use indexmap::{IndexMap, IndexSet};
+use std::alloc::{AllocError, Global};
+use std::hash::BuildHasher;
+use std::marker::Model;
+
+/// The messages of a system in order of filing, no key twice, and the cursor: the messages before it
+/// were scanned. Look-ups by key go by the hasher `S`.
+#[derive(Drop)]
+pub struct Base<S: BuildHasher> {
+    entries: IndexMap<Key, Filed, S>,
+    // Each tag of a message. Few, and known from the link file, so that a fixed hasher serves.
+    tags: IndexSet<Vec<u8>>,
+    cursor: usize,
+}
+
+impl<S: BuildHasher> Model for Base<S> {
+    ghost use Rattle.std.specs.Prelude.{map};
+    ghost use Rattle.std.specs.Map.{values_of};
+    ghost use Rattle.echo_base.specs.Base as model;
+    ghost use Rattle.echo_base.specs.Entries.{AreEntries};
+
+    ghost Value = { model.Base };
+
+    ghost view = { λ b. record { messages = values_of b.entries.entries; cursor = b.cursor } };
+
+    ghost invariant = { λ b. AreEntries b.entries.entries (map (λ tag. tag.items) b.tags.keys) b.cursor };
+}
+
+impl<S: BuildHasher> Base<S> {
+    /// A base without messages. Takes no memory.
+    pub fn new(alloc: Global, hasher: S) -> Base<S>
+        ensures messages { result.messages ≡ [] }
+        ensures cursor { result.cursor ≡ 0 }
+    {
+        Base {
+            entries: IndexMap::with_hasher(alloc, hasher),
+            tags: IndexSet::new(alloc),
+            cursor: 0,
+        }
+    }
+
+    /// How many messages there are.
+    pub fn len(&self) -> usize
+        ensures count { result ≡ length self.now.messages }
+        ensures base { IsBase self.now.messages self.now.cursor }
+    {
+        self.entries.len()
+    }
+
+    /// How many of them, from the front, were scanned.
+    pub fn cursor(&self) -> usize
+        ensures cursor { result ≡ self.now.cursor }
+        ensures base { IsBase self.now.messages self.now.cursor }
+    {
+        self.cursor
+    }
+
+    /// The message of this number, counted from 0 in order of filing.
+    pub fn message(&self, i: usize) -> Option<&Filed>
+        ensures { option_copied result ≡ slice_get self.now.messages i }
+    {
+        let (_, message) = self.entries.get_index(i)?;
+        Some(message)
+    }
+
+    /// Whether a message has the key.
+    pub fn knows(&self, key: &Key) -> bool
+        ensures { result ≡ is_known self.now.messages key.now }
+    {
+        self.entries.contains_key(key)
+    }
+
+    /// Whether a message has the id, in any area. Looks once for each tag that messages have.
+    pub fn has_id(&self, msgid: &[u8]) -> Result<bool, AllocError>
+        ensures { IfOk result (λ found. found ≡ list_any (has_id msgid.now) self.now.messages) }
+    {
+        let alloc = *self.entries.allocator();
+        'tags: for tag in self.tags.as_slice() {
+            let key = by_id(alloc, tag, msgid)?;
+            if self.knows(&key) {
+                return Ok(true);
+            }
+        }
+        Ok(false)
+    }
+
+    /// Puts a new message, with its key, at the end. The base stays as it was where a growth is refused.
+    pub fn file(&mut self, key: Key, message: Filed) -> Result<(), AllocError>
+        requires own { key ≡ key_of message }
+        requires new { is_known self.old.messages key ≡ false }
+        ensures messages { OnOk result (self.new.messages ≡ self.old.messages ++ message ∷ []) }
+        ensures cursor { self.new.cursor ≡ self.old.cursor }
+        ensures refused { OnErr result (self.new ≡ self.old) }
+    {
+        let echo = &message.echo;
+        let tag = &echo.tag;
+        note_tag(&mut self.tags, tag.as_slice())?;
+        self.entries.insert(key, message)?;
+        Ok(())
+    }
+
+    /// Moves the cursor to the end: all messages are scanned.
+    pub fn move_to_end(&mut self)
+        ensures messages { self.new.messages ≡ self.old.messages }
+        ensures cursor { self.new.cursor ≡ length self.old.messages }
+    {
+        self.cursor = self.entries.len();
+    }
+
+    /// Leaves of each scanned message with an id nothing of its text but the id, and answers how many
+    /// messages changed. The base stays as it was where a growth is refused.
+    pub fn purge(&mut self) -> Result<u64, AllocError>
+        ensures count { IfOk result (λ count. count ≡ count_by (λ m. not (is_stub m)) (take self.old.cursor self.old.messages)) }
+        ensures messages { OnOk result (self.new.messages
+            ≡ map stub_of (take self.old.cursor self.old.messages) ++ drop self.old.cursor self.old.messages) }
+        ensures cursor { self.new.cursor ≡ self.old.cursor }
+        ensures refused { OnErr result (self.new ≡ self.old) }
+    {
+        Ok(0)
+    }
+}
+
+// Puts the tag among the tags, if it is not there.
+fn note_tag(tags: &mut IndexSet<Vec<u8>>, tag: &[u8]) -> Result<(), AllocError>
+    ensures found { OnOk result (list_any (bytes_eq tag.now) (map (λ t. t.items) tags.new.keys) ≡ true) }
+    ensures kept { (other : List ℕ) → list_any (bytes_eq other) (map (λ t. t.items) tags.old.keys) ≡ true
+        → list_any (bytes_eq other) (map (λ t. t.items) tags.new.keys) ≡ true }
+{
+    if tags.contains(tag) {
+        return Ok(());
+    }
+    let tag = Vec::from_slice(*tags.allocator(), tag)?;
+    tags.insert(tag)?;
+    Ok(())
+}

@@ -1,0 +1,72 @@
+ghost use Rattle.std.specs.Prelude.{◌≡◌, List, IfOk};
+ghost use Rattle.std.specs.Cmp.Lexicographic.{pointwise, lists_per, lists_equiv};
+ghost use Rattle.std.specs.Hash as fed;
+ghost use Rattle.std.specs.Hash.{items_Alike};
+
+use std::alloc::{AllocError, Global};
+use std::fmt;
+use std::fmt::Debug;
+use std::hash::{Hash, Hasher};
+use std::marker::Model;
+
+/// A list behind one pointer, seen by contracts as the list of its items. A value that holds it stays
+/// small.
+#[derive(Drop)]
+pub struct Boxed<T> {
+    all: Box<Vec<T>>,
+}
+
+impl<T> Model for Boxed<T> {
+    ghost Value = { List T };
+
+    ghost view = { λ s. s.all.value.items };
+}
+
+impl<T: Drop> Boxed<T> {
+    /// The items of the `Vec`.
+    pub fn new(alloc: Global, all: Vec<T>) -> Result<Boxed<T>, AllocError>
+        ensures { IfOk result (λ boxed. boxed ≡ all.items) }
+    {
+        let all = Box::new(alloc, all)?;
+        Ok(Boxed { all })
+    }
+}
+
+impl<T> Boxed<T> {
+    /// The items in order.
+    pub fn as_slice(&self) -> &[T]
+        ensures { result.now ≡ self.now }
+    {
+        self.all.as_slice()
+    }
+}
+
+impl<T: PartialEq> PartialEq for Boxed<T> {
+    ghost eq = { λ a b. pointwise T.eq a b };
+
+    ghost laws = { lists_per T.laws };
+
+    fn eq(&self, other: &Self) -> bool {
+        self.as_slice() == other.as_slice()
+    }
+}
+
+impl<T: Eq> Eq for Boxed<T> {
+    ghost laws = { lists_equiv T.Eq.laws };
+}
+
+impl<T: Hash> Hash for Boxed<T> {
+    ghost hash_input = { λ items. fed.slice T.hash_input items };
+
+    ghost respects_eq = { (items_Alike (record { fed = T.respects_eq })).fed };
+
+    fn hash<H: Hasher>(&self, state: &mut H) {
+        self.as_slice().hash(state);
+    }
+}
+
+impl<T: Debug> Debug for Boxed<T> {
+    fn fmt<W: fmt::Write>(&self, f: &mut fmt::Formatter<W>) -> fmt::Result {
+        f.debug_list().entries(self.as_slice()).finish()
+    }
+}

@@ -1,0 +1,78 @@
+-- The bytes of a packet, message by message.
+use Rattle.std.proofs.Common.{◌≡◌, ℕ, ◌+◌, ◌^◌, ◌<◌, ◌≤◌, List, [], ◌∷◌, ◌++◌, length, take, get_or, refl, sym, ap, subst, ◌∙◌, arith, append_assoc, length-append}
+use Rattle.std.specs.List.{AllByRecursion}
+use Rattle.std.proofs.lemmas.List.{take_more}
+use Rattle.echo_packet.specs.declared.header.Header.{Header}
+use Rattle.echo_packet.specs.declared.limits.Limits.{Limits}
+use Rattle.echo_packet.specs.Header.{IsHeader, header_bytes, word}
+use Rattle.echo_packet.specs.Message.{AreMessages, IsMessage, IsString, Message, Text, before, ended, message_bytes, messages_bytes}
+use Rattle.echo_packet.specs.Packet.{PacketOf, packet_bytes}
+use Rattle.echo_packet.proofs.Runs.{messages_bytes-push}
+use Rattle.echo_base.proofs.Plain.{all_append}
+
+-- a message of a text of its own length
+abbrev pub IsWhole : Message → Type 0
+IsWhole m = IsMessage (length m.text) m
+
+-- the first messages, and one more
+pub one_more_message : (ms : List Message) (i : ℕ) (m : Message) → i < length ms → m ≡ get_or ms i m → take (i + 1) ms ≡ take i ms ++ m ∷ []
+one_more_message ms i m within is = take_more ms i m within ∙ ap (λ x. take i ms ++ x ∷ []) (sym is)
+
+pub one_more_whole : (ms : List Message) (i : ℕ) (m : Message) → i < length ms → m ≡ get_or ms i m → AllByRecursion IsWhole (take i ms) → IsWhole m
+    → AllByRecursion IsWhole (take (i + 1) ms)
+one_more_whole ms i m within is all whole =
+    subst (AllByRecursion IsWhole) (sym (one_more_message ms i m within is)) (all_append IsWhole (take i ms) (m ∷ []) all (whole, tt))
+
+pub one_more_written : (ms : List Message) (i : ℕ) (m : Message) (front old new : List ℕ) → i < length ms → m ≡ get_or ms i m
+    → old ≡ front ++ messages_bytes (take i ms) → new ≡ old ++ message_bytes m → new ≡ front ++ messages_bytes (take (i + 1) ms)
+one_more_written ms i m front old new within is so_far grown =
+    grown ∙ ap (λ l. l ++ message_bytes m) so_far ∙ append_assoc front (messages_bytes (take i ms)) (message_bytes m)
+    ∙ ap (λ l. front ++ l) (sym (messages_bytes-push (take i ms) m) ∙ ap messages_bytes (sym (one_more_message ms i m within is)))
+
+-- a message has its text's bytes and more
+text_within : (m : Message) → length m.text < length (message_bytes m)
+text_within m = omega (arith, length-append (before Text m) (ended m.text), length-append m.text (0 ∷ []))
+
+-- whole messages of few bytes keep a great limit
+longer : (most : ℕ) (m : Message) → IsWhole m → length m.text ≤ most → IsMessage most m
+longer most m is room = record {
+  orig_node = is.orig_node;
+  dest_node = is.dest_node;
+  orig_net = is.orig_net;
+  dest_net = is.dest_net;
+  attribute = is.attribute;
+  cost = is.cost;
+  date_len = is.date_len;
+  date = is.date;
+  to_name = is.to_name;
+  from_name = is.from_name;
+  subject = is.subject;
+  text = record { bytes = is.text.bytes; no_zero = is.text.no_zero; room = room };
+}
+
+each_longer : (most : ℕ) (ms : List Message) → AllByRecursion IsWhole ms → length (messages_bytes ms) ≤ most → AllByRecursion (IsMessage most) ms
+each_longer most [] all room = tt
+each_longer most (m ∷ ms) all room =
+    let sum = length-append (message_bytes m) (messages_bytes ms) in
+    let text = text_within m in
+    (longer most m all.0 (omega (arith, sum, text)), each_longer most ms all.1 (omega (arith, sum)))
+
+counted : (ms : List Message) → length ms ≤ length (messages_bytes ms)
+counted [] = omega arith
+counted (m ∷ ms) = omega (arith, length-append (message_bytes m) (messages_bytes ms), text_within m, counted ms)
+
+-- written bytes are a packet of the header and the messages
+pub written_packet : (most : ℕ) (h : Header) (ms : List Message) (bytes : List ℕ) → IsHeader h → AllByRecursion IsWhole ms → bytes ≡ packet_bytes h ms → length bytes ≤ most
+    → PacketOf (record { text = most; messages = most }) h ms bytes
+written_packet most h ms bytes is all whole room =
+    let size : length bytes ≡ length (packet_bytes h ms) = ap length whole in
+    let outer = length-append (header_bytes h) (messages_bytes ms ++ word 0) in
+    let inner = length-append (messages_bytes ms) (word 0) in
+    record {
+      header = is;
+      messages = record {
+        each = each_longer most ms all (omega (arith, size, outer, inner));
+        room = omega (arith, size, outer, inner, counted ms);
+      };
+      bytes = whole;
+    }

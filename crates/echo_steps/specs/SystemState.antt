@@ -1,0 +1,22 @@
+-- The state of a system: what posting, tossing, scanning and purging read and change.
+use Rattle.std.specs.Prelude.{ℕ, List, [], ◌∷◌, ◌++◌, Option, Some, None, option_to_list}
+use Rattle.echo_base.specs.Base.{Filed, IsBase, IsFile, LinkFile}
+
+-- what a system keeps: its link file, its base, and the cursor, before which messages were scanned
+pub record SystemState : Type 0 where
+  pub file : LinkFile
+  pub base : List Filed
+  pub cursor : ℕ
+
+-- what holds of it
+pub record IsState (s : SystemState) : Type 0 where
+  pub link_file : IsFile s.file
+  pub messages : IsBase s.base s.cursor
+
+-- the system that has filed nothing
+abbrev pub state_at_first : LinkFile → SystemState
+state_at_first file = record { file = file; base = []; cursor = 0 }
+
+-- the message, if there is one, is put at the end of the base; the link file and the cursor stay
+abbrev pub state_with : SystemState → Option Filed → SystemState
+state_with s m = record { file = s.file; base = s.base ++ option_to_list m; cursor = s.cursor }
