@@ -92,10 +92,6 @@ posting_keeps file base cursor tag draft serial stamp m h is e =
     subst P (sym p.is) (one_more base cursor (posted file tag draft serial stamp) is (posted_filed file base tag draft serial stamp h p.allowed) (posted_new file base tag draft serial stamp h p.allowed))
 
 -- bytes one by one
-each_byte : (bytes : List ℕ) → HasNoZero bytes → AllByRecursion (λ b. b ≢ 0) bytes
-each_byte [] h = tt
-each_byte (b ∷ bytes) h = (h 0 (omega arith), each_byte bytes (λ i inside. h (suc i) (omega arith)))
-
 received_filed : (most : ℕ) (sender : Address) (packed : Message) → HasSmallSender (Some sender) → IsMessage most packed → refusal packed.text ≡ None
     → IsFiled (received sender packed)
 unfolding received
@@ -111,7 +107,7 @@ received_filed most sender packed small is text =
       subject_room = is.subject.room;
       subject_bytes = is.subject.no_zero;
       is_echo = read_is_echo packed.text (echo_of packed.text) said.0
-          (All-from_recursion (λ b. b ≢ 0) packed.text (each_byte packed.text is.text.no_zero)) said.1;
+          is.text.no_zero said.1;
     }
 
 -- a toss keeps what holds of each base
