@@ -84,4 +84,4 @@ no_zero (b ∷ bytes) h =
 
 -- bytes of which none is 00
 pub some_bytes : (bytes : List ℕ) → list_any is_zero bytes ≡ false → HasNoZero bytes
-some_bytes bytes h = λ i inside. All-from_recursion (λ b. b ≢ 0) bytes (no_zero bytes h) i 0 inside
+some_bytes bytes h = All-from_recursion (λ b. b ≢ 0) bytes (no_zero bytes h)

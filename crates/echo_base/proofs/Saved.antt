@@ -121,11 +121,7 @@ sender_right short m o e = let P : Option Address → Bool = λ s. wrong short s
 
 string_right : (most : ℕ) (s : List ℕ) → length s ≤ most → HasNoZero s → is_no_string most s ≡ false
 string_right most s room bytes =
-    or_from (nat_lt most (length s)) (list_any is_zero s) (le-ltb most (length s) room) (none_zero s (each_byte s bytes))
-  where
-    each_byte : (s : List ℕ) → HasNoZero s → AllByRecursion (λ b. b ≢ 0) s
-    each_byte [] h = tt
-    each_byte (b ∷ s) h = (h 0 (omega arith), each_byte s (λ i inside. h (suc i) (omega arith)))
+    or_from (nat_lt most (length s)) (list_any is_zero s) (le-ltb most (length s) room) (none_zero s (recursion_from_All (λ b. b ≢ 0) s bytes))
 
 strings_right : (short : Bool) (m : Filed) → IsFiled m → has_wrong_string (stored_as short m) ≡ false
 strings_right short m h =

@@ -3,12 +3,11 @@ use Rattle.std.proofs.Common.{◌≡◌, ◌≢◌, ℕ, ◌-◌, ◌*◌, ◌�
 use Rattle.std.specs.Prelude.{bytes_eq, option_map, unwrap_or}
 use Rattle.std.specs.Int.{is_in_range}
 use Rattle.std.specs.Cmp.Lexicographic.{bytes_decides}
-use Rattle.std.specs.List.{AllByRecursion, list_any}
+use Rattle.std.specs.List.{list_any}
 use Rattle.std.proofs.lemmas.Bool.{and_parts, and_right, false_from_ne_true, leb-true, ltb-false, or_from, or_parts, true≢false}
 use Rattle.std.proofs.lemmas.List.{append-nil, append_assoc, length-append, length-drop, length-take}
-use Rattle.std.proofs.lemmas.List.Elements.{All-from_recursion}
 use Rattle.echo_addr.specs.declared.address.Address.{Address}
-use Rattle.echo_packet.specs.Message.{HasNoZero, IsMessage, Message}
+use Rattle.echo_packet.specs.Message.{IsMessage, Message}
 use Rattle.echo_text.specs.Echo.{msgid_of}
 use Rattle.echo_text.specs.Ids.{id_of, is_zero}
 use Rattle.echo_text.specs.Refusal.{refusal}
@@ -121,11 +120,6 @@ posting_keeps file base cursor tag draft serial stamp m h is e =
     let P : Filed → Type 0 = λ x. IsBase (base ++ x ∷ []) cursor in
     subst P (sym p.is) (one_more base cursor (posted file tag draft serial stamp) is (posted_filed file base tag draft serial stamp h p.allowed) (posted_new file base tag draft serial stamp h p.allowed))
 
--- bytes one by one
-each_byte : (bytes : List ℕ) → HasNoZero bytes → AllByRecursion (λ b. b ≢ 0) bytes
-each_byte [] h = tt
-each_byte (b ∷ bytes) h = (h 0 (omega arith), each_byte bytes (λ i inside. h (suc i) (omega arith)))
-
 received_filed : (most : ℕ) (sender : Address) (packed : Message) → HasSmallSender (Some sender) → IsMessage most packed → refusal packed.text ≡ None
     → IsFiled (received sender packed)
 unfolding received
@@ -141,7 +135,7 @@ received_filed most sender packed small is text =
       subject_room = is.subject.room;
       subject_bytes = is.subject.no_zero;
       is_echo = read_is_echo packed.text (echo_of packed.text) said.0
-          (All-from_recursion (λ b. b ≢ 0) packed.text (each_byte packed.text is.text.no_zero)) said.1;
+          is.text.no_zero said.1;
     }
 
 -- a toss keeps what holds of each base

@@ -60,13 +60,15 @@ fn write_packet<W: Sink + Drop>(device: W, message: &Packed) -> Result<W, Packet
     packet.finish()
 }
 
-// What a device that takes pieces and fails after so many bytes gets of the packet.
+// What a device that takes pieces and fails after so many bytes gets of the packet. The bytes behind
+// those stay FF.
 fn write_case(message: &Packed, piece: usize, left: u64) -> (Option<PacketFault>, usize) {
-    let mut out = [0u8; 212];
+    let mut out = [0xffu8; 212];
     let device = Watched::new(Trial::new(&mut out[..], piece, 0, left));
     let fault = write_packet(device, message).err();
     let same = out.iter().zip(&FIRST).take_while(|(a, b)| a == b).count();
-    (fault, same)
+    let untouched = out.iter().rev().take_while(|byte| **byte == 0xff).count();
+    (fault, same.min(212 - untouched))
 }
 
 #[test]
@@ -83,7 +85,7 @@ fn failing_writers_are_told(rt: HostRuntime) -> Result<(), Fail> {
     for left in 0u64..212 {
         let (fault, same) = write_case(&message, 212, left);
         assert_eq!(rt; fault, Some(PacketFault::Write { bytes: left }));
-        assert!(rt; left as usize <= same);
+        assert_eq!(rt; same, left as usize);
     }
     let (fault, _) = write_case(&message, 0, 212);
     assert_eq!(rt; fault, Some(PacketFault::Write { bytes: 0 }));
