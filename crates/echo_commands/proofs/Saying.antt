@@ -1,6 +1,5 @@
 -- What a text says is printed.
-use Rattle.std.proofs.Common.{◌≡◌, ℕ, List, ◌++◌, codes, Option, Some, None, Err, refl, sym, subst, ◌∙◌, inl, inr}
-use Rattle.std.proofs.lemmas.List.{get_or_default}
+use Rattle.std.proofs.Common.{◌≡◌, ℕ, List, ◌++◌, codes, Option, Some, None, Err, refl, sym, subst, inl, inr}
 use Rattle.std.specs.Io.KnownBytes.{Appends}
 use Rattle.std.proofs.KnownBytes.{Appends-trans}
 use Rattle.echo_packet.specs.Message.{IsMessage, Message}
@@ -13,9 +12,7 @@ use Rattle.echo_commands.specs.Shown.{MessageShown, Writes, message_lines}
 
 -- the text of a message has no 00
 pub text_has_no_zero : (most : ℕ) (m : Message) (text : List ℕ) → text ≡ m.text → IsMessage most m → HasNoZero text
-text_has_no_zero most m text is fits =
-    subst HasNoZero (sym is)
-    (λ k d within zero. fits.text.no_zero k within (get_or_default m.text k 0 d within ∙ zero))
+text_has_no_zero most m text is fits = subst HasNoZero (sym is) fits.text.no_zero
 
 -- the lines of an echomail text
 pub echo_shown : (text lines : List ℕ) (e : EchoText) (dropped : ℕ) → EchoOf text e dropped → lines ≡ echo_lines e dropped → TextShown text lines

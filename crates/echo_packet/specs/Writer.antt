@@ -1,7 +1,6 @@
 -- What a clause reads of a `PacketWriter`, and what its calls did.
-use Rattle.std.specs.Prelude.{◌≡◌, ℕ, ◌+◌, ◌<◌, Bool, List, length, take, Option}
-use Rattle.std.specs.Io.KnownBytes.{Appends}
-use Rattle.echo_device.specs.Device.{Failed, counted}
+use Rattle.std.specs.Prelude.{◌≡◌, ℕ, Bool, List, Option}
+use Rattle.echo_device.specs.Device.{Failed, SendsFront}
 use Rattle.echo_packet.specs.declared.writer.PacketWriter.{PacketWriter}
 use Rattle.echo_packet.specs.declared.fault.PacketFault.{PacketFault}
 use Rattle.echo_packet.specs.declared.fault.PacketFault.TheVariants.{Write}
@@ -18,12 +17,11 @@ bytes_sent p = p.sent
 abbrev pub has_stopped : {W : Type 0} → PacketWriter W → Bool
 has_stopped p = p.stopped
 
--- A call failed that took the writer by value: a front of the bytes went out, which lacks some. The fault counts them
--- and those that went out before.
+-- A call failed that took the writer by value: this is how it was left, after a front of the bytes that lacks some. The
+-- fault counts them and those that went out before.
 pub record IsLost {W : Type 0} (contents : W → Option (List ℕ)) (failures : W → ℕ) (writer : W) (bytes : List ℕ) (before : ℕ) (fault : PacketFault) : Type 0 where
   pub left : W
-  pub count : ℕ
-  pub lacks : count < length bytes
-  pub front : Appends (contents writer) (contents left) (take count bytes)
-  pub counts : fault ≡ Write (counted (before + count))
+  pub sent : ℕ
+  pub front : SendsFront (contents writer) (contents left) bytes before sent
+  pub counts : fault ≡ Write sent
   pub failed : Failed (failures writer) (failures left)
