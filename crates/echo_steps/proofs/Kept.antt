@@ -1,60 +1,27 @@
 -- What is filed keeps what holds of each base.
-use Rattle.std.proofs.Common.{◌≡◌, ◌≢◌, ℕ, ◌-◌, ◌*◌, ◌≤◌, nat_lt, nat_le, true, false, List, [], ◌∷◌, ◌++◌, suc, length, drop, codes, refl, sym, ap, subst, ◌∙◌, Option, Some, None, arith}
-use Rattle.std.specs.Prelude.{bytes_eq, option_map, unwrap_or}
+use Rattle.std.proofs.Common.{◌≡◌, ℕ, ◌-◌, ◌*◌, ◌≤◌, nat_lt, nat_le, true, false, List, [], ◌∷◌, ◌++◌, length, drop, codes, sym, ap, subst, ◌∙◌, Some, None, arith}
 use Rattle.std.specs.Int.{is_in_range}
-use Rattle.std.specs.Cmp.Lexicographic.{bytes_decides}
 use Rattle.std.specs.List.{list_any}
-use Rattle.std.proofs.lemmas.Bool.{and_parts, and_right, false_from_ne_true, leb-true, ltb-false, or_from, or_parts, true≢false}
-use Rattle.std.proofs.lemmas.List.{append-nil, append_assoc, length-append, length-drop, length-take}
+use Rattle.std.proofs.lemmas.Bool.{and_parts, leb-true, ltb-false, or_parts}
+use Rattle.std.proofs.lemmas.List.{length-append, length-drop, length-take}
 use Rattle.echo_addr.specs.declared.address.Address.{Address}
 use Rattle.echo_packet.specs.Message.{IsMessage, Message}
-use Rattle.echo_text.specs.Echo.{msgid_of}
 use Rattle.echo_text.specs.Ids.{id_of, is_zero}
 use Rattle.echo_text.specs.Refusal.{refusal}
 use Rattle.echo_steps.specs.declared.draft.Draft.{Draft}
 use Rattle.echo_base.specs.declared.key.Key.TheVariants.{ById}
 use Rattle.echo_steps.specs.declared.stamp.Stamp.{Stamp}
-use Rattle.echo_base.specs.Base.{AreNew, Filed, HasSmallSender, IsBase, IsFile, IsFiled, LinkFile, is_known, key_of, key_with, same_key}
+use Rattle.echo_base.specs.Base.{Filed, HasSmallSender, IsBase, IsFile, IsFiled, LinkFile, is_known, key_of, key_with}
 use Rattle.echo_steps.specs.Stamps.{date_of, is_stamp, month_name, two_digits}
-use Rattle.echo_steps.specs.Posting.{IsAllowed, has_id, posted, posting}
+use Rattle.echo_steps.specs.Posting.{IsAllowed, posted, posting}
 use Rattle.echo_steps.specs.Tossing.{received, tossing}
 use Rattle.echo_text.proofs.Reread.{read_is_echo}
 use Rattle.echo_base.specs.Written.{echo_of}
 use Rattle.echo_steps.proofs.Received.{tossing_received}
+use Rattle.echo_base.proofs.Entries.{none_known, one_more}
 use Rattle.echo_base.proofs.Texts.{says_read}
-use Rattle.echo_base.proofs.Plain.{all_append, no_zero, some_bytes}
+use Rattle.echo_base.proofs.Plain.{no_zero, some_bytes}
 use Rattle.echo_steps.proofs.Posted.{posted_id, posted_is_echo, posting_posted}
-
--- one more message that is new
-one_more_new : (earlier base : List Filed) (m : Filed) → AreNew earlier base → is_known (earlier ++ base) (key_of m) ≡ false → AreNew earlier (base ++ m ∷ [])
-one_more_new earlier [] m h new =
-    let P : List Filed → Type 0 = λ l. is_known l (key_of m) ≡ false in
-    (subst P (append-nil earlier) new, tt)
-one_more_new earlier (b ∷ base) m h new =
-    let P : List Filed → Type 0 = λ l. is_known l (key_of m) ≡ false in
-    (h.0, one_more_new (earlier ++ b ∷ []) base m h.1 (subst P (sym (append_assoc earlier (b ∷ []) base)) new))
-
--- one more message at the end of a base
-pub one_more : (base : List Filed) (cursor : ℕ) (m : Filed) → IsBase base cursor → IsFiled m → is_known base (key_of m) ≡ false → IsBase (base ++ m ∷ []) cursor
-one_more base cursor m h filed new = record {
-  each = all_append IsFiled base (m ∷ []) h.each (filed, tt);
-  new = one_more_new [] base m h.new new;
-  within = let within = h.within in omega (arith, length-append base (m ∷ []));
-}
-
--- a message with another id has another key
-other_key : (b : Filed) (tag id : List ℕ) (has : Option (List ℕ)) → unwrap_or (option_map (bytes_eq id) has) false ≡ false → same_key (key_with b has) (ById tag id) ≡ false
-other_key b tag id None h = refl
-other_key b tag id (Some x) h =
-    and_right (bytes_eq b.echo.tag tag) (bytes_eq x id)
-    (false_from_ne_true (bytes_eq x id) (λ e. true≢false (sym ((bytes_decides id x).1 (sym ((bytes_decides x id).0 e))) ∙ h)))
-
-none_known : (base : List Filed) (tag id : List ℕ) → list_any (has_id id) base ≡ false → is_known base (ById tag id) ≡ false
-unfolding key_of
-none_known [] tag id h = refl
-none_known (b ∷ base) tag id h =
-    let parts = or_parts (has_id id b) (list_any (has_id id) base) h in
-    or_from (same_key (key_of b) (ById tag id)) (is_known base (ById tag id)) (other_key b tag id (msgid_of b.echo.kept) parts.0) (none_known base tag id parts.1)
 
 -- DateTime has 20 bytes
 month_long : (month : ℕ) → 1 ≤ month → month ≤ 12 → length (month_name month) ≡ 3
