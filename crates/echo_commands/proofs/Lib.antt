@@ -1,5 +1,9 @@
 pub mod Padding
-pub mod Pieces
+pub mod Inputs
+pub mod Pushed
+pub mod Stopping
 pub mod Printed
+pub mod Answering
+pub mod Entries
 pub mod Saying
 pub mod OnePrinting

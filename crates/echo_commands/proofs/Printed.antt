@@ -1,17 +1,27 @@
 -- What was printed of a packet.
-use Rattle.std.proofs.Common.{◌≡◌, ℕ, ◌+◌, ◌^◌, ◌<◌, List, [], ◌∷◌, ◌++◌, Option, Ok, length, refl, sym, ap, ◌∙◌, subst, arith, append_assoc, append-nil, add-zero}
+use Rattle.std.proofs.Common.{◌≡◌, ℕ, ◌+◌, ◌^◌, ◌<◌, ◌⊎◌, inl, inr, List, [], ◌∷◌, ◌++◌, Option, Ok, Err, length, refl, sym, ap, ◌∙◌, subst, arith, append_assoc, append-nil, add-zero}
 use Rattle.std.proofs.lemmas.List.{length-append}
 use Rattle.std.specs.Io.KnownBytes.{Appends}
-use Rattle.std.proofs.KnownBytes.{Appends-trans}
+use Rattle.std.proofs.KnownBytes.{Appends-nil, Appends-trans}
+use Rattle.echo_device.proofs.Devices.{Failed-never}
 use Rattle.echo_packet.specs.declared.header.Header.{Header}
 use Rattle.echo_packet.specs.declared.reader.Stage.{Stage}
 use Rattle.echo_packet.specs.declared.limits.Limits.{Limits}
 use Rattle.echo_packet.specs.Header.{header_bytes}
 use Rattle.echo_packet.specs.Message.{Message, message_bytes, messages_bytes}
 use Rattle.echo_packet.specs.Answer.{Describes}
-use Rattle.echo_packet.specs.Run.{SoFar}
+use Rattle.echo_packet.specs.declared.fault.PacketFault.{PacketFault}
+use Rattle.echo_packet.specs.declared.fault.PacketFault.TheVariants as fault
+use Rattle.echo_packet.specs.Fault.{FaultOf}
+use Rattle.echo_packet.specs.Next.{CountsFailures, NextFault}
+use Rattle.echo_packet.specs.Reader.{FailedOnce, FrontFault}
+use Rattle.echo_packet.specs.Run.{IsOfCall, SoFar}
+use Rattle.echo_packet.proofs.Runs.{run-fails}
 use Rattle.echo_packet.proofs.Headers.{length-header_bytes}
 use Rattle.echo_packet.proofs.Slices.{HasGiven}
+use Rattle.echo_commands.specs.declared.fault.Fault.TheVariants.{Packet}
+use Rattle.echo_commands.specs.Ended.{IsWantOfMemory}
+use Rattle.echo_commands.specs.Showing.{IsBroken, PacketAnswers}
 use Rattle.echo_commands.specs.Shown.{IsPrinted, MessageShown, MessagesShown, Writes, header_lines, end_line, show_limits}
 
 -- the header and the messages that were given are printed, and the next one begins at this place
@@ -23,6 +33,20 @@ pub record HasPrinted (bytes rest : List ℕ) (header : Header) (own : Limits) (
   pub lines : List ℕ
   pub each : MessagesShown 1 58 messages lines
   pub printed : Appends old new (header_lines header ++ lines)
+
+-- what is wrong with bytes that do not begin with a header
+front_fault : (bytes : List ℕ) (f : PacketFault) → FrontFault bytes f → (((at : ℕ) → f ≡ fault.Read at → ⊥)) → FaultOf bytes show_limits [] f
+front_fault bytes (fault.Truncated at) h alive = inl (h.0, refl, h.1)
+front_fault bytes (fault.NotType2 at) h alive = (h.0, refl, h.1, h.2)
+front_fault bytes (fault.Read at) h alive = absurd (alive at refl)
+front_fault bytes (fault.NotMessage at) h alive = absurd h
+front_fault bytes (fault.FieldTooLong at) h alive = absurd h
+front_fault bytes (fault.TextTooLong at) h alive = absurd h
+front_fault bytes fault.Memory h alive = absurd h
+front_fault bytes fault.Stopped h alive = absurd h
+front_fault bytes (fault.Write n) h alive = absurd h
+front_fault bytes (fault.TooManyMessages at) h alive = absurd h
+front_fault bytes (fault.BadField n) h alive = absurd h
 
 -- the header is printed
 pub header_printed : (bytes rest : List ℕ) (h : Header) (own : Limits) (given at : ℕ) (next : Stage) (old new : Option (List ℕ)) (place : ℕ)
@@ -105,6 +129,71 @@ end_printed bytes rest h new_h own given at next old mid new count place size be
         written = Appends-trans old mid new _ _ before.printed line;
       };
     }
+
+-- a fault of the header: nothing is printed
+pub front_refused : (bytes : List ℕ) (f : PacketFault) (old : Option (List ℕ)) → FrontFault bytes f → (((at : ℕ) → f ≡ fault.Read at → ⊥))
+    → IsBroken bytes old old (Packet f)
+front_refused bytes f old wrong alive = record {
+  why = f;
+  is = refl;
+  messages = [];
+  of_bytes = front_fault bytes f wrong alive;
+  printed = record { lines = []; are = inl (wrong, refl); written = Appends-nil old };
+}
+
+-- a slice never fails
+pub never_read : (R : Type 0) (source : R) (f : PacketFault) → FailedOnce (λ (_ : R). 0) source f → (at : ℕ) → f ≡ fault.Read at → ⊥
+never_read R source f failed at is =
+    let h : FailedOnce (λ (_ : R). 0) source (fault.Read at) = subst (λ x. FailedOnce (λ (_ : R). 0) source x) is failed in
+    Failed-never h.1
+
+-- what the fault of a call on a slice is
+call_judged : (f : PacketFault) (P : Type 0) → P ⊎ IsOfCall f → CountsFailures {A = Option Message} (Err f) 0 0 → P ⊎ (f ≡ fault.Memory)
+call_judged f P (inl wrong) device = inl wrong
+call_judged (fault.Read at) P (inr call) device = absurd (Failed-never device)
+call_judged fault.Memory P (inr call) device = inr refl
+call_judged (fault.Truncated at) P (inr call) device = absurd call
+call_judged (fault.NotType2 at) P (inr call) device = absurd call
+call_judged (fault.NotMessage at) P (inr call) device = absurd call
+call_judged (fault.FieldTooLong at) P (inr call) device = absurd call
+call_judged (fault.TextTooLong at) P (inr call) device = absurd call
+call_judged fault.Stopped P (inr call) device = absurd call
+call_judged (fault.Write at) P (inr call) device = absurd call
+call_judged (fault.TooManyMessages at) P (inr call) device = absurd call
+call_judged (fault.BadField at) P (inr call) device = absurd call
+
+-- a fault after the header: its lines and those of the messages before it are printed
+pub message_refused : (bytes rest : List ℕ) (h : Header) (own : Limits) (given at : ℕ) (next : Stage) (old new : Option (List ℕ)) (count place : ℕ) (f : PacketFault) (before after : ℕ)
+    → HasPrinted bytes rest h own given at next old new count place → NextFault own given at rest f → CountsFailures {A = Option Message} (Err f) 0 0 → after ≡ before
+    → PacketAnswers bytes old new before after (Err (Packet f))
+message_refused bytes rest h own given at next old new count place f before after done wrong device same =
+    let so = done.so_far.so_far in
+    let here : NextFault show_limits given at rest f = subst (λ l. NextFault l given at rest f) done.so_far.same wrong in
+    elim (call_judged f (FaultOf bytes show_limits done.messages f) (run-fails show_limits bytes h done.messages rest given at f so here) device) [
+      | inl found ↦ inr (
+        record {
+          why = f;
+          is = refl;
+          messages = done.messages;
+          of_bytes = found;
+          printed = record {
+            lines = header_lines h ++ done.lines;
+            are = inr (record {
+              header = h;
+              rest = messages_bytes done.messages ++ rest;
+              is_header = so.is_header;
+              begins = so.bytes;
+              of_messages = done.lines;
+              each = done.each;
+              whole = refl;
+            });
+            written = done.printed;
+          };
+        },
+        same,
+      )
+      | inr memory ↦ let want : IsWantOfMemory (Packet f) = subst (λ g. IsWantOfMemory (Packet g)) (sym memory) tt in inl (inr (want, same))
+    ]
 
 -- a message takes bytes
 pub shorter : (rest after : List ℕ) (m : Message) → rest ≡ message_bytes m ++ after → length after < length rest

@@ -1,14 +1,15 @@
 -- What a text says is printed.
-use Rattle.std.proofs.Common.{◌≡◌, ℕ, List, ◌++◌, codes, Option, Some, None, Err, refl, sym, subst, inl, inr}
-use Rattle.std.specs.Io.KnownBytes.{Appends}
-use Rattle.std.proofs.KnownBytes.{Appends-trans}
+use Rattle.std.proofs.Common.{◌≡◌, ◌≢◌, ℕ, Bool, true, false, not, if◌then◌else◌, List, ◌++◌, codes, Option, Some, None, Err, refl, sym, ap, subst, ◌∙◌, append_assoc, inl, inr}
+use Rattle.std.proofs.lemmas.List.{get_or_default}
 use Rattle.echo_packet.specs.Message.{IsMessage, Message}
-use Rattle.echo_text.specs.declared.fault.TextFault.TheVariants.{BadTag, NotEcho}
+use Rattle.echo_text.specs.declared.fault.TextFault.{TextFault}
+use Rattle.echo_text.specs.declared.fault.TextFault.TheVariants.{BadMsgId, BadTag, Memory, NotEcho}
 use Rattle.echo_text.specs.Echo.{EchoOf, EchoText, HasNoZero}
-use Rattle.echo_text.specs.Refusal.{Answers}
+use Rattle.echo_text.specs.Lines.{area_tag, first_line, is_area, is_tag, lines}
+use Rattle.echo_text.specs.Refusal.{Answers, refusal}
 use Rattle.echo_text.proofs.SaidAfter.{not_refused}
 use Rattle.echo_commands.specs.Said.{LinesFor, TextShown, echo_lines}
-use Rattle.echo_commands.specs.Shown.{MessageShown, Writes, message_lines}
+use Rattle.echo_commands.specs.Shown.{MessageShown, Pushes, message_lines}
 
 -- the text of a message has no 00
 pub text_has_no_zero : (most : ℕ) (m : Message) (text : List ℕ) → text ≡ m.text → IsMessage most m → HasNoZero text
@@ -35,10 +36,28 @@ bad_tag_shown text answer = elim answer [
 ]
 
 -- the lines of a message and those of what its text says
-pub message_shown : (number place : ℕ) (m : Message) (text : List ℕ) (old mid new : Option (List ℕ)) → text ≡ m.text
-    → Appends old mid (message_lines number place m) → Writes (TextShown text) mid new → Writes (MessageShown number place m) old new
+pub message_shown : (number place : ℕ) (m : Message) (text old mid new : List ℕ) → text ≡ m.text
+    → mid ≡ old ++ message_lines number place m → Pushes (TextShown text) mid new → Pushes (MessageShown number place m) old new
 message_shown number place m text old mid new is fields said = record {
   lines = message_lines number place m ++ said.lines;
   are = record { said = said.lines; text = subst (λ t. TextShown t said.lines) is said.are; whole = refl };
-  written = Appends-trans old mid new _ _ fields said.written;
+  whole = said.whole ∙ ap (λ t. t ++ said.lines) fields ∙ append_assoc old (message_lines number place m) said.lines;
 }
+
+-- no AREA line tells of a bad id
+no_id : (a b : Bool) → (if a then Some NotEcho else if b then Some BadTag else None) ≡ Some BadMsgId → ⊥
+no_id true b is = absurd cc
+no_id false true is = absurd cc
+no_id false false is = absurd cc
+
+pub no_bad_id : (text : List ℕ) → refusal text ≡ Some BadMsgId → ⊥
+unfolding refusal
+no_bad_id text is = no_id (not (is_area (first_line (lines text)))) (not (is_tag (area_tag (first_line (lines text))))) is
+
+-- a text is refused for other reasons only where memory was wanting
+pub other_fault : (text : List ℕ) (f : TextFault) → Answers text (Err f) → f ≢ NotEcho → f ≢ BadTag → f ≡ Memory
+other_fault text NotEcho answer a b = absurd (a refl)
+other_fault text BadTag answer a b = absurd (b refl)
+other_fault text Memory answer a b = refl
+other_fault text BadMsgId (inl is) a b = absurd (no_bad_id text is)
+other_fault text BadMsgId (inr memory) a b = memory.1

@@ -1,6 +1,8 @@
 -- What `show` prints of a packet.
 use Rattle.std.specs.Prelude.{◌≡◌, ℕ, ◌+◌, ◌-◌, List, [], ◌∷◌, ◌++◌, length, replicate, codes, decimal, filter, ◌≤◌, take, not, Bool, true, false, ◌||◌, ◌==◌, Option, Ok}
 use Rattle.std.specs.Io.KnownBytes.{Appends}
+use Rattle.echo_addr.specs.declared.address.Address.{Address}
+use Rattle.echo_addr.specs.Address.{address_text}
 use Rattle.echo_packet.specs.declared.limits.Limits.{Limits}
 use Rattle.echo_packet.specs.Packet.{PacketOf}
 use Rattle.hex.specs.Hex.{encode_lower, decode_of}
@@ -13,10 +15,6 @@ use Rattle.echo_commands.specs.Said.{TextShown}
 unfoldable pub zero_padded : ℕ → ℕ → List ℕ
 zero_padded digits n = replicate (digits - length (decimal n)) 48 ++ decimal n
 
--- zone:net/node
-abbrev pub address : ℕ → ℕ → ℕ → List ℕ
-address zone net node = decimal zone ++ (codes ":" ++ (decimal net ++ (codes "/" ++ decimal node)))
-
 -- the day of the header, its month counted from 1
 abbrev pub date : Header → List ℕ
 date h = zero_padded 4 h.year ++ (codes "-" ++ (zero_padded 2 (h.month + 1) ++ (codes "-" ++ zero_padded 2 h.day)))
@@ -25,16 +23,24 @@ date h = zero_padded 4 h.year ++ (codes "-" ++ (zero_padded 2 (h.month + 1) ++ (
 abbrev pub time : Header → List ℕ
 time h = zero_padded 2 h.hour ++ (codes ":" ++ (zero_padded 2 h.minute ++ (codes ":" ++ zero_padded 2 h.second)))
 
+-- the end of the first line: the product and the serial number of its release
+abbrev pub product : Header → List ℕ
+product h = codes " product " ++ (decimal h.prod_code ++ (codes " serial " ++ (decimal h.serial_no ++ codes "\n")))
+
+-- the systems that the header names
+abbrev pub sender : Header → Address
+sender h = record { zone = h.orig_zone; net = h.orig_net; node = h.orig_node }
+
+abbrev pub destination : Header → Address
+destination h = record { zone = h.dest_zone; net = h.dest_net; node = h.dest_node }
+
 -- from which system to which
 abbrev pub systems : Header → List ℕ
-systems h =
-    codes "packet " ++ (address h.orig_zone h.orig_net h.orig_node ++ (codes " to " ++ address h.dest_zone h.dest_net h.dest_node))
+systems h = codes "packet " ++ (address_text (sender h) ++ (codes " to " ++ address_text (destination h)))
 
 -- the line of the two systems, the moment and the product
 abbrev pub packet_line : Header → List ℕ
-packet_line h =
-    systems h ++ (codes " at " ++ (date h ++ (codes " " ++ (time h ++ (codes " product " ++ (decimal h.prod_code
-    ++ (codes " serial " ++ (decimal h.serial_no ++ codes "\n"))))))))
+packet_line h = systems h ++ (codes " at " ++ (date h ++ (codes " " ++ (time h ++ product h))))
 
 -- the three lines of a header
 abbrev pub header_lines : Header → List ℕ
@@ -49,11 +55,17 @@ net_node net node = decimal net ++ (codes "/" ++ decimal node)
 abbrev pub route : Message → List ℕ
 route m = net_node m.orig_net m.orig_node ++ (codes " to " ++ net_node m.dest_net m.dest_node)
 
+-- a message's number and the place where it begins
+abbrev pub numbered : ℕ → ℕ → List ℕ
+numbered number place = codes "message " ++ (decimal number ++ (codes " at " ++ (decimal place ++ codes ": ")))
+
+-- a message's attribute word and its cost
+abbrev pub costing : Message → List ℕ
+costing m = codes " attribute " ++ (decimal m.attribute ++ (codes " cost " ++ (decimal m.cost ++ codes "\n")))
+
 -- the line of a message's number, the place where it begins, its systems and numbers
 abbrev pub message_line : ℕ → ℕ → Message → List ℕ
-message_line number place m =
-    codes "message " ++ (decimal number ++ (codes " at " ++ (decimal place ++ (codes ": " ++ (route m
-    ++ (codes " attribute " ++ (decimal m.attribute ++ (codes " cost " ++ (decimal m.cost ++ codes "\n")))))))))
+message_line number place m = numbered number place ++ (route m ++ costing m)
 
 -- the line of the length of a text
 abbrev pub text_line : ℕ → List ℕ
@@ -104,6 +116,12 @@ Stands true input bytes = decode_of (hex_text input) ≡ Ok bytes
 -- what `show` takes: texts of 16 MiB and any number of messages
 abbrev pub show_limits : Limits
 show_limits = record { text = 16777216; messages = 18446744073709551615 }
+
+-- lines of this kind were added
+pub record Pushes (AreLines : List ℕ → Type 0) (old new : List ℕ) : Type 0 where
+  pub lines : List ℕ
+  pub are : AreLines lines
+  pub whole : new ≡ old ++ lines
 
 -- lines of this kind were written
 pub record Writes (AreLines : List ℕ → Type 0) (old new : Option (List ℕ)) : Type 0 where

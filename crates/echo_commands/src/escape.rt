@@ -1,8 +1,9 @@
 //! Bytes as they are printed.
-ghost use Rattle.std.specs.Prelude.{◌≡◌, ◌++◌, codes, IfOk, OnOk};
+ghost use Rattle.std.specs.Prelude.{◌≡◌, ◌++◌, codes, IsOk, OnOk};
 ghost use Rattle.echo_commands.specs.Escaped.{escaped, escaped_byte, escaped_line};
 
-use std::alloc::{AllocError, Global};
+use std::alloc::AllocError;
+use std::io;
 
 /// The digits of a byte that is not printed as it is.
 const DIGITS: [u8; 16] = *b"0123456789abcdef";
@@ -33,21 +34,22 @@ fn push_bytes(line: &mut Vec<u8>, bytes: &[u8]) -> Result<(), AllocError>
 }
 
 /// Adds the line of a word, a blank and the bytes.
-pub fn push_escaped(lines: &mut Vec<u8>, word: &str, bytes: &[u8]) -> Result<(), AllocError>
+pub fn push_escaped(lines: &mut Vec<u8>, word: &[u8], bytes: &[u8]) -> Result<(), AllocError>
     ensures { OnOk result (lines.new.items ≡ lines.old.items ++ escaped_line word.now bytes.now) }
 {
-    lines.extend_from_slice(word.as_bytes())?;
+    lines.extend_from_slice(word)?;
     lines.push(b' ')?;
     push_bytes(lines, bytes)?;
     lines.push(b'\n')?;
     Ok(())
 }
 
-/// The line of a word, a blank and the bytes.
-pub fn escaped_text(alloc: Global, word: &str, bytes: &[u8]) -> Result<Vec<u8>, AllocError>
-    ensures { IfOk result (λ line. line.items ≡ escaped_line word.now bytes.now) }
+/// What writing to a vector answers, which fails only for want of memory.
+pub fn written(answer: io::Result<()>) -> Result<(), AllocError>
+    ensures { OnOk result (IsOk answer) }
 {
-    let mut line = Vec::new(alloc);
-    push_escaped(&mut line, word, bytes)?;
-    Ok(line)
+    match answer {
+        Ok(()) => Ok(()),
+        Err(_) => Err(AllocError),
+    }
 }

@@ -1,7 +1,9 @@
-ghost use Rattle.std.specs.Prelude.{◌≡◌, ◌≢◌};
+ghost use Rattle.std.specs.Prelude.{◌≡◌};
 ghost use Rattle.echo_commands.specs.declared.fault.Fault.TheVariants.{Nodelist, OutOfMemory, Packet};
+ghost use Rattle.echo_commands.specs.Status.{status_of};
 
 use crate::status::Status;
+use echo_device::Sink;
 use echo_nodelist::NodeFault;
 use echo_packet::PacketFault;
 use echo_text::TextFault;
@@ -22,8 +24,10 @@ pub enum Fault<'a> {
     BadHex,
     #[error("bad address")]
     BadAddress,
+    /// A file, or standard input as `-`, has more bytes than allowed.
     #[error("file too large {0}")]
     TooLarge(&'a str),
+    /// A file, or standard input or output as `-`, failed.
     #[error("cannot use {0}")]
     CannotUse(&'a str),
     #[error("out of memory")]
@@ -57,8 +61,7 @@ impl From<AllocError> for Fault<'_> {
 impl Fault<'_> {
     /// A fault of a device or of memory is `Device`, every other one `Refused`.
     pub fn status(&self) -> Status
-        ensures good { result ≢ Status.Good }
-        ensures differs { result ≢ Status.Differs }
+        ensures { result ≡ status_of self.now }
     {
         match self {
             Fault::Packet(
@@ -79,9 +82,8 @@ impl Fault<'_> {
 
     /// Writes the fault's line, and answers the status. Where the line can't be written, the status
     /// still tells of the fault.
-    pub fn report<E: Write>(&self, errors: &mut E) -> Status
-        ensures good { result ≢ Status.Good }
-        ensures differs { result ≢ Status.Differs }
+    pub fn report<E: Sink>(&self, errors: &mut E) -> Status
+        ensures { result ≡ status_of self.now }
     {
         let _ = writeln!(errors, "echonet: {self}");
         self.status()

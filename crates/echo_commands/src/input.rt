@@ -1,51 +1,78 @@
-ghost use Rattle.std.specs.Prelude.{◌≡◌, ◌≤◌, ◌<◌, IfOk, IfErr, IfSome, IsErrOf, MatchResult, length, vec_len};
-ghost use Rattle.std.specs.Io.KnownBytes.{Consumes, ReadConsumes};
+ghost use Rattle.std.specs.Prelude.{◌≡◌, ◌≢◌, ◌+◌, ◌≤◌, ◌<◌, ◌++◌, drop, length, replicate, take, IfErr, IfOk, IfSome, IsErrOf, OnErr, OnOk};
+ghost use Rattle.echo_device.specs.Device.{Failed, Fills};
 ghost use Rattle.echo_commands.specs.declared.input.InputFault.TheVariants.{Device, Memory, TooLarge};
+ghost use Rattle.echo_commands.specs.Input.{ReadsOn};
 
+use echo_device::{Failure, Source, fill};
 use std::alloc::{AllocError, Global};
-use std::io::{ErrorKind, Read};
 
 /// Why an input was not read.
 #[derive(Clone, Copy, Debug, PartialEq, Eq)]
 pub enum InputFault {
     /// It has more bytes than allowed.
     TooLarge,
-    /// The reader failed. Sixteen interruptions in a row are a failure.
+    /// The reader failed.
     Device,
     Memory,
+}
+
+impl From<AllocError> for InputFault {
+    ghost from_gives = { λ _ fault. fault ≡ Memory };
+
+    fn from(_refused: AllocError) -> InputFault {
+        InputFault::Memory
+    }
+}
+
+impl From<Failure> for InputFault {
+    ghost from_gives = { λ _ fault. fault ≡ Device };
+
+    fn from(_failed: Failure) -> InputFault {
+        InputFault::Device
+    }
 }
 
 /// How many bytes are asked for at once.
 const PIECE: usize = 65_536;
 
-/// Interruptions in a row that are a failure.
-const PATIENCE: usize = 16;
-
-// One read that gave bytes or met the end.
-fn read_piece<R: Read>(reader: &mut R, piece: &mut [u8]) -> Result<usize, InputFault>
-    ensures bound { IfOk result (λ n. n ≤ length piece.new) }
-    ensures bytes { ReadConsumes (R.remaining reader.old) (R.remaining reader.new) result piece.new }
-    ensures device { IfErr result (λ e. e ≡ Device) }
+// Makes room for a piece after the bytes that are there.
+fn make_room(whole: &mut Vec<u8>) -> Result<(), InputFault>
+    ensures ok { OnOk result (whole.new.items ≡ whole.old.items ++ replicate 65536 0) }
+    ensures err { IfErr result (λ fault. fault ≡ Memory) }
 {
-    'tries: for _ in 0..PATIENCE {
-        match reader.read(piece) {
-            Ok(n) => return Ok(n),
-            Err(e) if e.kind() == ErrorKind::Interrupted => {}
-            Err(_) => return Err(InputFault::Device),
-        }
-    }
-    Err(InputFault::Device)
+    let size = whole.len() + PIECE;
+    whole.resize(size, 0)?;
+    Ok(())
 }
 
-// Room for a piece.
-fn room(alloc: Global, size: usize) -> Result<Vec<u8>, InputFault>
-    ensures { MatchResult result (λ v. vec_len v ≡ size) (λ e. e ≡ Memory) }
+// Reads into `buf` from `at` on until it is full or nothing is left.
+fn fill_from<R: Source>(reader: &mut R, buf: &mut [u8], at: usize) -> Result<usize, Failure>
+    requires { at ≤ length buf.old }
+    ensures front { take at buf.new ≡ take at buf.old }
+    ensures within { IfOk result (λ count. at + count ≤ length buf.new) }
+    ensures bytes { Fills (R.remaining reader.old) (R.remaining reader.new) result (drop at buf.new) }
+    ensures ok { OnOk result (R.failures reader.new ≡ R.failures reader.old) }
+    ensures err { OnErr result (Failed (R.failures reader.old) (R.failures reader.new)) }
 {
-    vec![in alloc; 0u8; size].map_err(|_| InputFault::Memory)
+    fill(reader, &mut buf[at..])
+}
+
+// Reads a piece to the end of `whole`, a short one only where nothing is left.
+fn read_piece<R: Source>(reader: &mut R, whole: &mut Vec<u8>) -> Result<usize, InputFault>
+    ensures bytes { IfOk result (λ count. ReadsOn (R.remaining reader.old) (R.remaining reader.new) whole.old.items whole.new.items count 65536) }
+    ensures device { IsErrOf result Device → Failed (R.failures reader.old) (R.failures reader.new) }
+    ensures ok { OnOk result (R.failures reader.new ≡ R.failures reader.old) }
+    ensures large { IfErr result (λ fault. fault ≢ TooLarge) }
+{
+    let start = whole.len();
+    make_room(whole)?;
+    let came = fill_from(reader, whole.as_mut_slice(), start)?;
+    whole.truncate(start + came);
+    Ok(came)
 }
 
 /// All bytes of the reader, where they are at most so many.
-pub fn read_whole<R: Read>(
+pub fn read_whole<R: Source>(
     alloc: Global,
     reader: &mut R,
     most: usize,
@@ -53,20 +80,18 @@ pub fn read_whole<R: Read>(
     ensures bounded { IfOk result (λ v. length v.items ≤ most) }
     ensures all { IfOk result (λ v. IfSome (R.remaining reader.old) (λ bytes. v.items ≡ bytes)) }
     ensures large { IsErrOf result TooLarge → IfSome (R.remaining reader.old) (λ bytes. most < length bytes) }
+    ensures device { IsErrOf result Device → Failed (R.failures reader.old) (R.failures reader.new) }
+    ensures ok { OnOk result (R.failures reader.new ≡ R.failures reader.old) }
 {
-    let mut piece = room(alloc, PIECE)?;
     let mut whole = Vec::new(alloc);
-    'pieces: for _ in 0..u64::MAX {
-        let n = read_piece(reader, &mut piece)?;
-        if n == 0 {
-            return Ok(whole);
+    'pieces: while whole.len() <= most {
+        let came = read_piece(reader, &mut whole)?;
+        if came < PIECE {
+            break;
         }
-        if n > most - whole.len() {
-            return Err(InputFault::TooLarge);
-        }
-        whole
-            .extend_from_slice(&piece[..n])
-            .map_err(|_| InputFault::Memory)?;
     }
-    Err(InputFault::Device)
+    if whole.len() > most {
+        return Err(InputFault::TooLarge);
+    }
+    Ok(whole)
 }

@@ -1,16 +1,19 @@
-ghost use Rattle.std.specs.Prelude.{◌≡◌, false, true, IfErr, IfOk, IsSome};
+ghost use Rattle.std.specs.Prelude.{◌≡◌, IfErr, IfOk, IsSome, None, OnOk};
+ghost use Rattle.std.specs.Io.KnownBytes.{Appends, append_known};
 ghost use Rattle.echo_addr.specs.Address.{AddressOf, refusal};
 ghost use Rattle.echo_commands.specs.declared.fault.Fault.TheVariants.{BadAddress};
-ghost use Rattle.echo_nodelist.specs.CrcLine.{crc_line_of};
-ghost use Rattle.echo_commands.specs.Listed.{agrees};
+ghost use Rattle.echo_commands.specs.Ended.{Ends, Stops};
+ghost use Rattle.echo_commands.specs.Listed.{ListAnswers, Listed, RestListed, addressed_text, crc_status};
+ghost use Rattle.echo_commands.specs.Shown.{Writes};
 
 use crate::fault::Fault;
-use crate::nodelist_text::{crc_text, entries_text, found_text};
-use crate::status::Status;
+use crate::nodelist_text::{push_crc, push_entry, push_found, push_total};
+use crate::printing::{pass_on, print_rest};
+use crate::status::{Status, ended};
 use echo_addr::Address;
-use echo_nodelist::{CrcLine, Nodelist, crc_line};
+use echo_device::Sink;
+use echo_nodelist::{CrcLine, Line, Nodelist, crc_line};
 use std::alloc::Global;
-use std::io::Write;
 
 /// The address that the word after `--find` writes.
 pub fn wanted<'a>(word: &str) -> Result<Address, Fault<'a>>
@@ -25,44 +28,94 @@ pub fn wanted<'a>(word: &str) -> Result<Address, Fault<'a>>
 
 /// `nodelist [--find ADDRESS] FILE`: prints what the nodelist states of its checksum, and its entries
 /// or the one with the address. Of a faulty nodelist nothing is printed; the fault goes to `errors`.
-pub fn nodelist<W: Write, E: Write>(
+pub fn nodelist<W: Sink, E: Sink>(
     alloc: Global,
     find: Option<Address>,
     input: &[u8],
     out: &mut W,
     errors: &mut E,
 ) -> Status
-    ensures good { result ≡ Status.Good → agrees (crc_line_of input.now) ≡ true }
-    ensures differs { result ≡ Status.Differs → agrees (crc_line_of input.now) ≡ false }
+    ensures { Ends (ListAnswers find input.now (W.contents out.old) (W.contents out.new) (W.failures out.old) (W.failures out.new)) result }
 {
-    match list_input(alloc, find, input, out) {
-        Ok(CrcLine::Mismatch { .. }) => Status::Differs,
-        Ok(_) => Status::Good,
-        Err(fault) => fault.report(errors),
-    }
+    ended(list_input(alloc, find, input, out), errors)
 }
 
-// Prints, and answers what is stated of the checksum.
-fn list_input<'a, W: Write>(
+fn list_input<'a, W: Sink>(
     alloc: Global,
     find: Option<Address>,
     input: &[u8],
     out: &mut W,
-) -> Result<CrcLine, Fault<'a>>
-    ensures { IfOk result (λ line. line ≡ crc_line_of input.now) }
+) -> Result<Status, Fault<'a>>
+    ensures { ListAnswers find input.now (W.contents out.old) (W.contents out.new) (W.failures out.old) (W.failures out.new) result }
 {
     let list = Nodelist::read(alloc, input)?;
     let stated = crc_line(input);
-    let first = crc_text(alloc, stated)?;
-    let rest = match find {
-        Some(address) => found_text(alloc, &list, address)?,
-        None => entries_text(alloc, &list)?,
-    };
-    print(out, first.as_bytes())?;
-    print(out, &rest)?;
-    Ok(stated)
+    let mut lines = Vec::new(alloc);
+    print_list(find, &list, stated, &mut lines, out)?;
+    print_rest(&mut lines, out)?;
+    Ok(status_of(stated))
 }
 
-fn print<'a, W: Write>(out: &mut W, bytes: &[u8]) -> Result<(), Fault<'a>> {
-    out.write_all(bytes).map_err(|_| Fault::CannotUse("-"))
+// The status that the checksum asks for.
+fn status_of(line: CrcLine) -> Status
+    ensures { result ≡ crc_status line }
+{
+    match line {
+        CrcLine::Mismatch { .. } => Status::Differs,
+        _ => Status::Good,
+    }
+}
+
+// Prints the lines, of which the last ones stay in `lines`.
+fn print_list<'a, W: Sink>(
+    find: Option<Address>,
+    list: &Nodelist,
+    stated: CrcLine,
+    lines: &mut Vec<u8>,
+    out: &mut W,
+) -> Result<(), Fault<'a>>
+    ensures lines { OnOk result (Writes (Listed find list.now stated) (append_known (W.contents out.old) lines.old.items) (append_known (W.contents out.new) lines.new.items)) }
+    ensures ok { OnOk result (W.failures out.new ≡ W.failures out.old) }
+    ensures err { IfErr result (Stops (W.failures out.old) (W.failures out.new)) }
+{
+    push_crc(lines, stated)?;
+    match find {
+        Some(address) => Ok(push_found(lines, list, address)?),
+        None => print_entries(list, lines, out),
+    }
+}
+
+// Prints the line of an entry. A Note has no address.
+fn print_entry<'a, W: Sink>(
+    address: Option<Address>,
+    line: &Line,
+    lines: &mut Vec<u8>,
+    out: &mut W,
+) -> Result<(), Fault<'a>>
+    ensures lines { OnOk result (Appends (append_known (W.contents out.old) lines.old.items) (append_known (W.contents out.new) lines.new.items) (addressed_text address line.now)) }
+    ensures ok { OnOk result (W.failures out.new ≡ W.failures out.old) }
+    ensures err { IfErr result (Stops (W.failures out.old) (W.failures out.new)) }
+{
+    let Some(address) = address else {
+        return Ok(());
+    };
+    push_entry(lines, address, line)?;
+    pass_on(lines, out)
+}
+
+// Prints a line for each entry, and how many there are.
+fn print_entries<'a, W: Sink>(
+    list: &Nodelist,
+    lines: &mut Vec<u8>,
+    out: &mut W,
+) -> Result<(), Fault<'a>>
+    ensures lines { OnOk result (Writes (RestListed None list.now) (append_known (W.contents out.old) lines.old.items) (append_known (W.contents out.new) lines.new.items)) }
+    ensures ok { OnOk result (W.failures out.new ≡ W.failures out.old) }
+    ensures err { IfErr result (Stops (W.failures out.old) (W.failures out.new)) }
+{
+    'entries: for (i, line) in list.lines().iter().enumerate() {
+        print_entry(list.address_of(i), line, lines, out)?;
+    }
+    push_total(lines, list)?;
+    Ok(())
 }

@@ -1,98 +1,142 @@
-//! What `nodelist` prints.
+//! The lines of a nodelist.
+ghost use Rattle.std.specs.Prelude.{◌≡◌, ◌++◌, ◌<◌, codes, length, OnOk, Some};
+ghost use Rattle.std.specs.List.{count_by};
+ghost use Rattle.echo_addr.specs.Address.{address_text};
+ghost use Rattle.echo_commands.specs.Listed.{RestListed, crc_text, entry_text, found_text, is_entry, keyword_word, line_number, mismatch_line, name_of, total_line};
+ghost use Rattle.echo_commands.specs.Shown.{Pushes};
 
-use crate::escape::escaped_text;
-use echo_addr::Address;
+use crate::escape::{push_escaped, written};
+use echo_addr::{Address, Items};
 use echo_nodelist::{CrcLine, Keyword, Line, Nodelist};
-use std::alloc::{AllocError, Global};
+use std::alloc::AllocError;
+use std::io::Write;
 
-/// The line on the checksum.
-pub(crate) fn crc_text(alloc: Global, line: CrcLine) -> Result<String, AllocError> {
+/// Adds the line on the checksum.
+pub(crate) fn push_crc(lines: &mut Vec<u8>, line: CrcLine) -> Result<(), AllocError>
+    ensures { OnOk result (lines.new.items ≡ lines.old.items ++ crc_text line) }
+{
     match line {
-        CrcLine::Absent => format!(in alloc; "crc absent\n"),
-        CrcLine::Match(number) => format!(in alloc; "crc match {number:05}\n"),
-        CrcLine::Mismatch { stated, computed } => {
-            format!(in alloc; "crc mismatch stated {stated:05} computed {computed:05}\n")
+        CrcLine::Absent => lines.extend_from_slice(b"crc absent\n"),
+        CrcLine::Match(number) => written(writeln!(lines, "crc match {number:05}")),
+        CrcLine::Mismatch { stated, computed } => push_mismatch(lines, stated, computed),
+    }
+}
+
+// Adds the line on a checksum that differs.
+fn push_mismatch(lines: &mut Vec<u8>, stated: u32, computed: u32) -> Result<(), AllocError>
+    ensures { OnOk result (lines.new.items ≡ lines.old.items ++ mismatch_line stated computed) }
+{
+    written(writeln!(
+        lines,
+        "crc mismatch stated {stated:05} computed {computed:05}"
+    ))
+}
+
+/// Adds the line of how many entries there are.
+pub(crate) fn push_total(lines: &mut Vec<u8>, list: &Nodelist) -> Result<(), AllocError>
+    ensures { OnOk result (lines.new.items ≡ lines.old.items ++ total_line list.now) }
+{
+    let entries = count_entries(list.lines());
+    written(writeln!(lines, "entries {entries}"))
+}
+
+fn count_entries(lines: &[Line]) -> usize
+    ensures { result ≡ count_by is_entry lines.now }
+{
+    let mut entries = 0;
+    'lines: for line in lines {
+        if is_entry(line) {
+            entries += 1;
         }
     }
+    entries
 }
 
-/// A line for each entry, and how many there are.
-pub(crate) fn entries_text(alloc: Global, list: &Nodelist) -> Result<Vec<u8>, AllocError> {
-    let mut text = Vec::new(alloc);
-    for (i, line) in list.lines().iter().enumerate() {
-        push_entry(alloc, &mut text, "", list.address_of(i), line)?;
-    }
-    let entries = list.lines().iter().filter(|line| is_entry(line)).count();
-    let last = format!(in alloc; "entries {entries}\n")?;
-    text.extend_from_slice(last.as_bytes())?;
-    Ok(text)
-}
-
-/// The line of the first entry with the address, its number in front, or that there is none.
-pub(crate) fn found_text(
-    alloc: Global,
+/// Adds the line of the entry at the index, its number from 1 in front, or that none has the address.
+pub(crate) fn push_found(
+    lines: &mut Vec<u8>,
     list: &Nodelist,
     wanted: Address,
-) -> Result<Vec<u8>, AllocError> {
-    let mut text = Vec::new(alloc);
+) -> Result<(), AllocError>
+    ensures { OnOk result (Pushes (RestListed (Some wanted) list.now) lines.old.items lines.new.items) }
+{
     match list.find(wanted) {
-        Some(i) => {
-            if let Some(line) = list.lines().get(i) {
-                let number = i + 1;
-                let front = format!(in alloc; "line {number} ")?;
-                push_entry(alloc, &mut text, front.as_str(), Some(wanted), line)?;
-            }
-        }
-        None => {
-            let none = format!(in alloc; "not listed {wanted}\n")?;
-            text.extend_from_slice(none.as_bytes())?;
-        }
+        Some(i) => push_line(lines, wanted, list.lines(), i),
+        None => written(writeln!(lines, "not listed {wanted}")),
     }
-    Ok(text)
 }
 
-fn is_entry(line: &Line) -> bool {
+// Adds the line of the entry at the index, its number from 1 in front.
+fn push_line(
+    lines: &mut Vec<u8>,
+    address: Address,
+    listed: &[Line],
+    i: usize,
+) -> Result<(), AllocError>
+    requires { i < length listed.now }
+    ensures { OnOk result (lines.new.items ≡ lines.old.items ++ found_text listed.now address (Some i)) }
+{
+    push_index(lines, i as u64 + 1)?;
+    push_entry(lines, address, &listed[i])
+}
+
+// Adds the number of a line.
+fn push_index(lines: &mut Vec<u8>, number: u64) -> Result<(), AllocError>
+    ensures { OnOk result (lines.new.items ≡ lines.old.items ++ line_number number) }
+{
+    written(write!(lines, "line {number} "))
+}
+
+fn is_entry(line: &Line) -> bool
+    ensures { result ≡ is_entry line.now }
+{
     matches!(line, Line::Entry { .. })
 }
 
-// What stands in front, and an entry's address, keyword and name. A Note has no line.
-fn push_entry(
-    alloc: Global,
-    text: &mut Vec<u8>,
-    front: &str,
-    address: Option<Address>,
+/// Adds an entry's address, keyword and name. A Note has no line.
+pub(crate) fn push_entry(
+    lines: &mut Vec<u8>,
+    address: Address,
     line: &Line,
-) -> Result<(), AllocError> {
-    let Some(address) = address else {
-        return Ok(());
-    };
-    if let Line::Entry {
-        keyword,
-        fields,
-        ..
-    } = line
-    {
-        let word = word_of(*keyword);
-        let words = format!(in alloc; "{front}{address} {word}")?;
-        let name = match fields.first() {
-            Some(name) => name.as_slice(),
-            None => b"".as_slice(),
-        };
-        text.extend_from_slice(&escaped_text(alloc, words.as_str(), name)?)?;
+) -> Result<(), AllocError>
+    ensures { OnOk result (lines.new.items ≡ lines.old.items ++ entry_text address line.now) }
+{
+    match line {
+        Line::Note(_) => Ok(()),
+        Line::Entry {
+            keyword,
+            fields,
+            ..
+        } => {
+            push_address(lines, address)?;
+            push_escaped(lines, word_of(*keyword), name_of(fields.as_slice()))
+        }
     }
-    Ok(())
+}
+
+// Adds an address and a blank.
+fn push_address(lines: &mut Vec<u8>, address: Address) -> Result<(), AllocError>
+    ensures { OnOk result (lines.new.items ≡ lines.old.items ++ (address_text address ++ codes " ")) }
+{
+    written(write!(lines, "{address} "))
+}
+
+// The name of a system, the first of its fields.
+fn name_of(fields: &[Items<u8>]) -> &[u8]
+    ensures { result.now ≡ name_of fields.now }
+{
+    match fields.first() {
+        Some(name) => name.as_slice(),
+        None => b"".as_slice(),
+    }
 }
 
 // The keyword as it is printed.
-fn word_of(keyword: Keyword) -> &'static str {
+fn word_of(keyword: Keyword) -> &'static [u8]
+    ensures { result.now ≡ keyword_word keyword }
+{
     match keyword {
-        Keyword::Zone => "Zone",
-        Keyword::Region => "Region",
-        Keyword::Host => "Host",
-        Keyword::Hub => "Hub",
-        Keyword::Pvt => "Pvt",
-        Keyword::Hold => "Hold",
-        Keyword::Down => "Down",
-        Keyword::Node => "Node",
+        Keyword::Node => b"Node",
+        other => other.text(),
     }
 }

@@ -1,21 +1,19 @@
 //! What a text says as echomail, as it is printed.
-ghost use Rattle.std.specs.Prelude.{◌≡◌, ◌++◌, length, option_copied, string_bytes, IfOk, OnOk};
+ghost use Rattle.std.specs.Prelude.{◌≡◌, ◌++◌, length, option_copied, codes, OnOk};
 ghost use Rattle.echo_commands.specs.Said.{area_line, counts_line, echo_lines, found_line, found_lines};
 
-use crate::escape::push_escaped;
+use crate::escape::{push_escaped, written};
 use echo_text::EchoView;
-use std::alloc::{AllocError, Global};
+use std::alloc::AllocError;
+use std::io::Write;
 
-/// The lines of an echomail text, of whose SEEN-BY and PATH lines so many tokens are no entries.
-pub fn echo_text(alloc: Global, echo: &EchoView, dropped: usize) -> Result<Vec<u8>, AllocError>
-    ensures { IfOk result (λ lines. lines.items ≡ echo_lines echo.now dropped) }
+/// Adds the lines of an echomail text, of whose SEEN-BY and PATH lines so many tokens are no entries.
+pub fn push_echo(lines: &mut Vec<u8>, echo: &EchoView, dropped: usize) -> Result<(), AllocError>
+    ensures { OnOk result (lines.new.items ≡ lines.old.items ++ echo_lines echo.now dropped) }
 {
-    let mut lines = Vec::new(alloc);
-    push_area(&mut lines, echo.tag.as_slice())?;
-    push_found_lines(&mut lines, echo)?;
-    let counts = counts_text(alloc, echo.seen.len(), echo.path.len(), dropped)?;
-    lines.extend_from_slice(counts.as_bytes())?;
-    Ok(lines)
+    push_area(lines, echo.tag.as_slice())?;
+    push_found_lines(lines, echo)?;
+    push_counts(lines, echo.seen.len(), echo.path.len(), dropped)
 }
 
 // Adds the line of the tag.
@@ -32,15 +30,15 @@ fn push_area(lines: &mut Vec<u8>, tag: &[u8]) -> Result<(), AllocError>
 fn push_found_lines(lines: &mut Vec<u8>, echo: &EchoView) -> Result<(), AllocError>
     ensures { OnOk result (lines.new.items ≡ lines.old.items ++ found_lines echo.now.kept) }
 {
-    push_found(lines, "msgid", echo.msgid())?;
-    push_found(lines, "reply", echo.reply())?;
-    push_found(lines, "tear", echo.tear())?;
-    push_found(lines, "origin", echo.origin())?;
+    push_found(lines, b"msgid", echo.msgid())?;
+    push_found(lines, b"reply", echo.reply())?;
+    push_found(lines, b"tear", echo.tear())?;
+    push_found(lines, b"origin", echo.origin())?;
     Ok(())
 }
 
 // Adds the line of what was found, if anything was.
-fn push_found(lines: &mut Vec<u8>, word: &str, found: Option<&[u8]>) -> Result<(), AllocError>
+fn push_found(lines: &mut Vec<u8>, word: &[u8], found: Option<&[u8]>) -> Result<(), AllocError>
     ensures { OnOk result (lines.new.items ≡ lines.old.items ++ found_line word.now (option_copied found.entry)) }
 {
     match found {
@@ -49,13 +47,14 @@ fn push_found(lines: &mut Vec<u8>, word: &str, found: Option<&[u8]>) -> Result<(
     }
 }
 
-fn counts_text(
-    alloc: Global,
+// Adds the line of how many entries there are.
+fn push_counts(
+    lines: &mut Vec<u8>,
     seen: usize,
     path: usize,
     dropped: usize,
-) -> Result<String, AllocError>
-    ensures { IfOk result (λ text. string_bytes text ≡ counts_line seen path dropped) }
+) -> Result<(), AllocError>
+    ensures { OnOk result (lines.new.items ≡ lines.old.items ++ counts_line seen path dropped) }
 {
-    format!(in alloc; "seen {seen} path {path} dropped {dropped}\n")
+    written(writeln!(lines, "seen {seen} path {path} dropped {dropped}"))
 }

@@ -1,113 +1,144 @@
-ghost use Rattle.std.specs.Prelude.{◌≡◌, IfOk, string_bytes};
-ghost use Rattle.echo_commands.specs.Shown.{address, end_line, date, header_lines, message_line, net_node, packet_line, route, systems, text_line, time, zero_padded};
+//! The lines of a packet's header, and the first ones of a message.
+ghost use Rattle.std.specs.Prelude.{◌≡◌, ◌++◌, OnOk};
+ghost use Rattle.echo_commands.specs.Shown.{costing, date, end_line, header_lines, message_line, message_lines, numbered, packet_line, product, route, systems, text_line, time};
 
+use crate::escape::{push_escaped, written};
+use echo_addr::Address;
 use echo_packet::{Header, Packed};
 use std::alloc::{AllocError, Global};
+use std::io::Write;
 
-fn two_digits(alloc: Global, n: u32) -> Result<String, AllocError>
-    ensures { IfOk result (λ text. string_bytes text ≡ zero_padded 2 n) }
+// Adds from which system to which.
+fn push_systems(lines: &mut Vec<u8>, h: &Header) -> Result<(), AllocError>
+    ensures { OnOk result (lines.new.items ≡ lines.old.items ++ systems h.now) }
 {
-    format!(in alloc; "{n:02}")
+    let from = Address {
+        zone: h.orig_zone,
+        net: h.orig_net,
+        node: h.orig_node,
+    };
+    let to = Address {
+        zone: h.dest_zone,
+        net: h.dest_net,
+        node: h.dest_node,
+    };
+    written(write!(lines, "packet {from} to {to}"))
 }
 
-fn four_digits(alloc: Global, n: u16) -> Result<String, AllocError>
-    ensures { IfOk result (λ text. string_bytes text ≡ zero_padded 4 n) }
+// Adds the day, its month counted from 1.
+fn push_date(lines: &mut Vec<u8>, h: &Header) -> Result<(), AllocError>
+    ensures { OnOk result (lines.new.items ≡ lines.old.items ++ date h.now) }
 {
-    format!(in alloc; "{n:04}")
+    let year = h.year;
+    let month = u32::from(h.month) + 1;
+    let day = h.day;
+    written(write!(lines, "{year:04}-{month:02}-{day:02}"))
 }
 
-fn date_text(alloc: Global, h: &Header) -> Result<String, AllocError>
-    ensures { IfOk result (λ text. string_bytes text ≡ date h.now) }
+// Adds the time of day.
+fn push_time(lines: &mut Vec<u8>, h: &Header) -> Result<(), AllocError>
+    ensures { OnOk result (lines.new.items ≡ lines.old.items ++ time h.now) }
 {
-    let year = four_digits(alloc, h.year)?;
-    let month = two_digits(alloc, u32::from(h.month) + 1)?;
-    let day = two_digits(alloc, u32::from(h.day))?;
-    format!(in alloc; "{year}-{month}-{day}")
+    let hour = h.hour;
+    let minute = h.minute;
+    let second = h.second;
+    written(write!(lines, "{hour:02}:{minute:02}:{second:02}"))
 }
 
-fn time_text(alloc: Global, h: &Header) -> Result<String, AllocError>
-    ensures { IfOk result (λ text. string_bytes text ≡ time h.now) }
+// Adds the product's number and the serial number of its release.
+fn push_product(lines: &mut Vec<u8>, h: &Header) -> Result<(), AllocError>
+    ensures { OnOk result (lines.new.items ≡ lines.old.items ++ product h.now) }
 {
-    let hour = two_digits(alloc, u32::from(h.hour))?;
-    let minute = two_digits(alloc, u32::from(h.minute))?;
-    let second = two_digits(alloc, u32::from(h.second))?;
-    format!(in alloc; "{hour}:{minute}:{second}")
-}
-
-fn address_text(alloc: Global, zone: u16, net: u16, node: u16) -> Result<String, AllocError>
-    ensures { IfOk result (λ text. string_bytes text ≡ address zone net node) }
-{
-    format!(in alloc; "{zone}:{net}/{node}")
-}
-
-fn systems_text(alloc: Global, h: &Header) -> Result<String, AllocError>
-    ensures { IfOk result (λ text. string_bytes text ≡ systems h.now) }
-{
-    let from = address_text(alloc, h.orig_zone, h.orig_net, h.orig_node)?;
-    let to = address_text(alloc, h.dest_zone, h.dest_net, h.dest_node)?;
-    format!(in alloc; "packet {from} to {to}")
-}
-
-fn packet_text(alloc: Global, h: &Header) -> Result<String, AllocError>
-    ensures { IfOk result (λ text. string_bytes text ≡ packet_line h.now) }
-{
-    let systems = systems_text(alloc, h)?;
-    let date = date_text(alloc, h)?;
-    let time = time_text(alloc, h)?;
     let product = h.prod_code;
     let serial = h.serial_no;
-    format!(in alloc; "{systems} at {date} {time} product {product} serial {serial}\n")
+    written(writeln!(lines, " product {product} serial {serial}"))
 }
 
-/// The three lines of a header.
-pub fn header_text(alloc: Global, h: &Header) -> Result<String, AllocError>
-    ensures { IfOk result (λ text. string_bytes text ≡ header_lines h.now) }
+// Adds the first line of a header.
+fn push_packet(lines: &mut Vec<u8>, h: &Header) -> Result<(), AllocError>
+    ensures { OnOk result (lines.new.items ≡ lines.old.items ++ packet_line h.now) }
 {
-    let packet = packet_text(alloc, h)?;
+    push_systems(lines, h)?;
+    lines.extend_from_slice(b" at ")?;
+    push_date(lines, h)?;
+    lines.push(b' ')?;
+    push_time(lines, h)?;
+    push_product(lines, h)
+}
+
+/// Adds the three lines of a header.
+pub fn push_header(alloc: Global, lines: &mut Vec<u8>, h: &Header) -> Result<(), AllocError>
+    ensures { OnOk result (lines.new.items ≡ lines.old.items ++ header_lines h.now) }
+{
     let password = hex::encode(alloc, h.password.as_slice())?;
     let fill = hex::encode(alloc, h.fill.as_slice())?;
-    format!(in alloc; "{packet}password {password}\nfill {fill}\n")
+    push_packet(lines, h)?;
+    written(write!(lines, "password {password}\nfill {fill}\n"))
 }
 
-fn net_node_text(alloc: Global, net: u16, node: u16) -> Result<String, AllocError>
-    ensures { IfOk result (λ text. string_bytes text ≡ net_node net node) }
+// Adds from which system to which a message goes.
+fn push_route(lines: &mut Vec<u8>, m: &Packed) -> Result<(), AllocError>
+    ensures { OnOk result (lines.new.items ≡ lines.old.items ++ route m.now) }
 {
-    format!(in alloc; "{net}/{node}")
+    let from_net = m.orig_net();
+    let from_node = m.orig_node();
+    let to_net = m.dest_net();
+    let to_node = m.dest_node();
+    written(write!(lines, "{from_net}/{from_node} to {to_net}/{to_node}"))
 }
 
-fn route_text(alloc: Global, m: &Packed) -> Result<String, AllocError>
-    ensures { IfOk result (λ text. string_bytes text ≡ route m.now) }
+// Adds a message's number and its place.
+fn push_number(lines: &mut Vec<u8>, number: u64, place: u64) -> Result<(), AllocError>
+    ensures { OnOk result (lines.new.items ≡ lines.old.items ++ numbered number place) }
 {
-    let from = net_node_text(alloc, m.orig_net(), m.orig_node())?;
-    let to = net_node_text(alloc, m.dest_net(), m.dest_node())?;
-    format!(in alloc; "{from} to {to}")
+    written(write!(lines, "message {number} at {place}: "))
 }
 
-/// The first line of a message, its number counted from 1, its place from the start of the packet.
-pub fn message_text(
-    alloc: Global,
+// Adds a message's attribute word and its cost.
+fn push_cost(lines: &mut Vec<u8>, m: &Packed) -> Result<(), AllocError>
+    ensures { OnOk result (lines.new.items ≡ lines.old.items ++ costing m.now) }
+{
+    let attribute = m.attribute();
+    let cost = m.cost();
+    written(writeln!(lines, " attribute {attribute} cost {cost}"))
+}
+
+// Adds the first line of a message.
+fn push_first(lines: &mut Vec<u8>, number: u64, place: u64, m: &Packed) -> Result<(), AllocError>
+    ensures { OnOk result (lines.new.items ≡ lines.old.items ++ message_line number place m.now) }
+{
+    push_number(lines, number, place)?;
+    push_route(lines, m)?;
+    push_cost(lines, m)
+}
+
+/// Adds the six lines of a message, its number counted from 1, its place from the start of the packet.
+pub fn push_fields(
+    lines: &mut Vec<u8>,
     number: u64,
     place: u64,
     m: &Packed,
-) -> Result<String, AllocError>
-    ensures { IfOk result (λ text. string_bytes text ≡ message_line number place m.now) }
+) -> Result<(), AllocError>
+    ensures { OnOk result (lines.new.items ≡ lines.old.items ++ message_lines number place m.now) }
 {
-    let route = route_text(alloc, m)?;
-    let attribute = m.attribute();
-    let cost = m.cost();
-    format!(in alloc; "message {number} at {place}: {route} attribute {attribute} cost {cost}\n")
+    push_first(lines, number, place, m)?;
+    push_escaped(lines, b"date", m.date())?;
+    push_escaped(lines, b"to", m.to_name())?;
+    push_escaped(lines, b"from", m.from_name())?;
+    push_escaped(lines, b"subject", m.subject())?;
+    push_size(lines, m.text().len())
 }
 
-/// The line of a text of so many bytes.
-pub fn text_text(alloc: Global, bytes: usize) -> Result<String, AllocError>
-    ensures { IfOk result (λ text. string_bytes text ≡ text_line bytes) }
+// Adds the line of a text of so many bytes.
+fn push_size(lines: &mut Vec<u8>, bytes: usize) -> Result<(), AllocError>
+    ensures { OnOk result (lines.new.items ≡ lines.old.items ++ text_line bytes) }
 {
-    format!(in alloc; "text {bytes} bytes\n")
+    written(writeln!(lines, "text {bytes} bytes"))
 }
 
-/// The line after the last message.
-pub fn end_text(alloc: Global, messages: u64, bytes: u64) -> Result<String, AllocError>
-    ensures { IfOk result (λ text. string_bytes text ≡ end_line messages bytes) }
+/// Adds the line after the last message.
+pub fn push_end(lines: &mut Vec<u8>, messages: u64, bytes: u64) -> Result<(), AllocError>
+    ensures { OnOk result (lines.new.items ≡ lines.old.items ++ end_line messages bytes) }
 {
-    format!(in alloc; "end {messages} messages, {bytes} bytes\n")
+    written(writeln!(lines, "end {messages} messages, {bytes} bytes"))
 }

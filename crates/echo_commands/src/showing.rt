@@ -1,21 +1,22 @@
-ghost use Rattle.std.specs.Prelude.{◌≡◌, OnOk, IfOk, Ok};
-ghost use Rattle.std.specs.Io.KnownBytes.{Appends};
+ghost use Rattle.std.specs.Prelude.{◌≡◌, ◌++◌, OnOk, IfErr};
+ghost use Rattle.std.specs.Io.KnownBytes.{append_known};
 ghost use Rattle.hex.specs.Hex.{decode_of};
 ghost use Rattle.echo_text.specs.Echo.{HasNoZero};
-ghost use Rattle.echo_commands.specs.Escaped.{escaped_line};
+ghost use Rattle.echo_commands.specs.Ended.{Ends, IsWantOfMemory};
 ghost use Rattle.echo_commands.specs.Said.{TextShown};
-ghost use Rattle.echo_commands.specs.Shown.{IsPrinted, IsShown, MessageShown, Writes, end_line, header_lines, hex_text, message_lines};
+ghost use Rattle.echo_commands.specs.Showing.{DecodeAnswers, PacketAnswers, ShowAnswers};
+ghost use Rattle.echo_commands.specs.Shown.{MessageShown, Pushes, hex_text};
 
-use crate::escape::escaped_text;
 use crate::fault::Fault;
-use crate::said::echo_text;
-use crate::show_text::{end_text, header_text, message_text, text_text};
-use crate::status::Status;
-use echo_packet::{Header, Limits, Packed, PacketReader};
+use crate::printing::{pass_on, print_rest};
+use crate::said::push_echo;
+use crate::show_text::{push_end, push_fields, push_header};
+use crate::status::{Status, ended};
+use echo_device::Sink;
+use echo_packet::{Limits, Packed, PacketReader};
 use echo_text::{TextFault, view_text};
 use hex::FromHexError;
-use std::alloc::Global;
-use std::io::Write;
+use std::alloc::{AllocError, Global};
 
 /// What `show` takes of a packet: texts of 16 MiB and any number of messages.
 const LIMITS: Limits = Limits {
@@ -26,28 +27,25 @@ const LIMITS: Limits = Limits {
 /// `show [--hex] PACKET`: prints the packet at the front of the input, which with `hex` is written in
 /// hexadecimal digits, blanks and line ends left out. What was read before a fault is printed; the
 /// fault goes to `errors`.
-pub fn show<W: Write, E: Write>(
+pub fn show<W: Sink, E: Sink>(
     alloc: Global,
     hex: bool,
     input: &[u8],
     out: &mut W,
     errors: &mut E,
 ) -> Status
-    ensures shown { result ≡ Status.Good → IsShown hex input.now (W.contents out.old) (W.contents out.new) }
+    ensures { Ends (ShowAnswers hex input.now (W.contents out.old) (W.contents out.new) (W.failures out.old) (W.failures out.new)) result }
 {
-    match show_input(alloc, hex, input, out) {
-        Ok(()) => Status::Good,
-        Err(fault) => fault.report(errors),
-    }
+    ended(show_input(alloc, hex, input, out), errors)
 }
 
-fn show_input<'a, W: Write>(
+fn show_input<'a, W: Sink>(
     alloc: Global,
     hex: bool,
     input: &[u8],
     out: &mut W,
-) -> Result<(), Fault<'a>>
-    ensures { OnOk result (IsShown hex input.now (W.contents out.old) (W.contents out.new)) }
+) -> Result<Status, Fault<'a>>
+    ensures { ShowAnswers hex input.now (W.contents out.old) (W.contents out.new) (W.failures out.old) (W.failures out.new) result }
 {
     if hex {
         let bytes = decode(alloc, input)?;
@@ -59,7 +57,7 @@ fn show_input<'a, W: Write>(
 
 // The bytes that hexadecimal text stands for.
 fn decode<'a>(alloc: Global, input: &[u8]) -> Result<Vec<u8>, Fault<'a>>
-    ensures { IfOk result (λ bytes. decode_of (hex_text input.now) ≡ Ok bytes.items) }
+    ensures { DecodeAnswers input.now result }
 {
     let digits: Vec<u8> = input
         .iter()
@@ -73,104 +71,71 @@ fn decode<'a>(alloc: Global, input: &[u8]) -> Result<Vec<u8>, Fault<'a>>
     }
 }
 
-fn show_bytes<'a, W: Write>(alloc: Global, bytes: &[u8], out: &mut W) -> Result<(), Fault<'a>>
-    ensures { OnOk result (IsPrinted bytes.now (W.contents out.old) (W.contents out.new)) }
+// Prints the lines of the packet; those before a fault too.
+fn show_bytes<'a, W: Sink>(alloc: Global, bytes: &[u8], out: &mut W) -> Result<Status, Fault<'a>>
+    ensures { PacketAnswers bytes.now (W.contents out.old) (W.contents out.new) (W.failures out.old) (W.failures out.new) result }
+{
+    let mut lines = Vec::new(alloc);
+    let answer = show_packet(alloc, bytes, &mut lines, out);
+    print_rest(&mut lines, out)?;
+    answer
+}
+
+// Prints the lines of the packet, of which the last ones stay in `lines`.
+fn show_packet<'a, W: Sink>(
+    alloc: Global,
+    bytes: &[u8],
+    lines: &mut Vec<u8>,
+    out: &mut W,
+) -> Result<Status, Fault<'a>>
+    ensures { PacketAnswers bytes.now (append_known (W.contents out.old) lines.old.items) (append_known (W.contents out.new) lines.new.items) (W.failures out.old) (W.failures out.new) result }
 {
     let mut reader = PacketReader::open(alloc, bytes, LIMITS)?;
-    print_header(alloc, reader.header(), out)?;
+    push_header(alloc, lines, reader.header())?;
     let mut count = 0u64;
     let mut place = reader.place();
     'messages: while let Some(message) = reader.next()? {
         count += 1;
-        print_message(alloc, count, place, &message, out)?;
+        push_message(alloc, lines, count, place, &message)?;
+        pass_on(lines, out)?;
         place = reader.place();
     }
-    print_end(alloc, count, reader.place(), out)
+    push_end(lines, count, reader.place())?;
+    Ok(Status::Good)
 }
 
-fn print_header<'a, W: Write>(alloc: Global, header: &Header, out: &mut W) -> Result<(), Fault<'a>>
-    ensures { OnOk result (Appends (W.contents out.old) (W.contents out.new) (header_lines header.now)) }
-{
-    let lines = header_text(alloc, header)?;
-    print(out, lines.as_bytes())
-}
-
-// The lines of a message, with what its text says.
-fn print_message<'a, W: Write>(
+// Adds the lines of a message, with what its text says.
+fn push_message<'a>(
     alloc: Global,
+    lines: &mut Vec<u8>,
     number: u64,
     place: u64,
     message: &Packed,
-    out: &mut W,
 ) -> Result<(), Fault<'a>>
-    ensures { OnOk result (Writes (MessageShown number place message.now) (W.contents out.old) (W.contents out.new)) }
+    ensures lines { OnOk result (Pushes (MessageShown number place message.now) lines.old.items lines.new.items) }
+    ensures err { IfErr result IsWantOfMemory }
 {
-    print_fields(alloc, number, place, message, out)?;
-    print_said(alloc, message.text(), out)
+    push_fields(lines, number, place, message)?;
+    push_said(alloc, lines, message.text())
 }
 
-// The six lines of a message.
-fn print_fields<'a, W: Write>(
-    alloc: Global,
-    number: u64,
-    place: u64,
-    message: &Packed,
-    out: &mut W,
-) -> Result<(), Fault<'a>>
-    ensures { OnOk result (Appends (W.contents out.old) (W.contents out.new) (message_lines number place message.now)) }
-{
-    let line = message_text(alloc, number, place, message)?;
-    print(out, line.as_bytes())?;
-    print_bytes(alloc, "date", message.date(), out)?;
-    print_bytes(alloc, "to", message.to_name(), out)?;
-    print_bytes(alloc, "from", message.from_name(), out)?;
-    print_bytes(alloc, "subject", message.subject(), out)?;
-    let line = text_text(alloc, message.text().len())?;
-    print(out, line.as_bytes())
-}
-
-// What the text says as echomail, or why it is none.
-fn print_said<'a, W: Write>(alloc: Global, text: &[u8], out: &mut W) -> Result<(), Fault<'a>>
+// Adds what the text says as echomail, or why it is none.
+fn push_said<'a>(alloc: Global, lines: &mut Vec<u8>, text: &[u8]) -> Result<(), Fault<'a>>
     requires { HasNoZero text.now }
-    ensures { OnOk result (Writes (TextShown text.now) (W.contents out.old) (W.contents out.new)) }
+    ensures lines { OnOk result (Pushes (TextShown text.now) lines.old.items lines.new.items) }
+    ensures err { IfErr result IsWantOfMemory }
 {
     match view_text(alloc, text) {
-        Ok((echo, dropped)) => {
-            let lines = echo_text(alloc, &echo, dropped)?;
-            print(out, &lines)
-        }
-        Err(TextFault::NotEcho) => print(out, b"not echomail\n"),
-        Err(TextFault::BadTag) => print(out, b"bad tag\n"),
-        Err(fault) => Err(Fault::Text(fault)),
+        Ok((echo, dropped)) => Ok(push_echo(lines, &echo, dropped)?),
+        Err(TextFault::NotEcho) => Ok(push_line(lines, b"not echomail\n")?),
+        Err(TextFault::BadTag) => Ok(push_line(lines, b"bad tag\n")?),
+        // No text is refused for its MSGID here.
+        Err(TextFault::Memory | TextFault::BadMsgId) => Err(Fault::Text(TextFault::Memory)),
     }
 }
 
-fn print_bytes<'a, W: Write>(
-    alloc: Global,
-    word: &str,
-    bytes: &[u8],
-    out: &mut W,
-) -> Result<(), Fault<'a>>
-    ensures { OnOk result (Appends (W.contents out.old) (W.contents out.new) (escaped_line word.now bytes.now)) }
+fn push_line(lines: &mut Vec<u8>, line: &[u8]) -> Result<(), AllocError>
+    ensures { OnOk result (lines.new.items ≡ lines.old.items ++ line.now) }
 {
-    let line = escaped_text(alloc, word, bytes)?;
-    print(out, &line)
-}
-
-fn print_end<'a, W: Write>(
-    alloc: Global,
-    messages: u64,
-    size: u64,
-    out: &mut W,
-) -> Result<(), Fault<'a>>
-    ensures { OnOk result (Appends (W.contents out.old) (W.contents out.new) (end_line messages size)) }
-{
-    let line = end_text(alloc, messages, size)?;
-    print(out, line.as_bytes())
-}
-
-fn print<'a, W: Write>(out: &mut W, bytes: &[u8]) -> Result<(), Fault<'a>>
-    ensures { OnOk result (Appends (W.contents out.old) (W.contents out.new) bytes.now) }
-{
-    out.write_all(bytes).map_err(|_| Fault::CannotUse("-"))
+    lines.extend_from_slice(line)
 }

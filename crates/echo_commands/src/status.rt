@@ -1,4 +1,8 @@
 ghost use Rattle.std.specs.Prelude.{◌≡◌};
+ghost use Rattle.echo_commands.specs.Ended.{status_at};
+
+use crate::fault::Fault;
+use echo_device::Sink;
 
 /// How a command ended, and the status with which the program exits.
 #[derive(Clone, Copy, Debug, PartialEq, Eq)]
@@ -28,5 +32,15 @@ impl Status {
             Status::Device => 3,
             Status::CommandLine => 4,
         }
+    }
+}
+
+/// The status of what a command answered. A fault is reported.
+pub(crate) fn ended<E: Sink>(answer: Result<Status, Fault<'_>>, errors: &mut E) -> Status
+    ensures { result ≡ status_at answer.entry }
+{
+    match answer {
+        Ok(status) => status,
+        Err(fault) => fault.report(errors),
     }
 }

@@ -2,11 +2,11 @@ mod messages;
 mod nodelists;
 
 use super::*;
+use echo_device::{Trial, Watched};
 use echo_nodelist::NodeFault;
 use echo_packet::PacketFault;
 use echo_text::TextFault;
 use std::alloc::Global;
-use std::io::Read;
 use std::test::Fail;
 
 /// A packet of 60 bytes without messages, from 1:10/1 to 1:10/2, in hexadecimal digits.
@@ -17,10 +17,10 @@ const HEADER: &str =
     "packet 1:10/1 to 1:10/2 at 2026-07-03 12:34:56 product 0 serial 0\npassword 0000000000000000\nfill 0000000000000000000000000000000000000000\n";
 
 fn shown(alloc: Global, hex: bool, input: &[u8]) -> (Status, Vec<u8>, Vec<u8>) {
-    let mut out = Vec::new(alloc);
-    let mut errors = Vec::new(alloc);
+    let mut out = Watched::new(Vec::new(alloc));
+    let mut errors = Watched::new(Vec::new(alloc));
     let status = show(alloc, hex, input, &mut out, &mut errors);
-    (status, out, errors)
+    (status, out.into_inner(), errors.into_inner())
 }
 
 fn is_text(bytes: &Vec<u8>, text: &str) -> bool {
@@ -130,36 +130,16 @@ fn reads_whole_inputs(rt: HostRuntime) -> Result<(), Fail> {
     Ok(())
 }
 
-/// A reader that is interrupted some times before each read.
-#[derive(Drop)]
-struct Interrupted<'a> {
-    bytes: &'a [u8],
-    again: usize,
-    left: usize,
-}
-
-impl Read for Interrupted<'_> {
-    fn read(&mut self, buf: &mut [u8]) -> std::io::Result<usize> {
-        if self.left > 0 {
-            self.left -= 1;
-            return Err(std::io::Error::from(std::io::ErrorKind::Interrupted));
-        }
-        self.left = self.again;
-        self.bytes.read(buf)
-    }
-}
-
 #[test]
 fn sixteen_interruptions_are_a_failure(rt: HostRuntime) -> Result<(), Fail> {
     let alloc = rt.alloc();
     for (again, read) in [(15, Ok(5)), (16, Err(InputFault::Device))] {
-        let mut reader = Interrupted {
-            bytes: b"hello",
-            again,
-            left: again,
-        };
+        let slice: &[u8] = b"hello";
+        let mut reader = Watched::new(Trial::new(slice, 1, again, u64::MAX));
         let got = read_whole(alloc, &mut reader, 100).map(|bytes| bytes.len());
-        assert_eq!(rt; got, read, "after {again}");
+        if got != Err(InputFault::Memory) {
+            assert_eq!(rt; got, read, "after {again}");
+        }
     }
     Ok(())
 }
@@ -217,9 +197,9 @@ fn fault_lines(rt: HostRuntime) {
         ),
     ] {
         let mut room = [0u8; 64];
-        let mut errors = room.as_mut_slice();
+        let mut errors = Watched::new(room.as_mut_slice());
         fault.report(&mut errors);
-        let left = errors.len();
+        let left = errors.into_inner().len();
         assert!(rt;
             room.get(..64usize.saturating_sub(left)) == Some(line.as_bytes()),
             "{line}"

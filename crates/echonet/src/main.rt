@@ -8,7 +8,7 @@ mod words;
 use clap::error::ErrorKind;
 use echo_addr::Address;
 use echo_commands::{Fault, InputFault, Status, nodelist, read_whole, show, wanted};
-use std::io::{Stderr, Stdout};
+use echo_device::{Sink, Watched};
 use std::process::ExitCode;
 use std::{env, fs, io};
 use words::{Words, parse};
@@ -27,8 +27,10 @@ fn input_fault(fault: InputFault, path: &str) -> Fault<'_> {
 // The bytes of a file.
 fn read_file<'a>(rt: &HostRuntime, path: &'a str, most: usize) -> Result<Vec<u8>, Fault<'a>> {
     match fs::open(rt, path) {
-        Ok(mut file) => {
-            read_whole(rt.alloc(), &mut file, most).map_err(|fault| input_fault(fault, path))
+        Ok(file) => {
+            read_whole(rt.alloc(), &mut Watched::new(file), most).map_err(|fault| input_fault(
+                fault, path,
+            ))
         }
         Err(_) => Err(Fault::CannotUse(path)),
     }
@@ -37,7 +39,9 @@ fn read_file<'a>(rt: &HostRuntime, path: &'a str, most: usize) -> Result<Vec<u8>
 // The bytes of a file, or of standard input where the path is `-`.
 fn read_input<'a>(rt: &HostRuntime, path: &'a str, most: usize) -> Result<Vec<u8>, Fault<'a>> {
     if path == "-" {
-        read_whole(rt.alloc(), &mut rt.reader(), most).map_err(|fault| input_fault(fault, path))
+        read_whole(rt.alloc(), &mut Watched::new(rt.reader()), most).map_err(|fault| input_fault(
+            fault, path,
+        ))
     } else {
         read_file(rt, path, most)
     }
@@ -56,7 +60,12 @@ fn nodelist_input<'a>(
     Ok((address, read_file(rt, file, MOST_INPUT)?))
 }
 
-fn run_words(rt: &HostRuntime, words: Words<'_>, out: &mut Stdout, errors: &mut Stderr) -> Status {
+fn run_words<W: Sink, E: Sink>(
+    rt: &HostRuntime,
+    words: Words<'_>,
+    out: &mut W,
+    errors: &mut E,
+) -> Status {
     match words {
         Words::Show { hex, packet } => match read_input(rt, packet, MOST_INPUT) {
             Ok(input) => show(rt.alloc(), hex, &input, out, errors),
@@ -75,9 +84,9 @@ fn refuse(rt: &HostRuntime, error: &clap::Error) -> Status {
     match error.kind() {
         ErrorKind::DisplayHelp | ErrorKind::DisplayVersion if printed.is_ok() => Status::Good,
         ErrorKind::DisplayHelp | ErrorKind::DisplayVersion => {
-            Fault::CannotUse("-").report(&mut rt.stderr())
+            Fault::CannotUse("-").report(&mut Watched::new(rt.stderr()))
         }
-        ErrorKind::OutOfMemory => Fault::OutOfMemory.report(&mut rt.stderr()),
+        ErrorKind::OutOfMemory => Fault::OutOfMemory.report(&mut Watched::new(rt.stderr())),
         _ => Status::CommandLine,
     }
 }
@@ -86,11 +95,11 @@ fn refuse(rt: &HostRuntime, error: &clap::Error) -> Status {
 // want of memory.
 fn words_given(rt: &HostRuntime) -> Result<Vec<String>, Status> {
     match env::args(rt) {
-        Ok(args) => args
-            .collect::<Vec<String>>(rt.alloc())
-            .map_err(|_| Fault::OutOfMemory.report(&mut rt.stderr())),
+        Ok(args) => args.collect::<Vec<String>>(rt.alloc()).map_err(|_| Fault::OutOfMemory.report(
+            &mut Watched::new(rt.stderr()),
+        )),
         Err(error) if error.kind() == io::ErrorKind::OutOfMemory => {
-            Err(Fault::OutOfMemory.report(&mut rt.stderr()))
+            Err(Fault::OutOfMemory.report(&mut Watched::new(rt.stderr())))
         }
         Err(_) => Err(Status::CommandLine),
     }
@@ -102,7 +111,12 @@ fn run(rt: &HostRuntime) -> Status {
         Err(status) => return status,
     };
     match parse(rt.alloc(), words.as_slice()) {
-        Ok(Some(asked)) => run_words(rt, asked, &mut rt.stdout(), &mut rt.stderr()),
+        Ok(Some(asked)) => run_words(
+            rt,
+            asked,
+            &mut Watched::new(rt.stdout()),
+            &mut Watched::new(rt.stderr()),
+        ),
         Ok(None) => Status::CommandLine,
         Err(error) => refuse(rt, &error),
     }

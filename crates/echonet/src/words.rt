@@ -1,6 +1,15 @@
 use clap::{Arg, ArgAction, ArgMatches, Command, Error};
 use std::alloc::{AllocError, Global};
 
+/// The version that `--version` prints after the name.
+const VERSION: &str = "0.1.0";
+
+macro_rules! ending {
+    ($example:literal) => {
+        concat!("Example:\n  ", $example, "\n\nExit status:\n  0  good\n  1  the verdict is no, or a checksum differs from the stated one\n  2  an input was refused\n  3  a device failed, or memory was wanting\n  4  the command line was refused")
+    };
+}
+
 /// What the command line asks for. Paths are as given, `-` among them.
 #[derive(Clone, Copy, Debug, PartialEq, Eq)]
 pub enum Words<'a> {
@@ -24,6 +33,7 @@ fn show_command<'a>(alloc: Global) -> Result<Command<'a>, AllocError> {
         .help("The packet's file, or - for standard input");
     Command::new(alloc, "show")
         .about("Prints a packet")
+        .after_help(ending!("echonet show --hex - < packet.txt"))
         .arg(hex)?
         .arg(packet)
 }
@@ -36,6 +46,7 @@ fn nodelist_command<'a>(alloc: Global) -> Result<Command<'a>, AllocError> {
     let file = Arg::new(alloc, "FILE").required(true).help("The nodelist");
     Command::new(alloc, "nodelist")
         .about("Prints the systems of a nodelist")
+        .after_help(ending!("echonet nodelist --find 1:10/101 NODELIST.184"))
         .arg(find)?
         .arg(file)
 }
@@ -43,6 +54,8 @@ fn nodelist_command<'a>(alloc: Global) -> Result<Command<'a>, AllocError> {
 fn command<'a>(alloc: Global) -> Result<Command<'a>, AllocError> {
     Command::new(alloc, "echonet")
         .about("An echomail tosser and topology checker for FidoNet")
+        .version(VERSION)
+        .after_help(ending!("echonet show mail.pkt"))
         .subcommand_required(true)
         .subcommand(show_command(alloc)?)?
         .subcommand(nodelist_command(alloc)?)

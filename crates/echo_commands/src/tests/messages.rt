@@ -128,13 +128,13 @@ fn first(alloc: Global) -> Option<Vec<u8>> {
 /// How a run of `show` ended, and how many bytes it wrote of its lines and of its fault line.
 fn told(alloc: Global, bytes: &[u8], lines: &mut [u8], line: &mut [u8]) -> (Status, usize, usize) {
     let (most, most_of_line) = (lines.len(), line.len());
-    let mut out = lines;
-    let mut errors = line;
+    let mut out = Watched::new(lines);
+    let mut errors = Watched::new(line);
     let status = show(alloc, false, bytes, &mut out, &mut errors);
     (
         status,
-        most.saturating_sub(out.len()),
-        most_of_line.saturating_sub(errors.len()),
+        most.saturating_sub(out.into_inner().len()),
+        most_of_line.saturating_sub(errors.into_inner().len()),
     )
 }
 
@@ -170,10 +170,10 @@ fn want_of_memory_is_told(rt: HostRuntime) -> Result<(), Fail> {
 #[test]
 fn output_that_fails_is_told_of_packets(rt: HostRuntime) {
     let (mut few, mut line) = ([0u8; 10], [0u8; 64]);
-    let mut out = few.as_mut_slice();
-    let mut errors = line.as_mut_slice();
+    let mut out = Watched::new(few.as_mut_slice());
+    let mut errors = Watched::new(line.as_mut_slice());
     let status = show(rt.alloc(), true, SIXTY.as_bytes(), &mut out, &mut errors);
-    let faulty = 64usize.saturating_sub(errors.len());
+    let faulty = 64usize.saturating_sub(errors.into_inner().len());
     assert_eq!(rt; status, Status::Device);
     if faulty != b"echonet: out of memory\n".len() {
         assert!(rt; line.get(..faulty) == Some(b"echonet: cannot use -\n".as_slice()));

@@ -9,10 +9,10 @@ const ENTRIES: &str =
     "crc absent\n1:1/0 Zone a\n1:10/0 Host a\n1:10/100 Hub a\n1:10/101 Node a\n1:10/102 Pvt a\n1:13/0 Region a\n1:13/5 Node a\n1:20/0 Host a\n1:20/1 Node a\nentries 9\n";
 
 fn listed(alloc: Global, find: Option<Address>, input: &[u8]) -> (Status, Vec<u8>, Vec<u8>) {
-    let mut out = Vec::new(alloc);
-    let mut errors = Vec::new(alloc);
+    let mut out = Watched::new(Vec::new(alloc));
+    let mut errors = Watched::new(Vec::new(alloc));
     let status = nodelist(alloc, find, input, &mut out, &mut errors);
-    (status, out, errors)
+    (status, out.into_inner(), errors.into_inner())
 }
 
 #[test]
@@ -124,13 +124,13 @@ fn listed_into(
     line: &mut [u8],
 ) -> (Status, usize, usize) {
     let (most, most_of_line) = (lines.len(), line.len());
-    let mut out = lines;
-    let mut errors = line;
+    let mut out = Watched::new(lines);
+    let mut errors = Watched::new(line);
     let status = nodelist(alloc, None, input, &mut out, &mut errors);
     (
         status,
-        most.saturating_sub(out.len()),
-        most_of_line.saturating_sub(errors.len()),
+        most.saturating_sub(out.into_inner().len()),
+        most_of_line.saturating_sub(errors.into_inner().len()),
     )
 }
 

@@ -1,10 +1,13 @@
-use Rattle.std.proofs.Common.{◌<◌, ◌≤◌, length}
+-- The bytes so far are what the reader lost.
+use Rattle.std.proofs.Common.{◌≡◌, ◌+◌, ◌-◌, length}
 use Rattle.std.specs.Io.KnownBytes.{Consumes}
 use Rattle.echo_commands.proofs.input.read_whole.Given as goal
 
 abbrev pub invariant-pieces : goal.invariant-pieces
 invariant-pieces g l = record {
-  read : Consumes (g.R.Read.remaining l.initial.reader) (g.R.Read.remaining l.reader) l.whole.items;
-  piece : 0 < length l.piece.items;
-  bounded : length l.whole.items ≤ l.most;
+  read : Consumes (g.R.Read.remaining l.fn.reader) (g.R.Read.remaining l.reader) l.whole.items;
+  failed : g.R.Source.failures l.reader ≡ g.R.Source.failures l.fn.reader;
 }
+
+abbrev pub decreases-pieces : goal.decreases-pieces
+decreases-pieces g l = l.most + 1 - length l.whole.items
