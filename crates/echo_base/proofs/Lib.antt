@@ -18,3 +18,4 @@ pub mod LinkFiles
 pub mod LinkAnswers
 pub mod Stubs
 pub mod Loaded
+pub mod Left
