@@ -19,3 +19,5 @@ pub mod LinkAnswers
 pub mod Stubs
 pub mod Loaded
 pub mod Left
+pub mod Purges
+pub mod StubBases
