@@ -14,9 +14,9 @@ use Rattle.echo_packet.specs.declared.fault.PacketFault.{PacketFault}
 use Rattle.echo_packet.specs.declared.fault.PacketFault.TheVariants as fault
 use Rattle.echo_packet.specs.Fault.{FaultOf}
 use Rattle.echo_packet.specs.Next.{CountsFailures, NextFault}
-use Rattle.echo_packet.specs.Reader.{FailedOnce, FrontFault}
+use Rattle.echo_packet.specs.Reader.{FrontFault, IsDropped}
 use Rattle.echo_packet.specs.Run.{IsOfCall, SoFar}
-use Rattle.echo_packet.proofs.Runs.{run-fails}
+use Rattle.echo_packet.proofs.MessageByMessage.{run-fails}
 use Rattle.echo_packet.proofs.Headers.{length-header_bytes}
 use Rattle.echo_packet.proofs.Slices.{HasGiven}
 use Rattle.echo_commands.specs.declared.fault.Fault.TheVariants.{Packet}
@@ -142,10 +142,11 @@ front_refused bytes f old wrong alive = record {
 }
 
 -- a slice never fails
-pub never_read : (R : Type 0) (source : R) (f : PacketFault) → FailedOnce (λ (_ : R). 0) source f → (at : ℕ) → f ≡ fault.Read at → ⊥
-never_read R source f failed at is =
-    let h : FailedOnce (λ (_ : R). 0) source (fault.Read at) = subst (λ x. FailedOnce (λ (_ : R). 0) source x) is failed in
-    Failed-never h.1
+pub never_read : (R : Type 0) (remaining : R → Option (List ℕ)) (source : R) (f : PacketFault) → IsDropped remaining (λ (_ : R). 0) source f → (at : ℕ)
+    → f ≡ fault.Read at → ⊥
+never_read R remaining source f dropped at is =
+    let P : PacketFault → Type 0 = λ x. CountsFailures {A = Header} (Err x) 0 0 in
+    Failed-never (subst P is dropped.device)
 
 -- what the fault of a call on a slice is
 call_judged : (f : PacketFault) (P : Type 0) → P ⊎ IsOfCall f → CountsFailures {A = Option Message} (Err f) 0 0 → P ⊎ (f ≡ fault.Memory)

@@ -11,7 +11,7 @@ pub returns-in_err-reader : goal.returns-in_err-reader
 returns-in_err-reader g c =
     let e = c.in_err-reader.ensures in
     let p = err_from_is_err_and c.from_residual.result c.from_residual.ensures.1 in
-    rw (p.1, p.2) (inr (front_refused c.args.bytes.now c.in_err-reader.field-0.0 _ e.fault (never_read _ c.args.bytes c.in_err-reader.field-0.0 e.failed), refl))
+    rw (p.1, p.2) (inr (front_refused c.args.bytes.now c.in_err-reader.field-0.0 _ e.fault (never_read _ _ c.args.bytes c.in_err-reader.field-0.0 e.failed), refl))
 
 pub messages-init : goal.messages-init
 messages-init g c =
