@@ -38,7 +38,6 @@ module _ (watch : Watch) where
   abbrev pub Watched : Run → Type 0
   Watched run = watch.Holds (view_of of run)
 
-
   module _ (run : Run) (before : List System) (s : System) (after : List System) (none : NoneAt (address_of s) before) where
     abbrev pub placed : System → Run
     placed z = with_systems run (before ++ z ∷ after)
