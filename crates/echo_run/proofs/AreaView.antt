@@ -1,4 +1,4 @@
--- What the messages of one area see of a run.
+-- What chosen messages of one area see of a run.
 use Rattle.std.proofs.Common.{◌≡◌, ◌≢◌, inl, inr, refl, sym, subst, ap, ◌∙◌, ℕ, IsTrue, List, [], ◌∷◌, ◌++◌, take, drop, map, cond, Option, Some, None}
 use Rattle.std.specs.Prelude.{Bool, true, false, filter, bytes_eq, option_map, unwrap_or, is_some, ◌&&◌}
 use Rattle.std.specs.List.{list_any}
@@ -15,10 +15,11 @@ use Rattle.echo_steps.specs.declared.packet.Packet.{Packet}
 use Rattle.echo_base.specs.declared.key.Key.{Key}
 use Rattle.echo_base.specs.declared.key.Key.TheVariants.{ById}
 use Rattle.echo_base.specs.Sets.{same_address}
-use Rattle.echo_base.specs.Base.{Area, Filed, LinkFile, key_of, same_key, area_of, has_area, is_link, links_of}
+use Rattle.echo_text.specs.Echo.{msgid_of}
+use Rattle.echo_base.specs.Base.{Area, Filed, LinkFile, key_of, key_with, same_key, area_of, has_area, is_link, links_of}
 use Rattle.echo_text.specs.Ids.{id_of}
 use Rattle.echo_run.specs.Run.{System, Run, destination}
-use Rattle.echo_run.specs.Orderly.{copies}
+use Rattle.echo_run.specs.Orderly.{copies, tag_of}
 use Rattle.echo_run.specs.Tidy.{Tidy, lists, Carries}
 use Rattle.echo_run.proofs.Counts.{Tells-can}
 use Rattle.echo_run.proofs.Invariant.{Parts, Parcel, View, IsNet}
@@ -61,25 +62,42 @@ part_at-none part a (s ∷ ss) h = either (same_address s.file.system a) (h s (i
     either true e q = e
     either false e q = q
 
-abbrev pub in_area : List ℕ → Filed → Bool
-in_area tag m = bytes_eq m.echo.tag tag
+-- the messages whose keys pass a test
+abbrev pub chosen : (Key → Bool) → Filed → Bool
+chosen of m = of (key_of m)
 
-abbrev pub done_of : List ℕ → System → List Filed
-done_of tag s = filter (in_area tag) (take s.cursor s.history)
+abbrev pub done_of : (Key → Bool) → System → List Filed
+done_of of s = filter (chosen of) (take s.cursor s.history)
 
-abbrev pub waiting_of : List ℕ → System → List Filed
-waiting_of tag s = filter (in_area tag) (drop s.cursor s.history)
+abbrev pub waiting_of : (Key → Bool) → System → List Filed
+waiting_of of s = filter (chosen of) (drop s.cursor s.history)
 
-abbrev pub parcel_of : List ℕ → Packet → Parcel Address Filed
-parcel_of tag p = record { to = destination p; copies = filter (in_area tag) (copies p) }
+abbrev pub parcel_of : (Key → Bool) → Packet → Parcel Address Filed
+parcel_of of p = record { to = destination p; copies = filter (chosen of) (copies p) }
 
-abbrev pub view_of : List ℕ → Run → View Address Filed
-view_of tag run = record {
-  done = λ a. part_at (done_of tag) a run.systems;
-  waiting = λ a. part_at (waiting_of tag) a run.systems;
-  packets = map (parcel_of tag) run.packets;
+abbrev pub view_of : (Key → Bool) → Run → View Address Filed
+view_of of run = record {
+  done = λ a. part_at (done_of of) a run.systems;
+  waiting = λ a. part_at (waiting_of of) a run.systems;
+  packets = map (parcel_of of) run.packets;
   delivered = run.delivered;
 }
+
+-- the keys that pass are of the area
+abbrev pub OfArea : List ℕ → (Key → Bool) → Type 0
+OfArea tag of = (k : Key) → of k ≡ true → tag_of k ≡ tag
+
+-- the area of a key is that of its message
+pub key-tag : (m : Filed) → tag_of (key_of m) ≡ m.echo.tag
+unfolding key_of
+key-tag m = with_id (msgid_of m.echo.kept)
+  where
+    with_id : (o : Option (List ℕ)) → tag_of (key_with m o) ≡ m.echo.tag
+    with_id None = refl
+    with_id (Some id) = refl
+
+pub chosen-tag : (tag : List ℕ) (of : Key → Bool) → OfArea tag of → (m : Filed) → chosen of m ≡ true → m.echo.tag ≡ tag
+chosen-tag tag of of_area m t = sym (key-tag m) ∙ of_area (key_of m) t
 
 -- the key of an own id in the area
 abbrev pub Wrote : List ℕ → Address → Key → Type 0
@@ -88,11 +106,11 @@ Wrote tag a k = IsAddress a × ((serial : ℕ) × (k ≡ ById tag (id_of a seria
 abbrev pub address_of : System → Address
 address_of s = s.file.system
 
--- the two parts of a history, of one area, are all of it
-pub history-parts : (tag : List ℕ) (s : System) → done_of tag s ++ waiting_of tag s ≡ filter (in_area tag) s.history
-history-parts tag s =
-    sym (filter-append (in_area tag) (take s.cursor s.history) (drop s.cursor s.history))
-    ∙ ap (λ (ms : List Filed). filter (in_area tag) ms) (take-append-drop s.cursor s.history)
+-- the two parts of a history, of chosen messages, are all of it
+pub history-parts : (of : Key → Bool) (s : System) → done_of of s ++ waiting_of of s ≡ filter (chosen of) s.history
+history-parts of s =
+    sym (filter-append (chosen of) (take s.cursor s.history) (drop s.cursor s.history))
+    ∙ ap (λ (ms : List Filed). filter (chosen of) ms) (take-append-drop s.cursor s.history)
 
 -- none of the systems has the address
 abbrev pub NoneAt : Address → List System → Type 0
@@ -125,18 +143,14 @@ module _ (laws : Laws) where
   part_at-other part a (b ∷ before) s z after n m =
       ap (λ (ms : List Filed). cond (same_address (address_of b) a) (part b) ms) (part_at-other part a before s z after n m)
 
-  pub in_area-tag : (tag : List ℕ) (m : Filed) → in_area tag m ≡ true → m.echo.tag ≡ tag
-  in_area-tag tag m t = same_bytes
-    where
-      ids : (and_tag : (bytes_eq m.echo.tag tag && bytes_eq [] []) ≡ true) → ById m.echo.tag [] ≡ ById tag []
-      ids h = laws.keys.sound (ById m.echo.tag []) (ById tag []) h
+  pub bytes-same : (x y : List ℕ) → bytes_eq x y ≡ true → x ≡ y
+  bytes-same x y t =
+      let same = laws.keys.sound (ById x []) (ById y []) (and-from (bytes_eq x y) (bytes_eq [] []) t refl) in
+      cc
 
-      same_bytes : m.echo.tag ≡ tag
-      same_bytes = let e = ids (and-from (bytes_eq m.echo.tag tag) (bytes_eq [] []) t refl) in cc
-
-  pub tag-in_area : (tag : List ℕ) (m : Filed) → m.echo.tag ≡ tag → in_area tag m ≡ true
-  tag-in_area tag m e =
-      (and-parts (bytes_eq m.echo.tag tag) (bytes_eq [] []) (laws.keys.full (ById m.echo.tag []) (ById tag []) (ap (λ (t : List ℕ). ById t []) e))).0
+  pub bytes-equal : (x y : List ℕ) → x ≡ y → bytes_eq x y ≡ true
+  bytes-equal x y e =
+      (and-parts (bytes_eq x y) (bytes_eq [] []) (laws.keys.full (ById x []) (ById y []) (ap (λ (t : List ℕ). ById t []) e))).0
 
 -- of two lists by one test of their places, members with one name are one
 pub one_name : {X Y : Type 0} (g : X → Y) (xs : List X) → Different (map g xs) → (x y : X) → Among x xs → Among y xs → g x ≡ g y → x ≡ y

@@ -48,7 +48,7 @@ module _ {A K N C M : Type 0} (parts : Parts A K N C M) (linked : A → A → Bo
 
   module _ (rest : AtRest) where
     -- what stands in a packet came
-    arrived : (p : Parcel A M) → Among p v.packets → (k : K) → Has parts k p.copies → Has parts k (held v p.to)
+    pub arrived : (p : Parcel A M) → Among p v.packets → (k : K) → Has parts k p.copies → Has parts k (held v p.to)
     arrived p h k has =
         let (i, at, was) = rest.delivered p h has.0 has.1 in
         let (q, at', known) = inv.came i was in

@@ -1,6 +1,6 @@
 -- What stands in the packets of a scan.
 use Rattle.std.proofs.Common.{◌≡◌, ◌≢◌, inl, inr, refl, sym, subst, ap, ◌∙◌, ℕ, ◌+◌, ◌≤◌, arith, List, [], ◌∷◌, ◌++◌, map, cond, Option, Some, None}
-use Rattle.std.specs.Prelude.{Bool, true, false, filter, not, ◌&&◌, is_none, bytes_eq, unwrap_or, option_map}
+use Rattle.std.specs.Prelude.{Bool, true, false, filter, not, ◌&&◌, is_none, unwrap_or, option_map}
 use Rattle.std.specs.List.{flat_map}
 use Rattle.std.proofs.lemmas.Bool.{cond-true, cond-false}
 use Rattle.echo_addr.specs.declared.address.Address.{Address}
@@ -24,7 +24,7 @@ use Rattle.echo_base.specs.Base.{IsFile}
 use Rattle.echo_run.proofs.Counts.{one_if, count}
 use Rattle.echo_run.proofs.TosserPremises.{Laws}
 use Rattle.echo_run.proofs.Lists.{not_both, yes_or_no, and-parts, and-from, any-to, any-from, filter-yes, filter-no, Among-filter_from, Among-filter_to}
-use Rattle.echo_run.proofs.AreaView.{content_of, in_area}
+use Rattle.echo_run.proofs.AreaView.{content_of, chosen}
 
 -- the copy of a message, as whoever gets it files it
 unfoldable pub copied : LinkFile → Filed → Filed
@@ -185,47 +185,40 @@ module _ (laws : Laws) (file : LinkFile) where
   recipients-differ waiting = laws.addresses_once (flat_map (targets file) waiting)
 
   -- copies have the keys of their messages, so none is there oftener
-  abbrev weight : List ℕ → Key → Filed → ℕ
-  weight tag k m = cond (in_area tag m) (one_if (same_key (key_of m) k)) 0
+  abbrev weight : (Key → Bool) → Key → Key → ℕ
+  weight of k own = cond (of own) (one_if (same_key own k)) 0
 
-  tally-cons : (tag : List ℕ) (k : Key) (m : Filed) (ms : List Filed) →
-      count key_of same_key k (filter (in_area tag) (m ∷ ms)) ≡ weight tag k m + count key_of same_key k (filter (in_area tag) ms)
-  tally-cons tag k m ms =
+  tally-cons : (of : Key → Bool) (k : Key) (m : Filed) (ms : List Filed) →
+      count key_of same_key k (filter (chosen of) (m ∷ ms)) ≡ weight of k (key_of m) + count key_of same_key k (filter (chosen of) ms)
+  tally-cons of k m ms =
       let size : List Filed → ℕ = λ ns. count key_of same_key k ns in
-      elim (yes_or_no (in_area tag m)) [
+      elim (yes_or_no (chosen of m)) [
         | inl t ↦ omega (
           arith,
-          ap size (filter-yes (in_area tag) m ms t),
-          cond-true (in_area tag m) (one_if (same_key (key_of m) k)) 0 t,
+          ap size (filter-yes (chosen of) m ms t),
+          cond-true (chosen of m) (one_if (same_key (key_of m) k)) 0 t,
         )
         | inr f ↦ omega (
           arith,
-          ap size (filter-no (in_area tag) m ms f),
-          cond-false (in_area tag m) (one_if (same_key (key_of m) k)) 0 f,
+          ap size (filter-no (chosen of) m ms f),
+          cond-false (chosen of m) (one_if (same_key (key_of m) k)) 0 f,
         )
       ]
 
-  weight-copied : (tag : List ℕ) (k : Key) (m : Filed) → weight tag k (copied file m) ≡ weight tag k m
-  weight-copied tag k m =
-      let P : List ℕ → Key → ℕ = λ t key. cond (bytes_eq t tag) (one_if (same_key key k)) 0 in
-      let a = copied-tag file m in
-      let b = copied-key file m in
-      ap (λ (t : List ℕ). P t (key_of (copied file m))) a ∙ ap (λ (key : Key). P m.echo.tag key) b
-
-  pub copies-few : (tag : List ℕ) (k : Key) (address : Address) (ms : List Filed) →
-      count key_of same_key k (filter (in_area tag) (map (copied file) (filter (goes_to file address) ms))) ≤ count key_of same_key k (filter (in_area tag) ms)
-  copies-few tag k address [] = omega arith
-  copies-few tag k address (m ∷ ms) =
-      let size : List Filed → ℕ = λ ns. count key_of same_key k (filter (in_area tag) (map (copied file) ns)) in
-      let later = copies-few tag k address ms in
+  pub copies-few : (of : Key → Bool) (k : Key) (address : Address) (ms : List Filed) →
+      count key_of same_key k (filter (chosen of) (map (copied file) (filter (goes_to file address) ms))) ≤ count key_of same_key k (filter (chosen of) ms)
+  copies-few of k address [] = omega arith
+  copies-few of k address (m ∷ ms) =
+      let size : List Filed → ℕ = λ ns. count key_of same_key k (filter (chosen of) (map (copied file) ns)) in
+      let later = copies-few of k address ms in
       elim (yes_or_no (goes_to file address m)) [
         | inl t ↦ omega (
           arith,
           later,
           ap size (filter-yes (goes_to file address) m ms t),
-          tally-cons tag k m ms,
-          tally-cons tag k (copied file m) (map (copied file) (filter (goes_to file address) ms)),
-          weight-copied tag k m,
+          tally-cons of k m ms,
+          tally-cons of k (copied file m) (map (copied file) (filter (goes_to file address) ms)),
+          ap (λ (own : Key). weight of k own) (copied-key file m),
         )
-        | inr f ↦ omega (arith, later, ap size (filter-no (goes_to file address) m ms f), tally-cons tag k m ms)
+        | inr f ↦ omega (arith, later, ap size (filter-no (goes_to file address) m ms f), tally-cons of k m ms)
       ]

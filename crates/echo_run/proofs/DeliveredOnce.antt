@@ -51,7 +51,7 @@ part-once : (run : Run) (messages : ℕ) (found : Option Packet) → IsDelivered
 part-once run messages None at = at
 part-once run messages (Some p) at = record { once = at.once; there = at.there }
 
-event-once : (run : Run) (event : RunEvent) → IsDeliveredOnce run → IsDeliveredOnce (after_event run event)
+pub event-once : (run : Run) (event : RunEvent) → IsDeliveredOnce run → IsDeliveredOnce (after_event run event)
 event-once run (Posting i tag draft serial stamp) at = record { once = at.once; there = at.there }
 event-once run (Scanning i stamp) at = scanning-once run i stamp (nth i run.systems) at
 event-once run (Delivery k) at = delivery-once run k (nth k run.packets) refl at

@@ -1,4 +1,4 @@
--- Packets come to their systems, as the messages of an area see it.
+-- Packets come to their systems, as chosen messages of an area see it.
 use Rattle.std.proofs.Common.{◌≡◌, inl, inr, refl, sym, subst, ap, ◌∙◌, ℕ, IsTrue, List, [], ◌∷◌, ◌++◌, map, Option, Some, None}
 use Rattle.std.specs.Prelude.{true, filter, ◌==◌, is_none}
 use Rattle.std.proofs.lemmas.Bool.{cond-false, ne_eqb}
@@ -24,9 +24,8 @@ use Rattle.echo_run.proofs.Lists.{Among-map_to, Among-map_from, Among-filter_fro
 use Rattle.echo_run.proofs.TosserCases.{tossing-cases}
 use Rattle.echo_run.proofs.Bases.{SystemOk, HasKey, known-in_history}
 use Rattle.echo_run.proofs.WellFormed.{PacketOk, tossed-fresh, tossing_one-ok}
-use Rattle.echo_run.proofs.Filing.{Marks-keeps}
-use Rattle.echo_run.proofs.AreaView.{parts, in_area, parcel_of, view_of, Wrote, address_of, NoneAt, in_area-tag, tag-in_area, link-has_area, net, lists-link}
-use Rattle.echo_run.proofs.OneSystem.{Watched, with_systems, MayFile, filing-keeps, view-from_has}
+use Rattle.echo_run.proofs.AreaView.{parts, chosen, chosen-tag, parcel_of, view_of, address_of, NoneAt, link-has_area, lists-link}
+use Rattle.echo_run.proofs.OneSystem.{Watch, Watched, with_systems, MayFileHere, filing-keeps, has-from_view, view-from_has}
 
 pub filing-file : (s : System) (o : Option Filed) → (filing s o).file ≡ s.file
 filing-file s None = refl
@@ -45,15 +44,6 @@ tossing-has : (k : Key) (sender : Address) (ms : List Message) (s : System) → 
 tossing-has k sender [] s has = has
 tossing-has k sender (q ∷ ms) s has =
     tossing-has k sender ms (filing s (tossing s.file s.base sender q)) (filing-has k s (tossing s.file s.base sender q) has)
-
--- the area of a key is that of its message
-pub key-tag : (m : Filed) → tag_of (key_of m) ≡ m.echo.tag
-unfolding key_of
-key-tag m = with_id (msgid_of m.echo.kept)
-  where
-    with_id : (o : Option (List ℕ)) → tag_of (key_with m o) ≡ m.echo.tag
-    with_id None = refl
-    with_id (Some id) = refl
 
 received-sender : (sender : Address) (q : Message) → (received sender q).sender ≡ Some sender
 unfolding received
@@ -95,8 +85,10 @@ module _ (laws : Laws) where
             subst P (sym done.filed) (received sender r, Among-append_right (received sender r) s.history (received sender r ∷ []) (inl refl), refl))
       ]
 
-module _ (laws : Laws) (files : List LinkFile) (tag : List ℕ) (tidy : Tidy files tag) (run : Run)
+module _ (watch : Watch) (run : Run)
     (before after : List System) (p : Packet) (ok_p : PacketOk p) (in_run : Among p run.packets) where
+  open watch use {laws, files, tag, tidy, of, of_area}
+
   abbrev around : System → Run
   around z = with_systems run (before ++ z ∷ after)
 
@@ -108,7 +100,7 @@ module _ (laws : Laws) (files : List LinkFile) (tag : List ℕ) (tidy : Tidy fil
   may-file : (sender : Address) → sender ≡ origin p → (q : Message) → Among q p.messages →
       (s : System) (none : NoneAt (address_of s) before) → address_of s ≡ destination p → SystemOk s → (m : Filed) →
       tossing s.file s.base sender q ≡ Some m →
-      (¬ HasKey (key_of m) s.history) × (in_area tag m ≡ true → MayFile laws files tag tidy run before s after none m)
+      (¬ HasKey (key_of m) s.history) × (chosen of m ≡ true → MayFileHere watch run before s after none m)
   may-file sender from q h s none here ok m e =
       elim (tossing-cases s.file s.base sender q) [
         | inl nothing ↦ absurd (none_some (sym nothing.not_filed ∙ e))
@@ -118,10 +110,10 @@ module _ (laws : Laws) (files : List LinkFile) (tag : List ℕ) (tidy : Tidy fil
             let R : Address → Type 0 = λ a. Among (received a q) (copies p) in (
               subst P same (tossed-fresh laws s ok (received sender q) done.unknown),
               λ t. inr (
-                parcel_of tag p,
-                Among-map_to (parcel_of tag) p run.packets in_run,
+                parcel_of of p,
+                Among-map_to (parcel_of of) p run.packets in_run,
                 sym here,
-                Among-filter_to (in_area tag) m (copies p) (subst Q same (subst R (sym from) (copy-in q h))) t,
+                Among-filter_to (chosen of) m (copies p) (subst Q same (subst R (sym from) (copy-in q h))) t,
               ),
             ))
       ]
@@ -129,7 +121,7 @@ module _ (laws : Laws) (files : List LinkFile) (tag : List ℕ) (tidy : Tidy fil
   -- a toss of messages of the packet
   pub tossing-keeps : (sender : Address) → sender ≡ origin p → (ms : List Message) → ((q : Message) → Among q ms → Among q p.messages) →
       (s : System) → NoneAt (address_of s) before → address_of s ≡ destination p → SystemOk s →
-      Watched laws files tag tidy (around s) → Watched laws files tag tidy (around (tossing_at sender ms s))
+      Watched watch (around s) → Watched watch (around (tossing_at sender ms s))
   tossing-keeps sender from [] of_p s none here ok inv = inv
   tossing-keeps sender from (q ∷ ms) of_p s none here ok inv =
       let o = tossing s.file s.base sender q in
@@ -137,63 +129,71 @@ module _ (laws : Laws) (files : List LinkFile) (tag : List ℕ) (tidy : Tidy fil
       let P : Address → Type 0 = λ a. NoneAt a before in
       tossing-keeps sender from ms (λ r i. of_p r (inr i)) (filing s o) (subst P (sym same) none) (same ∙ here)
       (tossing_one-ok laws sender q s ok (ok_p.messages q (of_p q (inl refl))).1)
-      (filing-keeps laws files tag tidy run before s after none ok o (may-file sender from q (of_p q (inl refl)) s none here ok) inv)
+      (filing-keeps watch run before s after none ok o (may-file sender from q (of_p q (inl refl)) s none here ok) inv)
 
   -- after the toss of all of them each message of the area is known
   pub all-known : (s : System) → NoneAt (address_of s) before → address_of s ≡ destination p → SystemOk s →
-      map (λ (t : System). t.file) (before ++ s ∷ after) ≡ files → Watched laws files tag tidy (around s) →
-      (c : Filed) → Among c (parcel_of tag p).copies →
+      map (λ (t : System). t.file) (before ++ s ∷ after) ≡ files → Watched watch (around s) →
+      (c : Filed) → Among c (parcel_of of p).copies →
       HasKey (key_of c) (tossing_at (origin_of s.file p.header) p.messages s).history
   all-known s none here ok same_files inv c h =
-      let (i, t) = Among-filter_from (in_area tag) c (copies p) h in
-      let (q, j, e) = Among-map_from (received (origin p)) c (filter (λ packed. is_none (refusal packed.text)) p.messages) i in
-      let (k, read) = Among-filter_from (λ packed. is_none (refusal packed.text)) q p.messages j in
-      let sent = inv.sent (parcel_of tag p) (Among-map_to (parcel_of tag) p run.packets in_run) c h in
-      let from : sent.from ≡ origin p = some_same (sym sent.is_sender ∙ (ap (λ (n : Filed). n.sender) e ∙ received-sender (origin p) q)) in
-      let P : Address → Type 0 = λ a. IsTrue (lists files tag a sent.from) in
-      let link_from : is_link s.file tag sent.from ≡ true =
-      lists-link laws files tag tidy (before ++ s ∷ after) same_files s (Among-middle s before after) sent.from (subst P (sym here) sent.parent.way.link) in
-      let same_tag : c.echo.tag ≡ tag = in_area-tag laws tag c t in
-      let tag_q : (received (origin p) q).echo.tag ≡ tag = ap (λ (n : Filed). n.echo.tag) (sym e) ∙ same_tag in
-      let link_q : is_link s.file (received (origin p) q).echo.tag (origin p) ≡ true =
-      ap (λ (g : List ℕ). is_link s.file g (origin p)) tag_q ∙ (ap (λ (a : Address). is_link s.file tag a) (sym from) ∙ link_from) in
-      let arrived = tossed-arrives laws (origin p) p.messages s ok ok_p.messages q k (link-has_area s.file (received (origin p) q).echo.tag (origin p) link_q) link_q in
-      let Q : Filed → Type 0 = λ n. HasKey (key_of n) (tossing_at (origin_of s.file p.header) p.messages s).history in
-      let R : Address → Type 0 = λ a. HasKey (key_of (received (origin p) q)) (tossing_at a p.messages s).history in
-      subst Q (sym e) (subst R (sym (origin-is s.file p ok_p)) arrived)
+      let (i, t) = Among-filter_from (chosen of) c (copies p) h in
+      let sender = origin_of s.file p.header in
+      elim (watch.lasts.arrives (view_of of (around s)) inv (parcel_of of p) (Among-map_to (parcel_of of) p run.packets in_run) c h) [
+        | inl known ↦ (let P : Address → Type 0 = λ a. Has parts (key_of c) (held (view_of of (around s)) a) in
+            tossing-has (key_of c) sender p.messages s (has-from_view watch run before s after none (key_of c) (subst P (sym here) known)))
+        | inr linked ↦ (let (from, is_sender, link) = linked in
+            let P : Address → Type 0 = λ a. IsTrue (lists files tag a from) in
+            from_link i (chosen-tag tag of of_area c t) from is_sender
+            (lists-link laws files tag tidy (before ++ s ∷ after) same_files s (Among-middle s before after) from (subst P (sym here) link)))
+      ]
+    where
+      from_link : Among c (copies p) → c.echo.tag ≡ tag → (from : Address) → c.sender ≡ Some from → is_link s.file tag from ≡ true →
+          HasKey (key_of c) (tossing_at (origin_of s.file p.header) p.messages s).history
+      from_link i same_tag from is_sender link =
+          let (q, j, e) = Among-map_from (received (origin p)) c (filter (λ packed. is_none (refusal packed.text)) p.messages) i in
+          let (k, read) = Among-filter_from (λ packed. is_none (refusal packed.text)) q p.messages j in
+          let is_origin : from ≡ origin p = some_same (sym is_sender ∙ (ap (λ (n : Filed). n.sender) e ∙ received-sender (origin p) q)) in
+          let tag_q : (received (origin p) q).echo.tag ≡ tag = ap (λ (n : Filed). n.echo.tag) (sym e) ∙ same_tag in
+          let link_q : is_link s.file (received (origin p) q).echo.tag (origin p) ≡ true =
+          ap (λ (g : List ℕ). is_link s.file g (origin p)) tag_q ∙ (ap (λ (a : Address). is_link s.file tag a) (sym is_origin) ∙ link) in
+          let arrived = tossed-arrives laws (origin p) p.messages s ok ok_p.messages q k (link-has_area s.file (received (origin p) q).echo.tag (origin p) link_q) link_q in
+          let Q : Filed → Type 0 = λ n. HasKey (key_of n) (tossing_at (origin_of s.file p.header) p.messages s).history in
+          let R : Address → Type 0 = λ a. HasKey (key_of (received (origin p) q)) (tossing_at a p.messages s).history in
+          subst Q (sym e) (subst R (sym (origin-is s.file p ok_p)) arrived)
 
   -- the packet came
   pub delivered-keeps : (s z : System) → NoneAt (address_of z) before → address_of z ≡ destination p →
-      ((c : Filed) → Among c (parcel_of tag p).copies → HasKey (key_of c) z.history) → (k : ℕ) → At run.packets k p →
-      Watched laws files tag tidy (around z) →
-      Watched laws files tag tidy (record { systems = before ++ z ∷ after; packets = run.packets; delivered = with_index k run.delivered })
+      ((c : Filed) → Among c (parcel_of of p).copies → HasKey (key_of c) z.history) → (k : ℕ) → At run.packets k p →
+      Watched watch (around z) →
+      Watched watch (record { systems = before ++ z ∷ after; packets = run.packets; delivered = with_index k run.delivered })
   delivered-keeps s z none here known k at inv =
-      Marks-keeps parts (lists files tag) (Carries files tag) (Wrote tag) (net laws files tag tidy) (view_of tag (around z))
-      (view_of tag (record { systems = before ++ z ∷ after; packets = run.packets; delivered = with_index k run.delivered })) inv (record {
+      watch.lasts.marks (view_of of (around z))
+      (view_of of (record { systems = before ++ z ∷ after; packets = run.packets; delivered = with_index k run.delivered })) inv (record {
         done = λ a. refl;
         waiting = λ a. refl;
         packets = refl;
         delivered = λ j h. elim (with_index-from k j run.delivered h) [
           | inr old ↦ inl old
           | inl e ↦ inr (
-            parcel_of tag p,
-            (let P : ℕ → Type 0 = λ i. At (map (parcel_of tag) run.packets) i (parcel_of tag p) in subst P (sym e) at_parcel),
+            parcel_of of p,
+            (let P : ℕ → Type 0 = λ i. At (map (parcel_of of) run.packets) i (parcel_of of p) in subst P (sym e) at_parcel),
             known_view,
           )
         ];
       })
     where
-      at_parcel : At (map (parcel_of tag) run.packets) k (parcel_of tag p)
+      at_parcel : At (map (parcel_of of) run.packets) k (parcel_of of p)
       at_parcel = (
-        map (parcel_of tag) at.0,
-        map (parcel_of tag) at.1,
-        ap (λ (ps : List Packet). map (parcel_of tag) ps) at.2 ∙ map-append (parcel_of tag) at.0 (p ∷ at.1),
-        length-map at.0 (parcel_of tag) ∙ at.3,
+        map (parcel_of of) at.0,
+        map (parcel_of of) at.1,
+        ap (λ (ps : List Packet). map (parcel_of of) ps) at.2 ∙ map-append (parcel_of of) at.0 (p ∷ at.1),
+        length-map at.0 (parcel_of of) ∙ at.3,
       )
 
-      known_view : (c : Filed) → Among c (parcel_of tag p).copies → Has parts (key_of c) (held (view_of tag (around z)) (destination p))
+      known_view : (c : Filed) → Among c (parcel_of of p).copies → Has parts (key_of c) (held (view_of of (around z)) (destination p))
       known_view c h =
           let has = known c h in
-          let area = tag-in_area laws tag has.0 (sym (key-tag has.0) ∙ (ap tag_of has.2 ∙ (key-tag c ∙ in_area-tag laws tag c (Among-filter_from (in_area tag) c (copies p) h).1))) in
-          let P : Address → Type 0 = λ a. Has parts (key_of c) (held (view_of tag (around z)) a) in
-          subst P here (view-from_has laws files tag tidy run before z after none (key_of c) has area)
+          let passes : chosen of has.0 ≡ true = ap of has.2 ∙ (Among-filter_from (chosen of) c (copies p) h).1 in
+          let P : Address → Type 0 = λ a. Has parts (key_of c) (held (view_of of (around z)) a) in
+          subst P here (view-from_has watch run before z after none (key_of c) has passes)

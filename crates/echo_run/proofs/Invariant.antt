@@ -159,3 +159,18 @@ module _ {A K N C M : Type 0} (parts : Parts A K N C M) (linked : A → A → Bo
     pub packets : w.packets ≡ v.packets
     pub delivered : (j : ℕ) → Among j w.delivered → Among j v.delivered ⊎ ((p : Parcel A M) × At v.packets j p ×
         ((c : M) → Among c p.copies → Has parts (parts.key c) (held v p.to)))
+
+  -- y may file it: a posting with an id of its own, or what stands in a packet to it
+  abbrev pub MayFile : View A M → A → M → Type 0
+  MayFile v y m =
+      (Carrier y × Wrote y (parts.key m) × (parts.sender m ≡ None) × (parts.seen m ≡ []))
+      ⊎ ((p : Parcel A M) × Among p v.packets × (p.to ≡ y) × Among m p.copies)
+
+  -- what all steps keep, of messages whose keys pass a test; and what stands in a packet is known where it
+  -- goes, or is from a link
+  pub record IsLasting (of : K → Bool) (Holds : View A M → Type 0) : Type 0 where
+    pub files : (v w : View A M) → Holds v → (y : A) (m : M) → IsTrue (of (parts.key m)) → Files v w y m → MayFile v y m → Holds w
+    pub scans : (v w : View A M) → Holds v → (y : A) (new : List (Parcel A M)) → Scans v w y new → Holds w
+    pub marks : (v w : View A M) → Holds v → Marks v w → Holds w
+    pub arrives : (v : View A M) → Holds v → (p : Parcel A M) → Among p v.packets → (c : M) → Among c p.copies →
+        Has parts (parts.key c) (held v p.to) ⊎ ((from : A) × (parts.sender c ≡ Some from) × IsTrue (linked p.to from))

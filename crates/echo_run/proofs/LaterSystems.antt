@@ -100,7 +100,7 @@ event-last run kept (PartDelivery k messages) = part-last run messages (nth k ru
 event-last run kept (Purging i) =
     change-last i purging_at run.systems (λ s _. record { file = refl; cursor = omega arith; filed = ([], sym (append-nil s.history)) })
 
-events-last : Laws → (events : List RunEvent) (run : Run) → AllKept run → Lasts run.systems (after_events run events).systems
+pub events-last : Laws → (events : List RunEvent) (run : Run) → AllKept run → Lasts run.systems (after_events run events).systems
 events-last laws [] run kept = same-last run.systems
 events-last laws (event ∷ events) run kept = λ i s e.
     let next = after_event run event in

@@ -4,6 +4,8 @@ pub mod Targets
 pub mod Growth
 pub mod Filing
 pub mod Sending
+pub mod Lasting
+pub mod Past
 pub mod Arrival
 pub mod TosserPremises
 pub mod Lists
@@ -20,6 +22,15 @@ pub mod DeliveredOnce
 pub mod NothingMissing
 pub mod EachSystem
 pub mod LaterSystems
+pub mod Seen
+pub mod Eras
+pub mod Unchanged
+pub mod Quiet
+pub mod Renewal
+pub mod EraBegins
+pub mod OverChanges
+pub mod Throughout
+pub mod OtherAreas
 pub mod Headline
 pub mod TosserLaws
 pub mod ScanPackets

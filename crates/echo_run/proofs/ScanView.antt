@@ -1,4 +1,4 @@
--- A scan, as the messages of an area see it.
+-- A scan, as chosen messages of an area see it.
 use Rattle.std.proofs.Common.{◌≡◌, ◌≢◌, inl, inr, refl, sym, subst, ap, ◌∙◌, ℕ, ◌≤◌, arith, IsTrue, List, [], ◌∷◌, ◌++◌, length, drop, map}
 use Rattle.std.specs.Prelude.{true, false, filter}
 use Rattle.std.proofs.lemmas.Bool.{cond-true, cond-false}
@@ -23,14 +23,15 @@ use Rattle.echo_run.proofs.TosserPremises.{Laws}
 use Rattle.echo_run.proofs.Lists.{yes_or_no, any-to, any-from, Among-map_to, Among-map_from, Among-filter_from, Among-filter_to, Among-middle}
 use Rattle.echo_run.proofs.Bases.{Kept-waiting, Kept-length, SystemOk}
 use Rattle.echo_run.proofs.WellFormed.{waiting-valid}
-use Rattle.echo_run.proofs.Sending.{Scans-keeps}
-use Rattle.echo_run.proofs.AreaView.{parts, in_area, done_of, waiting_of, parcel_of, view_of, Wrote, address_of, NoneAt, history-parts, in_area-tag, tag-in_area, net, lists-link, link-lists}
-use Rattle.echo_run.proofs.OneSystem.{Watched, placed, elsewhere, at_s, at_z}
-use Rattle.echo_run.proofs.Copies.{copied, copied-key, copied-tag, copied-content, copied-sender, copied-seen, seen-copied, copies-are, packet-destination, Targeted, goes-from, goes-to, target-recipient, recipients-differ, copies-few}
+use Rattle.echo_run.proofs.AreaView.{parts, chosen, done_of, waiting_of, parcel_of, view_of, Wrote, address_of, NoneAt, history-parts, chosen-tag, lists-link, link-lists}
+use Rattle.echo_run.proofs.OneSystem.{Watch, Watched, placed, elsewhere, at_s, at_z}
+use Rattle.echo_run.proofs.Copies.{copied, copied-key, copied-content, copied-sender, copied-seen, seen-copied, copies-are, packet-destination, Targeted, goes-from, goes-to, target-recipient, recipients-differ, copies-few}
 
-module _ (laws : Laws) (files : List LinkFile) (tag : List ℕ) (tidy : Tidy files tag) (run : Run)
+module _ (watch : Watch) (run : Run)
     (before : List System) (s : System) (after : List System) (none : NoneAt (address_of s) before)
-    (same_files : map (λ (t : System). t.file) (before ++ s ∷ after) ≡ files) (ok : SystemOk s) (stamp : Stamp) where
+    (same_files : map (λ (t : System). t.file) (before ++ s ∷ after) ≡ watch.files) (ok : SystemOk s) (stamp : Stamp) where
+  open watch use {laws, files, tag, tidy, of, of_area}
+
   -- what waits
   abbrev waits : List Filed
   waits = drop s.cursor s.base
@@ -57,44 +58,44 @@ module _ (laws : Laws) (files : List LinkFile) (tag : List ℕ) (tidy : Tidy fil
   }
 
   abbrev now : View Address Filed
-  now = view_of tag (placed laws files tag tidy run before s after none s)
+  now = view_of of (placed watch run before s after none s)
 
-  seen_waiting : now.waiting (address_of s) ≡ filter (in_area tag) waits
+  seen_waiting : now.waiting (address_of s) ≡ filter (chosen of) waits
   seen_waiting =
-      at_s laws files tag tidy run before s after none s refl (waiting_of tag)
-      ∙ ap (λ (ms : List Filed). filter (in_area tag) ms) (sym waits-kept)
+      at_s watch run before s after none s refl (waiting_of of)
+      ∙ ap (λ (ms : List Filed). filter (chosen of) ms) (sym waits-kept)
 
-  waiting-from : (m : Filed) → Among m (now.waiting (address_of s)) → Among m waits × (in_area tag m ≡ true)
+  waiting-from : (m : Filed) → Among m (now.waiting (address_of s)) → Among m waits × (chosen of m ≡ true)
   waiting-from m h =
       let P : List Filed → Type 0 = λ ms. Among m ms in
-      Among-filter_from (in_area tag) m waits (subst P seen_waiting h)
+      Among-filter_from (chosen of) m waits (subst P seen_waiting h)
 
-  waiting-to : (m : Filed) → Among m waits → in_area tag m ≡ true → Among m (now.waiting (address_of s))
+  waiting-to : (m : Filed) → Among m waits → chosen of m ≡ true → Among m (now.waiting (address_of s))
   waiting-to m h t =
       let P : List Filed → Type 0 = λ ms. Among m ms in
-      subst P (sym seen_waiting) (Among-filter_to (in_area tag) m waits h t)
+      subst P (sym seen_waiting) (Among-filter_to (chosen of) m waits h t)
 
   at_systems : Among s (before ++ s ∷ after)
   at_systems = Among-middle s before after
 
-  link-in : (m : Filed) (a : Address) → in_area tag m ≡ true → is_link s.file m.echo.tag a ≡ true → IsTrue (lists files tag (address_of s) a)
+  link-in : (m : Filed) (a : Address) → chosen of m ≡ true → is_link s.file m.echo.tag a ≡ true → IsTrue (lists files tag (address_of s) a)
   link-in m a t link =
       let P : List ℕ → Type 0 = λ g. is_link s.file g a ≡ true in
-      link-lists laws files tag tidy (before ++ s ∷ after) same_files s at_systems a (subst P (in_area-tag laws tag m t) link)
+      link-lists laws files tag tidy (before ++ s ∷ after) same_files s at_systems a (subst P (chosen-tag tag of of_area m t) link)
 
-  link-out : (m : Filed) (a : Address) → in_area tag m ≡ true → IsTrue (lists files tag (address_of s) a) → is_link s.file m.echo.tag a ≡ true
+  link-out : (m : Filed) (a : Address) → chosen of m ≡ true → IsTrue (lists files tag (address_of s) a) → is_link s.file m.echo.tag a ≡ true
   link-out m a t link =
       let P : List ℕ → Type 0 = λ g. is_link s.file g a ≡ true in
-      subst P (sym (in_area-tag laws tag m t)) (lists-link laws files tag tidy (before ++ s ∷ after) same_files s at_systems a link)
+      subst P (sym (chosen-tag tag of of_area m t)) (lists-link laws files tag tidy (before ++ s ∷ after) same_files s at_systems a link)
 
   -- a link of the area's links in the file is one by the files
-  link-of : (m : Filed) (a : Address) → in_area tag m ≡ true → Among a (links_of s.file m.echo.tag) → IsTrue (lists files tag (address_of s) a)
+  link-of : (m : Filed) (a : Address) → chosen of m ≡ true → Among a (links_of s.file m.echo.tag) → IsTrue (lists files tag (address_of s) a)
   link-of m a t h = link-in m a t (is-link h)
     where
       is-link : Among a (links_of s.file m.echo.tag) → is_link s.file m.echo.tag a ≡ true
       is-link i = any-to (same_address a) a (links_of s.file m.echo.tag) i (laws.addresses.full a a refl)
 
-  copy-is : (m : Filed) → in_area tag m ≡ true → IsCopy parts (lists files tag) (Carries files tag) (Wrote tag) (address_of s) m (copied s.file m)
+  copy-is : (m : Filed) → chosen of m ≡ true → IsCopy parts (lists files tag) (Carries files tag) (Wrote tag) (address_of s) m (copied s.file m)
   copy-is m t = record {
     key = copied-key s.file m;
     content = copied-content s.file m;
@@ -121,22 +122,16 @@ module _ (laws : Laws) (files : List LinkFile) (tag : List ℕ) (tidy : Tidy fil
   copies-of a = copies-are laws s.file ok.file stamp waits a waits-valid
 
   abbrev parcel_to : Address → Parcel Address Filed
-  parcel_to a = parcel_of tag (packet_to s.file stamp waits a)
+  parcel_to a = parcel_of of (packet_to s.file stamp waits a)
 
-  parcel-copies : (a : Address) → (parcel_to a).copies ≡ filter (in_area tag) (map (copied s.file) (filter (goes_to s.file a) waits))
-  parcel-copies a = ap (λ (ms : List Filed). filter (in_area tag) ms) (copies-of a)
+  parcel-copies : (a : Address) → (parcel_to a).copies ≡ filter (chosen of) (map (copied s.file) (filter (goes_to s.file a) waits))
+  parcel-copies a = ap (λ (ms : List Filed). filter (chosen of) ms) (copies-of a)
 
   parcel-address : (a : Address) → (parcel_to a).to ≡ a
   parcel-address a = packet-destination laws s.file stamp waits a
 
-  area-copied : (m : Filed) → in_area tag (copied s.file m) ≡ in_area tag m
-  area-copied m = elim (yes_or_no (in_area tag m)) [
-    | inl t ↦ tag-in_area laws tag (copied s.file m) (copied-tag s.file m ∙ in_area-tag laws tag m t) ∙ sym t
-    | inr f ↦ elim (yes_or_no (in_area tag (copied s.file m))) [
-      | inr g ↦ g ∙ sym f
-      | inl t ↦ t ∙ sym (tag-in_area laws tag m (sym (copied-tag s.file m) ∙ in_area-tag laws tag (copied s.file m) t))
-    ]
-  ]
+  chosen-copied : (m : Filed) → chosen of (copied s.file m) ≡ chosen of m
+  chosen-copied m = ap of (copied-key s.file m)
 
   -- what stands in a packet is the copy of a message that waits, and goes to a target
   pub from-packet : (a : Address) (c : Filed) → Among c (parcel_to a).copies →
@@ -145,10 +140,10 @@ module _ (laws : Laws) (files : List LinkFile) (tag : List ℕ) (tidy : Tidy fil
       IsCopy parts (lists files tag) (Carries files tag) (Wrote tag) (address_of s) m c
   from-packet a c h =
       let P : List Filed → Type 0 = λ ms. Among c ms in
-      let (i, t) = Among-filter_from (in_area tag) c (map (copied s.file) (filter (goes_to s.file a) waits)) (subst P (parcel-copies a) h) in
+      let (i, t) = Among-filter_from (chosen of) c (map (copied s.file) (filter (goes_to s.file a) waits)) (subst P (parcel-copies a) h) in
       let (m, j, e) = Among-map_from (copied s.file) c (filter (goes_to s.file a) waits) i in
       let (k, goes) = Among-filter_from (goes_to s.file a) m waits j in
-      let area : in_area tag m ≡ true = sym (area-copied m) ∙ (ap (λ (n : Filed). in_area tag n) (sym e) ∙ t) in
+      let area : chosen of m ≡ true = sym (chosen-copied m) ∙ (ap (λ (n : Filed). chosen of n) (sym e) ∙ t) in
       let target = goes-from laws s.file m a goes in
       let Q : Filed → Type 0 = λ n. IsCopy parts (lists files tag) (Carries files tag) (Wrote tag) (address_of s) m n in (
         m,
@@ -172,21 +167,21 @@ module _ (laws : Laws) (files : List LinkFile) (tag : List ℕ) (tidy : Tidy fil
         target-recipient laws s.file waits m a i targeted,
         (
           copied s.file m,
-          subst P (sym (parcel-copies a)) (Among-filter_to (in_area tag) (copied s.file m) (map (copied s.file) (filter (goes_to s.file a) waits))
+          subst P (sym (parcel-copies a)) (Among-filter_to (chosen of) (copied s.file m) (map (copied s.file) (filter (goes_to s.file a) waits))
               (Among-map_to (copied s.file) m (filter (goes_to s.file a) waits) (Among-filter_to (goes_to s.file a) m waits i (goes-to laws s.file m a targeted)))
-              (area-copied m ∙ t)),
+              (chosen-copied m ∙ t)),
           copied-key s.file m,
         ),
       )
 
   abbrev new_parcels : List (Parcel Address Filed)
-  new_parcels = map (parcel_of tag) made_packets
+  new_parcels = map (parcel_of of) made_packets
 
   parcels-from : (p : Parcel Address Filed) → Among p new_parcels → (a : Address) × (p ≡ parcel_to a)
   parcels-from p h =
-      let (q, i, e) = Among-map_from (parcel_of tag) p made_packets h in
+      let (q, i, e) = Among-map_from (parcel_of of) p made_packets h in
       let (a, j, e') = Among-map_from (packet_to s.file stamp waits) q (recipients s.file waits) i in
-      (a, e ∙ ap (parcel_of tag) e')
+      (a, e ∙ ap (parcel_of of) e')
 
   made : (p : Parcel Address Filed) → Among p new_parcels → (c : Filed) → Among c p.copies →
       (m : Filed) × Among m (now.waiting (address_of s)) ×
@@ -205,14 +200,14 @@ module _ (laws : Laws) (files : List LinkFile) (tag : List ℕ) (tidy : Tidy fil
   all m h x target =
       let (i, has) = to-packet m h x target in (
         parcel_to x,
-        Among-map_to (parcel_of tag) (packet_to s.file stamp waits x) made_packets
+        Among-map_to (parcel_of of) (packet_to s.file stamp waits x) made_packets
             (Among-map_to (packet_to s.file stamp waits) x (recipients s.file waits) i),
         parcel-address x,
         has,
       )
 
   abbrev sent_among : Address → Key → List Address → ℕ
-  sent_among x k rs = sent_times parts x k (map (parcel_of tag) (map (packet_to s.file stamp waits) rs))
+  sent_among x k rs = sent_times parts x k (map (parcel_of of) (map (packet_to s.file stamp waits) rs))
 
   sent-cons-no : (x : Address) (k : Key) (r : Address) (rs : List Address) → r ≢ x → sent_among x k (r ∷ rs) ≡ sent_among x k rs
   sent-cons-no x k r rs other =
@@ -229,7 +224,7 @@ module _ (laws : Laws) (files : List LinkFile) (tag : List ℕ) (tidy : Tidy fil
   few-copies : (k : Key) (a : Address) → times parts k (parcel_to a).copies ≤ times parts k (now.waiting (address_of s))
   few-copies k a =
       let size : List Filed → ℕ = λ ms. times parts k ms in
-      omega (arith, ap size (parcel-copies a), ap size seen_waiting, copies-few laws s.file tag k a waits)
+      omega (arith, ap size (parcel-copies a), ap size seen_waiting, copies-few laws s.file of k a waits)
 
   few-among : (x : Address) (k : Key) (rs : List Address) → Different rs → sent_among x k rs ≤ times parts k (now.waiting (address_of s))
   few-among x k [] d = omega arith
@@ -248,29 +243,28 @@ module _ (laws : Laws) (files : List LinkFile) (tag : List ℕ) (tidy : Tidy fil
   length-kept : length s.base ≡ length s.history
   length-kept = Kept-length s.cursor s.base s.history ok.kept
 
-  scans : Scans parts (lists files tag) (Carries files tag) (Wrote tag) now (view_of tag scanned_run) (address_of s) new_parcels
+  scans : Scans parts (lists files tag) (Carries files tag) (Wrote tag) now (view_of of scanned_run) (address_of s) new_parcels
   scans = record {
-    others_done = λ a other. elsewhere laws files tag tidy run before s after none (scanning_at s) refl (done_of tag) a other;
-    others = λ a other. elsewhere laws files tag tidy run before s after none (scanning_at s) refl (waiting_of tag) a other;
+    others_done = λ a other. elsewhere watch run before s after none (scanning_at s) refl (done_of of) a other;
+    others = λ a other. elsewhere watch run before s after none (scanning_at s) refl (waiting_of of) a other;
     done =
-        at_z laws files tag tidy run before s after none (scanning_at s) refl (done_of tag)
-        ∙ (ap (λ (ms : List Filed). filter (in_area tag) ms) (take_all (length s.base) s.history (omega (arith, length-kept)))
-        ∙ (let h = history-parts tag s in
-        let d = at_s laws files tag tidy run before s after none s refl (done_of tag) in
-        let w = at_s laws files tag tidy run before s after none s refl (waiting_of tag) in
+        at_z watch run before s after none (scanning_at s) refl (done_of of)
+        ∙ (ap (λ (ms : List Filed). filter (chosen of) ms) (take_all (length s.base) s.history (omega (arith, length-kept)))
+        ∙ (let h = history-parts of s in
+        let d = at_s watch run before s after none s refl (done_of of) in
+        let w = at_s watch run before s after none s refl (waiting_of of) in
         cc));
     waiting =
-        at_z laws files tag tidy run before s after none (scanning_at s) refl (waiting_of tag)
-        ∙ ap (λ (ms : List Filed). filter (in_area tag) ms) (drop_all (length s.base) s.history (omega (arith, length-kept)));
+        at_z watch run before s after none (scanning_at s) refl (waiting_of of)
+        ∙ ap (λ (ms : List Filed). filter (chosen of) ms) (drop_all (length s.base) s.history (omega (arith, length-kept)));
     packets =
-        map-append (parcel_of tag) run.packets (scanned s.file s.base s.cursor stamp)
-        ∙ ap (λ (ps : List Packet). map (parcel_of tag) run.packets ++ map (parcel_of tag) ps) made-are;
+        map-append (parcel_of of) run.packets (scanned s.file s.base s.cursor stamp)
+        ∙ ap (λ (ps : List Packet). map (parcel_of of) run.packets ++ map (parcel_of of) ps) made-are;
     delivered = refl;
     made = made;
     all = all;
     few = few;
   }
 
-  pub scanning-keeps : Watched laws files tag tidy (placed laws files tag tidy run before s after none s) → Watched laws files tag tidy scanned_run
-  scanning-keeps inv =
-      Scans-keeps parts (lists files tag) (Carries files tag) (Wrote tag) (net laws files tag tidy) now (view_of tag scanned_run) inv (address_of s) new_parcels scans
+  pub scanning-keeps : Watched watch (placed watch run before s after none s) → Watched watch scanned_run
+  scanning-keeps inv = watch.lasts.scans now (view_of of scanned_run) inv (address_of s) new_parcels scans

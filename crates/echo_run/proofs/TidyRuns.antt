@@ -27,8 +27,8 @@ use Rattle.echo_run.proofs.Lists.{Among-map_from, Split, nth-cases, nth-split, c
 use Rattle.echo_run.proofs.TosserCases.{posting-cases}
 use Rattle.echo_run.proofs.Bases.{SystemOk, HasKey}
 use Rattle.echo_run.proofs.WellFormed.{RunOk, PacketOk, posted-fresh, event-ok, start-ok}
-use Rattle.echo_run.proofs.AreaView.{in_area, in_area-tag, parcel_of, parts, part_at, part_at-none, done_of, waiting_of, view_of, Wrote, address_of, NoneAt, area-carries, none-before}
-use Rattle.echo_run.proofs.OneSystem.{Watched, with_systems, MayFile, filing-keeps, purging-keeps}
+use Rattle.echo_run.proofs.AreaView.{chosen, chosen-tag, parcel_of, parts, view_of, Wrote, address_of, NoneAt, area-carries, none-before}
+use Rattle.echo_run.proofs.OneSystem.{Watch, Watched, with_systems, MayFileHere, filing-keeps, purging-keeps}
 use Rattle.echo_run.proofs.ScanView.{scanning-keeps}
 use Rattle.echo_run.proofs.DeliveryView as delivered
 use Rattle.echo_run.proofs.DeliveryView.{filing-file, tossing-file, origin-is}
@@ -44,186 +44,6 @@ posted-sender file tag draft serial stamp = refl
 posted-seen : (file : LinkFile) (tag : List ℕ) (draft : Draft) (serial : ℕ) (stamp : Stamp) → (posted file tag draft serial stamp).echo.seen ≡ []
 unfolding posted
 posted-seen file tag draft serial stamp = refl
-
-module _ (laws : Laws) (files : List LinkFile) (tag : List ℕ) (tidy : Tidy files tag) where
-  -- of a run of these files, at all times
-  pub record State (run : Run) : Type 0 where
-    pub ok : RunOk run
-    pub same_files : map (λ (s : System). s.file) run.systems ≡ files
-    pub watched : Watched laws files tag tidy run
-
-  -- a system of the run, by its index
-  record Place (run : Run) (i : ℕ) (s : System) : Type 0 where
-    split : Split i s run.systems
-    none : NoneAt (address_of s) split.before
-    ok : SystemOk s
-    files_around : map (λ (t : System). t.file) (split.before ++ s ∷ split.after) ≡ files
-    watched : Watched laws files tag tidy (with_systems run (split.before ++ s ∷ split.after))
-
-  place : (run : Run) → State run → (i : ℕ) (s : System) → nth i run.systems ≡ Some s → Place run i s
-  place run state i s e =
-      let split = nth-split i s run.systems e in
-      let P : List System → Type 0 = λ ss. Among s ss in
-      let Q : List System → Type 0 = λ ss. map (λ (t : System). t.file) ss ≡ files in
-      let R : List System → Type 0 = λ ss. Watched laws files tag tidy (with_systems run ss) in
-      record {
-        split = split;
-        none = none-before laws files tag tidy run.systems state.same_files split.before s split.after split.whole;
-        ok = state.ok.systems s (subst P (sym split.whole) (Among-middle s split.before split.after));
-        files_around = subst Q split.whole state.same_files;
-        watched = subst R split.whole state.watched;
-      }
-
-  -- one system changes, or none
-  change-watched : (run : Run) → State run → (i : ℕ) (f : System → System) →
-      ((s : System) (at : Place run i s) → Watched laws files tag tidy (with_systems run (at.split.before ++ f s ∷ at.split.after))) →
-      Watched laws files tag tidy (with_systems run (change i f run.systems))
-  change-watched run state i f keeps =
-      let R : List System → Type 0 = λ ss. Watched laws files tag tidy (with_systems run ss) in
-      elim (nth-cases i run.systems) [
-        | inl none ↦ subst R (sym (change-none i f run.systems none)) state.watched
-        | inr some ↦ (let at = place run state i some.0 some.1 in
-            subst R (sym (at.split.changed f)) (keeps some.0 at))
-      ]
-
-  -- a posting has an id of its own
-  may-post : (run : Run) (state : State run) (i : ℕ) (g : List ℕ) (draft : Draft) (serial : ℕ) (stamp : Stamp) →
-      (s : System) (at : Place run i s) (m : Filed) → posting s.file s.base g draft serial stamp ≡ Some m →
-      (¬ HasKey (key_of m) s.history) × (in_area tag m ≡ true → MayFile laws files tag tidy run at.split.before s at.split.after at.none m)
-  may-post run state i g draft serial stamp s at m e =
-      elim (posting-cases s.file s.base g draft serial stamp) [
-        | inl none ↦ absurd (none_some (sym none ∙ e))
-        | inr some ↦ (let same : posted s.file g draft serial stamp ≡ m = some_same (sym some.0 ∙ e) in
-            let P : Filed → Type 0 = λ n. (¬ HasKey (key_of n) s.history) ×
-            (in_area tag n ≡ true → MayFile laws files tag tidy run at.split.before s at.split.after at.none n) in
-            subst P same (
-              posted-fresh laws s at.ok g draft serial stamp some.3,
-              λ t. inl (own some.2 t),
-            ))
-      ]
-    where
-      own : has_area s.file (upper g) ≡ true → in_area tag (posted s.file g draft serial stamp) ≡ true →
-          Carries files tag (address_of s) × Wrote tag (address_of s) (key_of (posted s.file g draft serial stamp)) ×
-          ((posted s.file g draft serial stamp).sender ≡ None) × ((posted s.file g draft serial stamp).echo.seen ≡ [])
-      own has t =
-          let e : upper g ≡ tag = sym (posted-tag s.file g draft serial stamp) ∙ (in_area-tag laws tag (posted s.file g draft serial stamp) t) in (
-            area-carries laws files tag tidy (at.split.before ++ s ∷ at.split.after) at.files_around s (Among-middle s at.split.before at.split.after)
-                (ap (λ (h : List ℕ). has_area s.file h) (sym e) ∙ has),
-            (at.ok.file.address, (serial, laws.posted_key s.file g draft serial stamp at.ok.file ∙ ap (λ (h : List ℕ). ById h (id_of s.file.system serial)) e)),
-            posted-sender s.file g draft serial stamp,
-            posted-seen s.file g draft serial stamp,
-          )
-
-  posting-watched : (run : Run) → State run → (i : ℕ) (g : List ℕ) (draft : Draft) (serial : ℕ) (stamp : Stamp) →
-      Watched laws files tag tidy (changing run i (posting_at g draft serial stamp))
-  posting-watched run state i g draft serial stamp = change-watched run state i (posting_at g draft serial stamp) (λ s at.
-      filing-keeps laws files tag tidy run at.split.before s at.split.after at.none at.ok (posting s.file s.base g draft serial stamp)
-      (may-post run state i g draft serial stamp s at) at.watched)
-
-  purging-watched : (run : Run) → State run → (i : ℕ) → Watched laws files tag tidy (changing run i purging_at)
-  purging-watched run state i = change-watched run state i purging_at (λ s at.
-      purging-keeps laws files tag tidy run at.split.before s at.split.after at.none at.watched)
-
-  scanning-watched : (run : Run) → State run → (i : ℕ) (stamp : Stamp) (found : Option System) → nth i run.systems ≡ found →
-      Watched laws files tag tidy (scanning run i stamp found)
-  scanning-watched run state i stamp None e = state.watched
-  scanning-watched run state i stamp (Some s) e = scans (is_stamp stamp)
-    where
-      at : Place run i s
-      at = place run state i s e
-
-      scans : (b : Bool) → Watched laws files tag tidy (if b then record {
-        systems = change i scanning_at run.systems;
-        packets = run.packets ++ scanned s.file s.base s.cursor stamp;
-        delivered = run.delivered;
-      } else run)
-      scans true =
-          let R : List System → Type 0 = λ ss. Watched laws files tag tidy (record {
-            systems = ss;
-            packets = run.packets ++ scanned s.file s.base s.cursor stamp;
-            delivered = run.delivered;
-          }) in
-          subst R (sym (at.split.changed scanning_at))
-          (scanning-keeps laws files tag tidy run at.split.before s at.split.after at.none at.files_around at.ok stamp at.watched)
-      scans false = state.watched
-
-  -- the first system that has the address
-  at_receiver : (run : Run) (p : Packet) (s : System) → nth (receiver run p) run.systems ≡ Some s → address_of s ≡ destination p
-  at_receiver run p s e =
-      laws.addresses.sound (address_of s) (destination p) (first_passes (λ t. same_address t.file.system (destination p)) s run.systems e)
-
-  taking-watched : (run : Run) → State run → (p : Packet) → Among p run.packets → (n : ℕ) → (s : System) (at : Place run (receiver run p) s) →
-      address_of s ≡ destination p → Watched laws files tag tidy (with_systems run (at.split.before ++ taking p n s ∷ at.split.after))
-  taking-watched run state p h n s at here =
-      delivered.tossing-keeps laws files tag tidy run at.split.before at.split.after p (state.ok.packets p h) h (origin_of s.file p.header)
-      (origin-is s.file p (state.ok.packets p h)) (take n p.messages) (λ q i. Among-take n q p.messages i) s at.none here at.ok at.watched
-
-  part-watched : (run : Run) → State run → (n : ℕ) (found : Option Packet) → ((p : Packet) → found ≡ Some p → Among p run.packets) →
-      Watched laws files tag tidy (part_delivery run n found)
-  part-watched run state n None h = state.watched
-  part-watched run state n (Some p) h =
-      let R : List System → Type 0 = λ ss. Watched laws files tag tidy (with_systems run ss) in
-      elim (nth-cases (receiver run p) run.systems) [
-        | inl none ↦ subst R (sym (change-none (receiver run p) (taking p n) run.systems none)) state.watched
-        | inr some ↦ (let at = place run state (receiver run p) some.0 some.1 in
-            subst R (sym (at.split.changed (taking p n)))
-            (taking-watched run state p (h p refl) n some.0 at (at_receiver run p some.0 some.1)))
-      ]
-
-  coming-watched : (run : Run) → State run → (k : ℕ) (p : Packet) → Among p run.packets → At run.packets k p → (found : Option System) →
-      nth (receiver run p) run.systems ≡ found → Watched laws files tag tidy (coming run k p found)
-  coming-watched run state k p h at_k None e = state.watched
-  coming-watched run state k p h at_k (Some s) e =
-      let R : List System → Type 0 = λ ss. Watched laws files tag tidy (record { systems = ss; packets = run.packets; delivered = with_index k run.delivered }) in
-      subst R (sym (at.split.changed (taking p (length p.messages)))) (
-      delivered.delivered-keeps laws files tag tidy run at.split.before at.split.after p ok_p h s z none_z (same ∙ here) known k at_k
-      (taking-watched run state p h (length p.messages) s at here)
-      )
-    where
-      at : Place run (receiver run p) s
-      at = place run state (receiver run p) s e
-
-      ok_p : PacketOk p
-      ok_p = state.ok.packets p h
-
-      here : address_of s ≡ destination p
-      here = at_receiver run p s e
-
-      z : System
-      z = taking p (length p.messages) s
-
-      same : address_of z ≡ address_of s
-      same = ap (λ (f : LinkFile). f.system) (tossing-file (origin_of s.file p.header) (take (length p.messages) p.messages) s)
-
-      none_z : NoneAt (address_of z) at.split.before
-      none_z = let P : Address → Type 0 = λ a. NoneAt a at.split.before in subst P (sym same) at.none
-
-      known : (c : Filed) → Among c (parcel_of tag p).copies → HasKey (key_of c) z.history
-      known c i =
-          let P : List Message → Type 0 = λ ms. HasKey (key_of c) (tossing_at (origin_of s.file p.header) ms s).history in
-          subst P (sym (take_all (length p.messages) p.messages (omega arith)))
-          (delivered.all-known laws files tag tidy run at.split.before at.split.after p ok_p h s at.none here at.ok at.files_around at.watched c i)
-
-  found-among : {X : Type 0} (i : ℕ) (x : X) (xs : List X) → nth i xs ≡ Some x → Among x xs × At xs i x
-  found-among {X} i x xs e =
-      let split = nth-split i x xs e in
-      let P : List X → Type 0 = λ ys. Among x ys in
-      (subst P (sym split.whole) (Among-middle x split.before split.after), (split.before, split.after, split.whole, split.index))
-
-  delivery-watched : (run : Run) → State run → (k : ℕ) (found : Option Packet) → nth k run.packets ≡ found →
-      Watched laws files tag tidy (delivery run k found)
-  delivery-watched run state k None e = state.watched
-  delivery-watched run state k (Some p) e =
-      let (h, at) = found-among k p run.packets e in
-      coming-watched run state k p h at (nth (receiver run p) run.systems) refl
-
-  event-watched : (run : Run) → State run → (event : RunEvent) → Watched laws files tag tidy (after_event run event)
-  event-watched run state (Posting i g draft serial stamp) = posting-watched run state i g draft serial stamp
-  event-watched run state (Scanning i stamp) = scanning-watched run state i stamp (nth i run.systems) refl
-  event-watched run state (Delivery k) = delivery-watched run state k (nth k run.packets) refl
-  event-watched run state (PartDelivery k n) =
-      part-watched run state n (nth k run.packets) (λ p e. (found-among k p run.packets e).0)
-  event-watched run state (Purging i) = purging-watched run state i
 
 -- the files stay
 abbrev pub files_of : Run → List LinkFile
@@ -267,7 +87,7 @@ event-files run (Delivery k) = delivery-files run k (nth k run.packets)
 event-files run (PartDelivery k n) = part-files run n (nth k run.packets)
 event-files run (Purging i) = map-change (λ (t : System). t.file) i purging_at (λ t. refl) run.systems
 
-fresh-files : (files : List LinkFile) → map (λ (s : System). s.file) (map fresh files) ≡ files
+pub fresh-files : (files : List LinkFile) → map (λ (s : System). s.file) (map fresh files) ≡ files
 fresh-files [] = refl
 fresh-files (file ∷ files) = ap (λ (fs : List LinkFile). file ∷ fs) (fresh-files files)
 
@@ -277,40 +97,198 @@ pub along : (P : Run → Type 0) → ((run : Run) (event : RunEvent) → P run �
 along P keeps [] run at = at
 along P keeps (event ∷ later) run at = along P keeps later (after_event run event) (keeps run event at)
 
-module _ (laws : Laws) (files : List LinkFile) (fit : FilesFit files) (events : List RunEvent) where
-  -- on every net
-  pub run-ok : RunOk (run_of files events)
-  run-ok = along (λ run. RunOk run) (λ run event. event-ok laws run event) events (start files) (start-ok laws files fit)
+module _ (watch : Watch) where
+  open watch use {laws, files, tag, tidy, of, of_area}
 
-  module _ (tag : List ℕ) (tidy : Tidy files tag) where
-    nothing-at : (part : System → List Filed) → ((file : LinkFile) → part (fresh file) ≡ []) → (a : Address) → part_at part a (map fresh files) ≡ []
-    nothing-at part none a = part_at-none part a (map fresh files) (λ s h.
-        let (file, i, e) = Among-map_from fresh s files h in
-        ap part e ∙ none file)
+  -- of a run of these files, at all times
+  pub record State (run : Run) : Type 0 where
+    pub ok : RunOk run
+    pub same_files : map (λ (s : System). s.file) run.systems ≡ files
+    pub watched : Watched watch run
 
-    start-held : (a : Address) → held (view_of tag (start files)) a ≡ []
-    start-held a =
-        let d = nothing-at (done_of tag) (λ file. refl) a in
-        let w = nothing-at (waiting_of tag) (λ file. refl) a in
-        ap (λ (ms : List Filed). ms ++ part_at (waiting_of tag) a (map fresh files)) d ∙ w
+  -- a system of the run, by its index
+  record Place (run : Run) (i : ℕ) (s : System) : Type 0 where
+    split : Split i s run.systems
+    none : NoneAt (address_of s) split.before
+    ok : SystemOk s
+    files_around : map (λ (t : System). t.file) (split.before ++ s ∷ split.after) ≡ files
+    watched : Watched watch (with_systems run (split.before ++ s ∷ split.after))
 
-    no_member : (m : Filed) (ms : List Filed) → ms ≡ [] → Among m ms → ⊥
-    no_member m ms e h = let P : List Filed → Type 0 = λ ns. Among m ns in subst P e h
+  place : (run : Run) → State run → (i : ℕ) (s : System) → nth i run.systems ≡ Some s → Place run i s
+  place run state i s e =
+      let split = nth-split i s run.systems e in
+      let P : List System → Type 0 = λ ss. Among s ss in
+      let Q : List System → Type 0 = λ ss. map (λ (t : System). t.file) ss ≡ files in
+      let R : List System → Type 0 = λ ss. Watched watch (with_systems run ss) in
+      record {
+        split = split;
+        none = none-before laws files tag tidy run.systems state.same_files split.before s split.after split.whole;
+        ok = state.ok.systems s (subst P (sym split.whole) (Among-middle s split.before split.after));
+        files_around = subst Q split.whole state.same_files;
+        watched = subst R split.whole state.watched;
+      }
 
-    start-watched : Watched laws files tag tidy (start files)
-    start-watched = record {
-      once = λ a k. let P : List Filed → Type 0 = λ ms. times parts k ms ≤ 1 in subst P (sym (start-held a)) (omega arith);
-      good = λ a m h. absurd (no_member m (held (view_of tag (start files)) a) (start-held a) h);
-      sent = λ p h c i. absurd h;
-      sent_once = λ a k. omega arith;
-      passed_on = λ a m h f wrote d link beyond. absurd (no_member m (part_at (done_of tag) a (map fresh files)) (nothing-at (done_of tag) (λ file. refl) a) h);
-      came = λ k h. absurd h;
-    }
+  -- one system changes, or none
+  change-watched : (run : Run) → State run → (i : ℕ) (f : System → System) →
+      ((s : System) (at : Place run i s) → Watched watch (with_systems run (at.split.before ++ f s ∷ at.split.after))) →
+      Watched watch (with_systems run (change i f run.systems))
+  change-watched run state i f keeps =
+      let R : List System → Type 0 = λ ss. Watched watch (with_systems run ss) in
+      elim (nth-cases i run.systems) [
+        | inl none ↦ subst R (sym (change-none i f run.systems none)) state.watched
+        | inr some ↦ (let at = place run state i some.0 some.1 in
+            subst R (sym (at.split.changed f)) (keeps some.0 at))
+      ]
 
-    -- on a tidy net
-    pub run-state : State laws files tag tidy (run_of files events)
-    run-state = along (λ run. State laws files tag tidy run) (λ run event state. record {
-      ok = event-ok laws run event state.ok;
-      same_files = event-files run event ∙ state.same_files;
-      watched = event-watched laws files tag tidy run state event;
-    }) events (start files) (record { ok = start-ok laws files fit; same_files = fresh-files files; watched = start-watched })
+  -- a posting has an id of its own
+  may-post : (run : Run) (state : State run) (i : ℕ) (g : List ℕ) (draft : Draft) (serial : ℕ) (stamp : Stamp) →
+      (s : System) (at : Place run i s) (m : Filed) → posting s.file s.base g draft serial stamp ≡ Some m →
+      (¬ HasKey (key_of m) s.history) × (chosen of m ≡ true → MayFileHere watch run at.split.before s at.split.after at.none m)
+  may-post run state i g draft serial stamp s at m e =
+      elim (posting-cases s.file s.base g draft serial stamp) [
+        | inl none ↦ absurd (none_some (sym none ∙ e))
+        | inr some ↦ (let same : posted s.file g draft serial stamp ≡ m = some_same (sym some.0 ∙ e) in
+            let P : Filed → Type 0 = λ n. (¬ HasKey (key_of n) s.history) ×
+            (chosen of n ≡ true → MayFileHere watch run at.split.before s at.split.after at.none n) in
+            subst P same (
+              posted-fresh laws s at.ok g draft serial stamp some.3,
+              λ t. inl (own some.2 t),
+            ))
+      ]
+    where
+      own : has_area s.file (upper g) ≡ true → chosen of (posted s.file g draft serial stamp) ≡ true →
+          Carries files tag (address_of s) × Wrote tag (address_of s) (key_of (posted s.file g draft serial stamp)) ×
+          ((posted s.file g draft serial stamp).sender ≡ None) × ((posted s.file g draft serial stamp).echo.seen ≡ [])
+      own has t =
+          let e : upper g ≡ tag = sym (posted-tag s.file g draft serial stamp) ∙ chosen-tag tag of of_area (posted s.file g draft serial stamp) t in (
+            area-carries laws files tag tidy (at.split.before ++ s ∷ at.split.after) at.files_around s (Among-middle s at.split.before at.split.after)
+                (ap (λ (h : List ℕ). has_area s.file h) (sym e) ∙ has),
+            (at.ok.file.address, (serial, laws.posted_key s.file g draft serial stamp at.ok.file ∙ ap (λ (h : List ℕ). ById h (id_of s.file.system serial)) e)),
+            posted-sender s.file g draft serial stamp,
+            posted-seen s.file g draft serial stamp,
+          )
+
+  posting-watched : (run : Run) → State run → (i : ℕ) (g : List ℕ) (draft : Draft) (serial : ℕ) (stamp : Stamp) →
+      Watched watch (changing run i (posting_at g draft serial stamp))
+  posting-watched run state i g draft serial stamp = change-watched run state i (posting_at g draft serial stamp) (λ s at.
+      filing-keeps watch run at.split.before s at.split.after at.none at.ok (posting s.file s.base g draft serial stamp)
+      (may-post run state i g draft serial stamp s at) at.watched)
+
+  purging-watched : (run : Run) → State run → (i : ℕ) → Watched watch (changing run i purging_at)
+  purging-watched run state i = change-watched run state i purging_at (λ s at.
+      purging-keeps watch run at.split.before s at.split.after at.none at.watched)
+
+  scanning-watched : (run : Run) → State run → (i : ℕ) (stamp : Stamp) (found : Option System) → nth i run.systems ≡ found →
+      Watched watch (scanning run i stamp found)
+  scanning-watched run state i stamp None e = state.watched
+  scanning-watched run state i stamp (Some s) e = scans (is_stamp stamp)
+    where
+      at : Place run i s
+      at = place run state i s e
+
+      scans : (b : Bool) → Watched watch (if b then record {
+        systems = change i scanning_at run.systems;
+        packets = run.packets ++ scanned s.file s.base s.cursor stamp;
+        delivered = run.delivered;
+      } else run)
+      scans true =
+          let R : List System → Type 0 = λ ss. Watched watch (record {
+            systems = ss;
+            packets = run.packets ++ scanned s.file s.base s.cursor stamp;
+            delivered = run.delivered;
+          }) in
+          subst R (sym (at.split.changed scanning_at))
+          (scanning-keeps watch run at.split.before s at.split.after at.none at.files_around at.ok stamp at.watched)
+      scans false = state.watched
+
+  -- the first system that has the address
+  at_receiver : (run : Run) (p : Packet) (s : System) → nth (receiver run p) run.systems ≡ Some s → address_of s ≡ destination p
+  at_receiver run p s e =
+      laws.addresses.sound (address_of s) (destination p) (first_passes (λ t. same_address t.file.system (destination p)) s run.systems e)
+
+  taking-watched : (run : Run) → State run → (p : Packet) → Among p run.packets → (n : ℕ) → (s : System) (at : Place run (receiver run p) s) →
+      address_of s ≡ destination p → Watched watch (with_systems run (at.split.before ++ taking p n s ∷ at.split.after))
+  taking-watched run state p h n s at here =
+      delivered.tossing-keeps watch run at.split.before at.split.after p (state.ok.packets p h) h (origin_of s.file p.header)
+      (origin-is s.file p (state.ok.packets p h)) (take n p.messages) (λ q i. Among-take n q p.messages i) s at.none here at.ok at.watched
+
+  part-watched : (run : Run) → State run → (n : ℕ) (found : Option Packet) → ((p : Packet) → found ≡ Some p → Among p run.packets) →
+      Watched watch (part_delivery run n found)
+  part-watched run state n None h = state.watched
+  part-watched run state n (Some p) h =
+      let R : List System → Type 0 = λ ss. Watched watch (with_systems run ss) in
+      elim (nth-cases (receiver run p) run.systems) [
+        | inl none ↦ subst R (sym (change-none (receiver run p) (taking p n) run.systems none)) state.watched
+        | inr some ↦ (let at = place run state (receiver run p) some.0 some.1 in
+            subst R (sym (at.split.changed (taking p n)))
+            (taking-watched run state p (h p refl) n some.0 at (at_receiver run p some.0 some.1)))
+      ]
+
+  coming-watched : (run : Run) → State run → (k : ℕ) (p : Packet) → Among p run.packets → At run.packets k p → (found : Option System) →
+      nth (receiver run p) run.systems ≡ found → Watched watch (coming run k p found)
+  coming-watched run state k p h at_k None e = state.watched
+  coming-watched run state k p h at_k (Some s) e =
+      let R : List System → Type 0 = λ ss. Watched watch (record { systems = ss; packets = run.packets; delivered = with_index k run.delivered }) in
+      subst R (sym (at.split.changed (taking p (length p.messages)))) (
+      delivered.delivered-keeps watch run at.split.before at.split.after p ok_p h s z none_z (same ∙ here) known k at_k
+      (taking-watched run state p h (length p.messages) s at here)
+      )
+    where
+      at : Place run (receiver run p) s
+      at = place run state (receiver run p) s e
+
+      ok_p : PacketOk p
+      ok_p = state.ok.packets p h
+
+      here : address_of s ≡ destination p
+      here = at_receiver run p s e
+
+      z : System
+      z = taking p (length p.messages) s
+
+      same : address_of z ≡ address_of s
+      same = ap (λ (f : LinkFile). f.system) (tossing-file (origin_of s.file p.header) (take (length p.messages) p.messages) s)
+
+      none_z : NoneAt (address_of z) at.split.before
+      none_z = let P : Address → Type 0 = λ a. NoneAt a at.split.before in subst P (sym same) at.none
+
+      known : (c : Filed) → Among c (parcel_of of p).copies → HasKey (key_of c) z.history
+      known c i =
+          let P : List Message → Type 0 = λ ms. HasKey (key_of c) (tossing_at (origin_of s.file p.header) ms s).history in
+          subst P (sym (take_all (length p.messages) p.messages (omega arith)))
+          (delivered.all-known watch run at.split.before at.split.after p ok_p h s at.none here at.ok at.files_around at.watched c i)
+
+  found-among : {X : Type 0} (i : ℕ) (x : X) (xs : List X) → nth i xs ≡ Some x → Among x xs × At xs i x
+  found-among {X} i x xs e =
+      let split = nth-split i x xs e in
+      let P : List X → Type 0 = λ ys. Among x ys in
+      (subst P (sym split.whole) (Among-middle x split.before split.after), (split.before, split.after, split.whole, split.index))
+
+  delivery-watched : (run : Run) → State run → (k : ℕ) (found : Option Packet) → nth k run.packets ≡ found →
+      Watched watch (delivery run k found)
+  delivery-watched run state k None e = state.watched
+  delivery-watched run state k (Some p) e =
+      let (h, at) = found-among k p run.packets e in
+      coming-watched run state k p h at (nth (receiver run p) run.systems) refl
+
+  event-watched : (run : Run) → State run → (event : RunEvent) → Watched watch (after_event run event)
+  event-watched run state (Posting i g draft serial stamp) = posting-watched run state i g draft serial stamp
+  event-watched run state (Scanning i stamp) = scanning-watched run state i stamp (nth i run.systems) refl
+  event-watched run state (Delivery k) = delivery-watched run state k (nth k run.packets) refl
+  event-watched run state (PartDelivery k n) =
+      part-watched run state n (nth k run.packets) (λ p e. (found-among k p run.packets e).0)
+  event-watched run state (Purging i) = purging-watched run state i
+
+  pub event-state : (run : Run) (event : RunEvent) → State run → State (after_event run event)
+  event-state run event state = record {
+    ok = event-ok laws run event state.ok;
+    same_files = event-files run event ∙ state.same_files;
+    watched = event-watched run state event;
+  }
+
+  pub events-state : (events : List RunEvent) (run : Run) → State run → State (after_events run events)
+  events-state = along (λ run. State run) event-state
+
+-- on every net
+pub run-ok : (laws : Laws) (files : List LinkFile) → FilesFit files → (events : List RunEvent) → RunOk (run_of files events)
+run-ok laws files fit events = along (λ run. RunOk run) (λ run event. event-ok laws run event) events (start files) (start-ok laws files fit)

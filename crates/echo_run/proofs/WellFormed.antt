@@ -1,5 +1,5 @@
 -- What is true of every run, on every net.
-use Rattle.std.proofs.Common.{◌≡◌, ◌≢◌, inl, inr, refl, sym, subst, ◌∙◌, ℕ, arith, List, [], ◌∷◌, ◌++◌, length, take, drop, Option, Some, None}
+use Rattle.std.proofs.Common.{◌≡◌, ◌≢◌, inl, inr, refl, sym, subst, ◌∙◌, ℕ, ◌≤◌, arith, List, [], ◌∷◌, ◌++◌, length, take, drop, Option, Some, None}
 use Rattle.std.specs.Prelude.{Bool, true, false, filter, if◌then◌else◌}
 use Rattle.std.specs.List.{list_any}
 use Rattle.echo_addr.specs.declared.address.Address.{Address}
@@ -11,6 +11,7 @@ use Rattle.echo_text.specs.Refusal.{refusal}
 use Rattle.echo_steps.specs.declared.packet.Packet.{Packet}
 use Rattle.echo_steps.specs.declared.draft.Draft.{Draft}
 use Rattle.echo_steps.specs.declared.stamp.Stamp.{Stamp}
+use Rattle.echo_base.specs.declared.key.Key.{Key}
 use Rattle.echo_base.specs.declared.key.Key.TheVariants.{ById}
 use Rattle.echo_base.specs.Base.{Filed, LinkFile, key_of, is_known}
 use Rattle.echo_text.specs.Ids.{id_of}
@@ -24,10 +25,11 @@ use Rattle.echo_run.specs.Event.{RunEvent, Posting, Scanning, Delivery, PartDeli
 use Rattle.echo_run.specs.Run.{System, Run, fresh, filing, posting_at, tossing_at, scanning_at, purging_at, nth, change, receiver, changing, scanning, taking, coming, delivery, part_delivery, after_event, start}
 use Rattle.echo_base.specs.Base.{IsFile}
 use Rattle.echo_run.specs.Fits.{FilesFit}
+use Rattle.echo_run.specs.Orderly.{count}
 use Rattle.echo_run.proofs.TosserPremises.{Laws}
 use Rattle.echo_run.proofs.Lists.{not_both, Among-map_from, Among-filter_from, Among-take, Among-drop, change-all, nth-among, none_some, some_same}
 use Rattle.echo_run.proofs.TosserCases.{posting-cases, tossing-cases}
-use Rattle.echo_run.proofs.Bases.{Kept-scanned, Kept-purged, Kept-waiting, SystemOk, HasKey, known-from_history, id-from_history, filing-ok}
+use Rattle.echo_run.proofs.Bases.{Kept-count, Kept-scanned, Kept-purged, Kept-waiting, SystemOk, HasKey, known-from_history, id-from_history, filing-ok}
 
 -- of a packet at any time
 pub record PacketOk (p : Packet) : Type 0 where
@@ -197,3 +199,9 @@ module _ (laws : Laws) where
         subst P (sym e) (record { file = fits file i; kept = refl; valid = λ m j. absurd j; once = λ key. omega arith });
     packets = λ p h. absurd h;
   }
+
+-- on every net each system has filed each message at most once
+pub filed-once : (run : Run) → RunOk run → (s : System) → Among s run.systems → (key : Key) → count key s.base ≤ 1
+filed-once run ok s h key =
+    let at_s = ok.systems s h in
+    omega (arith, at_s.once key, Kept-count key s.cursor s.base s.history at_s.kept)

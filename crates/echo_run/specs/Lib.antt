@@ -5,3 +5,4 @@ pub mod Exports
 pub mod Tidy
 pub mod Fits
 pub mod World
+pub mod Epochs

@@ -2,14 +2,21 @@
 //!
 //! The definitions stand in specs/: `Event` and `Run` (what may happen, and what comes of it), `Tidy`
 //! (which nets are in order), `Orderly` (what runs are to keep), `Exports` (which scan made which
-//! packet), `World` (what one reads off a run) and `Fits` (what link files that were read meet).
+//! packet), `World` (what one reads off a run), `Fits` (what link files that were read meet) and `Epochs`
+//! (nets whose link files change).
 //!
-//! Modules in reading order: `event` (what happens to a net), `laws` (what holds of every run).
+//! Modules in reading order: `event` (what happens to a net), `laws` (what holds of every run),
+//! `epoch_laws` (what holds where link files change).
 #![tactic(auto)]
 
+mod epoch_laws;
 mod event;
 mod laws;
 
+pub use epoch_laws::{
+    changes_of_other_areas_need_no_settling, each_message_is_filed_once_over_changes,
+    every_run_of_tidy_epochs_is_orderly, one_epoch_is_a_run, who_joins_is_sent_nothing_older,
+};
 pub use event::Event;
 pub use laws::{
     bases_are_what_was_filed, delivered_packets_are_a_set, each_message_is_exported_by_one_scan,

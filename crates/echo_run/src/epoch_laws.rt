@@ -1,0 +1,51 @@
+//! What holds of nets whose link files change. Each law is the contract of a function that does nothing.
+
+ghost use Rattle.std.specs.Prelude.{◌≡◌, ℕ, ◌≤◌, List, [], ◌∷◌, ◌++◌};
+ghost use Rattle.echo_graph.specs.Walk.{Among};
+ghost use Rattle.echo_base.specs.declared.key.Key.{Key};
+ghost use Rattle.echo_base.specs.Base.{Filed, LinkFile, key_of};
+ghost use Rattle.echo_run.specs.Event.{RunEvent};
+ghost use Rattle.echo_run.specs.Run.{System, run_of};
+ghost use Rattle.echo_run.specs.Orderly.{IsPosting, count, sent_count};
+ghost use Rattle.echo_run.specs.Fits.{FilesFit};
+ghost use Rattle.echo_run.specs.Tidy.{Carries, Tidy};
+ghost use Rattle.echo_run.specs.Epochs.{Epoch, IsOf, OrderlyThroughout, SameArea, TidyThroughout, addresses, entries, run_of_epochs};
+
+/// Where the link files of an area change from time to time, are tidy each time, and the area had settled
+/// at each change, the net stays orderly over all of it: each system filed each message at most once, was
+/// sent it at most once and never one of its own, whatever late and repeated packets of former times come
+/// to it, and where the area has settled, each system that had the area when a message was posted filed
+/// it exactly once, unchanged.
+pub fn every_run_of_tidy_epochs_is_orderly()
+    ensures { (epochs : List Epoch) (tag : List ℕ) → TidyThroughout epochs tag → OrderlyThroughout epochs tag }
+{}
+
+/// Whatever the link files change to, tidy or not, settled or not, each system filed each message at most once.
+pub fn each_message_is_filed_once_over_changes()
+    ensures { (epochs : List Epoch) → ((epoch : Epoch) → Among epoch epochs → FilesFit epoch.files) →
+        (s : System) → Among s (run_of_epochs epochs).systems → (key : Key) → count key s.base ≤ 1 }
+{}
+
+/// A system that did not have the area when a message was posted is never sent that message and never files
+/// it: one that joins is sent nothing of former times.
+pub fn who_joins_is_sent_nothing_older()
+    ensures { (epochs : List Epoch) (tag : List ℕ) → TidyThroughout epochs tag →
+        (earlier : List Epoch) (epoch : Epoch) (later : List Epoch) → epochs ≡ earlier ++ epoch ∷ later → (m : Filed) → IsOf tag earlier epoch m →
+        (s : System) → Among s (run_of_epochs epochs).systems → (¬ Carries epoch.files tag s.file.system) →
+        (sent_count s.file.system (key_of m) (run_of_epochs epochs).packets ≡ 0) × (count (key_of m) s.base ≡ 0) }
+{}
+
+/// A change that only touches other areas needs no settling. It is one where what each link file says of
+/// the area stays.
+pub fn changes_of_other_areas_need_no_settling()
+    ensures orderly { (tag : List ℕ) (before after : Epoch) → Tidy before.files tag → Tidy after.files tag →
+        FilesFit before.files → FilesFit after.files → addresses before.files ≡ addresses after.files →
+        SameArea tag before.files after.files → OrderlyThroughout (before ∷ (after ∷ [])) tag }
+    ensures entries { (tag : List ℕ) (before after : List LinkFile) → entries tag before ≡ entries tag after → SameArea tag before after }
+{}
+
+/// With one epoch it is the run of its files and events.
+pub fn one_epoch_is_a_run()
+    ensures { (files : List LinkFile) (events : List RunEvent) →
+        run_of_epochs (record { files = files; events = events } ∷ []) ≡ run_of files events }
+{}
