@@ -31,7 +31,7 @@ range_more n =
     ∙ ap (λ t. t ++ n ∷ []) (same_map (range_with_len 0 n))
 
 -- one line more
-pub entries_more : (lines : List Line) (n : ℕ) → entries_text lines (n + 1) ≡ entries_text lines n ++ addressed_text (address_at lines n) (line_at lines n)
+entries_more : (lines : List Line) (n : ℕ) → entries_text lines (n + 1) ≡ entries_text lines n ++ addressed_text (address_at lines n) (line_at lines n)
 entries_more lines n =
     let text : ℕ → List ℕ = λ i. addressed_text (address_at lines i) (line_at lines i) in
     ap (flat_map text) (range_more n) ∙ flat_map-append text (range_with_len 0 n) (n ∷ [])
@@ -68,10 +68,17 @@ list_printed find input none rest lines stated status a b c x y z is agreed noth
 )
 
 -- the same, as the loop over the lines has it
-pub entry_more : (lines items : List Line) (i : ℕ) (a : Option Address) (line : Line) → items ≡ lines → i < length items → a ≡ address_at lines i → line ≡ get_or items i line
+entry_more : (lines items : List Line) (i : ℕ) (a : Option Address) (line : Line) → items ≡ lines → i < length items → a ≡ address_at lines i → line ≡ get_or items i line
     → entries_text lines (i + 1) ≡ entries_text lines i ++ addressed_text a line
 entry_more lines items i a line same within here is =
     let found : line_at lines i ≡ line =
     ap (λ xs. get_or xs i (Note [])) (sym same) ∙ get_or_default items i (Note []) line within ∙ sym is in
     entries_more lines i
     ∙ ap (λ t. entries_text lines i ++ t) (ap (addressed_text (address_at lines i)) found ∙ ap (λ x. addressed_text x line) (sym here))
+
+-- one entry more is printed
+pub printed_more : (a b c : Option (List ℕ)) (lines items : List Line) (i : ℕ) (x : Option Address) (line : Line) → items ≡ lines → i < length items → x ≡ address_at lines i → line ≡ get_or items i line
+    → Appends a b (entries_text lines i) → Appends b c (addressed_text x line) → Appends a c (entries_text lines (i + 1))
+printed_more a b c lines items i x line same within here is before more =
+    subst (Appends a c) (sym (entry_more lines items i x line same within here is))
+    (Appends-trans a b c (entries_text lines i) (addressed_text x line) before more)

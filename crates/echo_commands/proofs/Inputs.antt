@@ -1,5 +1,5 @@
 -- What was read of an input.
-use Rattle.std.proofs.Common.{◌≡◌, ℕ, ◌+◌, ◌-◌, ◌<◌, ◌≤◌, List, [], ◌++◌, length, take, drop, replicate, take_all, Option, None, Some, IfSome, sym, ap, subst, ◌∙◌, arith, length-append, length-drop, append-nil}
+use Rattle.std.proofs.Common.{◌≡◌, ℕ, ◌+◌, ◌-◌, ◌<◌, ◌≤◌, List, ◌++◌, length, take, drop, replicate, take_all, Option, None, Some, IfSome, sym, ap, subst, ◌∙◌, arith, length-append, length-drop, append-nil}
 use Rattle.std.proofs.lemmas.List.{length-replicate, length-take}
 use Rattle.std.proofs.Math.Seq.{take-add, take-append_seam}
 use Rattle.echo_device.specs.Device.{FillsTo}

@@ -1,16 +1,25 @@
 -- A packet has one printing.
-use Rattle.std.proofs.Common.{◌≡◌, ℕ, ◌+◌, Bool, true, false, List, [], ◌∷◌, ◌++◌, length, Option, Some, None, Ok, sym, ap, subst, ◌∙◌}
+use Rattle.std.specs.Prelude.{IsErr}
+use Rattle.std.proofs.Common.{◌≡◌, ℕ, ◌+◌, Bool, true, false, List, [], ◌∷◌, ◌++◌, length, Option, Some, None, Result, Ok, Err, refl, sym, ap, subst, ◌∙◌, inl, inr}
 use Rattle.std.specs.Io.KnownBytes.{Appends}
 use Rattle.echo_packet.specs.declared.header.Header.{Header}
 use Rattle.echo_packet.specs.Message.{Message, message_bytes}
 use Rattle.echo_packet.specs.Answer.{Answer, Describes, Found}
-use Rattle.echo_packet.proofs.Outcome.{only_one}
+use Rattle.echo_packet.proofs.Outcome.{only_one, outcome}
 use Rattle.echo_text.specs.declared.fault.TextFault.{TextFault}
 use Rattle.echo_text.specs.declared.fault.TextFault.TheVariants.{BadMsgId, BadTag, Memory, NotEcho}
 use Rattle.echo_text.specs.Refusal.{refusal}
 use Rattle.echo_text.proofs.OneReading.{one_count, one_echo}
+use Rattle.hex.specs.Hex.{decode_of}
+use Rattle.hex.specs.declared.error.FromHexError.{FromHexError}
+use Rattle.echo_commands.specs.declared.fault.Fault.{Fault}
+use Rattle.echo_commands.specs.declared.fault.Fault.TheVariants.{BadHex, Packet}
+use Rattle.echo_commands.specs.declared.status.Status.{Status}
+use Rattle.echo_commands.specs.declared.status.Status.TheVariants.{Good}
+use Rattle.echo_commands.specs.Ended.{IsOfInput}
 use Rattle.echo_commands.specs.Said.{LinesFor, echo_lines}
-use Rattle.echo_commands.specs.Shown.{IsPrinted, IsShown, MessageShown, MessagesShown, Shown, Stands, end_line, header_lines, message_lines, show_limits}
+use Rattle.echo_commands.specs.Showing.{ShowAnswers}
+use Rattle.echo_commands.specs.Shown.{IsPrinted, IsShown, MessageShown, MessagesShown, Shown, Stands, end_line, header_lines, hex_text, message_lines, show_limits}
 
 one_said : (r : Option TextFault) (text a b : List ℕ) → LinesFor r text a → LinesFor r text b → a ≡ b
 one_said None text a b h k =
@@ -74,3 +83,48 @@ pub one_input : (hex : Bool) (input old : List ℕ) (new other : Option (List �
 one_input hex input old new other h k =
     let same = one_standing hex input h.0 k.0 h.1 k.1 in
     one_written k.0 old new other (subst (λ (bytes : List ℕ). IsPrinted bytes (Some old) new) same h.2) k.2
+
+-- what is answered of bytes that this is so of
+abbrev answer_of : Answer → Result Status Fault
+answer_of (Ok found) = Ok Good
+answer_of (Err f) = Err (Packet f)
+
+-- what is answered of digits that decode to this
+abbrev answer_of_digits : Result (List ℕ) FromHexError → Result Status Fault
+answer_of_digits (Ok bytes) = answer_of (outcome show_limits bytes)
+answer_of_digits (Err e) = Err BadHex
+
+-- what is answered of an input
+abbrev answer_to : Bool → List ℕ → Result Status Fault
+answer_to false input = answer_of (outcome show_limits input)
+answer_to true input = answer_of_digits (decode_of (hex_text input))
+
+stood : (hex : Bool) (input bytes : List ℕ) → Stands hex input bytes → answer_to hex input ≡ answer_of (outcome show_limits bytes)
+stood false input bytes is = ap (λ b. answer_of (outcome show_limits b)) (sym is)
+stood true input bytes is = ap answer_of_digits is
+
+refused_digits : (r : Result (List ℕ) FromHexError) → IsErr r → answer_of_digits r ≡ Err BadHex
+refused_digits (Ok bytes) refused = let no : false ≡ true = refused in absurd cc
+refused_digits (Err e) refused = refl
+
+undecoded : (hex : Bool) (input : List ℕ) → hex ≡ true → IsErr (decode_of (hex_text input)) → answer_to hex input ≡ Err BadHex
+undecoded hex input asked refused = ap (λ h. answer_to h input) asked ∙ refused_digits (decode_of (hex_text input)) refused
+
+-- an answer that is of the input is the one to it
+answered : (hex : Bool) (input : List ℕ) (old new : Option (List ℕ)) (before after : ℕ) (r : Result Status Fault) → ShowAnswers hex input old new before after r
+    → IsOfInput before after r → r ≡ answer_to hex input
+answered hex input old new before after (Ok status) right own =
+    let bytes = right.0.1.0 in
+    let printed = right.0.1.2 in
+    let found : Answer = Ok (printed.header, printed.messages, printed.size) in
+    ap Ok right.0.0 ∙ ap answer_of (only_one show_limits bytes found (printed.room, printed.packet)) ∙ sym (stood hex input bytes right.0.1.1)
+answered hex input old new before after (Err fault) (inl stops) own = absurd (own stops)
+answered hex input old new before after (Err fault) (inr (inl bad, same)) own = ap Err bad.is ∙ sym (undecoded hex input bad.asked bad.undecoded)
+answered hex input old new before after (Err fault) (inr (inr (bytes, stands, broken), same)) own =
+    let wrong : Answer = Err broken.why in
+    ap Err broken.is ∙ ap answer_of (only_one show_limits bytes wrong (broken.messages, broken.of_bytes)) ∙ sym (stood hex input bytes stands)
+
+pub one_answer : (hex : Bool) (input : List ℕ) (old new other : Option (List ℕ)) (before after later : ℕ) (r s : Result Status Fault)
+    → ShowAnswers hex input old new before after r → ShowAnswers hex input old other before later s → IsOfInput before after r → IsOfInput before later s → r ≡ s
+one_answer hex input old new other before after later r s a b own of_input =
+    answered hex input old new before after r a own ∙ sym (answered hex input old other before later s b of_input)

@@ -1,12 +1,12 @@
 -- Faults of the machine: standard output that failed, and want of memory.
-use Rattle.std.proofs.Common.{◌≡◌, ℕ, ◌≤◌, ◌⊎◌, sym, inl, inr, Result, Ok, Err, arith, ◌∙◌}
+use Rattle.std.proofs.Common.{ℕ, ◌≤◌, sym, inl, inr, Result, Ok, Err, arith, ◌∙◌}
 use Rattle.std.proofs.Math.Nat.{eq-or-lt_of_le}
 use Rattle.echo_device.specs.Device.{Failed}
 use Rattle.echo_device.proofs.Devices.{Failed-le}
 use Rattle.echo_commands.specs.declared.fault.Fault.{Fault}
 use Rattle.echo_commands.specs.declared.fault.Fault.TheVariants.{BadAddress, BadHex, CannotUse, Nodelist, OutOfMemory, Packet, Text, TooLarge}
 use Rattle.echo_commands.specs.declared.status.Status.{Status}
-use Rattle.echo_commands.specs.Ended.{Answers, CannotPrint, Stops}
+use Rattle.echo_commands.specs.Ended.{Answers, CannotPrint}
 
 -- the count never falls
 print_le : (fault : Fault) (a b : ℕ) → CannotPrint a b fault → a ≤ b

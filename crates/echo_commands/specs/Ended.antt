@@ -41,3 +41,8 @@ Stops before after fault = CannotPrint before after fault ⊎ (IsWantOfMemory fa
 abbrev pub Answers : (Status → Type 0) → (Fault → Type 0) → ℕ → ℕ → Result Status Fault → Type 0
 Answers IsRight IsRefused before after (Ok status) = IsRight status × (after ≡ before)
 Answers IsRight IsRefused before after (Err fault) = Stops before after fault ⊎ (IsRefused fault × (after ≡ before))
+
+-- the answer is of the input, and not of the machine
+abbrev pub IsOfInput : ℕ → ℕ → Result Status Fault → Type 0
+IsOfInput before after (Ok status) = Unit {0}
+IsOfInput before after (Err fault) = Stops before after fault → ⊥

@@ -1,4 +1,4 @@
-use Rattle.std.proofs.Common.{◌≡◌, ◌+◌, ◌∙◌, ap, arith, length, take}
+use Rattle.std.proofs.Common.{◌≡◌, arith, length}
 use Rattle.std.proofs.lemmas.List.{with_items_is}
 use Rattle.echo_commands.proofs.Inputs.{piece_read}
 use Rattle.echo_commands.proofs.input.read_piece.Goals as goal
@@ -10,6 +10,6 @@ returns-clause-bytes g c =
     let buf = c.fill_from.new.buf in
     let same : length buf ≡ made.len = omega (arith, c.fill_from.auto.buf, c.as_mut_slice.ensures.len) in
     piece_read _ _ c.args.whole.now.items made.items buf c.truncate.new.self.items c.len-start.result c.in_ok-came.came
-    (c.len-start.ensures ∙ c.args.whole.now.ok.0) c.in_ok-make_room.ensures.ok
-    (filled.front ∙ ap (take c.len-start.result) c.as_mut_slice.ensures.value) (same ∙ made.ok.0) filled.within filled.bytes
-    (c.truncate.ensures.items ∙ ap (take (c.len-start.result + c.in_ok-came.came)) (with_items_is made buf same))
+    (omega (arith, c.len-start.ensures, c.args.whole.now.ok.0)) c.in_ok-make_room.ensures.ok
+    (rw c.as_mut_slice.ensures.value at filled.front) (omega (arith, same, made.ok.0)) filled.within filled.bytes
+    (rw (with_items_is made buf same) at c.truncate.ensures.items)

@@ -1,6 +1,4 @@
-use Rattle.std.proofs.Common.{◌∙◌}
-use Rattle.std.proofs.lemmas.Result.{err_from_is_err_and}
-use Rattle.echo_commands.proofs.Answering.{all_out, not_out}
+use Rattle.echo_commands.proofs.Answering.{all_out}
 use Rattle.echo_commands.proofs.showing.show_bytes.Goals as goal
 
 pub returns : goal.returns
