@@ -33,19 +33,15 @@ impl Key {
         ensures { IfOk result (λ key. key ≡ key_of message.now) }
     {
         let tag = message.echo.tag.as_slice();
+        let to_name = message.to_name.as_slice();
+        let from_name = message.from_name.as_slice();
+        let subject = message.subject.as_slice();
         if let Some(msgid) = message.echo.msgid() {
             return by_id(alloc, tag, msgid);
         }
         let kept = lines_of(alloc, message.echo.kept.as_slice())?;
-        by_content(
-            alloc,
-            tag,
-            &message.date,
-            message.to_name.as_slice(),
-            message.from_name.as_slice(),
-            message.subject.as_slice(),
-            kept,
-        )
+        let date = &message.date;
+        by_content(alloc, tag, date, to_name, from_name, subject, kept)
     }
 
     /// The key that a message with this text, DateTime, names and subject has, whoever sent it.
