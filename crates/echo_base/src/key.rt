@@ -1,4 +1,4 @@
-ghost use Rattle.std.specs.Prelude.{◌≡◌, Option, IfOk, map};
+ghost use Rattle.std.specs.Prelude.{◌≡◌, ◌↔◌, Option, IfOk, IsTrue, map};
 ghost use Rattle.echo_addr.specs.declared.address.Address.{Address as Sender};
 ghost use Rattle.echo_base.specs.declared.key.Key.TheVariants.{ByContent, ById};
 ghost use Rattle.echo_base.specs.Base.{key_of};
@@ -132,8 +132,6 @@ fn slices_of(alloc: Global, lines: &[&[u8]]) -> Result<Vec<Items<u8>>, AllocErro
 
 #[cfg(test)]
 mod tests {
-    ghost use Rattle.std.specs.Prelude.{◌≡◌, ◌↔◌, IsTrue};
-
     use super::*;
     use std::alloc::{AllocError, Global};
     use std::test::Fail;
