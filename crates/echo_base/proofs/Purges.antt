@@ -84,8 +84,8 @@ place_same all i cursor m within at =
     let rest = map stub_of (drop (i + 1) (take cursor all)) ++ drop cursor all in
     let long : i < length (take (i + 1) all) = omega (arith, length-take (i + 1) all) in
     let same : get_or all i m ≡ m =
-        sym (get_or-take (i + 1) all i m (omega arith)) ∙ sym (get_or-append (take (i + 1) all) rest m i long)
-        ∙ get_or_from_slice_get (from_place all (i + 1) cursor) i m m at in
+    sym (get_or-take (i + 1) all i m (omega arith)) ∙ sym (get_or-append (take (i + 1) all) rest m i long)
+    ∙ get_or_from_slice_get (from_place all (i + 1) cursor) i m m at in
     slice_get-get_or all i m within ∙ ap Some same
 
 -- a stub stays
@@ -152,5 +152,5 @@ module _ (all now : List Filed) (k cursor : ℕ) (m : Filed) (some : 0 < k) (bef
   pub never_empty : (lines : List (List (List ℕ))) → lines ≡ lines_left (take k all) → is_stub m ≡ false → length lines ≡ 0 → ⊥
   never_empty lines h stub none =
       let told : length lines ≡ length (lines_left (take (k - 1) all) ++ (stub_of m).echo.kept ∷ []) =
-          ap length (h ∙ ap (λ n. lines_left (take n all)) here ∙ left_changed all (k - 1) m at_here stub) in
+      ap length (h ∙ ap (λ n. lines_left (take n all)) here ∙ left_changed all (k - 1) m at_here stub) in
       absurd (omega (arith, length-append (lines_left (take (k - 1) all)) ((stub_of m).echo.kept ∷ [])))

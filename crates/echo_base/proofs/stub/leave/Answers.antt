@@ -39,5 +39,5 @@ invariant_of-echo c =
     let path : c.new-4.result ≡ [] = c.new-4.ensures ∙ c.new-3.ensures.items in
     let tag = ap (λ e. e.tag) c.echo.view_is ∙ ap (λ x. x.echo.tag) c.message.view_is in
     let same : record { tag = c.echo.inside.tag; kept = c.args.lines; seen = c.new-2.result; path = c.new-4.result } ≡ (stub_of m).echo =
-        (λ i. record { tag = tag i; kept = c.requires.own i; seen = seen i; path = path i }) ∙ sym (ap (λ x. x.echo) (left m c.requires.changed)) in
+    (λ i. record { tag = tag i; kept = c.requires.own i; seen = seen i; path = path i }) ∙ sym (ap (λ x. x.echo) (left m c.requires.changed)) in
     subst IsEcho (sym same) (stub_filed m (subst IsFiled c.message.view_is c.message.invariant)).is_echo

@@ -21,12 +21,10 @@ returns c =
     let m = c.args.message.now in
     let told = ap option_copied (sym c.in_default.is) ∙ c.msgid.ensures ∙ ap (λ x. msgid_of x.echo.kept) c.message.view_is in
     let tag = c.as_slice-tag.ensures ∙ ap (λ x. x.echo.tag) c.message-inside.view_is ∙ ap (λ x. x.echo.tag) c.message.view_is in
-    let date = ap (λ x. x.date) c.message.view_is in
-    let to_name = c.as_slice-2.ensures ∙ ap (λ x. x.to_name) c.message.view_is in
-    let from_name = c.as_slice-3.ensures ∙ ap (λ x. x.from_name) c.message.view_is in
-    let subject = c.as_slice-4.ensures ∙ ap (λ x. x.subject) c.message.view_is in
+    let date = ap (λ x. x.date) c.message-inside.view_is ∙ ap (λ x. x.date) c.message.view_is in
+    let to_name = c.as_slice-to_name.ensures ∙ ap (λ x. x.to_name) c.message-inside.view_is ∙ ap (λ x. x.to_name) c.message.view_is in
+    let from_name = c.as_slice-from_name.ensures ∙ ap (λ x. x.from_name) c.message-inside.view_is ∙ ap (λ x. x.from_name) c.message.view_is in
+    let subject = c.as_slice-subject.ensures ∙ ap (λ x. x.subject) c.message-inside.view_is ∙ ap (λ x. x.subject) c.message.view_is in
     let kept = c.in_ok-kept.ensures ∙ c.as_slice.ensures ∙ ap (λ x. x.echo.kept) c.message-inside.view_is ∙ ap (λ x. x.echo.kept) c.message.view_is in
-    let same : ByContent c.as_slice-tag.result.now c.message.inside.date c.as_slice-2.result.now c.as_slice-3.result.now c.as_slice-4.result.now c.in_ok-kept.kept.items ≡ key_of m =
-        (λ i. ByContent (tag i) (date i) (to_name i) (from_name i) (subject i) (kept i)) ∙ key_told m None told in
     let P : Key → Type 0 = λ k. IfOk c.by_content.result (λ key. key ≡ k) in
-    subst P same c.by_content.ensures
+    subst P ((λ i. ByContent (tag i) (date i) (to_name i) (from_name i) (subject i) (kept i)) ∙ key_told m None told) c.by_content.ensures
