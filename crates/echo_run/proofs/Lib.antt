@@ -31,6 +31,7 @@ pub mod EraBegins
 pub mod OverChanges
 pub mod Throughout
 pub mod OtherAreas
+pub mod OfEpochs
 pub mod Headline
 pub mod TosserLaws
 pub mod ScanPackets

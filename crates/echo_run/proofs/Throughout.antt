@@ -1,9 +1,9 @@
 -- Every run of tidy epochs is orderly throughout.
-use Rattle.std.proofs.Common.{◌≡◌, ◌≢◌, ◌⊎◌, inl, inr, refl, sym, subst, ap, ◌∙◌, ℕ, ◌≤◌, arith, List, [], ◌∷◌, ◌++◌, append_assoc, map}
-use Rattle.std.specs.Prelude.{Bool, true, false, ◌&&◌}
+use Rattle.std.proofs.Common.{◌≡◌, ◌⊎◌, inl, inr, refl, sym, subst, ap, ◌∙◌, ℕ, List, [], ◌∷◌, ◌++◌, append_assoc, map}
+use Rattle.std.specs.Prelude.{Bool, true, ◌&&◌}
 use Rattle.echo_addr.specs.declared.address.Address.{Address}
 use Rattle.echo_graph.specs.Walk.{Among}
-use Rattle.echo_graph.proofs.Members.{Among-append_left, Among-append_right}
+use Rattle.echo_graph.proofs.Members.{Among-append_right}
 use Rattle.echo_base.specs.declared.key.Key.{Key}
 use Rattle.echo_base.specs.Sets.{same_address}
 use Rattle.echo_base.specs.Base.{Filed, LinkFile, has_area, key_of, same_key}
@@ -14,23 +14,23 @@ use Rattle.echo_run.specs.Tidy.{Tidy, Carries}
 use Rattle.echo_run.specs.Fits.{FilesFit}
 use Rattle.echo_run.specs.Epochs.{Epoch, IsOf, OrderlyThroughout, PostedBetween, SameArea, TidyThroughout, after_epoch, after_epochs, changed_to, nothing_yet, run_of_epochs}
 use Rattle.echo_run.proofs.Counts as counts
-use Rattle.echo_run.proofs.Invariant.{View, held}
+use Rattle.echo_run.proofs.Invariant.{held}
 use Rattle.echo_run.proofs.TosserPremises.{Laws}
 use Rattle.echo_run.proofs.Growth.{Among-in}
 use Rattle.echo_run.proofs.Lists.{and-parts, and-from, any-from, Among-map_from}
 use Rattle.echo_run.proofs.Bases.{HasKey, Kept-back, Kept-count, count-is}
 use Rattle.echo_run.proofs.WellFormed.{RunOk, filed-once, start-ok}
-use Rattle.echo_run.proofs.AreaView.{address_of, addresses_differ, chosen, key-tag, one_name, view_of}
+use Rattle.echo_run.proofs.AreaView.{address_of, addresses_differ, key-tag, one_name, view_of}
 use Rattle.echo_run.proofs.TidyRuns.{fresh-files}
 use Rattle.echo_run.proofs.Seen.{held-from, held-to}
-use Rattle.echo_run.proofs.Eras.{Era, events-era, era-never_own, era-sent_once, era-unfiled, era-unsent, in_tag, in_tag-to, new_of, new_or_old, old_of}
+use Rattle.echo_run.proofs.Eras.{events-era, era-never_own, era-sent_once, era-unfiled, era-unsent, in_tag, in_tag-to, new_of, new_or_old, old_of}
 use Rattle.echo_run.proofs.Quiet.{era-came, era-quiet}
 use Rattle.echo_run.proofs.Renewal.{SameSystems, renewed-back, renewed-files, renewed-ok}
 use Rattle.echo_run.proofs.EraBegins.{era-begins, era-goes_on, held_by, is-held, quiet-renewed, quiet-start}
-use Rattle.echo_run.proofs.OverChanges.{Change, HasIt, Owed, Posted, Spared, Standing, change-outlives, epochs-ok, events-outlive, has_it-later, owed-events, owed-later, posted-later, same-systems}
+use Rattle.echo_run.proofs.OverChanges.{Change, HasIt, Owed, Spared, Standing, change-outlives, epochs-ok, has_it-later, owed-events, owed-later, posted-later, same-systems}
 
 -- epochs one after another
-epochs-append : (earlier later : List Epoch) (run : Run) → after_epochs run (earlier ++ later) ≡ after_epochs (after_epochs run earlier) later
+pub epochs-append : (earlier later : List Epoch) (run : Run) → after_epochs run (earlier ++ later) ≡ after_epochs (after_epochs run earlier) later
 epochs-append [] later run = refl
 epochs-append (epoch ∷ earlier) later run = epochs-append earlier later (after_epoch run epoch)
 
