@@ -29,6 +29,7 @@ pub mod Quiet
 pub mod Renewal
 pub mod EraBegins
 pub mod OverChanges
+pub mod AtChange
 pub mod Throughout
 pub mod OtherAreas
 pub mod OfEpochs

@@ -58,8 +58,8 @@ pub record HasGrown (s z : System) : Type 0 where
   pub filed : (since : List Filed) × (z.history ≡ s.history ++ since)
 
 -- what each link file says of the area: the address, and the entry if it has one
-abbrev pub entries : List ℕ → List LinkFile → List (Address × Option Area)
-entries tag files = map (λ file. (file.system, area_of file tag)) files
+abbrev pub area_entries : List ℕ → List LinkFile → List (Address × Option Area)
+area_entries tag files = map (λ file. (file.system, area_of file tag)) files
 
 -- the change is one of other areas: the same systems have the area, with the same links
 pub record SameArea (tag : List ℕ) (before after : List LinkFile) : Type 0 where

@@ -10,7 +10,7 @@ ghost use Rattle.echo_run.specs.Run.{System, run_of};
 ghost use Rattle.echo_run.specs.Orderly.{IsPosting, count, sent_count};
 ghost use Rattle.echo_run.specs.Fits.{FilesFit};
 ghost use Rattle.echo_run.specs.Tidy.{Carries, Tidy};
-ghost use Rattle.echo_run.specs.Epochs.{Epoch, HasGrown, IsOf, IsOfSome, OrderlyThroughout, SameArea, TidyThroughout, addresses, entries, run_of_epochs};
+ghost use Rattle.echo_run.specs.Epochs.{Epoch, HasGrown, IsOf, IsOfSome, OrderlyThroughout, SameArea, TidyThroughout, addresses, area_entries, run_of_epochs};
 
 /// Where the link files of an area change from time to time, are tidy each time, and the area had settled
 /// at each change, the net stays orderly over all of it: each system filed each message at most once, was
@@ -56,7 +56,7 @@ pub fn changes_of_other_areas_need_no_settling()
     ensures orderly { (tag : List ℕ) (before after : Epoch) → Tidy before.files tag → Tidy after.files tag →
         FilesFit before.files → FilesFit after.files → addresses before.files ≡ addresses after.files →
         SameArea tag before.files after.files → OrderlyThroughout (before ∷ (after ∷ [])) tag }
-    ensures entries { (tag : List ℕ) (before after : List LinkFile) → entries tag before ≡ entries tag after → SameArea tag before after }
+    ensures entries { (tag : List ℕ) (before after : List LinkFile) → area_entries tag before ≡ area_entries tag after → SameArea tag before after }
 {}
 
 /// With one epoch it is the run of its files and events.
