@@ -11,13 +11,12 @@ use Rattle.echo_text.specs.Echo.{IsEcho}
 use Rattle.echo_text.specs.Refusal.{refusal}
 use Rattle.echo_steps.specs.declared.packet.Packet.{Packet}
 use Rattle.echo_base.specs.declared.key.Key.{Key}
-use Rattle.echo_base.specs.Base.{Filed, LinkFile, key_of, key_with, has_area, is_link}
-use Rattle.echo_text.specs.Echo.{msgid_of}
+use Rattle.echo_base.specs.Base.{Filed, LinkFile, key_of, has_area, is_link}
 use Rattle.echo_steps.specs.Tossing.{received, tossing, origin_of}
 use Rattle.echo_base.specs.Written.{echo_of}
 use Rattle.echo_run.specs.Run.{System, Run, filing, tossing_at, destination, with_index}
-use Rattle.echo_run.specs.Orderly.{copies, origin, tag_of}
-use Rattle.echo_run.specs.Tidy.{Tidy, lists, Carries}
+use Rattle.echo_run.specs.Orderly.{copies, origin}
+use Rattle.echo_run.specs.Tidy.{lists}
 use Rattle.echo_run.proofs.Invariant.{held, At, Has}
 use Rattle.echo_run.proofs.TosserPremises.{Laws}
 use Rattle.echo_run.proofs.Lists.{Among-map_to, Among-map_from, Among-filter_from, Among-filter_to, Among-middle, none_some, some_same, with_index-from}

@@ -1,6 +1,6 @@
 -- An era begins where an area is at rest, or goes on where a change is one of other areas.
-use Rattle.std.proofs.Common.{◌≡◌, ◌≢◌, inl, inr, refl, sym, subst, ap, ◌∙◌, ℕ, ◌≤◌, arith, IsTrue, List, [], ◌∷◌, drop, map, Some, None}
-use Rattle.std.specs.Prelude.{Bool, true, false, filter, not}
+use Rattle.std.proofs.Common.{◌≡◌, inl, inr, refl, sym, subst, ap, ◌∙◌, ℕ, arith, IsTrue, List, drop, map}
+use Rattle.std.specs.Prelude.{Bool, true, filter, not}
 use Rattle.std.specs.List.{list_any}
 use Rattle.echo_addr.specs.declared.address.Address.{Address}
 use Rattle.echo_graph.specs.Walk.{Among}
@@ -8,7 +8,7 @@ use Rattle.echo_steps.specs.declared.packet.Packet.{Packet}
 use Rattle.echo_base.specs.declared.key.Key.{Key}
 use Rattle.echo_base.specs.Base.{Filed, LinkFile, is_known, key_of, same_key}
 use Rattle.echo_run.specs.Run.{System, Run, destination, fresh, start}
-use Rattle.echo_run.specs.Orderly.{IsPosting, copies, sent_count, tag_of}
+use Rattle.echo_run.specs.Orderly.{copies, sent_count, tag_of}
 use Rattle.echo_run.specs.Tidy.{Tidy, lists, Carries, carries}
 use Rattle.echo_run.specs.Fits.{FilesFit}
 use Rattle.echo_run.specs.Epochs.{SameArea, changed_to}
@@ -16,15 +16,15 @@ use Rattle.echo_graph.proofs.Members.{Among-append_left}
 use Rattle.echo_run.proofs.Counts.{count-cases}
 use Rattle.echo_run.proofs.Invariant.{Parcel, View, held, Has, Invariant, Marks}
 use Rattle.echo_run.proofs.TosserPremises.{Laws}
-use Rattle.echo_run.proofs.Growth.{Among-in, sent-cases}
+use Rattle.echo_run.proofs.Growth.{sent-cases}
 use Rattle.echo_run.proofs.Past.{IsKnown, Past}
-use Rattle.echo_run.proofs.Lists.{not_both, yes_or_no, and-parts, any-from, any-to, and-from, filter-none, nth-among, nth-split, Among-drop, Among-map_from, Among-filter_from}
+use Rattle.echo_run.proofs.Lists.{not_both, yes_or_no, and-parts, any-from, any-to, filter-none, nth-among, nth-split, Among-drop, Among-map_from, Among-filter_from}
 use Rattle.echo_run.proofs.Bases.{HasKey}
 use Rattle.echo_run.proofs.WellFormed.{RunOk}
-use Rattle.echo_run.proofs.AreaView.{parts, part_at-none, chosen, chosen-tag, done_of, waiting_of, parcel_of, view_of, Wrote, address_of, key-tag, net}
+use Rattle.echo_run.proofs.AreaView.{parts, part_at-none, chosen, chosen-tag, done_of, waiting_of, parcel_of, view_of, Wrote, address_of, key-tag}
 use Rattle.echo_run.proofs.DeliveredOnce.{IsDeliveredOnce}
-use Rattle.echo_run.proofs.Seen.{At-parcel, has-to, held-from, held-to, sent-chosen}
-use Rattle.echo_run.proofs.Eras.{Era, in_tag, in_tag-to, new_of, new_watch, new-tag, old_of, old_watch, old-tag}
+use Rattle.echo_run.proofs.Seen.{At-parcel, has-to, held-from, sent-chosen}
+use Rattle.echo_run.proofs.Eras.{Era, in_tag, new_of, new_watch, new-tag, old_of, old_watch, old-tag}
 use Rattle.echo_run.proofs.Quiet.{Quiet}
 use Rattle.echo_run.proofs.Renewal.{Renewed, SameSystems, part_at-renewed, renewed-back, renewed-files, renewed-ok, renewed-to}
 

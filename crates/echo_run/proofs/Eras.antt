@@ -1,17 +1,16 @@
 -- Eras: while the systems with an area and their links stay, a key of the area is either of former times,
 -- and nothing becomes of it, or new.
-use Rattle.std.proofs.Common.{◌≡◌, ◌⊎◌, inl, inr, refl, sym, subst, ap, ◌∙◌, ℕ, ◌≤◌, arith, IsTrue, List, [], map, None}
-use Rattle.std.specs.Prelude.{Bool, true, false, not, ◌&&◌, bytes_eq}
+use Rattle.std.proofs.Common.{◌≡◌, ◌⊎◌, inl, inr, subst, ap, ◌∙◌, ℕ, ◌≤◌, arith, List, map, None}
+use Rattle.std.specs.Prelude.{Bool, true, not, ◌&&◌, bytes_eq}
 use Rattle.echo_addr.specs.declared.address.Address.{Address}
 use Rattle.echo_graph.specs.Walk.{Among}
 use Rattle.echo_base.specs.declared.key.Key.{Key}
 use Rattle.echo_base.specs.Base.{Filed, LinkFile, key_of}
 use Rattle.echo_run.specs.Event.{RunEvent}
 use Rattle.echo_run.specs.Run.{System, Run, after_event, after_events}
-use Rattle.echo_run.specs.Orderly.{IsPosting, count, sent_count, tag_of}
+use Rattle.echo_run.specs.Orderly.{IsPosting, sent_count, tag_of}
 use Rattle.echo_run.specs.Tidy.{Tidy, lists, Carries}
-use Rattle.echo_run.proofs.Counts.{count-none}
-use Rattle.echo_run.proofs.Invariant.{View, held, Has, sent_times, Invariant}
+use Rattle.echo_run.proofs.Invariant.{View, held, sent_times, Invariant}
 use Rattle.echo_run.proofs.TosserPremises.{Laws}
 use Rattle.echo_run.proofs.Growth.{Among-in, sent-cases}
 use Rattle.echo_run.proofs.Lasting.{invariant-lasts}
@@ -19,11 +18,11 @@ use Rattle.echo_run.proofs.Past.{IsKnown, Past, past-lasts}
 use Rattle.echo_run.proofs.Arrival.{never-own}
 use Rattle.echo_run.proofs.Lists.{yes_or_no, and-parts, and-from}
 use Rattle.echo_run.proofs.Bases.{HasKey}
-use Rattle.echo_run.proofs.AreaView.{OfArea, parts, chosen, parcel_of, view_of, Wrote, address_of, bytes-equal, bytes-same, key-tag, net}
+use Rattle.echo_run.proofs.AreaView.{OfArea, parts, parcel_of, view_of, Wrote, address_of, bytes-equal, bytes-same, key-tag, net}
 use Rattle.echo_run.proofs.OneSystem.{Watch}
 use Rattle.echo_run.proofs.TidyRuns.{State, along, event-state}
 use Rattle.echo_run.proofs.DeliveredOnce.{IsDeliveredOnce, event-once}
-use Rattle.echo_run.proofs.Seen.{held-to, has-from, has-to, sent-chosen}
+use Rattle.echo_run.proofs.Seen.{held-to, has-to, sent-chosen}
 
 abbrev pub in_tag : List ℕ → Key → Bool
 in_tag tag k = bytes_eq (tag_of k) tag

@@ -1,11 +1,10 @@
 -- Every run of a tidy area is orderly: it is the case of one epoch.
-use Rattle.std.proofs.Common.{◌≡◌, inl, inr, refl, sym, subst, ap, ◌∙◌, ℕ, arith, List, [], ◌∷◌, ◌++◌, length, map}
+use Rattle.std.proofs.Common.{◌≡◌, inl, inr, refl, sym, subst, ap, ◌∙◌, ℕ, arith, List, [], ◌∷◌, length}
 use Rattle.std.proofs.lemmas.List.{length-append}
-use Rattle.echo_addr.specs.declared.address.Address.{Address}
 use Rattle.echo_graph.specs.Walk.{Among}
 use Rattle.echo_base.specs.Base.{LinkFile}
 use Rattle.echo_run.specs.Event.{RunEvent}
-use Rattle.echo_run.specs.Run.{System, Run, run_of, start}
+use Rattle.echo_run.specs.Run.{run_of, start}
 use Rattle.echo_run.specs.Orderly.{Orderly}
 use Rattle.echo_run.specs.Tidy.{Tidy}
 use Rattle.echo_run.specs.Fits.{FilesFit}

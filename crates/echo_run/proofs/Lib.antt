@@ -29,8 +29,10 @@ pub mod Quiet
 pub mod Renewal
 pub mod EraBegins
 pub mod OverChanges
+pub mod AtChange
 pub mod Throughout
 pub mod OtherAreas
+pub mod OfEpochs
 pub mod Headline
 pub mod TosserLaws
 pub mod ScanPackets

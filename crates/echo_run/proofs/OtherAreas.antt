@@ -1,5 +1,5 @@
 -- Changes of other areas.
-use Rattle.std.proofs.Common.{◌≡◌, ◌≢◌, inl, inr, refl, sym, subst, ap, ◌∙◌, ℕ, arith, List, [], ◌∷◌, ◌++◌, length, map, Option}
+use Rattle.std.proofs.Common.{◌≡◌, inl, inr, refl, sym, subst, ap, ◌∙◌, ℕ, arith, List, [], ◌∷◌, ◌++◌, length, map, Option}
 use Rattle.std.specs.Prelude.{Bool, is_some, ◌&&◌, ◌||◌, option_map, unwrap_or}
 use Rattle.std.specs.List.{list_any}
 use Rattle.std.proofs.lemmas.List.{length-append}
@@ -9,7 +9,7 @@ use Rattle.echo_base.specs.Sets.{same_address}
 use Rattle.echo_base.specs.Base.{Area, LinkFile, area_of, links_of}
 use Rattle.echo_run.specs.Tidy.{Tidy, carries, lists}
 use Rattle.echo_run.specs.Fits.{FilesFit}
-use Rattle.echo_run.specs.Epochs.{Epoch, SameArea, TidyThroughout, addresses, entries}
+use Rattle.echo_run.specs.Epochs.{Epoch, SameArea, TidyThroughout, addresses, area_entries}
 
 any-map : {X Y : Type 0} (p : Y → Bool) (g : X → Y) (xs : List X) → list_any p (map g xs) ≡ list_any (λ x. p (g x)) xs
 any-map p g [] = refl
@@ -22,21 +22,21 @@ entry_carries a entry = same_address entry.0 a && is_some entry.1
 abbrev entry_lists : Address → Address → (Address × Option Area) → Bool
 entry_lists a b entry = same_address entry.0 a && list_any (same_address b) (unwrap_or (option_map (λ area. area.links) entry.1) [])
 
-carries-entries : (tag : List ℕ) (files : List LinkFile) (a : Address) → carries files tag a ≡ list_any (entry_carries a) (entries tag files)
-carries-entries tag files a = sym (any-map (entry_carries a) (λ (file : LinkFile). (file.system, area_of file tag)) files)
+carries-by_entries : (tag : List ℕ) (files : List LinkFile) (a : Address) → carries files tag a ≡ list_any (entry_carries a) (area_entries tag files)
+carries-by_entries tag files a = sym (any-map (entry_carries a) (λ (file : LinkFile). (file.system, area_of file tag)) files)
 
-lists-entries : (tag : List ℕ) (files : List LinkFile) (a b : Address) → lists files tag a b ≡ list_any (entry_lists a b) (entries tag files)
+lists-by_entries : (tag : List ℕ) (files : List LinkFile) (a b : Address) → lists files tag a b ≡ list_any (entry_lists a b) (area_entries tag files)
 unfolding links_of
-lists-entries tag files a b = sym (any-map (entry_lists a b) (λ (file : LinkFile). (file.system, area_of file tag)) files)
+lists-by_entries tag files a b = sym (any-map (entry_lists a b) (λ (file : LinkFile). (file.system, area_of file tag)) files)
 
-pub same-area : (tag : List ℕ) (before after : List LinkFile) → entries tag before ≡ entries tag after → SameArea tag before after
+pub same-area : (tag : List ℕ) (before after : List LinkFile) → area_entries tag before ≡ area_entries tag after → SameArea tag before after
 same-area tag before after same = record {
   carriers = λ a.
-      carries-entries tag before a
-      ∙ (ap (λ (es : List (Address × Option Area)). list_any (entry_carries a) es) same ∙ sym (carries-entries tag after a));
+      carries-by_entries tag before a
+      ∙ (ap (λ (es : List (Address × Option Area)). list_any (entry_carries a) es) same ∙ sym (carries-by_entries tag after a));
   links = λ a b.
-      lists-entries tag before a b
-      ∙ (ap (λ (es : List (Address × Option Area)). list_any (entry_lists a b) es) same ∙ sym (lists-entries tag after a b));
+      lists-by_entries tag before a b
+      ∙ (ap (λ (es : List (Address × Option Area)). list_any (entry_lists a b) es) same ∙ sym (lists-by_entries tag after a b));
 }
 
 -- two epochs with such a change between them

@@ -1,6 +1,6 @@
 -- From epoch to epoch: what is owed of a posting, and who is to have it.
-use Rattle.std.proofs.Common.{◌≡◌, ◌≢◌, ◌⊎◌, inl, inr, refl, sym, subst, ap, ◌∙◌, ℕ, suc, ◌≤◌, arith, List, [], ◌∷◌, ◌++◌, map, length, Some, None}
-use Rattle.std.specs.Prelude.{Bool, true, false}
+use Rattle.std.proofs.Common.{◌≡◌, ◌⊎◌, inl, inr, refl, sym, subst, ap, ◌∙◌, ℕ, suc, arith, List, [], ◌∷◌, map, Some}
+use Rattle.std.specs.Prelude.{Bool, true}
 use Rattle.std.proofs.lemmas.List.{append-nil}
 use Rattle.echo_addr.specs.declared.address.Address.{Address}
 use Rattle.echo_graph.specs.Walk.{Among}
@@ -8,32 +8,28 @@ use Rattle.echo_graph.proofs.Members.{Among-append_left}
 use Rattle.echo_base.specs.declared.key.Key.{Key}
 use Rattle.echo_base.specs.Base.{Filed, LinkFile, key_of}
 use Rattle.echo_run.specs.Event.{RunEvent}
-use Rattle.echo_run.specs.Run.{System, Run, after_events, nth, start}
-use Rattle.echo_run.specs.Orderly.{FiledUnchanged, IsPosting, Settled, count, sent_count}
+use Rattle.echo_run.specs.Run.{System, Run, after_events, nth}
+use Rattle.echo_run.specs.Orderly.{FiledUnchanged, IsPosting, Settled, sent_count}
 use Rattle.echo_run.specs.Tidy.{Tidy, Carries}
 use Rattle.echo_run.specs.Fits.{FilesFit}
-use Rattle.echo_run.specs.Epochs.{Epoch, PostedBetween, SameArea, addresses, after_epoch, after_epochs, changed_to}
-use Rattle.echo_run.proofs.Invariant.{View, held, Has, sent_times}
+use Rattle.echo_run.specs.Epochs.{Epoch, HasGrown, SameArea, addresses, after_epoch, after_epochs, changed_to}
+use Rattle.echo_run.proofs.Invariant.{View, held}
 use Rattle.echo_run.proofs.TosserPremises.{Laws}
 use Rattle.echo_run.proofs.Growth.{Among-in}
-use Rattle.echo_run.proofs.Lists.{any-to, none_some, not_both, some_same, nth-among}
-use Rattle.echo_run.proofs.Bases.{HasKey, SystemOk}
-use Rattle.echo_run.proofs.WellFormed.{RunOk, event-ok, start-ok}
-use Rattle.echo_run.proofs.AreaView.{address_of, chosen, key-tag, map-map, view_of}
-use Rattle.echo_run.proofs.TidyRuns.{along, fresh-files}
-use Rattle.echo_run.proofs.DeliveredOnce.{IsDeliveredOnce}
+use Rattle.echo_run.proofs.Lists.{nth-among}
+use Rattle.echo_run.proofs.Bases.{HasKey}
+use Rattle.echo_run.proofs.WellFormed.{RunOk, event-ok}
+use Rattle.echo_run.proofs.AreaView.{address_of, map-map, view_of}
+use Rattle.echo_run.proofs.TidyRuns.{along}
 use Rattle.echo_run.proofs.LaterSystems.{events-last}
-use Rattle.echo_run.proofs.Seen.{has-from, has-to, held-from, held-to}
+use Rattle.echo_run.proofs.Seen.{has-from, has-to}
 use Rattle.echo_run.proofs.Unchanged.{unchanged-since}
-use Rattle.echo_run.proofs.Eras.{Era, events-era, era-unfiled, era-unsent, new_of, new_or_old, old_of, sent-before}
-use Rattle.echo_run.proofs.Quiet.{Quiet, era-came, era-quiet}
-use Rattle.echo_run.proofs.Renewal.{Renewed, SameSystems, renewed-back, renewed-files, renewed-ok, renewed-to}
-use Rattle.echo_run.proofs.EraBegins.{era-begins, era-goes_on, held_by, is-held, quiet-renewed, quiet-start}
+use Rattle.echo_run.proofs.Eras.{Era, events-era, new_of, old_of, sent-before}
+use Rattle.echo_run.proofs.Renewal.{SameSystems, renewed-ok, renewed-to}
 
 -- each system of the one run is in the other one, where it has filed no less
 pub record Outlives (run after : Run) : Type 0 where
-  pub later : (s : System) → Among s run.systems → (z : System) × Among z after.systems × (address_of z ≡ address_of s) ×
-      ((since : List Filed) × (z.history ≡ s.history ++ since))
+  pub later : (s : System) → Among s run.systems → (z : System) × Among z after.systems × HasGrown s z
 
 among-nth : {X : Type 0} (x : X) (xs : List X) → Among x xs → (i : ℕ) × (nth i xs ≡ Some x)
 among-nth {X} x [] h = absurd h
@@ -49,14 +45,20 @@ module _ (laws : Laws) where
     later = λ s h.
         let (i, e) = among-nth s run.systems h in
         let (z, at, last) = events-last laws events run (λ t j. (ok.systems t j).kept) i s e in
-        (z, nth-among i z (after_events run events).systems at, ap (λ (f : LinkFile). f.system) last.file, last.filed);
+        let grown : HasGrown s z = record { address = ap (λ (f : LinkFile). f.system) last.file; cursor = last.cursor; filed = last.filed } in
+        (z, nth-among i z (after_events run events).systems at, grown);
   }
 
   pub change-outlives : (run : Run) (files : List LinkFile) → SameSystems run.systems files → Outlives run (changed_to run files)
   change-outlives run files same = record {
     later = λ s h.
         let (z, i, renewed) = renewed-to files run.systems s same h in
-        (z, i, renewed.address, ([], renewed.history ∙ sym (append-nil s.history)));
+        let grown : HasGrown s z = record {
+          address = renewed.address;
+          cursor = omega (arith, renewed.cursor);
+          filed = ([], renewed.history ∙ sym (append-nil s.history));
+        } in
+        (z, i, grown);
   }
 
   events-ok : (run : Run) → RunOk run → (events : List RunEvent) → RunOk (after_events run events)
@@ -98,9 +100,9 @@ module _ (laws : Laws) where
     pub posted-later : (run after : Run) (m : Filed) → Outlives run after → Posted run m → Posted after m
     posted-later run after m outlives posted =
         let (f, h, i, posting) = posted in
-        let (z, j, e, more) = outlives.later f h in
+        let (z, j, grown) = outlives.later f h in
         let P : List Filed → Type 0 = λ ms. Among m ms in
-        (z, j, subst P (sym more.1) (Among-append_left m f.history more.0 i), posting)
+        (z, j, subst P (sym grown.filed.1) (Among-append_left m f.history grown.filed.0 i), posting)
 
     -- the system at the address filed it once, unchanged
     abbrev pub HasIt : Run → Filed → Address → Type 0
@@ -109,8 +111,8 @@ module _ (laws : Laws) where
     pub has_it-later : (run after : Run) (m : Filed) (a : Address) → Outlives run after → RunOk after → HasIt run m a → HasIt after m a
     has_it-later run after m a outlives ok has =
         let (s, h, e, filed) = has in
-        let (z, j, same, more) = outlives.later s h in
-        (z, j, same ∙ e, unchanged-since laws s z more.0 (ok.systems z j) more.1 m filed)
+        let (z, j, grown) = outlives.later s h in
+        (z, j, grown.address ∙ e, unchanged-since laws s z grown.filed.0 (ok.systems z j) grown.filed.1 m filed)
 
     -- the system at the address was never sent it, and has not filed it
     pub record Spared (run : Run) (m : Filed) (a : Address) : Type 0 where

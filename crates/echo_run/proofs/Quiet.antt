@@ -1,19 +1,19 @@
 -- An area at rest: where it settled, each message of it is where it is to be, and no message waits.
-use Rattle.std.proofs.Common.{◌≡◌, ◌≢◌, inl, inr, refl, sym, subst, ap, ◌∙◌, ℕ, ◌≤◌, arith, List, [], ◌∷◌, length, drop, map}
-use Rattle.std.specs.Prelude.{Bool, true, false, filter}
+use Rattle.std.proofs.Common.{◌≡◌, ◌≢◌, inl, inr, refl, sym, subst, ap, ◌∙◌, ℕ, ◌≤◌, List, length, drop}
+use Rattle.std.specs.Prelude.{Bool, true}
 use Rattle.echo_addr.specs.declared.address.Address.{Address}
 use Rattle.echo_graph.specs.Walk.{Among}
 use Rattle.echo_steps.specs.declared.packet.Packet.{Packet}
 use Rattle.echo_base.specs.declared.key.Key.{Key}
 use Rattle.echo_base.specs.Base.{Filed, LinkFile, key_of}
 use Rattle.echo_run.specs.Run.{System, Run, destination}
-use Rattle.echo_run.specs.Orderly.{FiledUnchanged, IsPosting, SameContent, Settled, copies, count, sent_count, tag_of}
+use Rattle.echo_run.specs.Orderly.{FiledUnchanged, IsPosting, SameContent, Settled, copies, sent_count, tag_of}
 use Rattle.echo_run.specs.Tidy.{Tidy, lists, Carries}
-use Rattle.echo_run.proofs.Invariant.{Parcel, View, held, At, Has, times}
+use Rattle.echo_run.proofs.Invariant.{Parcel, View, held, At, times}
 use Rattle.echo_run.proofs.TosserPremises.{Laws}
 use Rattle.echo_run.proofs.Growth.{Among-in}
 use Rattle.echo_run.proofs.Lists.{yes_or_no, filter-none, Among-map_from, Among-map_to, Among-filter_from, Among-filter_to}
-use Rattle.echo_run.proofs.Bases.{HasKey, Kept-waiting, SystemOk}
+use Rattle.echo_run.proofs.Bases.{HasKey, Kept-waiting}
 use Rattle.echo_run.proofs.Arrival.{AtRest, arrived, arrives, same-content, held-once}
 use Rattle.echo_run.proofs.AreaView.{Content, content_of, parts, part_at-none, chosen, chosen-tag, waiting_of, parcel_of, view_of, Wrote, address_of, key-tag, net}
 use Rattle.echo_run.proofs.Eras.{Era, era-never_own, era-sent_once, new_of, new_or_old, new-tag, old_of}

@@ -11,15 +11,14 @@ use Rattle.echo_text.specs.Echo.{IsEcho}
 use Rattle.echo_steps.specs.declared.packet.Packet.{Packet}
 use Rattle.echo_steps.specs.declared.stamp.Stamp.{Stamp}
 use Rattle.echo_base.specs.declared.key.Key.{Key}
-use Rattle.echo_base.specs.Base.{Filed, LinkFile, key_of, is_link, links_of}
+use Rattle.echo_base.specs.Base.{Filed, key_of, is_link, links_of}
 use Rattle.echo_base.specs.Sets.{same_address}
 use Rattle.echo_steps.specs.Scanning.{scanned, packets_of, packet_to, goes_to, recipients}
 use Rattle.echo_run.specs.Run.{System, Run, scanning_at}
 use Rattle.echo_run.specs.Orderly.{copies}
-use Rattle.echo_run.specs.Tidy.{Tidy, lists, Carries}
+use Rattle.echo_run.specs.Tidy.{lists, Carries}
 use Rattle.echo_run.proofs.Counts.{Tells-can}
 use Rattle.echo_run.proofs.Invariant.{Parcel, View, Has, sent_times, times, IsTarget, IsCopy, Scans}
-use Rattle.echo_run.proofs.TosserPremises.{Laws}
 use Rattle.echo_run.proofs.Lists.{yes_or_no, any-to, any-from, Among-map_to, Among-map_from, Among-filter_from, Among-filter_to, Among-middle}
 use Rattle.echo_run.proofs.Bases.{Kept-waiting, Kept-length, SystemOk}
 use Rattle.echo_run.proofs.WellFormed.{waiting-valid}

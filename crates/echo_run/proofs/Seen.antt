@@ -1,5 +1,5 @@
 -- What is seen of a run is what its systems and its packets have.
-use Rattle.std.proofs.Common.{◌≡◌, inl, inr, refl, sym, subst, ap, ◌∙◌, ℕ, arith, List, [], ◌∷◌, ◌++◌, length, map, cond}
+use Rattle.std.proofs.Common.{◌≡◌, inl, inr, refl, sym, subst, ap, ◌∙◌, ℕ, arith, List, [], ◌∷◌, ◌++◌, map, cond}
 use Rattle.std.specs.Prelude.{Bool, true, false, filter}
 use Rattle.std.proofs.lemmas.Bool.{cond-false, cond-true}
 use Rattle.std.proofs.lemmas.List.{length-map, map-append}

@@ -1,36 +1,36 @@
 -- Every run of tidy epochs is orderly throughout.
-use Rattle.std.proofs.Common.{◌≡◌, ◌≢◌, ◌⊎◌, inl, inr, refl, sym, subst, ap, ◌∙◌, ℕ, ◌≤◌, arith, List, [], ◌∷◌, ◌++◌, append_assoc, map}
-use Rattle.std.specs.Prelude.{Bool, true, false, ◌&&◌}
+use Rattle.std.proofs.Common.{◌≡◌, inl, inr, refl, sym, subst, ap, ◌∙◌, ℕ, List, [], ◌∷◌, ◌++◌, append_assoc, map}
+use Rattle.std.specs.Prelude.{true}
 use Rattle.echo_addr.specs.declared.address.Address.{Address}
 use Rattle.echo_graph.specs.Walk.{Among}
-use Rattle.echo_graph.proofs.Members.{Among-append_left, Among-append_right}
+use Rattle.echo_graph.proofs.Members.{Among-append_right}
 use Rattle.echo_base.specs.declared.key.Key.{Key}
-use Rattle.echo_base.specs.Sets.{same_address}
-use Rattle.echo_base.specs.Base.{Filed, LinkFile, has_area, key_of, same_key}
+use Rattle.echo_base.specs.Base.{Filed, LinkFile, key_of, same_key}
 use Rattle.echo_run.specs.Event.{RunEvent}
 use Rattle.echo_run.specs.Run.{System, Run, after_events, fresh, start}
-use Rattle.echo_run.specs.Orderly.{FiledUnchanged, IsPosting, Settled, count, sent_count, tag_of}
+use Rattle.echo_run.specs.Orderly.{FiledUnchanged, Settled, count, sent_count, tag_of}
 use Rattle.echo_run.specs.Tidy.{Tidy, Carries}
 use Rattle.echo_run.specs.Fits.{FilesFit}
-use Rattle.echo_run.specs.Epochs.{Epoch, IsOf, OrderlyThroughout, PostedBetween, SameArea, TidyThroughout, after_epoch, after_epochs, changed_to, nothing_yet, run_of_epochs}
+use Rattle.echo_run.specs.Epochs.{Epoch, IsOf, OrderlyThroughout, PostedBetween, TidyThroughout, after_epoch, after_epochs, changed_to, nothing_yet, run_of_epochs}
 use Rattle.echo_run.proofs.Counts as counts
-use Rattle.echo_run.proofs.Invariant.{View, held}
+use Rattle.echo_run.proofs.Invariant.{held}
 use Rattle.echo_run.proofs.TosserPremises.{Laws}
 use Rattle.echo_run.proofs.Growth.{Among-in}
-use Rattle.echo_run.proofs.Lists.{and-parts, and-from, any-from, Among-map_from}
+use Rattle.echo_run.proofs.Lists.{Among-map_from}
 use Rattle.echo_run.proofs.Bases.{HasKey, Kept-back, Kept-count, count-is}
 use Rattle.echo_run.proofs.WellFormed.{RunOk, filed-once, start-ok}
-use Rattle.echo_run.proofs.AreaView.{address_of, addresses_differ, chosen, key-tag, one_name, view_of}
+use Rattle.echo_run.proofs.AreaView.{address_of, addresses_differ, key-tag, one_name, view_of}
 use Rattle.echo_run.proofs.TidyRuns.{fresh-files}
 use Rattle.echo_run.proofs.Seen.{held-from, held-to}
-use Rattle.echo_run.proofs.Eras.{Era, events-era, era-never_own, era-sent_once, era-unfiled, era-unsent, in_tag, in_tag-to, new_of, new_or_old, old_of}
-use Rattle.echo_run.proofs.Quiet.{era-came, era-quiet}
-use Rattle.echo_run.proofs.Renewal.{SameSystems, renewed-back, renewed-files, renewed-ok}
-use Rattle.echo_run.proofs.EraBegins.{era-begins, era-goes_on, held_by, is-held, quiet-renewed, quiet-start}
-use Rattle.echo_run.proofs.OverChanges.{Change, HasIt, Owed, Posted, Spared, Standing, change-outlives, epochs-ok, events-outlive, has_it-later, owed-events, owed-later, posted-later, same-systems}
+use Rattle.echo_run.proofs.Eras.{events-era, era-never_own, era-sent_once, era-unfiled, era-unsent, new_of, new_or_old, old_of}
+use Rattle.echo_run.proofs.Quiet.{era-came}
+use Rattle.echo_run.proofs.Renewal.{renewed-back}
+use Rattle.echo_run.proofs.EraBegins.{era-begins, held_by, quiet-start}
+use Rattle.echo_run.proofs.AtChange.{entered, owed-epoch, standing-epoch}
+use Rattle.echo_run.proofs.OverChanges.{Change, Owed, Spared, Standing, epochs-ok, same-systems}
 
 -- epochs one after another
-epochs-append : (earlier later : List Epoch) (run : Run) → after_epochs run (earlier ++ later) ≡ after_epochs (after_epochs run earlier) later
+pub epochs-append : (earlier later : List Epoch) (run : Run) → after_epochs run (earlier ++ later) ≡ after_epochs (after_epochs run earlier) later
 epochs-append [] later run = refl
 epochs-append (epoch ∷ earlier) later run = epochs-append earlier later (after_epoch run epoch)
 
@@ -40,116 +40,6 @@ last_files files [] = files
 last_files files (epoch ∷ later) = last_files epoch.files later
 
 module _ (laws : Laws) (tag : List ℕ) where
-  -- a system that has the area by the files is there
-  carrier-there : (files : List LinkFile) (run : Run) → map (λ (s : System). s.file) run.systems ≡ files → (a : Address) → Carries files tag a →
-      (s : System) × Among s run.systems × (address_of s ≡ a)
-  carrier-there files run same_files a carrier =
-      let (file, i, t) = any-from (λ file. same_address file.system a && has_area file tag) files carrier in
-      let (s, h, e) = Among-map_from (λ (s : System). s.file) file run.systems (Among-in file files (map (λ (s : System). s.file) run.systems) (sym same_files) i) in
-      (s, h, ap (λ (f : LinkFile). f.system) (sym e) ∙ laws.addresses.sound file.system a (and-parts (same_address file.system a) (has_area file tag) t).0)
-
-  -- a posting is in its area
-  posting-in_tag : (m : Filed) → IsPosting tag m → in_tag tag (key_of m) ≡ true
-  posting-in_tag m posting = in_tag-to laws tag (key_of m) (key-tag m ∙ posting.area)
-
-  -- the link files change
-  module _ (files : List LinkFile) (run : Run) (next : List LinkFile) (st : Standing laws tag files run) (fit : FilesFit next) (tidy : Tidy next tag)
-      (same : SameSystems run.systems next) where
-    abbrev changed : Run
-    changed = changed_to run next
-
-    ok : RunOk changed
-    ok = renewed-ok laws run next fit st.era.fresh.ok
-
-    -- a new era, or the same one
-    entered : Settled run tag ⊎ SameArea tag files next → Standing laws tag next changed
-    entered (inl settled) =
-        let quiet = quiet-renewed tag run next same (era-quiet laws files tag st.tidy st.old st.before run st.era settled) in
-        record {
-          tidy = tidy;
-          old = held_by changed.systems;
-          before = view_of (old_of tag (held_by changed.systems)) changed;
-          era = era-begins laws next tag tidy changed ok (renewed-files next run.systems same)
-              (record { once = st.era.delivered.once; there = st.era.delivered.there }) quiet;
-        }
-    entered (inr area) = record {
-      tidy = tidy;
-      old = st.old;
-      before = st.before;
-      era = era-goes_on laws files next tag st.tidy tidy area st.old st.before run st.era fit same;
-    }
-
-    -- where the area has settled, nothing more is owed
-    paid : (was : Address → Type 0) (m : Filed) → Settled run tag → Owed laws tag was files st.old run m → (a : Address) → was a → HasIt laws tag run m a
-    paid was m settled owed a had = elim (owed.to_carriers a had) [
-      | inl has ↦ has
-      | inr new ↦ (let (f, at_f, i, posting) = owed.posted in
-          let (s, h, e) = carrier-there files run st.era.fresh.same_files a new.1 in
-          let P : Address → Type 0 = λ b. Carries files tag b in
-          (s, h, e, era-came laws files tag st.tidy st.old st.before run st.era settled f at_f m i posting new.0 s h (subst P (sym e) new.1)))
-    ]
-
-    spared-now : (was : Address → Type 0) (m : Filed) → Owed laws tag was files st.old run m → (a : Address) → ¬ was a → Spared laws tag run m a
-    spared-now was m owed a had_not = elim (owed.to_others a had_not) [
-      | inl past ↦ past.1
-      | inr new ↦ record {
-        unsent = era-unsent laws files tag st.tidy st.old st.before run st.era (key_of m) new.0 a new.1;
-        unfiled = era-unfiled laws files tag st.tidy st.old st.before run st.era (key_of m) new.0 a new.1;
-      }
-    ]
-
-    owed-entered : (was : Address → Type 0) (m : Filed) (settled : Settled run tag ⊎ SameArea tag files next) → Owed laws tag was files st.old run m →
-        Owed laws tag was next (entered settled).old changed m
-    unfolding entered
-    owed-entered was m (inl settled) owed =
-        let outlives = change-outlives laws run next same in
-        let posted = posted-later laws tag run changed m outlives owed.posted in
-        let (f, at_f, i, posting) = posted in
-        record {
-          posted = posted;
-          to_carriers = λ a had. inl (has_it-later laws tag run changed m a outlives ok (paid was m settled owed a had));
-          to_others = λ a had_not.
-              let spared = spared-now was m owed a had_not in
-              inl (
-                and-from (in_tag tag (key_of m)) (held_by changed.systems (key_of m)) (posting-in_tag m posting)
-                    (is-held laws changed.systems f at_f (key_of m) (m, i, refl)),
-                record {
-                  unsent = spared.unsent;
-                  unfiled = λ z h e has.
-                      let (s, j, renewed) = renewed-back next run.systems z same h in
-                      let P : List Filed → Type 0 = λ ms. HasKey (key_of m) ms in
-                      spared.unfiled s j (sym renewed.address ∙ e) (subst P renewed.history has);
-                },
-              );
-        }
-    owed-entered was m (inr area) owed =
-        owed-later laws tag was files next st.tidy tidy st.old st.before run changed st.era (entered (inr area)).era (change-outlives laws run next same)
-        (λ a c. let P : Bool → Type 0 = λ b. b ≡ true in subst P (area.carriers a) c)
-        (λ a c. let P : Bool → Type 0 = λ b. b ≡ true in subst P (sym (area.carriers a)) c) m owed
-
-  -- an epoch begins, and runs
-  standing-epoch : (files : List LinkFile) (run : Run) (epoch : Epoch) → Standing laws tag files run → Change laws tag files run epoch.files →
-      Standing laws tag epoch.files (after_epoch run epoch)
-  standing-epoch files run epoch st change =
-      let same = same-systems laws tag files run epoch.files st.era.fresh.same_files change.same in
-      let begun = entered files run epoch.files st change.fit change.tidy same change.settled in
-      record {
-        tidy = begun.tidy;
-        old = begun.old;
-        before = begun.before;
-        era = events-era laws epoch.files tag begun.tidy begun.old begun.before epoch.events (changed_to run epoch.files) begun.era;
-      }
-
-  owed-epoch : (was : Address → Type 0) (m : Filed) (files : List LinkFile) (run : Run) (epoch : Epoch) (st : Standing laws tag files run)
-      (change : Change laws tag files run epoch.files) → Owed laws tag was files st.old run m →
-      Owed laws tag was epoch.files (standing-epoch files run epoch st change).old (after_epoch run epoch) m
-  unfolding entered standing-epoch
-  owed-epoch was m files run epoch st change owed =
-      let same = same-systems laws tag files run epoch.files st.era.fresh.same_files change.same in
-      let begun = entered files run epoch.files st change.fit change.tidy same change.settled in
-      owed-events laws tag was epoch.files begun.tidy begun.old begun.before (changed_to run epoch.files) epoch.events m begun.era
-      (owed-entered files run epoch.files st change.fit change.tidy same was m change.settled owed)
-
   -- epochs go on from a run, each change in order
   abbrev GoOn : List LinkFile → Run → List Epoch → Type 0
   GoOn files run [] = Unit {0}
@@ -159,7 +49,7 @@ module _ (laws : Laws) (tag : List ℕ) where
       Standing laws tag (last_files files later) (after_epochs run later)
   standing-after [] files run st go = st
   standing-after (epoch ∷ later) files run st go =
-      standing-after later epoch.files (after_epoch run epoch) (standing-epoch files run epoch st go.0) go.1
+      standing-after later epoch.files (after_epoch run epoch) (standing-epoch laws tag files run epoch st go.0) go.1
 
   -- what is owed at the end of all epochs
   record Ended (was : Address → Type 0) (run : Run) (m : Filed) : Type 0 where
@@ -171,7 +61,7 @@ module _ (laws : Laws) (tag : List ℕ) where
       GoOn files run later → Owed laws tag was files st.old run m → Ended was (after_epochs run later) m
   owed-after was m [] files run st go owed = record { files = files; standing = st; owed = owed }
   owed-after was m (epoch ∷ later) files run st go owed =
-      owed-after was m later epoch.files (after_epoch run epoch) (standing-epoch files run epoch st go.0) go.1 (owed-epoch was m files run epoch st go.0 owed)
+      owed-after was m later epoch.files (after_epoch run epoch) (standing-epoch laws tag files run epoch st go.0) go.1 (owed-epoch laws tag was m files run epoch st go.0 owed)
 
   go-on-later : (earlier later : List Epoch) (files : List LinkFile) (run : Run) → GoOn files run (earlier ++ later) →
       GoOn files run earlier × GoOn (last_files files earlier) (after_epochs run earlier) later
@@ -271,7 +161,7 @@ module _ (laws : Laws) (tag : List ℕ) where
       let files = last_files first.files earlier in
       let change = go_epoch.0 in
       let same = same-systems laws tag files run epoch.files st.era.fresh.same_files change.same in
-      let begun = entered files run epoch.files st change.fit change.tidy same change.settled in
+      let begun = entered laws tag files run epoch.files st change.fit change.tidy same change.settled in
       let P : Run → Type 0 = λ r. PostedBetween tag run r m in
       let posted = subst P (epochs-append earlier (epoch ∷ []) begins) is_of in
       let owed = owed-begins epoch.files (changed_to run epoch.files) begun epoch.events run (λ z h n i.
@@ -280,7 +170,7 @@ module _ (laws : Laws) (tag : List ℕ) where
       (s, j, sym renewed.address, subst Q renewed.history i)) m posted in
       let R : Run → Type 0 = λ r. Ended (Carries epoch.files tag) r m in
       subst R (sym (epochs-append earlier (epoch ∷ later) begins))
-      (owed-after (Carries epoch.files tag) m later epoch.files (after_epoch run epoch) (standing-epoch files run epoch st change) go_epoch.1 owed)
+      (owed-after (Carries epoch.files tag) m later epoch.files (after_epoch run epoch) (standing-epoch laws tag files run epoch st change) go_epoch.1 owed)
 
   -- the same of epochs that are these
   owed-at : (epochs : List Epoch) → TidyThroughout epochs tag → (earlier : List Epoch) (epoch : Epoch) (later : List Epoch) → epochs ≡ earlier ++ epoch ∷ later →

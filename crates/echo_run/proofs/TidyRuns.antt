@@ -1,5 +1,5 @@
 -- Every run keeps what is true of the messages of a tidy area.
-use Rattle.std.proofs.Common.{◌≡◌, inl, inr, refl, sym, subst, ap, ◌∙◌, ℕ, ◌≤◌, arith, List, [], ◌∷◌, ◌++◌, length, take, map, Option, Some, None}
+use Rattle.std.proofs.Common.{◌≡◌, inl, inr, refl, sym, subst, ap, ◌∙◌, ℕ, arith, List, [], ◌∷◌, ◌++◌, length, take, map, Option, Some, None}
 use Rattle.std.specs.Prelude.{Bool, true, false, if◌then◌else◌}
 use Rattle.std.proofs.lemmas.List.{take_all}
 use Rattle.echo_addr.specs.declared.address.Address.{Address}
@@ -19,15 +19,15 @@ use Rattle.echo_steps.specs.Scanning.{scanned}
 use Rattle.echo_steps.specs.Stamps.{is_stamp}
 use Rattle.echo_run.specs.Event.{RunEvent, Posting, Scanning, Delivery, PartDelivery, Purging}
 use Rattle.echo_run.specs.Run.{System, Run, fresh, posting_at, tossing_at, scanning_at, purging_at, nth, change, receiver, destination, changing, scanning, taking, coming, delivery, part_delivery, after_event, after_events, run_of, start, with_index}
-use Rattle.echo_run.specs.Tidy.{Tidy, Carries}
+use Rattle.echo_run.specs.Tidy.{Carries}
 use Rattle.echo_run.specs.Fits.{FilesFit}
-use Rattle.echo_run.proofs.Invariant.{At, held, times}
+use Rattle.echo_run.proofs.Invariant.{At}
 use Rattle.echo_run.proofs.TosserPremises.{Laws}
-use Rattle.echo_run.proofs.Lists.{Among-map_from, Split, nth-cases, nth-split, change-none, first_passes, map-change, Among-middle, Among-take, none_some, some_same}
+use Rattle.echo_run.proofs.Lists.{Split, nth-cases, nth-split, change-none, first_passes, map-change, Among-middle, Among-take, none_some, some_same}
 use Rattle.echo_run.proofs.TosserCases.{posting-cases}
 use Rattle.echo_run.proofs.Bases.{SystemOk, HasKey}
 use Rattle.echo_run.proofs.WellFormed.{RunOk, PacketOk, posted-fresh, event-ok, start-ok}
-use Rattle.echo_run.proofs.AreaView.{chosen, chosen-tag, parcel_of, parts, view_of, Wrote, address_of, NoneAt, area-carries, none-before}
+use Rattle.echo_run.proofs.AreaView.{chosen, chosen-tag, parcel_of, Wrote, address_of, NoneAt, area-carries, none-before}
 use Rattle.echo_run.proofs.OneSystem.{Watch, Watched, with_systems, MayFileHere, filing-keeps, purging-keeps}
 use Rattle.echo_run.proofs.ScanView.{scanning-keeps}
 use Rattle.echo_run.proofs.DeliveryView as delivered

@@ -1,5 +1,5 @@
 -- A posting that a system filed once, unchanged, stays so.
-use Rattle.std.proofs.Common.{◌≡◌, ◌⊎◌, inl, inr, refl, sym, subst, ap, ◌∙◌, ℕ, ◌≤◌, arith, List, [], ◌∷◌, ◌++◌}
+use Rattle.std.proofs.Common.{◌≡◌, ◌⊎◌, inl, inr, refl, sym, subst, ap, ◌∙◌, ◌≤◌, arith, List, ◌++◌}
 use Rattle.echo_graph.specs.Walk.{Among}
 use Rattle.echo_graph.proofs.Members.{Among-append_left}
 use Rattle.echo_base.specs.Base.{Filed, key_of, same_key}
@@ -13,7 +13,7 @@ use Rattle.echo_run.proofs.ExportLists.{count-append}
 
 module _ (laws : Laws) where
   -- what a system filed with one key is one message
-  one-message : (s : System) → SystemOk s → (m n : Filed) → Among m s.history → Among n s.history → key_of m ≡ key_of n → m ≡ n
+  pub one-message : (s : System) → SystemOk s → (m n : Filed) → Among m s.history → Among n s.history → key_of m ≡ key_of n → m ≡ n
   one-message s ok m n i j e =
       let few : counts.count key_of same_key (key_of n) s.history ≤ 1 = omega (arith, count-is (key_of n) s.history, ok.once (key_of n)) in
       counts.count-names_one key_of same_key laws.keys (key_of n) s.history few m n i j e refl

@@ -50,9 +50,16 @@ run_of_epochs epochs = after_epochs nothing_yet epochs
 abbrev pub addresses : List LinkFile → List Address
 addresses files = map (λ file. file.system) files
 
+-- the same system at a later time, with whatever link file: its cursor has not fallen, and what it filed
+-- stands where it stood, before what it filed since
+pub record HasGrown (s z : System) : Type 0 where
+  pub address : z.file.system ≡ s.file.system
+  pub cursor : s.cursor ≤ z.cursor
+  pub filed : (since : List Filed) × (z.history ≡ s.history ++ since)
+
 -- what each link file says of the area: the address, and the entry if it has one
-abbrev pub entries : List ℕ → List LinkFile → List (Address × Option Area)
-entries tag files = map (λ file. (file.system, area_of file tag)) files
+abbrev pub area_entries : List ℕ → List LinkFile → List (Address × Option Area)
+area_entries tag files = map (λ file. (file.system, area_of file tag)) files
 
 -- the change is one of other areas: the same systems have the area, with the same links
 pub record SameArea (tag : List ℕ) (before after : List LinkFile) : Type 0 where
@@ -79,6 +86,14 @@ pub record PostedBetween (tag : List ℕ) (before after : Run) (m : Filed) : Typ
 -- the message is of the epoch: it was posted in it, after the earlier epochs
 abbrev pub IsOf : List ℕ → List Epoch → Epoch → Filed → Type 0
 IsOf tag earlier epoch m = PostedBetween tag (run_of_epochs earlier) (run_of_epochs (earlier ++ epoch ∷ [])) m
+
+-- a message is of some of the epochs
+pub record IsOfSome (tag : List ℕ) (epochs : List Epoch) (m : Filed) : Type 0 where
+  pub earlier : List Epoch
+  pub epoch : Epoch
+  pub later : List Epoch
+  pub whole : epochs ≡ earlier ++ epoch ∷ later
+  pub is_of : IsOf tag earlier epoch m
 
 -- what a run of epochs is to keep of an area
 pub record OrderlyThroughout (epochs : List Epoch) (tag : List ℕ) : Type 0 where

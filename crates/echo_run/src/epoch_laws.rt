@@ -1,6 +1,7 @@
 //! What holds of nets whose link files change. Each law is the contract of a function that does nothing.
 
 ghost use Rattle.std.specs.Prelude.{◌≡◌, ℕ, ◌≤◌, List, [], ◌∷◌, ◌++◌};
+ghost use Rattle.echo_addr.specs.declared.address.Address.{Address};
 ghost use Rattle.echo_graph.specs.Walk.{Among};
 ghost use Rattle.echo_base.specs.declared.key.Key.{Key};
 ghost use Rattle.echo_base.specs.Base.{Filed, LinkFile, key_of};
@@ -9,7 +10,7 @@ ghost use Rattle.echo_run.specs.Run.{System, run_of};
 ghost use Rattle.echo_run.specs.Orderly.{IsPosting, count, sent_count};
 ghost use Rattle.echo_run.specs.Fits.{FilesFit};
 ghost use Rattle.echo_run.specs.Tidy.{Carries, Tidy};
-ghost use Rattle.echo_run.specs.Epochs.{Epoch, IsOf, OrderlyThroughout, SameArea, TidyThroughout, addresses, entries, run_of_epochs};
+ghost use Rattle.echo_run.specs.Epochs.{Epoch, HasGrown, IsOf, IsOfSome, OrderlyThroughout, SameArea, TidyThroughout, addresses, area_entries, run_of_epochs};
 
 /// Where the link files of an area change from time to time, are tidy each time, and the area had settled
 /// at each change, the net stays orderly over all of it: each system filed each message at most once, was
@@ -35,13 +36,27 @@ pub fn who_joins_is_sent_nothing_older()
         (sent_count s.file.system (key_of m) (run_of_epochs epochs).packets ≡ 0) × (count (key_of m) s.base ≡ 0) }
 {}
 
+/// Over changes, too, a system keeps its cursor or moves it on, and what it filed stays as it was filed, in
+/// its order: what it had in an earlier epoch it has in each later one.
+pub fn what_is_filed_stays_over_changes()
+    ensures { (names : List Address) (earlier later : List Epoch) →
+        ((epoch : Epoch) → Among epoch (earlier ++ later) → (addresses epoch.files ≡ names) × FilesFit epoch.files) →
+        (s : System) → Among s (run_of_epochs earlier).systems → (z : System) × Among z (run_of_epochs (earlier ++ later)).systems × HasGrown s z }
+{}
+
+/// Each message that some system posted in the area is of one of the epochs, so what is said of those is said of all.
+pub fn each_posting_is_of_an_epoch()
+    ensures { (epochs : List Epoch) (tag : List ℕ) → TidyThroughout epochs tag →
+        (s : System) → Among s (run_of_epochs epochs).systems → (m : Filed) → Among m s.history → IsPosting tag m → IsOfSome tag epochs m }
+{}
+
 /// A change that only touches other areas needs no settling. It is one where what each link file says of
 /// the area stays.
 pub fn changes_of_other_areas_need_no_settling()
     ensures orderly { (tag : List ℕ) (before after : Epoch) → Tidy before.files tag → Tidy after.files tag →
         FilesFit before.files → FilesFit after.files → addresses before.files ≡ addresses after.files →
         SameArea tag before.files after.files → OrderlyThroughout (before ∷ (after ∷ [])) tag }
-    ensures entries { (tag : List ℕ) (before after : List LinkFile) → entries tag before ≡ entries tag after → SameArea tag before after }
+    ensures entries { (tag : List ℕ) (before after : List LinkFile) → area_entries tag before ≡ area_entries tag after → SameArea tag before after }
 {}
 
 /// With one epoch it is the run of its files and events.

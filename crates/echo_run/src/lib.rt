@@ -15,7 +15,8 @@ mod laws;
 
 pub use epoch_laws::{
     changes_of_other_areas_need_no_settling, each_message_is_filed_once_over_changes,
-    every_run_of_tidy_epochs_is_orderly, one_epoch_is_a_run, who_joins_is_sent_nothing_older,
+    each_posting_is_of_an_epoch, every_run_of_tidy_epochs_is_orderly, one_epoch_is_a_run,
+    what_is_filed_stays_over_changes, who_joins_is_sent_nothing_older,
 };
 pub use event::Event;
 pub use laws::{

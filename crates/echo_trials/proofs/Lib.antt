@@ -9,3 +9,4 @@ mod IdLineExamples
 mod HostileExamples
 pub mod NetExamples
 mod TidyExamples
+mod EpochExamples

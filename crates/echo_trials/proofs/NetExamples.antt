@@ -39,17 +39,17 @@ carrier own links = record { system = own; name = codes "echonet"; areas = recor
 abbrev pub file : ℕ → List ℕ → LinkFile
 file node links = carrier (address node) (map address links)
 
-abbrev stamp : Stamp
+abbrev pub stamp : Stamp
 stamp = record { year = 2000; month = 1; day = 1; hour = 0; minute = 0; second = 0 }
 
-abbrev draft : Draft
+abbrev pub draft : Draft
 draft = record { to_name = codes "All"; from_name = codes "Sysop"; subject = codes "00000001"; reply = []; body = codes "Hello" }
 
 -- the events of a script
-abbrev post : ℕ → RunEvent
+abbrev pub post : ℕ → RunEvent
 post i = Posting i (codes "TEST") draft 1 stamp
 
-abbrev scan : ℕ → RunEvent
+abbrev pub scan : ℕ → RunEvent
 scan i = Scanning i stamp
 
 -- what is printed of a run: messages of the area filed and waiting, system by system; packets, and packets
