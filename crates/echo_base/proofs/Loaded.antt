@@ -15,9 +15,8 @@ use Rattle.echo_base.specs.Written.{echo_of, text_of}
 use Rattle.echo_base.specs.Base.{AreNew, Filed, HasSmallSender, IsBase, IsFiled, is_known, key_of}
 use Rattle.echo_base.specs.Stubs.{bare}
 use Rattle.echo_base.specs.BaseFile.{AreSound, BaseOf, IsStored, Stored, Version, has_tag, has_wrong_form, has_wrong_last, has_wrong_sender, has_wrong_string, is_damaged, is_no_string, is_other_kind, is_posted, is_wrong_id, is_wrong_text, message_in}
-use Rattle.echo_steps.proofs.Kept.{some_bytes}
-use Rattle.echo_base.proofs.Plain.{no_zero, plain_if}
-use Rattle.echo_steps.proofs.Purged.{bare_echo}
+use Rattle.echo_base.proofs.Plain.{no_zero, plain_if, some_bytes}
+use Rattle.echo_base.proofs.Stubs.{bare_echo}
 use Rattle.echo_base.proofs.Texts.{says_read}
 
 -- the sender of a stored message
