@@ -17,9 +17,7 @@ mod stamp;
 
 pub use draft::Draft;
 pub use fault::{PostFault, ScanFault};
-pub use laws::{
-    base_laws, copy_laws, posting_laws, posting_refusals, toss_law, toss_outcomes,
-};
+pub use laws::{base_laws, copy_laws, posting_laws, posting_refusals, toss_law, toss_outcomes};
 pub use outcome::Outcome;
 pub use packet::Packet;
 pub use stamp::Stamp;
