@@ -15,5 +15,10 @@ pub mod Loading
 pub mod OneBase
 pub mod LinkFiles
 pub mod LinkAnswers
+pub mod LinkBytes
+pub mod LinkLoops
+pub mod LinkTaking
+pub mod LinkSteps
 pub mod Stubs
 pub mod Loaded
+pub mod AreaMaps

@@ -3,4 +3,5 @@ pub mod Written
 pub mod Base
 pub mod Stubs
 pub mod LinkLines
+pub mod LinkReading
 pub mod BaseFile

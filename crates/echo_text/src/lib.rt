@@ -24,6 +24,7 @@ mod tail;
 mod words;
 mod writing;
 
+pub use area::{in_upper_case, is_tag};
 pub use echo::{Echo, EchoView};
 pub use fault::TextFault;
 pub use id_laws::{
@@ -35,6 +36,7 @@ pub use laws::{
 };
 pub use msgid::MsgId;
 pub use reading::{read_text, view_text};
+pub use words::trimmed;
 pub use writing::write_text;
 
 #[cfg(test)]
