@@ -9,6 +9,7 @@ use Rattle.echo_addr.specs.declared.address.Address.{Address}
 use Rattle.echo_packet.specs.Message.{HasNoZero}
 use Rattle.echo_addr.specs.Address.{IsAddress, address_text}
 use Rattle.echo_addr.proofs.Decimals.{IsDigit, digits_of_decimal}
+use Rattle.echo_packet.specs.Message.{HasNoZero}
 use Rattle.echo_text.specs.Lines.{is_return, lines, without_empty_last}
 use Rattle.echo_text.specs.Echo.{IsLine}
 use Rattle.echo_text.specs.Ids.{is_line_byte, is_zero}

@@ -1,0 +1,11 @@
+pub mod Ascending
+pub mod Orders
+pub mod FirstOf
+pub mod Listed
+pub mod Neighbours
+pub mod Owned
+pub mod Twins
+pub mod Runs
+pub mod Faulty
+pub mod Numbers
+pub mod Graphs

@@ -1,0 +1,21 @@
+use Rattle.std.proofs.Common.{◌≡◌, ◌<◌, ℕ, get_or, arith, true, false}
+use Rattle.std.specs.Prelude.{Contains}
+use Rattle.echo_net.specs.declared.link.Link.{Link}
+use Rattle.echo_net.proofs.Ascending.{at_place}
+use Rattle.echo_net.proofs.FirstOf.{all_there, first_here, one_more}
+use Rattle.echo_net.proofs.first_links.unknown_link.Goals as goal
+
+pub returns-then-not-holds : goal.returns-then-not-holds
+returns-then-not-holds c =
+    first_here c.args.links.now c.requires.links (λ l. ¬ Contains c.args.carriers.now l.to) c.links.link-index _ (at_place _ _ _ c.links-test.true)
+    (λ there. let yes : c.holds.result ≡ true = c.holds.ensures.1 there in let no : c.holds.result ≡ false = c.if-not-holds.true in cc)
+    (λ k d lt wrong. wrong (c.links.invariant k d lt))
+
+pub links-preserved : goal.links-preserved
+links-preserved c =
+    one_more c.args.links.now (λ l. Contains c.args.carriers.now l.to) c.links.link-index _ c.links-test.true (c.holds.ensures.0 c.if-not-holds.false) c.links.invariant
+
+pub returns : goal.returns
+returns c =
+    let past = c.links-test.false in
+    all_there c.args.links.now (λ l. Contains c.args.carriers.now l.to) (λ k d lt. c.links.invariant k d (omega arith))

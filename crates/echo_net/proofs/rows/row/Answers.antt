@@ -1,0 +1,42 @@
+use Rattle.std.proofs.Common.{◌≡◌, ◌<◌, ◌≤◌, ◌+◌, ◌++◌, ◌∷◌, [], ℕ, List, take, length, get_or, sym, subst, ap, ◌∙◌, arith, MatchOption, refl}
+use Rattle.std.specs.Prelude.{Contains}
+use Rattle.std.specs.List.{AllZip}
+use Rattle.std.proofs.lemmas.Bool.{some_since}
+use Rattle.std.proofs.lemmas.Option.{MatchOption-at_some}
+use Rattle.std.proofs.lemmas.List.{take_all, take_more}
+use Rattle.std.proofs.lemmas.List.Elements.{Contains-get_or}
+use Rattle.echo_addr.specs.declared.address.Address.{Address}
+use Rattle.echo_net.specs.declared.link.Link.{Link}
+use Rattle.echo_net.specs.Firsts.{IsAt}
+use Rattle.echo_net.proofs.Runs.{row_ascends, row_members, zip_push}
+use Rattle.echo_net.proofs.rows.row.Goals as goal
+
+pub unwrap-requires : goal.unwrap-requires
+unwrap-requires c =
+    let links : List Link = c.args.links.now in
+    some_since _ _ _ c.place.ensures (λ none. none (c.requires.known _ (Contains-get_or links c.links.link-index _ c.links-test.true)))
+
+pub links-preserved : goal.links-preserved
+links-preserved c =
+    let carriers : List Address = c.args.carriers.now in
+    let links : List Link = c.args.links.now in
+    let i = c.links.link-index in
+    let Pairs : Link → ℕ → Type 0 = λ l j. IsAt carriers j l.to in
+    let last = take_more links i _ c.links-test.true in
+    subst (AllZip Pairs (take (i + 1) links)) (sym c.in_ok-push.ensures.items)
+    (subst (λ (ls : List Link). AllZip Pairs ls (c.links.row.items ++ c.unwrap.result ∷ [])) (sym last)
+    (zip_push Pairs (take i links) c.links.row.items _ c.unwrap.result c.links.invariant
+    (MatchOption-at_some _ _ c.unwrap.result c.unwrap.ensures c.place.ensures)))
+
+pub returns-clause-ascending : goal.returns-clause-ascending
+returns-clause-ascending c = row_ascends c.put_in_order.new.values.items c.put_in_order.ensures.ascending
+
+pub returns-clause-members : goal.returns-clause-members
+returns-clause-members c = λ j.
+    let carriers : List Address = c.args.carriers.now in
+    let links : List Link = c.args.links.now in
+    let past = c.links-test.false in
+    let zip : AllZip (λ (l : Link) (k : ℕ). IsAt carriers k l.to) links c.links.row.items =
+    subst (λ (ls : List Link). AllZip (λ (l : Link) (k : ℕ). IsAt carriers k l.to) ls c.links.row.items) (take_all c.links.link-index links past) c.links.invariant in
+    let all = row_members carriers c.requires.carriers links c.links.row.items zip j in
+    (λ h. all.0 ((c.put_in_order.ensures.members j).0 h), λ h. (c.put_in_order.ensures.members j).1 (all.1 h))

@@ -1,0 +1,102 @@
+-- What is wrong with an area of a net: the first clause that fails, and where.
+use Rattle.std.specs.Prelude.{◌≡◌, ◌<◌, ◌&&◌, ◌↔◌, ⊤, nat_lt, ℕ, Bool, true, IsTrue, List, Contains, length, map}
+use Rattle.std.specs.List.{list_any}
+use Rattle.echo_addr.specs.declared.address.Address.{Address}
+use Rattle.echo_addr.specs.Address.{net_node_of}
+use Rattle.echo_graph.specs.Walk.{Connected, Different, Reaches}
+use Rattle.echo_graph.specs.Loops.{NamedLoop}
+use Rattle.echo_base.specs.Base.{LinkFile, has_area}
+use Rattle.echo_base.specs.Sets.{address_before}
+use Rattle.echo_run.specs.Tidy.{Carries, Joined, carries, lists}
+use Rattle.echo_net.specs.declared.verdict.NetFault.{NetFault}
+use Rattle.echo_net.specs.declared.verdict.NetFault.TheVariants.{NoSuchArea, TwoFiles, SelfLink, Unknown, OneSided, SameNetNode, Apart, Loop}
+use Rattle.echo_net.specs.declared.verdict.Verdict.{Verdict}
+use Rattle.echo_net.specs.declared.verdict.Verdict.TheVariants.{Yes, No}
+use Rattle.echo_net.specs.Firsts.{HasTwin, IsSmallest, IsSmallestPair, StandsTwice}
+use Rattle.echo_net.specs.Nets.{systems}
+use Rattle.echo_net.specs.Rows.{system_at}
+
+-- some file has the area
+abbrev pub IsCarried : List LinkFile → List ℕ → Type 0
+IsCarried files tag = IsTrue (list_any (λ file. has_area file tag) files)
+
+-- no two files have one address
+abbrev pub HaveOneFileEach : List LinkFile → Type 0
+HaveOneFileEach files = Different (systems files)
+
+-- no system lists itself
+abbrev pub NoneListsItself : List LinkFile → List ℕ → Type 0
+NoneListsItself files tag = (a : Address) → ¬ IsTrue (lists files tag a a)
+
+-- what is listed carries the area
+abbrev pub AllAreKnown : List LinkFile → List ℕ → Type 0
+AllAreKnown files tag = (a b : Address) → IsTrue (lists files tag a b) → Carries files tag b
+
+-- every link stands in both files
+abbrev pub AllAreAnswered : List LinkFile → List ℕ → Type 0
+AllAreAnswered files tag = (a b : Address) → IsTrue (lists files tag a b) → IsTrue (lists files tag b a)
+
+-- no two carriers have one net and node
+abbrev pub NetNodesDiffer : List LinkFile → List ℕ → Type 0
+NetNodesDiffer files tag = (a b : Address) → Carries files tag a → Carries files tag b → net_node_of a ≡ net_node_of b → a ≡ b
+
+-- the first six clauses
+pub record AreSoundLinks (files : List LinkFile) (tag : List ℕ) : Type 0 where
+  pub some : IsCarried files tag
+  pub one_file : HaveOneFileEach files
+  pub no_self : NoneListsItself files tag
+  pub known : AllAreKnown files tag
+  pub both : AllAreAnswered files tag
+  pub apart : NetNodesDiffer files tag
+
+-- the members in ascending order, each once
+pub record AreInOrder (IsMember : Address → Type 0) (all : List Address) : Type 0 where
+  pub ascending : (i j : ℕ) → i < j → j < length all → address_before (system_at all i) (system_at all j) ≡ true
+  pub members : (a : Address) → Contains all a ↔ IsMember a
+
+-- links of addresses as links of their places in a list
+abbrev pub numbered : List Address → (Address → Address → Bool) → ℕ → ℕ → Bool
+numbered all linked i j = (nat_lt i (length all) && nat_lt j (length all)) && linked (system_at all i) (system_at all j)
+
+-- the loop that is named, where systems go by their places in ascending order
+pub record IsNamedLoop (files : List LinkFile) (tag : List ℕ) (loop : List Address) : Type 0 where
+  pub carriers : List Address
+  pub in_order : AreInOrder (Carries files tag) carriers
+  pub places : List ℕ
+  pub named : NamedLoop (numbered carriers (lists files tag)) places
+  pub written : loop ≡ map (system_at carriers) places
+
+-- the fault is the first clause that fails, with the smallest addresses of which it fails
+abbrev pub IsFirstFault : List LinkFile → List ℕ → NetFault → Type 0
+IsFirstFault files tag NoSuchArea = ¬ IsCarried files tag
+IsFirstFault files tag (TwoFiles a) = IsCarried files tag × IsSmallest (StandsTwice (systems files)) a
+IsFirstFault files tag (SelfLink a) =
+    IsCarried files tag × HaveOneFileEach files × IsSmallest (λ b. IsTrue (lists files tag b b)) a
+IsFirstFault files tag (Unknown a b) =
+    IsCarried files tag × HaveOneFileEach files × NoneListsItself files tag ×
+    IsSmallestPair (λ c d. IsTrue (lists files tag c d) × (¬ Carries files tag d)) a b
+IsFirstFault files tag (OneSided a b) =
+    IsCarried files tag × HaveOneFileEach files × NoneListsItself files tag × AllAreKnown files tag ×
+    IsSmallestPair (λ c d. IsTrue (lists files tag c d) × (¬ IsTrue (lists files tag d c))) a b
+IsFirstFault files tag (SameNetNode a b) =
+    IsCarried files tag × HaveOneFileEach files × NoneListsItself files tag × AllAreKnown files tag × AllAreAnswered files tag ×
+    IsSmallestPair (HasTwin (Carries files tag)) a b
+IsFirstFault files tag (Apart a b) =
+    AreSoundLinks files tag × IsSmallest (Carries files tag) a ×
+    IsSmallest (λ c. Carries files tag c × (¬ Reaches (lists files tag) a c)) b
+IsFirstFault files tag (Loop loop) = Joined files tag × IsNamedLoop files tag loop
+
+-- whether the answer is yes
+abbrev pub IsYes : Verdict → Type 0
+IsYes (Yes systems links) = ⊤
+IsYes (No fault) = ⊥
+
+-- of a yes with its two numbers
+abbrev pub IfYes : Verdict → (ℕ → ℕ → Type 0) → Type 0
+IfYes (Yes systems links) Holds = Holds systems links
+IfYes (No fault) Holds = ⊤
+
+-- of a no with its fault
+abbrev pub IfNo : Verdict → (NetFault → Type 0) → Type 0
+IfNo (Yes systems links) Holds = ⊤
+IfNo (No fault) Holds = Holds fault

@@ -1,0 +1,41 @@
+-- The smallest addresses, and the smallest pairs of addresses, of which something holds.
+use Rattle.std.specs.Prelude.{◌≡◌, ◌<◌, ◌+◌, ◌&&◌, ◌||◌, ℕ, Bool, true, false, List, Contains, length, slice_index_or}
+use Rattle.echo_addr.specs.declared.address.Address.{Address}
+use Rattle.echo_addr.specs.Address.{net_node_of}
+use Rattle.echo_base.specs.Sets.{address_before, same_address}
+use Rattle.echo_net.specs.declared.link.Link.{Link}
+
+-- it holds of this address, and of none that comes before it
+pub record IsSmallest (Holds : Address → Type 0) (a : Address) : Type 0 where
+  pub holds : Holds a
+  pub first : (b : Address) → Holds b → address_before b a ≡ false
+
+-- pairs of addresses by the first, then by the second
+abbrev pub pair_before : Address → Address → Address → Address → Bool
+pair_before a b c d = address_before a c || (same_address a c && address_before b d)
+
+-- it holds of this pair, and of none that comes before it
+pub record IsSmallestPair (Holds : Address → Address → Type 0) (a b : Address) : Type 0 where
+  pub holds : Holds a b
+  pub first : (c d : Address) → Holds c d → pair_before c d a b ≡ false
+
+-- this item stands at this place
+abbrev pub IsAt : {X : Type 0} → List X → ℕ → X → Type 0
+IsAt xs i x = (i < length xs) × (slice_index_or xs i x ≡ x)
+
+-- it stands at two places
+abbrev pub StandsTwice : {X : Type 0} → List X → X → Type 0
+StandsTwice xs x = (i : ℕ) × (j : ℕ) × (i < j) × IsAt xs i x × IsAt xs j x
+
+-- of these links the first of which it holds
+pub record IsFirstLink (links : List Link) (Holds : Link → Type 0) (l : Link) : Type 0 where
+  pub there : Contains links l
+  pub holds : Holds l
+  pub first : (m : Link) → Contains links m → Holds m → pair_before m.from m.to l.from l.to ≡ false
+
+-- two members, the smaller first, have one net and node
+pub record HasTwin (IsMember : Address → Type 0) (a b : Address) : Type 0 where
+  pub one : IsMember a
+  pub other : IsMember b
+  pub in_order : address_before a b ≡ true
+  pub same : net_node_of a ≡ net_node_of b

@@ -1,0 +1,5 @@
+pub mod Nets
+pub mod Firsts
+pub mod Pairs
+pub mod Rows
+pub mod Faults

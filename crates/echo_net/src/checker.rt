@@ -1,0 +1,59 @@
+//! Is an area of a net in order?
+
+ghost use Rattle.std.specs.Prelude.{◌≡◌, ◌↔◌, IfOk, List};
+ghost use Rattle.echo_run.specs.Event.{RunEvent};
+ghost use Rattle.echo_run.specs.Orderly.{Orderly};
+ghost use Rattle.echo_run.specs.Run.{run_of};
+ghost use Rattle.echo_run.specs.Tidy.{Tidy};
+ghost use Rattle.echo_net.specs.Faults.{IfNo, IfYes, IsFirstFault, IsYes};
+ghost use Rattle.echo_net.specs.Nets.{carrier_count, linked_pairs};
+
+use crate::carriers::{carriers, count_carriers, count_pairs, links};
+use crate::graph_faults::graph_fault;
+use crate::link_faults::link_fault;
+use crate::rows::rows;
+use crate::verdict::Verdict;
+use echo_base::LinkFile;
+use echo_graph::Graph;
+use echo_run::every_run_of_a_tidy_area_is_orderly;
+use std::alloc::{AllocError, Global};
+
+/// Is the area of this tag in order, on the net of these link files (FTS-0004)? Tags are compared byte
+/// for byte. Fails only by want of memory.
+///
+/// Where the answer is `Yes`, each run on these files is orderly: after any postings, scans,
+/// deliveries, stopped tosses and purges, with losses and repeats and in any order, each carrier was
+/// sent each message at most once and never one of its own, has filed it at most once, and, once
+/// nothing waits for a scan and every packet came, has filed every message exactly once, unchanged.
+/// A `No` says the first thing that is wrong, in the order of `NetFault`, with the smallest addresses.
+///
+/// Takes about the time of sorting the links, but for a net whose only fault is a loop: to name it
+/// takes a search for each end of each link.
+pub fn check(alloc: Global, files: &[LinkFile], tag: &[u8]) -> Result<Verdict, AllocError>
+    ensures tidy { IfOk result (λ verdict. IsYes verdict ↔ Tidy files.now tag.now) }
+    ensures counted { IfOk result (λ verdict. IfYes verdict (λ systems links.
+        (systems ≡ carrier_count files.now tag.now) × (links ≡ linked_pairs files.now tag.now))) }
+    ensures orderly { IfOk result (λ verdict. IsYes verdict →
+        (events : List RunEvent) → Orderly (run_of files.now events) tag.now) }
+    ensures first { IfOk result (λ verdict. IfNo verdict (IsFirstFault files.now tag.now)) }
+{
+    let carriers = carriers(alloc, files, tag)?;
+    let links = links(alloc, files, tag)?;
+    let wrong_link = link_fault(alloc, files, tag, &carriers, &links)?;
+    if let Some(fault) = wrong_link {
+        return Ok(Verdict::No(fault));
+    }
+    let graph = Graph::new(rows(alloc, &carriers, &links)?);
+    let wrong_graph = graph_fault(alloc, files, tag, &carriers, &graph)?;
+    match wrong_graph {
+        Some(fault) => Ok(Verdict::No(fault)),
+        None => {
+            // The law that the clause on runs rests on.
+            every_run_of_a_tidy_area_is_orderly();
+            Ok(Verdict::Yes {
+                systems: count_carriers(files, tag),
+                links: count_pairs(files, tag),
+            })
+        }
+    }
+}

@@ -1,0 +1,59 @@
+//! A net as a graph: a row of links for each carrier.
+
+ghost use Rattle.std.specs.Prelude.{◌≡◌, ◌<◌, ◌↔◌, ℕ, IfOk, Contains, length};
+ghost use Rattle.std.specs.List.Sorted.{IsStrictlySortedBy};
+ghost use Rattle.echo_graph.specs.Rows.{IsAscending};
+ghost use Rattle.echo_net.specs.declared.link.Link.{Link};
+ghost use Rattle.echo_net.specs.Firsts.{IsAt};
+ghost use Rattle.echo_net.specs.Rows.{AreRows};
+
+use crate::carriers::is_before;
+use crate::link::Link;
+use crate::sorting::{place, put_in_order};
+use echo_addr::Address;
+use echo_graph::Links;
+use std::alloc::{AllocError, Global};
+
+/// A row for each carrier, with the places of the systems that it lists.
+pub fn rows(alloc: Global, carriers: &[Address], links: &[Link]) -> Result<Vec<Links>, AllocError>
+    requires carriers { IsStrictlySortedBy ⟦<Address as Ord>⟧.cmp carriers.now }
+    requires links { IsStrictlySortedBy ⟦<Link as Ord>⟧.cmp links.now }
+    requires known { (l : Link) → Contains links.now l → Contains carriers.now l.to }
+    ensures { IfOk result (λ rows. AreRows carriers.now links.now rows.items) }
+{
+    let mut rows = Vec::new(alloc);
+    'carriers: for system in carriers {
+        let run = links_from(links, *system);
+        let row = row(alloc, carriers, run)?;
+        rows.push(Links::new(row))?;
+    }
+    Ok(rows)
+}
+
+/// The links from this system.
+fn links_from(links: &[Link], system: Address) -> &[Link]
+    requires { IsStrictlySortedBy ⟦<Link as Ord>⟧.cmp links.now }
+    ensures { (l : Link) → Contains result.now l ↔ (Contains links.now l × (l.from ≡ system)) }
+{
+    let start = links.partition_point(|link| is_before(link.from, system));
+    let (_, rest) = links.split_at(start);
+    let count = rest.partition_point(|link| !is_before(system, link.from));
+    let (run, _) = rest.split_at(count);
+    run
+}
+
+/// The places of the systems to which these links lead, ascending.
+fn row(alloc: Global, carriers: &[Address], links: &[Link]) -> Result<Vec<usize>, AllocError>
+    requires carriers { IsStrictlySortedBy ⟦<Address as Ord>⟧.cmp carriers.now }
+    requires known { (l : Link) → Contains links.now l → Contains carriers.now l.to }
+    ensures ascending { IfOk result (λ row. IsAscending row.items) }
+    ensures members { IfOk result (λ row. (j : ℕ) → Contains row.items j ↔
+        ((l : Link) × Contains links.now l × IsAt carriers.now j l.to)) }
+{
+    let mut row = Vec::new(alloc);
+    'links: for link in links {
+        row.push(place(carriers, &link.to).unwrap())?;
+    }
+    put_in_order(&mut row);
+    Ok(row)
+}
