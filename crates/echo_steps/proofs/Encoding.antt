@@ -5,9 +5,9 @@ use Rattle.std.proofs.lemmas.List.{take_more}
 use Rattle.echo_packet.specs.declared.header.Header.{Header}
 use Rattle.echo_packet.specs.declared.limits.Limits.{Limits}
 use Rattle.echo_packet.specs.Header.{IsHeader, header_bytes, word}
-use Rattle.echo_packet.specs.Message.{AreMessages, IsMessage, IsString, Message, Text, before, ended, message_bytes, messages_bytes}
+use Rattle.echo_packet.specs.Message.{AreMessages, IsMessage, IsString, Message, Text, before, message_bytes, messages_bytes, zero_ended}
 use Rattle.echo_packet.specs.Packet.{PacketOf, packet_bytes}
-use Rattle.echo_packet.proofs.Runs.{messages_bytes-push}
+use Rattle.echo_packet.proofs.MessageByMessage.{messages_bytes-push}
 use Rattle.echo_base.proofs.Plain.{all_append}
 
 -- a message of a text of its own length
@@ -31,7 +31,7 @@ one_more_written ms i m front old new within is so_far grown =
 
 -- a message has its text's bytes and more
 text_within : (m : Message) → length m.text < length (message_bytes m)
-text_within m = omega (arith, length-append (before Text m) (ended m.text), length-append m.text (0 ∷ []))
+text_within m = omega (arith, length-append (before Text m) (zero_ended m.text), length-append m.text (0 ∷ []))
 
 -- whole messages of few bytes keep a great limit
 longer : (most : ℕ) (m : Message) → IsWhole m → length m.text ≤ most → IsMessage most m
