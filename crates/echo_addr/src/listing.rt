@@ -1,4 +1,4 @@
-ghost use Rattle.std.specs.Prelude.{◌≡◌, ◌<◌, [], ◌∷◌, length, not, position, MatchOption, IfOk, IfSome};
+ghost use Rattle.std.specs.Prelude.{◌≡◌, ◌<◌, [], ◌∷◌, ◌++◌, length, not, position, MatchOption, IfOk, IfSome, OnOk};
 ghost use Rattle.std.specs.Option.{option_or};
 ghost use Rattle.echo_addr.specs.Entries.{dropped, entries, entry_from, is_blank, pair_of, part_of, tokens};
 
@@ -11,6 +11,9 @@ use std::alloc::{AllocError, Global};
 /// The greatest net or node of an entry.
 const MOST: u32 = 65535;
 
+/// How many bytes most tokens have at least, each with its blank.
+const TOKEN_LEN: usize = 4;
+
 /// The entries of what follows the colon of a SEEN-BY or PATH line (FTS-0004), in order, and how
 /// many tokens were dropped. A token is `net/node`, or a node with the net of the nearest such token
 /// before it; each number is decimal and at most 65,535.
@@ -19,6 +22,16 @@ pub fn read_list(alloc: Global, bytes: &[u8]) -> Result<(Vec<NetNode>, usize), A
     ensures dropped { IfOk result (λ r. r.1 ≡ dropped bytes.now) }
 {
     let mut found = Vec::new(alloc);
+    let dropped = add_list(&mut found, bytes)?;
+    Ok((found, dropped))
+}
+
+/// Adds those entries to a list, and answers how many tokens were dropped.
+pub fn add_list(found: &mut Vec<NetNode>, bytes: &[u8]) -> Result<usize, AllocError>
+    ensures entries { OnOk result (found.new.items ≡ found.old.items ++ entries bytes.now) }
+    ensures dropped { IfOk result (λ n. n ≡ dropped bytes.now) }
+{
+    found.reserve(bytes.len() / TOKEN_LEN)?;
     let mut dropped = 0;
     let mut net = None;
     let mut rest = bytes;
@@ -32,7 +45,7 @@ pub fn read_list(alloc: Global, bytes: &[u8]) -> Result<(Vec<NetNode>, usize), A
         }
         rest = after;
     }
-    Ok((found, dropped))
+    Ok(dropped)
 }
 
 /// The first token, and what stands after it.
