@@ -1,4 +1,4 @@
-ghost use Rattle.std.specs.Prelude.{◌≡◌, ◌<◌, [], ◌∷◌, ◌++◌, length, not, position, MatchOption, IfOk, IfSome, OnOk};
+ghost use Rattle.std.specs.Prelude.{◌≡◌, ◌<◌, [], ◌∷◌, ◌++◌, length, not, position, Some, MatchOption, IfOk, IfSome, OnOk};
 ghost use Rattle.std.specs.Option.{option_or};
 ghost use Rattle.echo_addr.specs.Entries.{dropped, entries, entry_from, is_blank, pair_of, part_of, tokens};
 
@@ -72,11 +72,15 @@ fn first_other(bytes: &[u8]) -> Option<usize>
     bytes.iter().position(|b| !is_blank(*b))
 }
 
-/// The entry of the token, where `net` is that of the nearest `net/node` before it.
+/// The entry of the token, where `net` is that of the nearest `net/node` before it. Most tokens are a
+/// node alone.
 fn entry(net: Option<u16>, token: &[u8]) -> Option<NetNode>
     ensures { result ≡ option_or (pair_of token.now) (entry_from net (part_of token.now)) }
 {
-    pair(token).or(alone(net, token))
+    match part(token) {
+        Some(node) => alone(net, node),
+        None => pair(token),
+    }
 }
 
 /// The entry of a token `net/node`.
@@ -90,11 +94,10 @@ fn pair(token: &[u8]) -> Option<NetNode>
 }
 
 /// The entry of a node alone.
-fn alone(net: Option<u16>, token: &[u8]) -> Option<NetNode>
-    ensures { result ≡ entry_from net (part_of token.now) }
+fn alone(net: Option<u16>, node: u16) -> Option<NetNode>
+    ensures { result ≡ entry_from net (Some node) }
 {
     let net = net?;
-    let node = part(token)?;
     Some(NetNode { net, node })
 }
 
