@@ -6,16 +6,16 @@ use Rattle.std.proofs.lemmas.List.Sums.{sum_by-cons}
 use Rattle.echo_addr.specs.declared.address.NetNode.{NetNode}
 use Rattle.echo_addr.specs.Entries.{tokens, part_of, entry_from, pair_of, nearest_net, entry_of, judged, entries, dropped}
 
--- what is read so far, and what the tokens that are left will add, make the whole list
-pub record Read (s : List ℕ) (left : List (List ℕ)) (net : Option ℕ) (found : List NetNode) (lost : ℕ) : Type 0 where
+-- what is read so far, and what the tokens that are left will add, make the whole list behind what was there before
+pub record Read (base : List NetNode) (s : List ℕ) (left : List (List ℕ)) (net : Option ℕ) (found : List NetNode) (lost : ℕ) : Type 0 where
   pub earlier : List (List ℕ)
   pub nearest : nearest_net earlier ≡ net
-  pub list : found ++ filter_map (λ e. e) (judged earlier left) ≡ entries s
+  pub list : found ++ filter_map (λ e. e) (judged earlier left) ≡ base ++ entries s
   pub count : lost + count_by is_none (judged earlier left) ≡ dropped s
 
-pub Read-none : (s : List ℕ) → Read s (tokens s) None [] 0
+pub Read-none : (base : List NetNode) (s : List ℕ) → Read base s (tokens s) None base 0
 unfolding entries dropped
-Read-none s = record { earlier = []; nearest = refl; list = refl; count = zero-add _ }
+Read-none base s = record { earlier = []; nearest = refl; list = refl; count = zero-add _ }
 
 -- an entry of a lone node has the net that it was given
 from_cases : (pair : Option NetNode) (net part : Option ℕ) (e : NetNode) → option_or pair (entry_from net part) ≡ Some e
@@ -39,10 +39,10 @@ net_after earlier token e read = from_cases (pair_of token) (nearest_net earlier
 net_kept : (earlier : List (List ℕ)) (token : List ℕ) → entry_of earlier token ≡ None → nearest_net (token ∷ earlier) ≡ nearest_net earlier
 net_kept earlier token lost = kept_cases (pair_of token) (nearest_net earlier) (part_of token) lost
 
-pub Read-entry : (s token : List ℕ) (left : List (List ℕ)) (net : Option ℕ) (found : List NetNode) (lost : ℕ) (e : NetNode)
-    → Read s (token ∷ left) net found lost → option_or (pair_of token) (entry_from net (part_of token)) ≡ Some e
-    → Read s left (Some e.net) (found ++ e ∷ []) lost
-Read-entry s token left net found lost e r is =
+pub Read-entry : (base : List NetNode) (s token : List ℕ) (left : List (List ℕ)) (net : Option ℕ) (found : List NetNode) (lost : ℕ) (e : NetNode)
+    → Read base s (token ∷ left) net found lost → option_or (pair_of token) (entry_from net (part_of token)) ≡ Some e
+    → Read base s left (Some e.net) (found ++ e ∷ []) lost
+Read-entry base s token left net found lost e r is =
     let read : entry_of r.earlier token ≡ Some e = ap (λ o. option_or (pair_of token) (entry_from o (part_of token))) r.nearest ∙ is in
     let rest = judged (token ∷ r.earlier) left in
     record {
@@ -54,10 +54,10 @@ Read-entry s token left net found lost e r is =
           (sym (ap (λ o. count_by is_none (o ∷ rest)) read ∙ sum_by-cons (λ o. cond (is_none o) 1 0) (Some e) rest ∙ zero-add _)) ∙ r.count;
     }
 
-pub Read-dropped : (s token : List ℕ) (left : List (List ℕ)) (net : Option ℕ) (found : List NetNode) (lost : ℕ)
-    → Read s (token ∷ left) net found lost → option_or (pair_of token) (entry_from net (part_of token)) ≡ None
-    → Read s left net found (lost + 1)
-Read-dropped s token left net found lost r is =
+pub Read-dropped : (base : List NetNode) (s token : List ℕ) (left : List (List ℕ)) (net : Option ℕ) (found : List NetNode) (lost : ℕ)
+    → Read base s (token ∷ left) net found lost → option_or (pair_of token) (entry_from net (part_of token)) ≡ None
+    → Read base s left net found (lost + 1)
+Read-dropped base s token left net found lost r is =
     let none : entry_of r.earlier token ≡ None = ap (λ o. option_or (pair_of token) (entry_from o (part_of token))) r.nearest ∙ is in
     let rest = judged (token ∷ r.earlier) left in
     let more = ap (λ o. count_by is_none (o ∷ rest)) none ∙ sum_by-cons (λ o. cond (is_none o) 1 0) None rest in
@@ -68,6 +68,6 @@ Read-dropped s token left net found lost r is =
       count = omega (arith, more, r.count);
     }
 
-pub Read-all : (s : List ℕ) (net : Option ℕ) (found : List NetNode) (lost : ℕ) → Read s [] net found lost
-    → (found ≡ entries s) × (lost ≡ dropped s)
-Read-all s net found lost r = (sym (append-nil found) ∙ r.list, sym (add-zero lost) ∙ r.count)
+pub Read-all : (base : List NetNode) (s : List ℕ) (net : Option ℕ) (found : List NetNode) (lost : ℕ) → Read base s [] net found lost
+    → (found ≡ base ++ entries s) × (lost ≡ dropped s)
+Read-all base s net found lost r = (sym (append-nil found) ∙ r.list, sym (add-zero lost) ∙ r.count)

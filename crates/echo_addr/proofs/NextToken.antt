@@ -1,14 +1,20 @@
 -- Cutting bytes into tokens from the left.
-use Rattle.std.proofs.Common.{◌≡◌, ℕ, suc, ◌+◌, ◌-◌, ◌<◌, not, cond, Bool, false, List, [], ◌∷◌, ◌++◌, length, get_or, take, drop, refl, sym, ap, ◌∙◌, arith, Option, Some, None, inl, inr}
+use Rattle.std.proofs.Common.{◌≡◌, ℕ, suc, ◌+◌, ◌-◌, ◌<◌, ◌&&◌, nat_le, nat_lt, not, cond, Bool, true, false, List, [], ◌∷◌, ◌++◌, length, get_or, take, drop, refl, sym, ap, ◌∙◌, arith, Option, Some, None, inl, inr}
 use Rattle.std.specs.List.{AllByRecursion, position, position_or_len, before_first, after_first}
-use Rattle.std.specs.Option.{unwrap_or}
+use Rattle.std.specs.Option.{option_or, unwrap_or}
+use Rattle.std.specs.Str.{all_ascii_digits}
+use Rattle.std.specs.Str.Parse.{digits_value}
 use Rattle.std.proofs.lemmas.List.{take-append-drop, drop_more, drop_all, take_all, take_rest, get_or-take, length-take, length-take-le}
 use Rattle.std.proofs.lemmas.List.Elements.{recursion_from_All}
 use Rattle.std.proofs.lemmas.List.Sums.{fails_before_first, passes_at_first}
-use Rattle.std.proofs.lemmas.Bool.{cases_Bool, cases_lt, not-true}
+use Rattle.std.proofs.lemmas.Bool.{and_parts, cases_Bool, cases_lt, cond-false, not-true}
+use Rattle.echo_addr.specs.declared.address.NetNode.{NetNode}
 use Rattle.echo_addr.specs.Address.{is_slash}
+use Rattle.echo_addr.specs.Digits.{is_number, number_within}
 use Rattle.echo_addr.specs.Entries.{is_blank, tokens, part_of, entry_from, pair_of}
-use Rattle.echo_addr.proofs.ReadBack.{entry_from_none}
+use Rattle.echo_addr.proofs.Decimals.{IsDigit, each_digit, own}
+use Rattle.echo_addr.proofs.Each.{weaker}
+use Rattle.echo_addr.proofs.ReadBack.{digit_is_no_slash, entry_from_none, pair_of-hidden}
 use Rattle.echo_addr.proofs.Tokens.{IsInk, tokens_blank, tokens_one, tokens_more, tokens_nil}
 use Rattle.echo_addr.proofs.Positions.{position_or_len-le, position_some, position_none, unwrap_or-position}
 
@@ -82,6 +88,29 @@ pair_both t i net node some net-is node-is =
     ∙ ap (λ r. entry_from (part_of (take i t)) (part_of r)) (sym (take_rest t (i + 1)))
     ∙ ap (λ o. entry_from o (part_of (take (length t - (i + 1)) (drop (i + 1) t)))) net-is
     ∙ ap (entry_from (Some net)) node-is
+
+-- a token that is a number is no pair
+digits_of_number : (most : ℕ) (t : List ℕ) (n : ℕ) → number_within most t ≡ Some n → all_ascii_digits t ≡ true
+digits_of_number most t n some = elim (cases_Bool (is_number t && nat_le (digits_value 10 t) most)) [
+  | inl y ↦ (and_parts (nat_lt 0 (length t)) (all_ascii_digits t) (and_parts (is_number t) (nat_le (digits_value 10 t) most) y).0).1
+  | inr isnt ↦ let none = cond-false _ (Some (digits_value 10 t)) None isnt in absurd cc
+]
+
+number_is_no_pair : (t : List ℕ) (n : ℕ) → part_of t ≡ Some n → pair_of t ≡ None
+number_is_no_pair t n some =
+    pair_of-hidden t (weaker IsDigit (λ b. is_slash b ≡ false) digit_is_no_slash t (each_digit t (own.to t (digits_of_number 65535 t n some))))
+
+pub entry_alone : (net : Option ℕ) (t : List ℕ) (n : ℕ) → part_of t ≡ Some n → entry_from net (Some n) ≡ option_or (pair_of t) (entry_from net (part_of t))
+entry_alone net t n some =
+    sym (ap (λ p. option_or p (entry_from net (part_of t))) (number_is_no_pair t n some) ∙ ap (entry_from net) some)
+
+or_none : (o : Option NetNode) → option_or o None ≡ o
+or_none None = refl
+or_none (Some e) = refl
+
+pub entry_pair : (net : Option ℕ) (t : List ℕ) → part_of t ≡ None → pair_of t ≡ option_or (pair_of t) (entry_from net (part_of t))
+entry_pair net t none =
+    sym (ap (λ o. option_or (pair_of t) (entry_from net o)) none ∙ ap (option_or (pair_of t)) (entry_from_none net) ∙ or_none (pair_of t))
 
 -- only blanks
 pub next_none : (s : List ℕ) → position is_other s ≡ None → tokens s ≡ []

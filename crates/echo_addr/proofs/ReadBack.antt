@@ -16,7 +16,7 @@ use Rattle.echo_addr.proofs.Decimals.{IsDigit, digits_of_decimal, part_of-decima
 use Rattle.echo_addr.proofs.Each.{weaker, joined, apart}
 use Rattle.echo_addr.proofs.Tokens.{IsInk, IsEnded, tokens_cons, tokens_nil, before_slash, after_slash, after_no_slash}
 
-digit_is_no_slash : (b : ℕ) → IsDigit b → is_slash b ≡ false
+pub digit_is_no_slash : (b : ℕ) → IsDigit b → is_slash b ≡ false
 digit_is_no_slash b h = ne_eqb b 47 (λ e. omega (arith, h.0))
 
 plain_is_ink : (b : ℕ) → (47 ≤ b) × (b ≤ 57) → is_blank b ≡ false

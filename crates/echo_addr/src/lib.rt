@@ -25,7 +25,7 @@ pub use digits::number;
 pub use fault::AddrFault;
 pub use items::Items;
 pub use laws::{address_read_back, one_spelling, written_lines_read_back};
-pub use listing::{next_token, read_list};
+pub use listing::{add_list, next_token, read_list};
 pub use shortening::{write_path, write_seen};
 
 #[cfg(test)]

@@ -1,4 +1,4 @@
-ghost use Rattle.std.specs.Prelude.{◌≡◌, ◌<◌, [], ◌∷◌, drop, length, not, position, MatchOption, IfOk, IfSome};
+ghost use Rattle.std.specs.Prelude.{◌≡◌, ◌<◌, [], ◌∷◌, ◌++◌, drop, length, not, position, Some, MatchOption, IfOk, IfSome, OnOk};
 ghost use Rattle.std.specs.List.{position_or_len};
 ghost use Rattle.std.specs.Option.{option_or};
 ghost use Rattle.echo_addr.specs.Entries.{dropped, entries, entry_from, is_blank, pair_of, part_of, tokens};
@@ -12,6 +12,9 @@ use std::alloc::{AllocError, Global};
 /// The greatest net or node of an entry.
 const MOST: u32 = 65535;
 
+/// How many bytes most tokens have at least, each with its blank.
+const TOKEN_LEN: usize = 4;
+
 /// The entries of what follows the colon of a SEEN-BY or PATH line (FTS-0004), in order, and how
 /// many tokens were dropped. A token is `net/node`, or a node with the net of the nearest such token
 /// before it; each number is decimal and at most 65,535.
@@ -20,6 +23,16 @@ pub fn read_list(alloc: Global, bytes: &[u8]) -> Result<(Vec<NetNode>, usize), A
     ensures dropped { IfOk result (λ r. r.1 ≡ dropped bytes.now) }
 {
     let mut found = Vec::new(alloc);
+    let dropped = add_list(&mut found, bytes)?;
+    Ok((found, dropped))
+}
+
+/// Adds those entries to a list, and answers how many tokens were dropped.
+pub fn add_list(found: &mut Vec<NetNode>, bytes: &[u8]) -> Result<usize, AllocError>
+    ensures entries { OnOk result (found.new.items ≡ found.old.items ++ entries bytes.now) }
+    ensures dropped { IfOk result (λ n. n ≡ dropped bytes.now) }
+{
+    found.reserve(bytes.len() / TOKEN_LEN)?;
     let mut dropped = 0;
     let mut net = None;
     let mut rest = bytes;
@@ -33,7 +46,7 @@ pub fn read_list(alloc: Global, bytes: &[u8]) -> Result<(Vec<NetNode>, usize), A
         }
         rest = after;
     }
-    Ok((found, dropped))
+    Ok(dropped)
 }
 
 /// The first token, and what stands after it. Takes no memory.
@@ -61,11 +74,15 @@ fn first_other(bytes: &[u8]) -> Option<usize>
     bytes.iter().position(|b| !is_blank(*b))
 }
 
-/// The entry of the token, where `net` is that of the nearest `net/node` before it.
+/// The entry of the token, where `net` is that of the nearest `net/node` before it. Most tokens are a
+/// node alone.
 fn entry(net: Option<u16>, token: &[u8]) -> Option<NetNode>
     ensures { result ≡ option_or (pair_of token.now) (entry_from net (part_of token.now)) }
 {
-    pair(token).or(alone(net, token))
+    match part(token) {
+        Some(node) => alone(net, node),
+        None => pair(token),
+    }
 }
 
 /// The entry of a token `net/node`.
@@ -79,11 +96,10 @@ fn pair(token: &[u8]) -> Option<NetNode>
 }
 
 /// The entry of a node alone.
-fn alone(net: Option<u16>, token: &[u8]) -> Option<NetNode>
-    ensures { result ≡ entry_from net (part_of token.now) }
+fn alone(net: Option<u16>, node: u16) -> Option<NetNode>
+    ensures { result ≡ entry_from net (Some node) }
 {
     let net = net?;
-    let node = part(token)?;
     Some(NetNode { net, node })
 }
 

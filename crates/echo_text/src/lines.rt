@@ -7,6 +7,11 @@ use std::alloc::{AllocError, Global};
 /// What ends a line.
 const RETURN: u8 = b'\r';
 
+/// How many bytes most lines of a long text have at least, and how many lines there is room for beside.
+const LINE_LEN: usize = 48;
+
+const FEW: usize = 8;
+
 /// The first line, without its 0D, and the bytes after it.
 pub(crate) fn split_line(text: &[u8]) -> (&[u8], &[u8])
     ensures first { result.0.now ≡ first_line (lines text.now) }
@@ -24,7 +29,7 @@ pub(crate) fn split_line(text: &[u8]) -> (&[u8], &[u8])
 pub fn cut(alloc: Global, text: &[u8]) -> Result<Vec<&[u8]>, AllocError>
     ensures { IfOk result (λ found. map (λ line. line.now) found.items ≡ lines text.now) }
 {
-    let mut found = Vec::new(alloc);
+    let mut found = Vec::with_capacity(alloc, text.len() / LINE_LEN + FEW)?;
     let mut rest = text;
     'lines: while !rest.is_empty() {
         let (line, after) = split_line(rest);

@@ -3,7 +3,7 @@ ghost use Rattle.echo_text.specs.Echo.{IsSetOf};
 ghost use Rattle.echo_text.specs.Tail.{all_dropped, all_entries, lists_of};
 
 use crate::words::after_word;
-use echo_addr::{NetNode, read_list};
+use echo_addr::{NetNode, add_list};
 use std::alloc::{AllocError, Global};
 
 /// The entries of the lines that begin with the word, in order, and how many tokens were dropped.
@@ -20,9 +20,7 @@ pub(crate) fn entries_of(
     let mut dropped = 0;
     'lines: for line in lines {
         if let Some(list) = after_word(word, line) {
-            let (entries, lost) = read_list(alloc, list)?;
-            found.extend_from_slice(&entries)?;
-            dropped += lost;
+            dropped += add_list(&mut found, list)?;
         }
     }
     Ok((found, dropped))

@@ -8,7 +8,7 @@ use crate::echo::{Echo, EchoView};
 use crate::fault::TextFault;
 use crate::lines::{cut, split_line};
 use crate::listed::{entries_of, set_of};
-use crate::tail::{kept_lines, split_tail};
+use crate::tail::{push_kept, take_tail};
 use crate::words::{PATH, SEEN_BY};
 use echo_addr::{Items, NetNode};
 use std::alloc::{AllocError, Global};
@@ -55,9 +55,10 @@ struct Parts<'a> {
 fn parts_of<'a>(alloc: Global, rest: &'a [u8]) -> Result<Parts<'a>, AllocError>
     ensures { IfOk result (λ p. Says (lines rest.now) (map (λ line. line.now) p.kept.items) p.seen.items p.path.items p.dropped) }
 {
-    let lines = cut(alloc, rest)?;
-    let (body, tail) = split_tail(&lines);
-    let kept = kept_lines(alloc, body, tail)?;
+    let mut kept = cut(alloc, rest)?;
+    let ending = take_tail(&mut kept)?;
+    let tail = ending.as_slice();
+    push_kept(&mut kept, tail)?;
     let (seen, seen_dropped) = entries_of(alloc, SEEN_BY, tail)?;
     let (path, path_dropped) = entries_of(alloc, PATH, tail)?;
     Ok(Parts {

@@ -1,15 +1,16 @@
-ghost use Rattle.std.specs.Prelude.{◌≡◌, ◌≤◌, ◌++◌, length, map, take, drop, filter, IfOk};
+ghost use Rattle.std.specs.Prelude.{◌≡◌, ◌≤◌, ◌++◌, length, map, take, drop, filter, IfOk, OnOk};
 ghost use Rattle.echo_text.specs.Tail.{body, is_kept_control, tail};
 
 use crate::words::{is_kept_control, is_tail_line};
-use std::alloc::{AllocError, Global};
+use std::alloc::AllocError;
 
-/// The lines before the control tail, and those of the tail.
-pub(crate) fn split_tail<'s, 'a>(lines: &'s [&'a [u8]]) -> (&'s [&'a [u8]], &'s [&'a [u8]])
-    ensures body { map (λ line. line.now) result.0.now ≡ body (map (λ line. line.now) lines.now) }
-    ensures tail { map (λ line. line.now) result.1.now ≡ tail (map (λ line. line.now) lines.now) }
+/// Takes the control tail off the lines.
+pub(crate) fn take_tail<'a>(lines: &mut Vec<&'a [u8]>) -> Result<Vec<&'a [u8]>, AllocError>
+    ensures body { OnOk result (map (λ line. line.now) lines.new.items ≡ body (map (λ line. line.now) lines.old.items)) }
+    ensures tail { IfOk result (λ ending. map (λ line. line.now) ending.items ≡ tail (map (λ line. line.now) lines.old.items)) }
 {
-    lines.split_at(body_len(lines))
+    let at = body_len(lines);
+    lines.split_off(at)
 }
 
 /// How many of the lines stand before the control tail.
@@ -25,19 +26,14 @@ fn body_len(lines: &[&[u8]]) -> usize
     n
 }
 
-/// The lines of the body, and those of the tail that are kept.
-pub(crate) fn kept_lines<'a>(
-    alloc: Global,
-    body: &[&'a [u8]],
-    tail: &[&'a [u8]],
-) -> Result<Vec<&'a [u8]>, AllocError>
-    ensures { IfOk result (λ v. map (λ line. line.now) v.items ≡ map (λ line. line.now) body.now ++ filter is_kept_control (map (λ line. line.now) tail.now)) }
+/// Adds the lines of the tail that are kept.
+pub(crate) fn push_kept<'a>(kept: &mut Vec<&'a [u8]>, tail: &[&'a [u8]]) -> Result<(), AllocError>
+    ensures { OnOk result (map (λ line. line.now) kept.new.items ≡ map (λ line. line.now) kept.old.items ++ filter is_kept_control (map (λ line. line.now) tail.now)) }
 {
-    let mut kept = Vec::from_slice(alloc, body)?;
     'tail: for line in tail {
         if is_kept_control(line) {
             kept.push(*line)?;
         }
     }
-    Ok(kept)
+    Ok(())
 }
