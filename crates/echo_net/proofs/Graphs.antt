@@ -15,7 +15,8 @@ use Rattle.echo_graph.specs.Cycle.{Cycle, IsCycle, Polygons}
 use Rattle.echo_graph.specs.Loops.{NamedLoop}
 use Rattle.echo_graph.specs.Reach.{FirstUnreached}
 use Rattle.echo_graph.specs.Rows.{IsAscending, IsGraph, linked, links_of}
-use Rattle.echo_graph.proofs.Members.{Among-get_or}
+use Rattle.echo_graph.proofs.Members.{Among-get_or, Among-index}
+use Rattle.echo_graph.proofs.Renaming.{Among-map, Cycle-renamed}
 use Rattle.echo_graph.proofs.Rows.{linked_within}
 use Rattle.echo_graph.proofs.Walks.{walk_links}
 use Rattle.echo_run.specs.Tidy.{Carries, Joined, Tidy, carries, lists}
@@ -26,7 +27,7 @@ use Rattle.echo_net.specs.Faults.{AreInOrder, AreSoundLinks, IsFirstFault, IsNam
 use Rattle.echo_net.specs.Firsts.{IsAt, IsSmallest}
 use Rattle.echo_net.specs.Nets.{systems}
 use Rattle.echo_net.specs.Rows.{AreRows, IsRow, system_at}
-use Rattle.echo_net.proofs.Numbers.{carried, connected, loop_apart, no_later, number, parts, polygons, polygons_back, reaches, reaches_back, whole}
+use Rattle.echo_net.proofs.Numbers.{back, back_name, carried, connected, loop_apart, name, no_later, number, parts, polygons, polygons_back, reaches, reaches_back, renaming, simple_numbers, whole}
 use Rattle.echo_net.proofs.Orders.{not_before_itself}
 
 -- the rows of an area whose links are sound
@@ -60,6 +61,19 @@ module _ (files : List LinkFile) (tag : List ℕ) (all : List Address) (links : 
       | inr past ↦ subst IsAscending (sym (get_or_past rows i [] past)) (λ j k lt inside. absurd (omega arith))
     ];
   }
+
+-- members of a loop have links
+pub loop_within : (links : ℕ → ℕ → Bool) (size : ℕ) → ((i j : ℕ) → IsTrue (links i j) → i < size) → ((i j : ℕ) → IsTrue (links i j) → IsTrue (links j i)) → ((i : ℕ) → ¬ IsTrue (links i i)) →
+    (loop : List ℕ) → IsCycle links loop → All (λ place. place < size) loop
+loop_within links size within both none [] cycle = absurd cycle
+loop_within links size within both none (first ∷ rest) cycle = λ k d inside.
+    let x = get_or (first ∷ rest) k d in
+    let among : Among x (first ∷ rest) = Among-get_or d (first ∷ rest) k inside in
+    let (last, w, closes) = cycle.closed in
+    elim among [
+      | inl e ↦ within x last (subst (λ (y : ℕ). IsTrue (links y last)) (sym e) (both last first closes))
+      | inr later ↦ (let (y, link) = walk_links links (record { both_ways = both; no_self = none }) first rest last w x later in within x y link)
+    ]
 
 -- what is found of the graph
 module _ (files : List LinkFile) (tag : List ℕ) (all : List Address) (order : AreInOrder (Carries files tag) all) (sound : AreSoundLinks files tag) where
@@ -105,25 +119,50 @@ module _ (files : List LinkFile) (tag : List ℕ) (all : List Address) (order : 
     },
   )
 
+  loop_cycle : (places : List ℕ) → IsCycle joined places → IsCycle (lists files tag) (map (system_at all) places)
+  loop_cycle [] cycle = cycle
+  loop_cycle (first ∷ rest) cycle =
+      Cycle-renamed joined (lists files tag) (name files tag all order) (back files tag all order)
+      (renaming files tag all order sound.no_self sound.known sound.both) (simple_numbers files tag all order sound.no_self sound.known sound.both) first rest cycle
+
+  loop_places : (places : List ℕ) → IsCycle joined places → (x : ℕ) → Among x places → x < length all
+  loop_places places cycle x among =
+      let simple = simple_numbers files tag all order sound.no_self sound.known sound.both in
+      let (k, inside, is) = Among-index x 0 places among in
+      subst (λ (y : ℕ). y < length all) is
+      (loop_within joined (length all) (λ i j h. (parts files tag all order i j h).one) simple.both_ways simple.no_self places cycle k 0 inside)
+
+  record Unlinked (loop : List Address) : Type 0 where
+    two : (x : Address) × (y : Address) × Among x loop × Among y loop × (x ≢ y) × (¬ IsTrue (lists files tag x y))
+
+  loop_unlinked : (places : List ℕ) → NamedLoop joined places → Unlinked (map (system_at all) places)
+  loop_unlinked places named =
+      let (x, y, at_x, at_y, other, apart) = named.unlinked in
+      let in_x = loop_places places named.cycle x at_x in
+      let in_y = loop_places places named.cycle y at_y in
+      record {
+        two = (
+          system_at all x, system_at all y,
+          Among-map (system_at all) x places at_x, Among-map (system_at all) y places at_y,
+          λ e. other (sym (back_name files tag all order x in_x) ∙ (ap (back files tag all order) e ∙ back_name files tag all order y in_y)),
+          λ linked. apart (whole files tag all order x y in_x in_y linked),
+        );
+      }
+
   pub is_loop : Connected (λ i. i < length all) joined → (places : List ℕ) → NamedLoop joined places → (loop : List Address) → loop ≡ map (system_at all) places →
       IsFirstFault files tag (Loop loop)
   is_loop h places named loop is = (
     is_joined h,
-    record { carriers = all; in_order = order; places = places; named = named; written = is },
+    record {
+      carriers = all;
+      in_order = order;
+      places = places;
+      named = named;
+      written = is;
+      cycle = subst (IsCycle (lists files tag)) (sym is) (loop_cycle places named.cycle);
+      unlinked = (subst Unlinked (sym is) (loop_unlinked places named)).two;
+    },
   )
-
--- members of a loop have links
-pub loop_within : (links : ℕ → ℕ → Bool) (size : ℕ) → ((i j : ℕ) → IsTrue (links i j) → i < size) → ((i j : ℕ) → IsTrue (links i j) → IsTrue (links j i)) → ((i : ℕ) → ¬ IsTrue (links i i)) →
-    (loop : List ℕ) → IsCycle links loop → All (λ place. place < size) loop
-loop_within links size within both none [] cycle = absurd cycle
-loop_within links size within both none (first ∷ rest) cycle = λ k d inside.
-    let x = get_or (first ∷ rest) k d in
-    let among : Among x (first ∷ rest) = Among-get_or d (first ∷ rest) k inside in
-    let (last, w, closes) = cycle.closed in
-    elim among [
-      | inl e ↦ within x last (subst (λ (y : ℕ). IsTrue (links y last)) (sym e) (both last first closes))
-      | inr later ↦ (let (y, link) = walk_links links (record { both_ways = both; no_self = none }) first rest last w x later in within x y link)
-    ]
 
 Different-apart : {X : Type 0} (xs : List X) → Different xs → (i j : ℕ) (x : X) → i < j → IsAt xs i x → IsAt xs j x → ⊥
 Different-apart [] h i j x lt at_i at_j = omega (arith, at_i.0)

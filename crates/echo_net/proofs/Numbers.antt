@@ -54,13 +54,13 @@ in_order_from_sorted IsMember all up members = record {
 }
 
 module _ (files : List LinkFile) (tag : List ℕ) (all : List Address) (order : AreInOrder (Carries files tag) all) where
-  abbrev name : ℕ → Address
+  abbrev pub name : ℕ → Address
   name i = system_at all i
 
-  abbrev back : Address → ℕ
+  abbrev pub back : Address → ℕ
   back a = position_or_len (λ b. same_address b a) all
 
-  abbrev joined : ℕ → ℕ → Bool
+  abbrev pub joined : ℕ → ℕ → Bool
   joined = numbered all (lists files tag)
 
   pub no_later : (i j : ℕ) → i ≤ j → j < length all → address_before (name j) (name i) ≡ false

@@ -20,7 +20,11 @@ use std::alloc::{AllocError, Global};
 pub fn systems(alloc: Global, files: &[LinkFile]) -> Result<Vec<Address>, AllocError>
     ensures { IfOk result (λ all. all.items ≡ net.systems files.now) }
 {
-    files.iter().map(|file| file.system()).collect(alloc)
+    let mut all = Vec::new(alloc);
+    'files: for file in files {
+        all.push(file.system())?;
+    }
+    Ok(all)
 }
 
 /// How many files have the area.

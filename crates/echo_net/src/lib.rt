@@ -15,3 +15,6 @@ mod verdict;
 
 pub use checker::check;
 pub use verdict::{NetFault, Verdict};
+
+#[cfg(test)]
+mod tests;

@@ -1,4 +1,5 @@
 use echo_addr::{Address, Items};
+use std::fmt;
 
 /// Whether an area of a net is in order.
 #[derive(Debug, Drop)]
@@ -28,4 +29,26 @@ pub enum NetFault {
     Apart(Address, Address),
     /// These systems form a cycle, and two of them are not linked.
     Loop(Items<Address>),
+}
+
+/// Writes the number and name of the fault, and its addresses.
+impl fmt::Display for NetFault {
+    fn fmt<W: fmt::Write>(&self, f: &mut fmt::Formatter<W>) -> fmt::Result {
+        match self {
+            NetFault::NoSuchArea => f.write_str("V1 NoSuchArea"),
+            NetFault::TwoFiles(a) => write!(f, "V2 TwoFiles {a}"),
+            NetFault::SelfLink(a) => write!(f, "V3 SelfLink {a}"),
+            NetFault::Unknown(a, b) => write!(f, "V4 Unknown {a} {b}"),
+            NetFault::OneSided(a, b) => write!(f, "V5 OneSided {a} {b}"),
+            NetFault::SameNetNode(a, b) => write!(f, "V6 SameNetNode {a} {b}"),
+            NetFault::Apart(a, b) => write!(f, "V7 Apart {a} {b}"),
+            NetFault::Loop(round) => {
+                f.write_str("V8 Loop")?;
+                'round: for system in round.as_slice() {
+                    write!(f, " {system}")?;
+                }
+                Ok(())
+            }
+        }
+    }
 }

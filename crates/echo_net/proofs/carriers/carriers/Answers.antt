@@ -1,4 +1,4 @@
-use Rattle.std.proofs.Common.{◌≡◌, sym, subst, List}
+use Rattle.std.proofs.Common.{sym, subst, List}
 use Rattle.std.specs.Prelude.{Contains}
 use Rattle.echo_addr.specs.declared.address.Address.{Address}
 use Rattle.echo_net.proofs.Listed.{carries_listed}

@@ -1,4 +1,4 @@
-use Rattle.std.proofs.Common.{◌≡◌, sym, subst, List}
+use Rattle.std.proofs.Common.{sym, subst, List}
 use Rattle.std.specs.Prelude.{Contains}
 use Rattle.echo_net.specs.declared.link.Link.{Link}
 use Rattle.echo_net.proofs.Listed.{links_listed}

@@ -1,4 +1,4 @@
-use Rattle.std.proofs.Common.{◌≡◌, sym, ap, ◌∙◌, Some, None, List}
+use Rattle.std.proofs.Common.{sym, ap, ◌∙◌, Some, None, List}
 use Rattle.std.specs.List.{count_by}
 use Rattle.echo_addr.specs.declared.address.Address.{Address}
 use Rattle.echo_base.specs.Sets.{address_before}

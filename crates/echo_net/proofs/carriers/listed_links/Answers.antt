@@ -1,4 +1,4 @@
-use Rattle.std.proofs.Common.{◌≡◌, ◌++◌, sym, ap, ◌∙◌, List, take, get_or, subst}
+use Rattle.std.proofs.Common.{◌++◌, sym, ap, ◌∙◌, List, take, subst}
 use Rattle.std.specs.List.{flat_map}
 use Rattle.echo_base.specs.Base.{IsFile, LinkFile}
 use Rattle.echo_net.specs.declared.link.Link.{Link}

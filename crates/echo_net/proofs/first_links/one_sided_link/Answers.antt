@@ -1,6 +1,5 @@
-use Rattle.std.proofs.Common.{◌≡◌, ◌<◌, ℕ, get_or, arith, true, false}
+use Rattle.std.proofs.Common.{◌≡◌, arith, true, false}
 use Rattle.std.specs.Prelude.{Contains}
-use Rattle.echo_net.specs.declared.link.Link.{Link}
 use Rattle.echo_net.specs.Nets.{link}
 use Rattle.echo_net.proofs.Ascending.{at_place}
 use Rattle.echo_net.proofs.FirstOf.{all_there, first_here, one_more}

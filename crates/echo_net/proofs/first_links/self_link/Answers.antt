@@ -1,6 +1,6 @@
 use Rattle.std.proofs.Common.{◌≡◌, sym, ◌∙◌}
 use Rattle.echo_net.proofs.Ascending.{at_place}
-use Rattle.echo_net.proofs.FirstOf.{first_here, none_there}
+use Rattle.echo_net.proofs.FirstOf.{first_here}
 use Rattle.echo_net.proofs.Orders.{same_exact}
 use Rattle.echo_net.proofs.first_links.self_link.Goals as goal
 

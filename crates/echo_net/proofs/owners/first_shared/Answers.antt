@@ -1,4 +1,4 @@
-use Rattle.std.proofs.Common.{◌≡◌, sym, ◌∙◌, arith}
+use Rattle.std.proofs.Common.{sym, ◌∙◌, arith}
 use Rattle.echo_net.proofs.Owned.{first_pair_here}
 use Rattle.echo_net.proofs.owners.first_shared.Goals as goal
 

@@ -1,4 +1,4 @@
-use Rattle.std.proofs.Common.{◌≡◌, ◌≢◌, ◌<◌, ◌+◌, ℕ, get_or}
+use Rattle.std.proofs.Common.{◌≢◌, ◌<◌, ◌+◌, ℕ, get_or}
 use Rattle.echo_net.specs.declared.owners.Owner.{Owner}
 use Rattle.echo_net.proofs.owners.first_shared.Given as goal
 

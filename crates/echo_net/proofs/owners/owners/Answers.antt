@@ -1,5 +1,4 @@
-use Rattle.std.proofs.Common.{◌≡◌, sym, subst, arith, ◌+◌}
-use Rattle.echo_net.specs.declared.owners.Owner.{Owner}
+use Rattle.std.proofs.Common.{sym, subst, arith, ◌+◌}
 use Rattle.echo_net.proofs.Owned.{AreOwners, one_owner_more}
 use Rattle.echo_net.proofs.owners.owners.Goals as goal
 

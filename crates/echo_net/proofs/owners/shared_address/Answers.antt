@@ -1,4 +1,4 @@
-use Rattle.std.proofs.Common.{◌≡◌, sym, subst, MatchOption, List}
+use Rattle.std.proofs.Common.{subst, MatchOption, List}
 use Rattle.echo_net.specs.declared.owners.Owner.{Owner}
 use Rattle.echo_net.specs.Pairs.{FirstPair, NoPair}
 use Rattle.echo_net.proofs.Owned.{shared}

@@ -1,4 +1,4 @@
-use Rattle.std.proofs.Common.{◌≡◌, ◌↔◌, ◌∙◌, ℕ, ap, sym, subst, List, map}
+use Rattle.std.proofs.Common.{◌↔◌, ◌∙◌, ℕ, ap, subst, List, map}
 use Rattle.std.specs.Prelude.{Contains, slice_get}
 use Rattle.echo_net.specs.declared.link.Link.{Link}
 use Rattle.echo_net.specs.declared.same_net_node.Neighbour.{Neighbour}

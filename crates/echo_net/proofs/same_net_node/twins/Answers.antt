@@ -1,6 +1,4 @@
-use Rattle.std.proofs.Common.{◌≡◌, ◌<◌, ◌+◌, ◌≤◌, ℕ, true, false, sym, subst, ap, ◌∙◌, arith, List}
-use Rattle.echo_net.specs.declared.link.Link.{Link}
-use Rattle.echo_net.specs.declared.same_net_node.Neighbour.{Neighbour}
+use Rattle.std.proofs.Common.{◌+◌, ◌≤◌, sym, subst, ap, ◌∙◌, arith}
 use Rattle.echo_net.proofs.Orders.{net_node_itself, net_node_same}
 use Rattle.echo_net.proofs.Twins.{AreTwins, no_twin_more, one_twin_more}
 use Rattle.echo_net.proofs.same_net_node.twins.Goals as goal

@@ -1,4 +1,4 @@
-use Rattle.std.proofs.Common.{◌≡◌, sym, ◌∙◌, ap}
+use Rattle.std.proofs.Common.{◌∙◌, ap}
 use Rattle.std.specs.Ordering.{is_eq}
 use Rattle.echo_net.proofs.Ascending.{searched_place}
 use Rattle.echo_net.proofs.sorting.place.Goals as goal
