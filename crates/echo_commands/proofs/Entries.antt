@@ -61,7 +61,7 @@ list_printed find input none rest lines stated status a b c x y z is agreed noth
     lines = lines;
     is_nodelist = is;
     printed = subst (λ s. Writes (Listed find lines s) a c) agreed
-    (all_written _ a b c rest (subst (λ l. Writes (Listed find lines stated) (append_known a l) (append_known b rest)) nothing printed) went);
+        (all_written _ a b c rest (subst (λ l. Writes (Listed find lines stated) (append_known a l) (append_known b rest)) nothing printed) went);
     checked = ended ∙ ap crc_status agreed;
   },
   second ∙ first,

@@ -142,8 +142,10 @@ module _ (files : List LinkFile) (tag : List ℕ) (all : List Address) (order : 
       let in_y = loop_places places named.cycle y at_y in
       record {
         two = (
-          system_at all x, system_at all y,
-          Among-map (system_at all) x places at_x, Among-map (system_at all) y places at_y,
+          system_at all x,
+          system_at all y,
+          Among-map (system_at all) x places at_x,
+          Among-map (system_at all) y places at_y,
           λ e. other (sym (back_name files tag all order x in_x) ∙ (ap (back files tag all order) e ∙ back_name files tag all order y in_y)),
           λ linked. apart (whole files tag all order x y in_x in_y linked),
         );

@@ -44,11 +44,7 @@ fn message(alloc: Global, text: &[u8]) -> Result<Filed, TextFault>
 }
 
 /// Files the message, and answers whether it was new.
-fn filed<S: BuildHasher>(
-    alloc: Global,
-    base: &mut Base<S>,
-    text: &[u8],
-) -> Result<bool, TextFault>
+fn filed<S: BuildHasher>(alloc: Global, base: &mut Base<S>, text: &[u8]) -> Result<bool, TextFault>
     requires { HasNoZero text.now }
 {
     let message = message(alloc, text)?;
