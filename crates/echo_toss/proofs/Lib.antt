@@ -1,0 +1,6 @@
+pub mod Tossed
+pub mod Dates
+pub mod Judged
+pub mod Raised
+pub mod Replies
+pub mod Drafted
