@@ -129,3 +129,8 @@ stub_twice m (Some id) h = ap (stub_with (stub_with m (Some id))) (msgid_first i
 pub stub_of_stub : (m : Filed) → stub_of (stub_of m) ≡ stub_of m
 unfolding stub_of
 stub_of_stub m = stub_twice m (msgid_of m.echo.kept) refl
+
+-- the key of a message, where its id is told
+pub key_told : (m : Filed) (has : Option (List ℕ)) → has ≡ msgid_of m.echo.kept → key_with m has ≡ key_of m
+unfolding key_of
+key_told m has h = ap (key_with m) h

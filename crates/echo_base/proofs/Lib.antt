@@ -19,3 +19,6 @@ pub mod LinkFiles
 pub mod LinkAnswers
 pub mod Stubs
 pub mod Loaded
+pub mod Left
+pub mod Purges
+pub mod StubBases

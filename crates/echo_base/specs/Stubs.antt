@@ -1,5 +1,5 @@
 -- What a purge leaves of a message: its id and nothing else of its text.
-use Rattle.std.specs.Prelude.{ℕ, ◌==◌, ◌&&◌, Bool, true, List, [], ◌∷◌, length, Option, Some, None, bytes_eq}
+use Rattle.std.specs.Prelude.{ℕ, not, filter, map, ◌==◌, ◌&&◌, Bool, true, List, [], ◌∷◌, length, Option, Some, None, bytes_eq}
 use Rattle.std.specs.Cmp.Lexicographic.{pointwise}
 use Rattle.echo_text.specs.Lines.{msgid_word}
 use Rattle.echo_text.specs.Echo.{EchoText, msgid_of}
@@ -35,3 +35,7 @@ is_stub_with m (Some msgid) =
 -- the same, of the id that the message has
 unfoldable pub is_stub : Filed → Bool
 is_stub m = is_stub_with m (msgid_of m.echo.kept)
+
+-- the lines left of each message that a purge changes
+abbrev pub lines_left : List Filed → List (List (List ℕ))
+lines_left messages = map (λ m. (stub_of m).echo.kept) (filter (λ m. not (is_stub m)) messages)

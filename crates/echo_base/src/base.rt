@@ -5,6 +5,7 @@ ghost use Rattle.echo_base.specs.Stubs.{is_stub, stub_of};
 
 use crate::filed::Filed;
 use crate::key::{Key, by_id};
+use crate::stub::{lines_left, put_stubs};
 use indexmap::{IndexMap, IndexSet};
 use std::alloc::{AllocError, Global};
 use std::hash::BuildHasher;
@@ -123,7 +124,11 @@ impl<S: BuildHasher> Base<S> {
         ensures cursor { self.new.cursor ≡ self.old.cursor }
         ensures refused { OnErr result (self.new ≡ self.old) }
     {
-        Ok(0)
+        let alloc = *self.entries.allocator();
+        let lines = lines_left(alloc, &self.entries, self.cursor)?;
+        let count = lines.len() as u64;
+        put_stubs(alloc, &mut self.entries, self.cursor, lines);
+        Ok(count)
     }
 }
 
@@ -140,3 +145,6 @@ fn note_tag(tags: &mut IndexSet<Vec<u8>>, tag: &[u8]) -> Result<(), AllocError>
     tags.insert(tag)?;
     Ok(())
 }
+
+#[cfg(test)]
+mod tests;

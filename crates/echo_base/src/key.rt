@@ -1,4 +1,4 @@
-ghost use Rattle.std.specs.Prelude.{◌≡◌, Option, IfOk, map};
+ghost use Rattle.std.specs.Prelude.{◌≡◌, ◌↔◌, Option, IfOk, IsTrue, map};
 ghost use Rattle.echo_addr.specs.declared.address.Address.{Address as Sender};
 ghost use Rattle.echo_base.specs.declared.key.Key.TheVariants.{ByContent, ById};
 ghost use Rattle.echo_base.specs.Base.{key_of};
@@ -33,19 +33,15 @@ impl Key {
         ensures { IfOk result (λ key. key ≡ key_of message.now) }
     {
         let tag = message.echo.tag.as_slice();
+        let to_name = message.to_name.as_slice();
+        let from_name = message.from_name.as_slice();
+        let subject = message.subject.as_slice();
         if let Some(msgid) = message.echo.msgid() {
             return by_id(alloc, tag, msgid);
         }
         let kept = lines_of(alloc, message.echo.kept.as_slice())?;
-        by_content(
-            alloc,
-            tag,
-            &message.date,
-            message.to_name.as_slice(),
-            message.from_name.as_slice(),
-            message.subject.as_slice(),
-            kept,
-        )
+        let date = &message.date;
+        by_content(alloc, tag, date, to_name, from_name, subject, kept)
     }
 
     /// The key that a message with this text, DateTime, names and subject has, whoever sent it.
@@ -136,8 +132,6 @@ fn slices_of(alloc: Global, lines: &[&[u8]]) -> Result<Vec<Items<u8>>, AllocErro
 
 #[cfg(test)]
 mod tests {
-    ghost use Rattle.std.specs.Prelude.{◌≡◌, ◌↔◌, IsTrue};
-
     use super::*;
     use std::alloc::{AllocError, Global};
     use std::test::Fail;

@@ -14,6 +14,7 @@ mod filed;
 mod key;
 mod laws;
 mod link_file;
+mod stub;
 
 pub use base::Base;
 pub use boxed::Boxed;

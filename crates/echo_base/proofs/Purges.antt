@@ -1,0 +1,156 @@
+-- A purge of the messages before the cursor, from the last of them to the first.
+use Rattle.std.proofs.Common.{◌≡◌, ℕ, zero, suc, ◌+◌, ◌-◌, ◌<◌, ◌≤◌, not, Bool, true, false, cond, List, [], ◌∷◌, ◌++◌, length, map, take, drop, get_or, set, Option, Some, None, refl, sym, ap, subst, ◌∙◌, arith, add-one, count_by}
+use Rattle.std.specs.Prelude.{filter, slice_get, option_to_list}
+use Rattle.std.specs.Map.{keys_of, values_of}
+use Rattle.std.proofs.lemmas.List.{append-nil, append_assoc, get_or-take, length-take, length-append, length-map, map-append, take_more}
+use Rattle.std.proofs.lemmas.List.Elements.{filter-append}
+use Rattle.std.proofs.lemmas.Option.{get_or_from_slice_get, slice_get-get_or, slice_get_within}
+use Rattle.std.proofs.lemmas.List.Sums.{length-filter}
+use Rattle.std.proofs.Math.ListN.{get_or-append}
+use Rattle.std.proofs.Math.Seq.{drop-cons, set-append_seam}
+use Rattle.indexmap.specs.IndexMap.{set_value_at}
+use Rattle.echo_base.specs.Base.{Filed}
+use Rattle.echo_base.specs.Stubs.{is_stub, lines_left, stub_of}
+use Rattle.echo_base.proofs.Left.{stays}
+
+-- a value written at a place
+pub values_written : {K X : Type 0} (es : List (K × X)) (i : ℕ) (w : X) → values_of (set_value_at es i w) ≡ set (values_of es) i w
+values_written [] i w = refl
+values_written (e ∷ es) zero w = refl
+values_written (e ∷ es) (suc i) w = ap (λ l. e.1 ∷ l) (values_written es i w)
+
+-- the messages before a place, and one more
+front_more : (all : List Filed) (i : ℕ) (m : Filed) → slice_get all i ≡ Some m → take (i + 1) all ≡ take i all ++ m ∷ []
+front_more all i m at =
+    take_more all i m (slice_get_within all i m at) ∙ ap (λ x. take i all ++ x ∷ []) (get_or_from_slice_get all i m m at)
+
+-- those from a place up to the cursor
+rest_more : (all : List Filed) (i cursor : ℕ) (m : Filed) → slice_get all i ≡ Some m → i < cursor → drop i (take cursor all) ≡ m ∷ drop (i + 1) (take cursor all)
+rest_more all i cursor m at before =
+    let within = slice_get_within all i m at in
+    let inside : i < length (take cursor all) = omega (arith, length-take cursor all) in
+    drop-cons (take cursor all) i m inside
+    ∙ ap (λ x. x ∷ drop (suc i) (take cursor all)) (get_or-take cursor all i m before ∙ get_or_from_slice_get all i m m at)
+    ∙ ap (λ n. m ∷ drop n (take cursor all)) (sym (add-one i))
+
+-- the lines left of one message
+abbrev pub left_of : Bool → Filed → List (List (List ℕ))
+left_of stub m = cond (not stub) ((stub_of m).echo.kept ∷ []) []
+
+left_one : (m : Filed) → lines_left (m ∷ []) ≡ left_of (is_stub m) m
+left_one m = by (is_stub m)
+  where
+    by : (stub : Bool) → map (λ (x : Filed). (stub_of x).echo.kept) (cond (not stub) (m ∷ []) []) ≡ cond (not stub) ((stub_of m).echo.kept ∷ []) []
+    by true = refl
+    by false = refl
+
+pub left_more : (all : List Filed) (i : ℕ) (m : Filed) → slice_get all i ≡ Some m → lines_left (take (i + 1) all) ≡ lines_left (take i all) ++ left_of (is_stub m) m
+left_more all i m at =
+    let kept : Filed → List (List ℕ) = λ x. (stub_of x).echo.kept in
+    let changed : Filed → Bool = λ x. not (is_stub x) in
+    ap lines_left (front_more all i m at)
+    ∙ ap (map kept) (filter-append changed (take i all) (m ∷ []))
+    ∙ map-append kept (filter changed (take i all)) (filter changed (m ∷ []))
+    ∙ ap (λ l. lines_left (take i all) ++ l) (left_one m)
+
+-- a stub leaves no lines, another message its own
+pub left_same : (all : List Filed) (i : ℕ) (m : Filed) → slice_get all i ≡ Some m → is_stub m ≡ true → lines_left (take (i + 1) all) ≡ lines_left (take i all)
+left_same all i m at stub = left_more all i m at ∙ ap (λ b. lines_left (take i all) ++ left_of b m) stub ∙ append-nil (lines_left (take i all))
+
+pub left_changed : (all : List Filed) (i : ℕ) (m : Filed) → slice_get all i ≡ Some m → is_stub m ≡ false
+    → lines_left (take (i + 1) all) ≡ lines_left (take i all) ++ (stub_of m).echo.kept ∷ []
+left_changed all i m at stub = left_more all i m at ∙ ap (λ b. lines_left (take i all) ++ left_of b m) stub
+
+-- the messages once those from a place to the cursor are stubs
+abbrev pub from_place : List Filed → ℕ → ℕ → List Filed
+from_place all i cursor = take i all ++ (map stub_of (drop i (take cursor all)) ++ drop cursor all)
+
+-- such a list before the message at the place, and then that message
+pub place_split : (all : List Filed) (i cursor : ℕ) (m : Filed) → slice_get all i ≡ Some m
+    → from_place all (i + 1) cursor ≡ take i all ++ m ∷ (map stub_of (drop (i + 1) (take cursor all)) ++ drop cursor all)
+place_split all i cursor m at =
+    ap (λ l. l ++ (map stub_of (drop (i + 1) (take cursor all)) ++ drop cursor all)) (front_more all i m at)
+    ∙ append_assoc (take i all) (m ∷ []) (map stub_of (drop (i + 1) (take cursor all)) ++ drop cursor all)
+
+-- and once it is a stub too
+pub place_joined : (all : List Filed) (i cursor : ℕ) (m : Filed) → slice_get all i ≡ Some m → i < cursor
+    → from_place all i cursor ≡ take i all ++ stub_of m ∷ (map stub_of (drop (i + 1) (take cursor all)) ++ drop cursor all)
+place_joined all i cursor m at before =
+    ap (λ l. take i all ++ (map stub_of l ++ drop cursor all)) (rest_more all i cursor m at before)
+
+-- the message at the place, which no write has reached
+pub place_same : (all : List Filed) (i cursor : ℕ) (m : Filed) → i < length all → slice_get (from_place all (i + 1) cursor) i ≡ Some m → slice_get all i ≡ Some m
+place_same all i cursor m within at =
+    let rest = map stub_of (drop (i + 1) (take cursor all)) ++ drop cursor all in
+    let long : i < length (take (i + 1) all) = omega (arith, length-take (i + 1) all) in
+    let same : get_or all i m ≡ m =
+    sym (get_or-take (i + 1) all i m (omega arith)) ∙ sym (get_or-append (take (i + 1) all) rest m i long)
+    ∙ get_or_from_slice_get (from_place all (i + 1) cursor) i m m at in
+    slice_get-get_or all i m within ∙ ap Some same
+
+-- a stub stays
+pub stub_step : (all : List Filed) (i cursor : ℕ) (m : Filed) → slice_get all i ≡ Some m → i < cursor → is_stub m ≡ true
+    → from_place all (i + 1) cursor ≡ from_place all i cursor
+stub_step all i cursor m at before stub =
+    place_split all i cursor m at
+    ∙ ap (λ x. take i all ++ x ∷ (map stub_of (drop (i + 1) (take cursor all)) ++ drop cursor all)) (sym (stays m stub))
+    ∙ sym (place_joined all i cursor m at before)
+
+-- another message becomes its stub
+pub changed_step : (all : List Filed) (i cursor : ℕ) (m : Filed) → slice_get all i ≡ Some m → i < cursor
+    → set (from_place all (i + 1) cursor) i (stub_of m) ≡ from_place all i cursor
+changed_step all i cursor m at before =
+    let rest = map stub_of (drop (i + 1) (take cursor all)) ++ drop cursor all in
+    let within = slice_get_within all i m at in
+    let long : length (take i all) ≡ i = omega (arith, length-take i all) in
+    ap (λ l. set l i (stub_of m)) (place_split all i cursor m at)
+    ∙ ap (λ n. set (take i all ++ m ∷ rest) n (stub_of m)) (sym long)
+    ∙ set-append_seam (take i all) m rest (stub_of m)
+    ∙ sym (place_joined all i cursor m at before)
+
+-- how many lines are left
+pub count_left : (all : List Filed) → length (lines_left all) ≡ count_by (λ m. not (is_stub m)) all
+count_left all = length-map (filter (λ m. not (is_stub m)) all) (λ m. (stub_of m).echo.kept) ∙ length-filter (λ m. not (is_stub m)) all
+
+last_same : {X : Type 0} (xs ys : List X) (x y : X) → xs ++ x ∷ [] ≡ ys ++ y ∷ [] → (xs ≡ ys) × (x ≡ y)
+last_same [] [] x y h = (refl, cc)
+last_same [] (b ∷ ys) x y h = let long : length (x ∷ []) ≡ length (b ∷ (ys ++ y ∷ [])) = ap length h in absurd (omega (arith, length-append ys (y ∷ [])))
+last_same (a ∷ xs) [] x y h = let long : length (a ∷ (xs ++ x ∷ [])) ≡ length (y ∷ []) = ap length h in absurd (omega (arith, length-append xs (x ∷ [])))
+last_same {X} (a ∷ xs) (b ∷ ys) x y h =
+    let front : a ≡ b = cc in
+    let rest : xs ++ x ∷ [] ≡ ys ++ y ∷ [] = cc in
+    let more = last_same xs ys x y rest in
+    (λ i. front i ∷ more.0 i, more.1)
+
+-- what is known of the message before the place that is reached
+module _ (all now : List Filed) (k cursor : ℕ) (m : Filed) (some : 0 < k) (before : k ≤ cursor) (within : cursor ≤ length all)
+    (is : now ≡ from_place all k cursor) (at : slice_get now (k - 1) ≡ Some m) where
+  here : k ≡ (k - 1) + 1
+  here = omega arith
+
+  is_here : now ≡ from_place all ((k - 1) + 1) cursor
+  is_here = is ∙ ap (λ n. from_place all n cursor) here
+
+  pub at_here : slice_get all (k - 1) ≡ Some m
+  at_here = place_same all (k - 1) cursor m (omega arith) (ap (λ l. slice_get l (k - 1)) (sym is_here) ∙ at)
+
+  pub stub_goes_on : is_stub m ≡ true → now ≡ from_place all (k - 1) cursor
+  stub_goes_on stub = is_here ∙ stub_step all (k - 1) cursor m at_here (omega arith) stub
+
+  pub stub_lines_on : (lines : List (List (List ℕ))) → lines ≡ lines_left (take k all) → is_stub m ≡ true → lines ≡ lines_left (take (k - 1) all)
+  stub_lines_on lines h stub = h ∙ ap (λ n. lines_left (take n all)) here ∙ left_same all (k - 1) m at_here stub
+
+  pub changed_goes_on : (later : List Filed) → later ≡ set now (k - 1) (stub_of m) → later ≡ from_place all (k - 1) cursor
+  changed_goes_on later h = h ∙ ap (λ l. set l (k - 1) (stub_of m)) is_here ∙ changed_step all (k - 1) cursor m at_here (omega arith)
+
+  pub changed_lines_on : (lines rest : List (List (List ℕ))) (own : List (List ℕ)) → lines ≡ lines_left (take k all) → is_stub m ≡ false → lines ≡ rest ++ own ∷ []
+      → (rest ≡ lines_left (take (k - 1) all)) × (own ≡ (stub_of m).echo.kept)
+  changed_lines_on lines rest own h stub popped =
+      last_same rest (lines_left (take (k - 1) all)) own (stub_of m).echo.kept
+      (sym popped ∙ h ∙ ap (λ n. lines_left (take n all)) here ∙ left_changed all (k - 1) m at_here stub)
+
+  pub never_empty : (lines : List (List (List ℕ))) → lines ≡ lines_left (take k all) → is_stub m ≡ false → length lines ≡ 0 → ⊥
+  never_empty lines h stub none =
+      let told : length lines ≡ length (lines_left (take (k - 1) all) ++ (stub_of m).echo.kept ∷ []) =
+      ap length (h ∙ ap (λ n. lines_left (take n all)) here ∙ left_changed all (k - 1) m at_here stub) in
+      absurd (omega (arith, length-append (lines_left (take (k - 1) all)) ((stub_of m).echo.kept ∷ [])))

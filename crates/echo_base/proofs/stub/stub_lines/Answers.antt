@@ -1,0 +1,18 @@
+use Rattle.std.proofs.Common.{◌≡◌, ◌∙◌, ◌∷◌, [], List, ℕ, ap, subst, sym}
+use Rattle.std.specs.Prelude.{IfOk, option_copied}
+use Rattle.echo_text.specs.Lines.{msgid_word}
+use Rattle.echo_text.specs.Echo.{msgid_of}
+use Rattle.echo_base.specs.Base.{id_line}
+use Rattle.echo_base.specs.Stubs.{stub_of}
+use Rattle.echo_base.proofs.Left.{copied_or, left_line}
+use Rattle.echo_base.proofs.stub.stub_lines.Goals as goal
+
+pub returns : goal.returns
+returns c =
+    let told = c.msgid.ensures ∙ ap (λ m. msgid_of m.echo.kept) c.message.view_is in
+    let same : id_line msgid_word c.unwrap_or.result.now ∷ [] ≡ (stub_of c.args.message.now).echo.kept =
+    ap (λ r. id_line msgid_word r.now ∷ []) c.unwrap_or.ensures
+    ∙ ap (λ id. id_line msgid_word id ∷ []) (copied_or c.msgid.result _)
+    ∙ left_line c.args.message.now (option_copied c.msgid.result) told c.requires in
+    let P : List (List ℕ) → Type 0 = λ l. IfOk c.lines_of_id.result (λ lines. lines ≡ l) in
+    subst P same c.lines_of_id.ensures
