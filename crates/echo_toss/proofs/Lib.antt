@@ -4,3 +4,5 @@ pub mod Judged
 pub mod Raised
 pub mod Replies
 pub mod Drafted
+pub mod AscendingSets
+pub mod Exports

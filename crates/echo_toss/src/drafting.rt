@@ -126,7 +126,7 @@ fn push_body(alloc: Global, kept: &mut Vec<Items<u8>>, body: &[u8]) -> Result<()
     Ok(())
 }
 
-// Puts ` * Origin: `, the name and the own address in brackets at the end.
+// Puts the origin line at the end.
 fn push_origin(
     alloc: Global,
     kept: &mut Vec<Items<u8>>,
@@ -134,12 +134,20 @@ fn push_origin(
 ) -> Result<(), AllocError>
     ensures { OnOk result (kept.new.items ≡ kept.old.items ++ origin_line links.now ∷ []) }
 {
+    let line = origin_line(alloc, links)?;
+    kept.push(line)?;
+    Ok(())
+}
+
+// ` * Origin: `, the name, and the own address in brackets.
+fn origin_line(alloc: Global, links: &LinkFile) -> Result<Items<u8>, AllocError>
+    ensures { IfOk result (λ line. line ≡ origin_line links.now) }
+{
     let system = links.system();
     let address = format!(in alloc; " ({system})")?;
     let mut line = Vec::new(alloc);
     line.extend_from_slice(b" * Origin: ")?;
     line.extend_from_slice(links.name())?;
     line.extend_from_slice(address.as_bytes())?;
-    kept.push(Items::new(line))?;
-    Ok(())
+    Ok(Items::new(line))
 }

@@ -6,8 +6,8 @@
 //!
 //! Modules in reading order: `tosser` (the type), `moment`, `refusing`, `drafting` and `posting` (a
 //! draft is judged, made a message and filed), `receiving` and `tossing` (the same of a received
-//! message), `outgoing`, `packing` and `scanning` (what waits, its packets, and the scan), `tally`
-//! (what became of the messages of a packet).
+//! message), `sets`, `outgoing`, `packing` and `scanning` (what waits, its packets, and the scan),
+//! `purging`, `tally` (what became of the messages of a packet).
 #![tactic(auto)]
 
 mod drafting;
@@ -15,9 +15,11 @@ mod moment;
 mod outgoing;
 mod packing;
 mod posting;
+mod purging;
 mod receiving;
 mod refusing;
 mod scanning;
+mod sets;
 mod tally;
 mod tosser;
 mod tossing;

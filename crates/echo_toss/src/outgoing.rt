@@ -1,5 +1,5 @@
 //! What goes out of a message that waits for a scan.
-ghost use Rattle.std.specs.Prelude.{◌≡◌, ◌∷◌, ◌++◌, false, map, drop, option_map, unwrap_or, IfOk};
+ghost use Rattle.std.specs.Prelude.{◌≡◌, ◌∷◌, ◌++◌, ◌&&◌, not, false, map, filter, drop, option_map, unwrap_or, IfOk};
 ghost use Rattle.std.specs.List.{list_any};
 ghost use Rattle.echo_addr.specs.Address.{net_node_of};
 ghost use Rattle.echo_base.specs.Base.{links_of};
@@ -9,6 +9,7 @@ ghost use Rattle.echo_steps.specs.Scanning.{exported, targets};
 ghost use Rattle.echo_toss.specs.Exports.{outgoing_of};
 
 use crate::drafting::copied;
+use crate::sets::entry_set;
 use echo_addr::{Address, Items, NetNode};
 use echo_base::{Base, Filed, LinkFile};
 use echo_text::{Echo, write_text};
@@ -43,14 +44,14 @@ pub(crate) fn waiting<'a, S: BuildHasher>(
     base.len();
     let mut all = Vec::new(alloc);
     let mut at = base.cursor();
-    'messages: while let Some(message) = base.message(at) {
-        all.push(outgoing(alloc, links, message)?)?;
+    'waiting: while let Some(message) = base.message(at) {
+        all.push(prepared(alloc, links, message)?)?;
         at += 1;
     }
     Ok(all)
 }
 
-fn outgoing<'a>(
+fn prepared<'a>(
     alloc: Global,
     links: &LinkFile,
     message: &'a Filed,
@@ -78,6 +79,7 @@ fn links_of<'a>(links: &'a LinkFile, tag: &[u8]) -> &'a [Address]
 }
 
 // The links that did not send the message and do not stand in its SEEN-BY.
+#[tactic(auto, unfolding(echo_steps::specs::Scanning::targets))]
 fn targets(
     alloc: Global,
     links: &LinkFile,
@@ -85,15 +87,26 @@ fn targets(
 ) -> Result<Items<Address>, AllocError>
     ensures { IfOk result (λ found. found ≡ targets links.now message.now) }
 {
-    let mut found = Vec::new(alloc);
     let echo = &message.echo;
     let all = links_of(links, echo.tag.as_slice());
-    'links: for link in all {
-        if !is_sender(message.sender, *link) && !is_seen_by(echo.seen.as_slice(), *link) {
-            found.push(*link)?;
-        }
-    }
+    let found = meant(alloc, all, message.sender, echo.seen.as_slice())?;
     Ok(Items::new(found))
+}
+
+// The links that are not the sender and do not stand among the entries.
+fn meant(
+    alloc: Global,
+    links: &[Address],
+    sender: Option<Address>,
+    seen: &[NetNode],
+) -> Result<Vec<Address>, AllocError>
+    ensures { IfOk result (λ found. found.items ≡ filter (λ link. not (unwrap_or (option_map (same_address link) sender) false) && not (list_any (same_entry (net_node_of link)) seen.now)) links.now) }
+{
+    links
+        .iter()
+        .copied()
+        .filter(|link| !is_sender(sender, *link) && !is_seen_by(seen, *link))
+        .collect(alloc)
 }
 
 // Whether the address sent the message.
@@ -158,7 +171,5 @@ fn joined(
     'links: for link in links {
         all.push(link.net_node())?;
     }
-    all.sort_unstable();
-    all.dedup();
-    Ok(Items::new(all))
+    Ok(Items::new(entry_set(all)))
 }

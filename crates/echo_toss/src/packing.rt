@@ -1,12 +1,13 @@
 //! The packets of what goes out.
-ghost use Rattle.std.specs.Prelude.{◌≡◌, true, map, IfOk};
-ghost use Rattle.std.specs.List.{flat_map, list_any};
-ghost use Rattle.echo_base.specs.Sets.{address_set, same_address};
+ghost use Rattle.std.specs.Prelude.{◌≡◌, [], ◌∷◌, ◌++◌, true, map, filter, IfOk, OnOk};
+ghost use Rattle.std.specs.List.{flat_map};
+ghost use Rattle.echo_base.specs.Sets.{address_set};
 ghost use Rattle.echo_steps.specs.Scanning.{header_to};
 ghost use Rattle.echo_steps.specs.Stamps.{is_stamp};
-ghost use Rattle.echo_toss.specs.Exports.{copy_out, packet_out, packets_out};
+ghost use Rattle.echo_toss.specs.Exports.{copy_out, goes_out, packet_out, packets_out};
 
 use crate::outgoing::Outgoing;
+use crate::sets::address_set;
 use echo_addr::{Address, Items};
 use echo_base::LinkFile;
 use echo_packet::{Header, Packed};
@@ -39,9 +40,7 @@ fn recipients(alloc: Global, outgoing: &[Outgoing<'_>]) -> Result<Vec<Address>, 
     'outgoing: for one in outgoing {
         all.extend_from_slice(one.targets.as_slice())?;
     }
-    all.sort_unstable();
-    all.dedup();
-    Ok(all)
+    Ok(address_set(all))
 }
 
 // The packet of those that go to the address.
@@ -57,9 +56,7 @@ fn packet_to(
 {
     let mut messages = Vec::new(alloc);
     'outgoing: for one in outgoing {
-        if goes_to(one, address) {
-            messages.push(copy_to(alloc, links, address, one)?)?;
-        }
+        push_copy(alloc, links, address, one, &mut messages)?;
     }
     Ok(Packet {
         header: header_to(links, stamp, address),
@@ -67,9 +64,25 @@ fn packet_to(
     })
 }
 
+// Puts the copy of the message, where it goes to the address, at the end.
+fn push_copy(
+    alloc: Global,
+    links: &LinkFile,
+    address: Address,
+    one: &Outgoing<'_>,
+    messages: &mut Vec<Packed>,
+) -> Result<(), AllocError>
+    ensures { OnOk result (messages.new.items ≡ messages.old.items ++ map (copy_out links.now address) (filter (goes_out address) (one.now ∷ []))) }
+{
+    if goes_to(one, address) {
+        messages.push(copy_to(alloc, links, address, one)?)?;
+    }
+    Ok(())
+}
+
 // Whether the message goes to the address.
 fn goes_to(one: &Outgoing<'_>, address: Address) -> bool
-    ensures { result ≡ list_any (same_address address) one.now.targets }
+    ensures { result ≡ goes_out address one.now }
 {
     one.targets.contains(&address)
 }

@@ -27,15 +27,9 @@ impl<S: BuildHasher> Tosser<S> {
     ) -> Result<(), PostFault>
         ensures { PostStep self.old tag.now draft.now serial stamp result self.new }
     {
-        let (key, message) = prepared(
-            self.alloc,
-            &self.links,
-            &self.base,
-            tag,
-            draft,
-            serial,
-            stamp,
-        )?;
+        let base = &self.base;
+        let new = prepared(self.alloc, &self.links, base, tag, draft, serial, stamp)?;
+        let (key, message) = new;
         self.base.file(key, message)?;
         Ok(())
     }

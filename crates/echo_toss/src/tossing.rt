@@ -20,7 +20,8 @@ impl<S: BuildHasher> Tosser<S> {
     ) -> Result<Outcome, AllocError>
         ensures { TossStep self.old sender packed.now result self.new }
     {
-        match judged(self.alloc, &self.links, &self.base, sender, packed)? {
+        let verdict = judged(self.alloc, &self.links, &self.base, sender, packed)?;
+        match verdict {
             Verdict::New(key, message) => {
                 self.base.file(key, message)?;
                 Ok(Outcome::Filed)
@@ -49,7 +50,8 @@ fn judged<S: BuildHasher>(
 ) -> Result<Verdict, AllocError>
     ensures { IfOk result (IsVerdict links.now base.now.messages sender packed.now) }
 {
-    match read(alloc, links, sender, packed)? {
+    let reading = read(alloc, links, sender, packed)?;
+    match reading {
         Reading::Unwanted(outcome) => Ok(Verdict::Left(outcome)),
         Reading::Wanted(view) => {
             let key = key_in(alloc, packed, &view)?;

@@ -1,4 +1,4 @@
-use Rattle.std.proofs.Common.{◌≡◌, sym, subst, ◌∙◌, Some}
+use Rattle.std.proofs.Common.{◌≡◌, sym, subst, ◌∙◌, Some, arith}
 use Rattle.echo_base.specs.Base.{IsFiled}
 use Rattle.echo_steps.specs.Tossing.{received}
 use Rattle.echo_steps.proofs.Kept.{received_filed}
