@@ -77,11 +77,7 @@ fn is_link(links: &LinkFile, tag: &[u8], address: Address) -> bool
 }
 
 /// The key of the message, of which `view` is what the text says.
-pub(crate) fn key_in(
-    alloc: Global,
-    packed: &Packed,
-    view: &EchoView<'_>,
-) -> Result<Key, AllocError>
+pub(crate) fn key_in(alloc: Global, packed: &Packed, view: &EchoView<'_>) -> Result<Key, AllocError>
     requires { view.now ≡ echo_of packed.now.text }
     ensures { IfOk result (λ key. (sender : System) → key ≡ key_of (received sender packed.now)) }
 {
