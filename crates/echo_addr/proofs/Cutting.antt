@@ -106,3 +106,14 @@ next_some s begun front rest blank start end some begun-is blank-is end-is front
     skip ∙ tokens_front begun (omega arith)
     ∙ ap (λ n. take n begun ∷ tokens (drop n begun)) (sym size)
     ∙ ap (λ f. f ∷ tokens (drop end begun)) (sym front-is) ∙ ap (λ r. front ∷ tokens r) (sym rest-is)
+
+-- where the rest stands
+pub next_after : (s begun front rest : List ℕ) (blank : Option ℕ) (start end : ℕ) → position is_other s ≡ Some start
+    → begun ≡ take (length s - start) (drop start s) → blank ≡ position is_blank begun → end ≡ unwrap_or blank (length begun)
+    → front ≡ take end begun → rest ≡ drop end begun → rest ≡ drop (length front) (drop (position_or_len is_other s) s)
+next_after s begun front rest blank start end some begun-is blank-is end-is front-is rest-is =
+    let size : end ≡ position_or_len is_blank begun = end-is ∙ ap (λ o. unwrap_or o (length begun)) blank-is ∙ unwrap_or-position is_blank begun in
+    let le = position_or_len-le is_blank begun in
+    let long : length front ≡ end = ap length front-is ∙ length-take-le end begun (omega arith) in
+    rest-is ∙ ap (λ n. drop n begun) (sym long)
+    ∙ ap (drop (length front)) (begun-is ∙ take_rest s start ∙ ap (λ n. drop n s) (position_some is_other s start some).0)

@@ -22,7 +22,7 @@ pub use address::{Address, NetNode};
 pub use fault::AddrFault;
 pub use items::Items;
 pub use laws::{address_read_back, one_spelling, written_lines_read_back};
-pub use listing::read_list;
+pub use listing::{next_token, read_list};
 pub use shortening::{write_path, write_seen};
 
 #[cfg(test)]

@@ -1,4 +1,5 @@
-ghost use Rattle.std.specs.Prelude.{◌≡◌, ◌<◌, [], ◌∷◌, length, not, position, MatchOption, IfOk, IfSome};
+ghost use Rattle.std.specs.Prelude.{◌≡◌, ◌<◌, [], ◌∷◌, drop, length, not, position, MatchOption, IfOk, IfSome};
+ghost use Rattle.std.specs.List.{position_or_len};
 ghost use Rattle.std.specs.Option.{option_or};
 ghost use Rattle.echo_addr.specs.Entries.{dropped, entries, entry_from, is_blank, pair_of, part_of, tokens};
 
@@ -38,9 +39,10 @@ fn is_blank(byte: u8) -> bool
     byte == b' ' || byte == b'\t' || byte == b'\n'
 }
 
-/// The first token, and what stands after it.
-fn next_token(bytes: &[u8]) -> Option<(&[u8], &[u8])>
+/// The first token, and what stands after it. Takes no memory.
+pub fn next_token(bytes: &[u8]) -> Option<(&[u8], &[u8])>
     ensures token { MatchOption result (tokens bytes.now ≡ []) (λ r. tokens bytes.now ≡ r.0.now ∷ tokens r.1.now) }
+    ensures after { IfSome result (λ r. r.1.now ≡ drop (length r.0.now) (drop (position_or_len (λ b. not (is_blank b)) bytes.now) bytes.now)) }
     ensures shorter { IfSome result (λ r. length r.1.now < length bytes.now) }
 {
     let begun = &bytes[first_other(bytes)?..];

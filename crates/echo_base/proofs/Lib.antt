@@ -17,8 +17,13 @@ pub mod Loading
 pub mod OneBase
 pub mod LinkFiles
 pub mod LinkAnswers
+pub mod LinkBytes
+pub mod LinkLoops
+pub mod LinkTaking
+pub mod LinkSteps
 pub mod Stubs
 pub mod Loaded
 pub mod Left
 pub mod Purges
 pub mod StubBases
+pub mod AreaMaps

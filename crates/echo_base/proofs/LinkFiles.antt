@@ -127,7 +127,7 @@ name_plain line h =
     (plain_drop (prefix_len is_space (drop 4 (without_front_spaces line))) (drop 4 (without_front_spaces line)) plain)
 
 -- a line of one kind is of no other
-other_word : (w one other : List ℕ) → bytes_eq one other ≡ false → bytes_eq w one ≡ true → bytes_eq w other ≡ false
+pub other_word : (w one other : List ℕ) → bytes_eq one other ≡ false → bytes_eq w one ≡ true → bytes_eq w other ≡ false
 other_word w one other apart h =
     let P : List ℕ → Type 0 = λ x. bytes_eq x other ≡ false in
     subst P (sym ((bytes_decides w one).0 h)) apart
@@ -320,7 +320,7 @@ all_fine earlier number (line ∷ later) h =
     ]
 
 -- one of some lines passes, so one is found
-some_found : (p : List ℕ → Bool) (lines : List (List ℕ)) → list_any p lines ≡ true → (line : List ℕ) × (find p lines ≡ Some line)
+pub some_found : (p : List ℕ → Bool) (lines : List (List ℕ)) → list_any p lines ≡ true → (line : List ℕ) × (find p lines ≡ Some line)
 some_found p [] h = absurd (true≢false (sym h))
 some_found p (line ∷ later) h = elim (cases_Bool (p line)) [
   | inl is ↦ (line, cond-true (p line) (Some line) (find p later) is)

@@ -4,4 +4,5 @@ pub mod Base
 pub mod Entries
 pub mod Stubs
 pub mod LinkLines
+pub mod LinkReading
 pub mod BaseFile

@@ -1,23 +1,23 @@
-ghost use Rattle.std.specs.Prelude.{◌≡◌, ◌∷◌, [], length, slice_get, option_copied, option_map, find, bytes_eq, IfOk};
-ghost use Rattle.echo_base.specs.Base.{IsFile, area_of};
+//! What a link file says, and reading it: `lines` cuts the bytes, `reading` takes line by line, `addresses`
+//! the words behind the first, and `areas` holds what was found.
+ghost use Rattle.std.specs.Prelude.{◌≡◌, ◌⊎◌, length, slice_get, option_copied, option_map, unwrap_or, codes, Result, Err, IfOk};
+ghost use Rattle.echo_base.specs.declared.fault.LinkFault.{LinkFault};
+ghost use Rattle.echo_base.specs.declared.fault.LinkFault.TheVariants as link;
+ghost use Rattle.echo_base.specs.LinkLines.{LinksOf};
+ghost use Rattle.echo_base.specs.Base as model;
+ghost use Rattle.echo_base.specs.Base.{IsFile, area_of, has_area, is_link};
 
+mod addresses;
+mod areas;
+mod lines;
+mod reading;
+
+use crate::fault::LinkFault;
+use areas::Areas;
 use echo_addr::{Address, Items};
+use reading::read_lines;
+use std::alloc::{AllocError, Global};
 use std::marker::Model;
-
-/// An area of a link file: its tag, and its links in order.
-#[derive(Debug, Drop)]
-pub(crate) struct Area {
-    tag: Items<u8>,
-    links: Items<Address>,
-}
-
-impl Model for Area {
-    ghost use Rattle.echo_base.specs.Base as model;
-
-    ghost Value = { model.Area };
-
-    ghost view = { λ a. record { tag = a.tag; links = a.links } };
-}
 
 /// What a link file says: the own address, the name, and the areas with their links, in order. A
 /// name has at most 40 bytes of one line, a tag 1 to 60 bytes from `!` to `~` without small letters.
@@ -26,7 +26,7 @@ impl Model for Area {
 pub struct LinkFile {
     system: Address,
     name: Items<u8>,
-    areas: Items<Area>,
+    areas: Areas,
 }
 
 impl Model for LinkFile {
@@ -40,13 +40,46 @@ impl Model for LinkFile {
     ghost invariant = { λ f. IsFile (record { system = f.system; name = f.name; areas = f.areas }) };
 }
 
-fn area_with<'a>(areas: &'a [Area], tag: &[u8]) -> Option<&'a Area>
-    ensures { option_copied result ≡ find (λ area. bytes_eq area.tag tag.now) areas.now }
+/// The name where no line gives one.
+const DEFAULT_NAME: &[u8] = b"echonet";
+
+fn judged(alloc: Global, bytes: &[u8]) -> Result<LinkFile, LinkFault>
+    ensures { (result ≡ Err link.Memory) ⊎ LinksOf bytes.now result }
 {
-    areas.iter().find(|area| area.tag.as_slice() == tag)
+    let reading = read_lines(alloc, bytes)?;
+    let Some(system) = reading.system else {
+        return Err(LinkFault::NoSystem { line: 0 });
+    };
+    let name = name_or_default(alloc, reading.name)?;
+    Ok(LinkFile {
+        system,
+        name,
+        areas: reading.areas,
+    })
+}
+
+/// The name that a line gave, or the one where none did.
+fn name_or_default(alloc: Global, given: Option<Items<u8>>) -> Result<Items<u8>, AllocError>
+    ensures { IfOk result (λ name. name ≡ unwrap_or given (codes "echonet")) }
+{
+    match given {
+        Some(name) => Ok(name),
+        None => Ok(Items::new(Vec::from_slice(alloc, DEFAULT_NAME)?)),
+    }
 }
 
 impl LinkFile {
+    /// What the bytes say as a link file. A fault is that of the first faulty line, and only `Memory`
+    /// may come in place of the answer.
+    pub fn read(alloc: Global, bytes: &[u8]) -> Result<LinkFile, LinkFault>
+        // What it answers is so of the bytes.
+        ensures judged { (result ≡ Err link.Memory) ⊎ LinksOf bytes.now result }
+        // What is so of the bytes, it answers.
+        ensures only { (other : Result model.LinkFile LinkFault) → LinksOf bytes.now other → (result ≡ Err link.Memory) ⊎ (result ≡ other) }
+    {
+        judged(alloc, bytes)
+    }
+
     /// The own address.
     pub fn system(&self) -> Address
         ensures own { result ≡ self.now.system }
@@ -73,75 +106,34 @@ impl LinkFile {
     pub fn area(&self, i: usize) -> Option<&[u8]>
         ensures { option_copied result ≡ option_map (λ area. area.tag) (slice_get self.now.areas i) }
     {
-        let area = self.areas.as_slice().get(i)?;
-        Some(area.tag.as_slice())
+        self.areas.tag(i)
     }
 
     /// The links of the area with this tag, in order. Tags are compared byte for byte.
     pub fn links(&self, tag: &[u8]) -> Option<&[Address]>
         ensures { option_copied result ≡ option_map (λ area. area.links) (area_of self.now tag.now) }
     {
-        let area = area_with(self.areas.as_slice(), tag)?;
-        Some(area.links.as_slice())
+        Some(self.areas.links(tag)?.as_slice())
+    }
+
+    /// Whether there is an area with this tag.
+    pub fn has_area(&self, tag: &[u8]) -> bool
+        ensures { result ≡ has_area self.now tag.now }
+    {
+        self.areas.has(tag)
+    }
+
+    /// Whether the address is a link of the area with this tag.
+    #[tactic(auto, unfolding(crate::specs::Base::links_of))]
+    pub fn is_link(&self, tag: &[u8], address: Address) -> bool
+        ensures { result ≡ is_link self.now tag.now address }
+    {
+        match self.areas.links(tag) {
+            Some(links) => links.contains(&address),
+            None => false,
+        }
     }
 }
 
 #[cfg(test)]
-mod tests {
-    use super::*;
-    use std::alloc::{AllocError, Global};
-    use std::test::Fail;
-
-    fn one<T: Drop>(alloc: Global, item: T) -> Result<Items<T>, AllocError>
-        ensures { IfOk result (λ items. items ≡ item ∷ []) }
-    {
-        let mut all = Vec::new(alloc);
-        all.push(item)?;
-        Ok(Items::new(all))
-    }
-
-    fn bytes(alloc: Global, text: &[u8]) -> Result<Items<u8>, AllocError>
-        ensures { IfOk result (λ items. items ≡ text.now) }
-    {
-        Ok(Items::new(Vec::from_slice(alloc, text)?))
-    }
-
-    const OWN: Address = Address {
-        zone: 1,
-        net: 10,
-        node: 1,
-    };
-
-    const LINK: Address = Address {
-        zone: 1,
-        net: 10,
-        node: 2,
-    };
-
-    // The system 1:10/1 of the name Alpha, with the area TEST that 1:10/2 links.
-    fn alpha(alloc: Global) -> Result<LinkFile, AllocError> {
-        let tag = bytes(alloc, b"TEST")?;
-        let links = one(alloc, LINK)?;
-        let areas = one(alloc, Area { tag, links })?;
-        let name = bytes(alloc, b"Alpha")?;
-        Ok(LinkFile {
-            system: OWN,
-            name,
-            areas,
-        })
-    }
-
-    #[test]
-    fn gives_its_parts(rt: HostRuntime) -> Result<(), Fail> {
-        if let Ok(file) = alpha(rt.alloc()) {
-            assert_eq!(rt; file.system(), OWN);
-            assert_eq!(rt; file.name(), b"Alpha".as_slice());
-            assert_eq!(rt; file.areas(), 1);
-            assert!(rt; file.area(0) == Some(b"TEST".as_slice()));
-            assert!(rt; file.area(1).is_none());
-            assert!(rt; file.links(b"TEST") == Some([LINK].as_slice()));
-            assert!(rt; file.links(b"test").is_none());
-        }
-        Ok(())
-    }
-}
+mod tests;

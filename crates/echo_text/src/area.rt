@@ -29,8 +29,8 @@ pub(crate) fn tag_of(first: &[u8]) -> Result<&[u8], TextFault>
     }
 }
 
-/// Whether the bytes, in upper case, are a tag.
-fn is_tag(bytes: &[u8]) -> bool
+/// Whether the bytes, in upper case, are a tag. Takes no memory.
+pub fn is_tag(bytes: &[u8]) -> bool
     ensures { result ≡ is_tag (map to_ascii_uppercase bytes.now) }
 {
     if bytes.is_empty() || bytes.len() > MOST {
@@ -53,8 +53,8 @@ fn is_tag_byte(byte: u8) -> bool
     byte.is_ascii_graphic() && !byte.is_ascii_lowercase()
 }
 
-/// The bytes in upper case.
-pub(crate) fn in_upper_case(alloc: Global, bytes: &[u8]) -> Result<Vec<u8>, AllocError>
+/// The bytes, with ASCII letters in upper case.
+pub fn in_upper_case(alloc: Global, bytes: &[u8]) -> Result<Vec<u8>, AllocError>
     ensures { IfOk result (λ v. v.items ≡ map to_ascii_uppercase bytes.now) }
 {
     bytes.iter().map(|b| b.to_ascii_uppercase()).collect(alloc)

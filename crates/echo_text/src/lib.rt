@@ -24,6 +24,7 @@ mod tail;
 mod words;
 mod writing;
 
+pub use area::{in_upper_case, is_tag};
 pub use echo::{Echo, EchoView};
 pub use fault::TextFault;
 pub use id_laws::{

@@ -66,7 +66,7 @@ pub(crate) fn is_blank_line(line: &[u8]) -> bool
     line.iter().all(|b| is_blank(*b))
 }
 
-/// The bytes without the blanks at both ends.
+/// The bytes without the blanks of message texts at both ends. Takes no memory.
 pub fn trimmed(bytes: &[u8]) -> &[u8]
     ensures { result.now ≡ trimmed bytes.now }
 {
