@@ -77,6 +77,6 @@ addresses_sorted all sorted moved is =
     same_set address_before address_order (dedup same_address sorted) (address_set all)
     (ascending (dedup same_address sorted) (IsStrictlySortedBy-dedup total ties sorted is)) (set_ascending address_before address_order all)
     (λ z i. set_keeps address_before address_order z all
-      (contained_in z all (Contains-permutation sorted all z (IsPermutation-sym all sorted moved) (Contains-from_dedup same_address sorted z (in_contained z (dedup same_address sorted) i)))))
+    (contained_in z all (Contains-permutation sorted all z (IsPermutation-sym all sorted moved) (Contains-from_dedup same_address sorted z (in_contained z (dedup same_address sorted) i)))))
     (λ z i. contained_in z (dedup same_address sorted)
-      (Contains-dedup equivalence (λ x y. (same_address_decides x y).0) sorted z (Contains-permutation all sorted z moved (in_contained z all (set_only address_before z all i)))))
+    (Contains-dedup equivalence (λ x y. (same_address_decides x y).0) sorted z (Contains-permutation all sorted z moved (in_contained z all (set_only address_before z all i)))))

@@ -21,7 +21,7 @@ three_from xs i h =
 -- the month of a number in range is three letters of the names
 pub month_letters : (month : ℕ) → 1 ≤ month → month ≤ 12
     → month_name month ≡ get_or (codes "JanFebMarAprMayJunJulAugSepOctNovDec") (3 * (month - 1)) 0
-        ∷ (get_or (codes "JanFebMarAprMayJunJulAugSepOctNovDec") (3 * (month - 1) + 1) 0 ∷ (get_or (codes "JanFebMarAprMayJunJulAugSepOctNovDec") (3 * (month - 1) + 2) 0 ∷ []))
+    ∷ (get_or (codes "JanFebMarAprMayJunJulAugSepOctNovDec") (3 * (month - 1) + 1) 0 ∷ (get_or (codes "JanFebMarAprMayJunJulAugSepOctNovDec") (3 * (month - 1) + 2) 0 ∷ []))
 month_letters month low high = three_from (codes "JanFebMarAprMayJunJulAugSepOctNovDec") (3 * (month - 1)) (omega arith)
 
 pub month_within : (s : Stamp) → is_stamp s ≡ true → (1 ≤ s.month) × (s.month ≤ 12)
@@ -33,9 +33,9 @@ month_within s h =
 -- the letters in their place
 pub dated : (s : Stamp) (letters : List ℕ) → month_name s.month ≡ letters
     → two_digits s.day ++ (codes " " ++ (letters ++ (codes " " ++ (two_digits s.year ++ (codes "  " ++ (two_digits s.hour ++ (codes ":"
-        ++ (two_digits s.minute ++ (codes ":" ++ (two_digits s.second ++ 0 ∷ [])))))))))) ≡ date_of s
+    ++ (two_digits s.minute ++ (codes ":" ++ (two_digits s.second ++ 0 ∷ [])))))))))) ≡ date_of s
 unfolding date_of
 dated s letters h =
     ap (λ l. two_digits s.day ++ (codes " " ++ (l ++ (codes " " ++ (two_digits s.year ++ (codes "  " ++ (two_digits s.hour ++ (codes ":"
-        ++ (two_digits s.minute ++ (codes ":" ++ (two_digits s.second ++ 0 ∷ [])))))))))))
+    ++ (two_digits s.minute ++ (codes ":" ++ (two_digits s.second ++ 0 ∷ [])))))))))))
     (sym h)

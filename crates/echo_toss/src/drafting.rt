@@ -127,11 +127,7 @@ fn push_body(alloc: Global, kept: &mut Vec<Items<u8>>, body: &[u8]) -> Result<()
 }
 
 // Puts the origin line at the end.
-fn push_origin(
-    alloc: Global,
-    kept: &mut Vec<Items<u8>>,
-    links: &LinkFile,
-) -> Result<(), AllocError>
+fn push_origin(alloc: Global, kept: &mut Vec<Items<u8>>, links: &LinkFile) -> Result<(), AllocError>
     ensures { OnOk result (kept.new.items ≡ kept.old.items ++ origin_line links.now ∷ []) }
 {
     let line = origin_line(alloc, links)?;

@@ -2,6 +2,7 @@
 ghost use Rattle.std.specs.Prelude.{◌≡◌, ◌∷◌, ◌++◌, ◌&&◌, not, false, map, filter, drop, option_map, unwrap_or, IfOk};
 ghost use Rattle.std.specs.List.{list_any};
 ghost use Rattle.echo_addr.specs.Address.{net_node_of};
+ghost use Rattle.echo_text.specs.Echo.{IsEcho};
 ghost use Rattle.echo_base.specs.Base.{links_of};
 ghost use Rattle.echo_base.specs.Sets.{entry_set, same_address, same_entry};
 ghost use Rattle.echo_base.specs.Written.{text_of};
@@ -80,11 +81,7 @@ fn links_of<'a>(links: &'a LinkFile, tag: &[u8]) -> &'a [Address]
 
 // The links that did not send the message and do not stand in its SEEN-BY.
 #[tactic(auto, unfolding(echo_steps::specs::Scanning::targets))]
-fn targets(
-    alloc: Global,
-    links: &LinkFile,
-    message: &Filed,
-) -> Result<Items<Address>, AllocError>
+fn targets(alloc: Global, links: &LinkFile, message: &Filed) -> Result<Items<Address>, AllocError>
     ensures { IfOk result (λ found. found ≡ targets links.now message.now) }
 {
     let echo = &message.echo;
@@ -126,9 +123,19 @@ fn is_seen_by(seen: &[NetNode], link: Address) -> bool
     seen.contains(&link.net_node())
 }
 
-// The text that goes out: the own net/node and those of the links join SEEN-BY, the own ends PATH.
+// The text that goes out.
 fn exported_text(alloc: Global, links: &LinkFile, echo: &Echo) -> Result<Items<u8>, AllocError>
     ensures { IfOk result (λ text. text ≡ text_of (exported links.now echo.now)) }
+{
+    let copy = exported(alloc, links, echo)?;
+    let text = write_text(alloc, &copy)?;
+    Ok(Items::new(text))
+}
+
+// What goes out: the own net/node and those of the links join SEEN-BY, the own ends PATH.
+fn exported(alloc: Global, links: &LinkFile, echo: &Echo) -> Result<Echo, AllocError>
+    ensures value { IfOk result (λ copy. copy ≡ exported links.now echo.now) }
+    ensures is_echo { IfOk result IsEcho }
 {
     let own = links.system().net_node();
     let tag = copied(alloc, echo.tag.as_slice())?;
@@ -137,13 +144,12 @@ fn exported_text(alloc: Global, links: &LinkFile, echo: &Echo) -> Result<Items<u
     let seen = joined(alloc, echo.seen.as_slice(), own, all)?;
     let mut path = Vec::from_slice(alloc, echo.path.as_slice())?;
     path.push(own)?;
-    let echo = Echo {
+    Ok(Echo {
         tag,
         kept,
         seen,
         path: Items::new(path),
-    };
-    Ok(Items::new(write_text(alloc, &echo)?))
+    })
 }
 
 // The lines as bytes of their own.

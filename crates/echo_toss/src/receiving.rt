@@ -2,7 +2,7 @@
 ghost use Rattle.std.specs.Prelude.{◌≡◌, None, IfOk};
 ghost use Rattle.echo_text.specs.Refusal.{refusal};
 ghost use Rattle.echo_addr.specs.declared.address.Address.{Address as System};
-ghost use Rattle.echo_base.specs.Base.{has_area, is_link, key_of};
+ghost use Rattle.echo_base.specs.Base.{key_of};
 ghost use Rattle.echo_base.specs.Written.{echo_of};
 ghost use Rattle.echo_steps.specs.Tossing.{received};
 ghost use Rattle.echo_toss.specs.Wanted.{IsRead, refused_by};
@@ -49,39 +49,17 @@ pub(crate) fn read<'a>(
 fn refused_by(links: &LinkFile, tag: &[u8], sender: Address) -> Option<Outcome>
     ensures { result ≡ refused_by links.now tag.now sender }
 {
-    if !has_area(links, tag) {
+    if !links.has_area(tag) {
         return Some(Outcome::NoArea);
     }
-    if !is_link(links, tag, sender) {
+    if !links.is_link(tag, sender) {
         return Some(Outcome::NotLinked);
     }
     None
 }
 
-// Whether the link file has the area.
-fn has_area(links: &LinkFile, tag: &[u8]) -> bool
-    ensures { result ≡ has_area links.now tag.now }
-{
-    links.links(tag).is_some()
-}
-
-// Whether the address is a link of the area.
-#[tactic(auto, unfolding(echo_base::specs::Base::links_of))]
-fn is_link(links: &LinkFile, tag: &[u8], address: Address) -> bool
-    ensures { result ≡ is_link links.now tag.now address }
-{
-    match links.links(tag) {
-        Some(all) => all.contains(&address),
-        None => false,
-    }
-}
-
 /// The key of the message, of which `view` is what the text says.
-pub(crate) fn key_in(
-    alloc: Global,
-    packed: &Packed,
-    view: &EchoView<'_>,
-) -> Result<Key, AllocError>
+pub(crate) fn key_in(alloc: Global, packed: &Packed, view: &EchoView<'_>) -> Result<Key, AllocError>
     requires { view.now ≡ echo_of packed.now.text }
     ensures { IfOk result (λ key. (sender : System) → key ≡ key_of (received sender packed.now)) }
 {

@@ -58,7 +58,7 @@ fn has_area(links: &LinkFile, tag: &[u8]) -> bool
     let raised = &mut raised[..tag.len()];
     raised.copy_from_slice(tag);
     raise(raised);
-    links.links(raised).is_some()
+    links.has_area(raised)
 }
 
 // Puts ASCII letters into upper case.

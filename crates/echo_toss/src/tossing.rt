@@ -13,11 +13,7 @@ use std::hash::BuildHasher;
 
 impl<S: BuildHasher> Tosser<S> {
     /// Files a received message, or answers why not. The first outcome that applies is answered.
-    pub fn toss_message(
-        &mut self,
-        sender: Address,
-        packed: &Packed,
-    ) -> Result<Outcome, AllocError>
+    pub fn toss_message(&mut self, sender: Address, packed: &Packed) -> Result<Outcome, AllocError>
         ensures { TossStep self.old sender packed.now result self.new }
     {
         let verdict = judged(self.alloc, &self.links, &self.base, sender, packed)?;

@@ -10,13 +10,13 @@ pub date_of-requires : goal.date_of-requires
 date_of-requires c = (draft_allowed c.args.links.now [] c.args.tag.now c.args.draft.now c.args.serial c.args.stamp c.requires refl).moment
 
 made : (c : goal.After-date_of) → record {
-    sender = None;
-    date = c.date_of.result;
-    to_name = c.in_ok-to_name.to_name;
-    from_name = c.in_ok-from_name.from_name;
-    subject = c.in_ok-subject.subject;
-    echo = record { tag = c.in_ok-tag.tag; kept = c.in_ok-kept.kept; seen = c.new-2.result; path = c.new-4.result };
-  } ≡ posted c.args.links.now c.args.tag.now c.args.draft.now c.args.serial c.args.stamp
+  sender = None;
+  date = c.date_of.result;
+  to_name = c.in_ok-to_name.to_name;
+  from_name = c.in_ok-from_name.from_name;
+  subject = c.in_ok-subject.subject;
+  echo = record { tag = c.in_ok-tag.tag; kept = c.in_ok-kept.kept; seen = c.new-2.result; path = c.new-4.result };
+} ≡ posted c.args.links.now c.args.tag.now c.args.draft.now c.args.serial c.args.stamp
 made c =
     posted_is c.args.links.now c.args.tag.now c.args.draft.now c.args.serial c.args.stamp _ _ _ _ _ _ _ _ c.date_of.ensures
     (c.in_ok-to_name.ensures ∙ c.as_slice.ensures) (c.in_ok-from_name.ensures ∙ c.as_slice-2.ensures) (c.in_ok-subject.ensures ∙ c.as_slice-3.ensures)

@@ -20,4 +20,4 @@ no_message = record {
 }
 
 pub returns : goal.returns
-returns g c = none_waits (outgoing_of c.args.links.now) no_message c.args.base.now.messages c.waiting.at _ _ ? c.waiting.invariant
+returns g c = none_waits (outgoing_of c.args.links.now) no_message c.args.base.now.messages c.waiting.at _ _ c.in_default.ensures c.waiting.invariant

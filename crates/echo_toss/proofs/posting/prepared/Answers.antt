@@ -11,7 +11,7 @@ returns-in_err-judge g c =
     let p = err_from_is_err_and c.from_residual.result c.from_residual.ensures.1 in
     rw (p.1, p.2)
     (is_fault c.args.links.now c.args.base.now.messages c.args.tag.now c.args.draft.now c.args.serial c.args.stamp c.in_err-judge.field-0.0
-      (draft_refused c.args.links.now c.args.base.now.messages c.args.tag.now c.args.draft.now c.args.serial c.args.stamp c.in_err-judge.field-0.0 c.in_err-judge.ensures))
+    (draft_refused c.args.links.now c.args.base.now.messages c.args.tag.now c.args.draft.now c.args.serial c.args.stamp c.in_err-judge.field-0.0 c.in_err-judge.ensures))
 
 pub returns-in_err-is_known : goal.returns-in_err-is_known
 returns-in_err-is_known g c =

@@ -6,13 +6,13 @@ use Rattle.echo_toss.proofs.Tossed.{made_received}
 use Rattle.echo_toss.proofs.receiving.received.Goals as goal
 
 made : (c : goal.After-result-1) → record {
-    sender = Some c.args.sender;
-    date = c.date.result.now;
-    to_name = c.in_ok-to_name.to_name;
-    from_name = c.in_ok-from_name.from_name;
-    subject = c.in_ok-subject.subject;
-    echo = c.in_ok-echo.echo;
-  } ≡ received c.args.sender c.args.packed.now
+  sender = Some c.args.sender;
+  date = c.date.result.now;
+  to_name = c.in_ok-to_name.to_name;
+  from_name = c.in_ok-from_name.from_name;
+  subject = c.in_ok-subject.subject;
+  echo = c.in_ok-echo.echo;
+} ≡ received c.args.sender c.args.packed.now
 made c =
     made_received c.args.sender c.args.packed.now _ _ _ _ _ c.date.ensures (c.in_ok-to_name.ensures ∙ c.to_name.ensures) (c.in_ok-from_name.ensures ∙ c.from_name.ensures)
     (c.in_ok-subject.ensures ∙ c.subject.ensures) (c.in_ok-echo.ensures ∙ c.requires.said)

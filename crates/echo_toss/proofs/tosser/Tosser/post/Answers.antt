@@ -33,11 +33,10 @@ returns g c =
     let s = c.args.self.now in
     let m = c.in_ok-new.new.1 in
     let P : SystemState → Type 0 = λ x. post_refusal x.file x.base c.args.tag.now c.args.draft.now c.args.serial c.args.stamp ≡ None in
-    let Q : SystemState → Type 0 = λ x. m ≡ posted x.file c.args.tag.now c.args.draft.now c.args.serial c.args.stamp in
-    (
+    let Q : SystemState → Type 0 = λ x. m ≡ posted x.file c.args.tag.now c.args.draft.now c.args.serial c.args.stamp in (
       subst P c.self.view_is c.in_ok-new.ensures.allowed,
       state_grown s _ m (ap (λ (x : SystemState). x.file) c.self.view_is)
-        (c.in_ok-file.ensures.messages ∙ ap (λ (x : SystemState). x.base ++ m ∷ []) c.self.view_is)
-        (c.in_ok-file.ensures.cursor ∙ ap (λ (x : SystemState). x.cursor) c.self.view_is)
-      ∙ ap (λ (x : Filed). state_with s (Some x)) (subst Q c.self.view_is c.in_ok-new.ensures.message),
+          (c.in_ok-file.ensures.messages ∙ ap (λ (x : SystemState). x.base ++ m ∷ []) c.self.view_is)
+          (c.in_ok-file.ensures.cursor ∙ ap (λ (x : SystemState). x.cursor) c.self.view_is)
+          ∙ ap (λ (x : Filed). state_with s (Some x)) (subst Q c.self.view_is c.in_ok-new.ensures.message),
     )

@@ -35,5 +35,5 @@ returns-in_ok-file-in-New g c =
 pub returns-in-Left : goal.returns-in-Left
 returns-in-Left g c =
     let P : SystemState → Type 0 = λ x.
-      (c.in-Left.outcome ≡ toss_outcome x.file x.base c.args.sender c.args.packed.now) × (None ≡ tossing x.file x.base c.args.sender c.args.packed.now) in
+    (c.in-Left.outcome ≡ toss_outcome x.file x.base c.args.sender c.args.packed.now) × (None ≡ tossing x.file x.base c.args.sender c.args.packed.now) in
     step_left c.args.self.now c.args.sender c.args.packed.now c.in-Left.outcome (subst P c.self.view_is (rw c.in-Left.is at c.in_ok-verdict.ensures))
