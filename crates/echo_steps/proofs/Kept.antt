@@ -49,7 +49,7 @@ date_long s h =
     let month = month_right s h in
     omega (arith, month_long s.month month.0 month.1, length-append (month_name s.month) (after_month s))
 
-posted_filed : (file : LinkFile) (base : List Filed) (tag : List ℕ) (draft : Draft) (serial : ℕ) (stamp : Stamp) → IsFile file → IsAllowed file base tag draft serial stamp
+pub posted_filed : (file : LinkFile) (base : List Filed) (tag : List ℕ) (draft : Draft) (serial : ℕ) (stamp : Stamp) → IsFile file → IsAllowed file base tag draft serial stamp
     → IsFiled (posted file tag draft serial stamp)
 unfolding posted
 posted_filed file base tag draft serial stamp h ok =
@@ -71,7 +71,7 @@ posted_filed file base tag draft serial stamp h ok =
     }
 
 -- its key is no key of the base
-posted_new : (file : LinkFile) (base : List Filed) (tag : List ℕ) (draft : Draft) (serial : ℕ) (stamp : Stamp) → IsFile file → IsAllowed file base tag draft serial stamp
+pub posted_new : (file : LinkFile) (base : List Filed) (tag : List ℕ) (draft : Draft) (serial : ℕ) (stamp : Stamp) → IsFile file → IsAllowed file base tag draft serial stamp
     → is_known base (key_of (posted file tag draft serial stamp)) ≡ false
 unfolding key_of
 posted_new file base tag draft serial stamp h ok =
@@ -87,7 +87,7 @@ posting_keeps file base cursor tag draft serial stamp m h is e =
     let P : Filed → Type 0 = λ x. IsBase (base ++ x ∷ []) cursor in
     subst P (sym p.is) (one_more base cursor (posted file tag draft serial stamp) is (posted_filed file base tag draft serial stamp h p.allowed) (posted_new file base tag draft serial stamp h p.allowed))
 
-received_filed : (most : ℕ) (sender : Address) (packed : Message) → HasSmallSender (Some sender) → IsMessage most packed → refusal packed.text ≡ None
+pub received_filed : (most : ℕ) (sender : Address) (packed : Message) → HasSmallSender (Some sender) → IsMessage most packed → refusal packed.text ≡ None
     → IsFiled (received sender packed)
 unfolding received
 received_filed most sender packed small is text =

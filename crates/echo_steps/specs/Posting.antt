@@ -92,12 +92,14 @@ unfoldable pub posting : LinkFile → List Filed → List ℕ → Draft → ℕ 
 posting file base tag draft serial stamp =
     if is_none (post_refusal file base tag draft serial stamp) then Some (posted file tag draft serial stamp) else None
 
+-- what a refused posting may answer: the first refusal that applies, and want of memory once the draft is in order
+abbrev pub IsPostFault : LinkFile → List Filed → List ℕ → Draft → ℕ → Stamp → PostFault → Type 0
+IsPostFault file base tag draft serial stamp fault.Memory =
+    (post_refusal file base tag draft serial stamp ≡ None) ⊎ (post_refusal file base tag draft serial stamp ≡ Some fault.KnownSerial)
+IsPostFault file base tag draft serial stamp refused = post_refusal file base tag draft serial stamp ≡ Some refused
+
 -- a posting: the message is put at the end of the base, or a refusal leaves all as it was
 abbrev pub PostStep : {A : Type 0} → SystemState → List ℕ → Draft → ℕ → Stamp → Result A PostFault → SystemState → Type 0
 PostStep old tag draft serial stamp (Ok done) new =
     (post_refusal old.file old.base tag draft serial stamp ≡ None) × (new ≡ state_with old (Some (posted old.file tag draft serial stamp)))
-PostStep old tag draft serial stamp (Err fault.Memory) new =
-    ((post_refusal old.file old.base tag draft serial stamp ≡ None) ⊎ (post_refusal old.file old.base tag draft serial stamp ≡ Some fault.KnownSerial))
-    × (new ≡ old)
-PostStep old tag draft serial stamp (Err refused) new =
-    (post_refusal old.file old.base tag draft serial stamp ≡ Some refused) × (new ≡ old)
+PostStep old tag draft serial stamp (Err refused) new = IsPostFault old.file old.base tag draft serial stamp refused × (new ≡ old)

@@ -1,1 +1,4 @@
 pub mod Tallies
+pub mod Refusals
+pub mod Wanted
+pub mod Exports

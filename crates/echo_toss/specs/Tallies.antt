@@ -1,14 +1,31 @@
 -- How many messages had each outcome.
-use Rattle.std.specs.Prelude.{ℕ, ◌+◌, List, [], ◌∷◌}
+use Rattle.std.specs.Prelude.{ℕ, ◌+◌, Bool, true, false, List, [], ◌∷◌, count_by}
 use Rattle.echo_steps.specs.declared.outcome.Outcome.{Outcome}
 use Rattle.echo_steps.specs.declared.outcome.Outcome.TheVariants.{BadTag, Filed, Known, NoArea, NotEcho, NotLinked}
 use Rattle.echo_toss.specs.declared.tally.Tally.{Tally}
 
--- of no message
-abbrev pub no_tally : Tally
-no_tally = record { filed = 0; known = 0; not_echo = 0; bad_tag = 0; no_area = 0; not_linked = 0 }
+-- whether two outcomes are the same
+abbrev pub same_outcome : Outcome → Outcome → Bool
+same_outcome Filed Filed = true
+same_outcome Known Known = true
+same_outcome NotEcho NotEcho = true
+same_outcome BadTag BadTag = true
+same_outcome NoArea NoArea = true
+same_outcome NotLinked NotLinked = true
+same_outcome one other = false
 
--- one more message
+-- how many of the outcomes are each
+abbrev pub tally_of : List Outcome → Tally
+tally_of all = record {
+  filed = count_by (same_outcome Filed) all;
+  known = count_by (same_outcome Known) all;
+  not_echo = count_by (same_outcome NotEcho) all;
+  bad_tag = count_by (same_outcome BadTag) all;
+  no_area = count_by (same_outcome NoArea) all;
+  not_linked = count_by (same_outcome NotLinked) all;
+}
+
+-- a tally, and one more message
 abbrev pub tally_with : Tally → Outcome → Tally
 tally_with t NotEcho = record t { not_echo = t.not_echo + 1 }
 tally_with t BadTag = record t { bad_tag = t.bad_tag + 1 }
@@ -16,11 +33,6 @@ tally_with t NoArea = record t { no_area = t.no_area + 1 }
 tally_with t NotLinked = record t { not_linked = t.not_linked + 1 }
 tally_with t Known = record t { known = t.known + 1 }
 tally_with t Filed = record t { filed = t.filed + 1 }
-
--- of messages that had these outcomes, in order
-abbrev pub tally_after : Tally → List Outcome → Tally
-tally_after t [] = t
-tally_after t (outcome ∷ later) = tally_after (tally_with t outcome) later
 
 -- how many messages it counts
 abbrev pub all_counted : Tally → ℕ

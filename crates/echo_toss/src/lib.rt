@@ -4,9 +4,27 @@
 //! echo_steps on the whole state of the system, `toss` is the step of each message of a packet, in
 //! order, and what a refused call finds it leaves.
 //!
-//! Modules in reading order: `tally` (what became of the messages of a packet).
+//! Modules in reading order: `tosser` (the type), `moment`, `refusing`, `drafting` and `posting` (a
+//! draft is judged, made a message and filed), `receiving` and `tossing` (the same of a received
+//! message), `sets`, `outgoing`, `packing` and `scanning` (what waits, its packets, and the scan),
+//! `purging`, `tally` (what became of the messages of a packet).
 #![tactic(auto)]
 
+mod drafting;
+mod moment;
+mod outgoing;
+mod packing;
+mod posting;
+mod purging;
+mod receiving;
+mod refusing;
+mod scanning;
+mod sets;
 mod tally;
+mod tosser;
+mod tossing;
 
+pub use echo_base::{BaseFault, Filed, LinkFault, LinkFile};
+pub use echo_steps::{Draft, Outcome, Packet, PostFault, ScanFault, Stamp};
 pub use tally::Tally;
+pub use tosser::Tosser;

@@ -1,0 +1,106 @@
+-- What goes out, message by message, is what a scan is to make.
+use Rattle.std.proofs.Common.{◌≡◌, ℕ, ◌+◌, ◌<◌, ◌≤◌, Bool, true, false, List, [], ◌∷◌, ◌++◌, map, length, drop, get_or, refl, sym, ap, subst, ◌∙◌, Option, Some, None, arith, append_assoc, append-nil, nat_lt, inl, inr, Result, Ok, Err, IfOk, Vec}
+use Rattle.std.specs.Prelude.{filter, slice_get}
+use Rattle.std.specs.List.{flat_map}
+use Rattle.std.proofs.lemmas.Bool.{cases_Bool, cond-false, cond-true, ltb-false, ltb-true}
+use Rattle.std.proofs.lemmas.List.{drop_all, drop_more, map-append}
+use Rattle.std.proofs.lemmas.List.Elements.{filter-append}
+use Rattle.std.proofs.lemmas.Option.{get_or_from_slice_get, slice_get-get_or, slice_get_within}
+use Rattle.std.specs.declared.alloc.Global.{Global}
+use Rattle.echo_addr.specs.declared.address.Address.{Address}
+use Rattle.echo_addr.specs.declared.address.NetNode.{NetNode}
+use Rattle.echo_addr.specs.Address.{net_node_of}
+use Rattle.echo_text.specs.Echo.{EchoText, IsEcho, TextOf}
+use Rattle.echo_base.specs.Written.{text_of}
+use Rattle.echo_base.proofs.Texts.{text_is_text}
+use Rattle.echo_text.proofs.OneReading.{one_text}
+use Rattle.echo_base.specs.Base.{Filed, LinkFile, links_of}
+use Rattle.echo_base.specs.Sets.{address_set, entry_set}
+use Rattle.echo_steps.specs.declared.stamp.Stamp.{Stamp}
+use Rattle.echo_steps.specs.Scanning.{copy_to, exported, goes_to, header_to, packet_to, packets_of, recipients, scanned, targets}
+use Rattle.echo_toss.specs.Exports.{Outgoing, copy_out, goes_out, outgoing_of, packet_out, packets_out}
+use Rattle.echo_steps.specs.declared.packet.Packet.{Packet}
+
+-- one more of what waits
+pub next_waits : {X Y : Type 0} (f : X → Y) (xs : List X) (i : ℕ) (x : X) (old new all : List Y) → Some x ≡ slice_get xs i → old ++ map f (drop i xs) ≡ all → new ≡ old ++ f x ∷ []
+    → new ++ map f (drop (i + 1) xs) ≡ all
+next_waits f xs i x old new all is so_far grown =
+    let within = slice_get_within xs i x (sym is) in
+    let here = get_or_from_slice_get xs i x x (sym is) in
+    ap (λ l. l ++ map f (drop (i + 1) xs)) grown ∙ append_assoc old (f x ∷ []) (map f (drop (i + 1) xs))
+    ∙ ap (λ l. old ++ l) (ap (λ y. f y ∷ map f (drop (i + 1) xs)) (sym here) ∙ ap (map f) (sym (drop_more xs i x within)))
+    ∙ so_far
+
+-- nothing more waits
+pub none_waits : {X Y : Type 0} (f : X → Y) (d : X) (xs : List X) (i : ℕ) (old all : List Y) → None ≡ slice_get xs i → old ++ map f (drop i xs) ≡ all → old ≡ all
+none_waits f d xs i old all none so_far = elim (cases_Bool (nat_lt i (length xs))) [
+  | inl within ↦ absurd (no_some (none ∙ slice_get-get_or xs i d (ltb-true i (length xs) within)))
+  | inr past ↦
+      let past' = ltb-false i (length xs) past in
+      let gone : drop i xs ≡ [] = drop_all i xs past' in
+      sym (append-nil old) ∙ ap (λ l. old ++ map f l) (sym gone) ∙ so_far
+]
+  where
+    no_some : {Z : Type 0} {z : Z} → None ≡ Some z → ⊥
+    no_some e = cc
+
+-- one more that may go to an address
+pub one_more_packed : {X Y : Type 0} (p : X → Bool) (f : X → Y) (xs : List X) (i : ℕ) (x : X) (old new all : List Y) → i < length xs → x ≡ get_or xs i x
+    → old ++ map f (filter p (drop i xs)) ≡ all → new ≡ old ++ map f (filter p (x ∷ [])) → new ++ map f (filter p (drop (i + 1) xs)) ≡ all
+one_more_packed p f xs i x old new all within is so_far grown =
+    let rest = drop (i + 1) xs in
+    let split : drop i xs ≡ (x ∷ []) ++ rest = drop_more xs i x within ∙ ap (λ y. y ∷ rest) (sym is) in
+    let both : map f (filter p (drop i xs)) ≡ map f (filter p (x ∷ [])) ++ map f (filter p rest) =
+    ap (λ l. map f (filter p l)) split ∙ ap (map f) (filter-append p (x ∷ []) rest) ∙ map-append f (filter p (x ∷ [])) (filter p rest) in
+    ap (λ l. l ++ map f (filter p rest)) grown ∙ append_assoc old (map f (filter p (x ∷ []))) (map f (filter p rest)) ∙ ap (λ l. old ++ l) (sym both) ∙ so_far
+
+same_targets : (file : LinkFile) (ms : List Filed) → flat_map (λ o. o.targets) (map (outgoing_of file) ms) ≡ flat_map (targets file) ms
+same_targets file [] = refl
+same_targets file (m ∷ ms) = ap (λ l. targets file m ++ l) (same_targets file ms)
+
+same_copies : (file : LinkFile) (a : Address) (ms : List Filed) → map (copy_out file a) (filter (goes_out a) (map (outgoing_of file) ms)) ≡ map (copy_to file a) (filter (goes_to file a) ms)
+unfolding copy_to
+same_copies file a [] = refl
+same_copies file a (m ∷ ms) =
+    let outs = map (outgoing_of file) ms in
+    elim (cases_Bool (goes_to file a m)) [
+      | inl goes ↦
+          ap (map (copy_out file a)) (cond-true (goes_to file a m) (outgoing_of file m ∷ filter (goes_out a) outs) (filter (goes_out a) outs) goes)
+          ∙ ap (λ l. copy_to file a m ∷ l) (same_copies file a ms)
+          ∙ ap (map (copy_to file a)) (sym (cond-true (goes_to file a m) (m ∷ filter (goes_to file a) ms) (filter (goes_to file a) ms) goes))
+      | inr stays ↦
+          ap (map (copy_out file a)) (cond-false (goes_to file a m) (outgoing_of file m ∷ filter (goes_out a) outs) (filter (goes_out a) outs) stays)
+          ∙ same_copies file a ms
+          ∙ ap (map (copy_to file a)) (sym (cond-false (goes_to file a m) (m ∷ filter (goes_to file a) ms) (filter (goes_to file a) ms) stays))
+    ]
+
+same_packet : (file : LinkFile) (stamp : Stamp) (ms : List Filed) (a : Address) → packet_out file stamp (map (outgoing_of file) ms) a ≡ packet_to file stamp ms a
+unfolding packet_to
+same_packet file stamp ms a = let e = same_copies file a ms in λ i. record { header = header_to file stamp a; messages = e i }
+
+each_same : {X Y : Type 0} (f g : X → Y) → ((x : X) → f x ≡ g x) → (xs : List X) → map f xs ≡ map g xs
+each_same f g same [] = refl
+each_same f g same (x ∷ xs) = let e = same x in let es = each_same f g same xs in λ i. e i ∷ es i
+
+pub packets_are : (file : LinkFile) (stamp : Stamp) (base : List Filed) (cursor : ℕ) → packets_out file stamp (map (outgoing_of file) (drop cursor base)) ≡ scanned file base cursor stamp
+unfolding scanned packets_of recipients
+packets_are file stamp base cursor =
+    let ms = drop cursor base in
+    ap (λ l. map (packet_out file stamp (map (outgoing_of file) ms)) (address_set l)) (same_targets file ms)
+    ∙ each_same (packet_out file stamp (map (outgoing_of file) ms)) (packet_to file stamp ms) (same_packet file stamp ms) (address_set (flat_map (targets file) ms))
+
+pub scan_made : {E : Type 0} (r : Result (Vec Packet Global) E) (file : LinkFile) (stamp : Stamp) (base : List Filed) (cursor : ℕ) (all : List Outgoing)
+    → all ≡ map (outgoing_of file) (drop cursor base) → IfOk r (λ v. v.items ≡ packets_out file stamp all) → IfOk r (λ v. v.items ≡ scanned file base cursor stamp)
+scan_made (Ok v) file stamp base cursor all e h = h ∙ ap (packets_out file stamp) e ∙ packets_are file stamp base cursor
+scan_made (Err e') file stamp base cursor all e h = tt
+
+-- what is exported, part by part
+pub exported_is : (file : LinkFile) (e : EchoText) (tag : List ℕ) (kept : List (List ℕ)) (seen path : List NetNode) → tag ≡ e.tag → kept ≡ e.kept
+    → seen ≡ entry_set (e.seen ++ net_node_of file.system ∷ map net_node_of (links_of file e.tag)) → path ≡ e.path ++ net_node_of file.system ∷ []
+    → record { tag = tag; kept = kept; seen = seen; path = path } ≡ exported file e
+unfolding exported
+exported_is file e tag kept seen path t k s p = λ i. record { tag = t i; kept = k i; seen = s i; path = p i }
+
+-- a text that was written
+pub written_is : (e : EchoText) (bytes : List ℕ) → IsEcho e → TextOf e bytes → bytes ≡ text_of e
+written_is e bytes is text = one_text e bytes (text_of e) text (text_is_text e is)

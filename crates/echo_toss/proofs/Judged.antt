@@ -1,0 +1,114 @@
+-- Why a posting is refused: the link file and the draft first, then the base.
+use Rattle.std.proofs.Common.{◌≡◌, ℕ, ◌==◌, ◌||◌, Bool, true, false, not, List, length, refl, sym, ap, subst, ◌∙◌, Option, Some, None, if◌then◌else◌, inl, inr}
+use Rattle.std.specs.List.{list_any}
+use Rattle.echo_text.specs.Ids.{id_of, is_id}
+use Rattle.std.proofs.lemmas.Bool.{cases_Bool}
+use Rattle.echo_base.specs.declared.key.Key.{Key}
+use Rattle.echo_base.specs.Base.{Filed, IsFile, LinkFile, has_area, is_known, key_of, upper}
+use Rattle.echo_steps.specs.declared.draft.Draft.{Draft}
+use Rattle.echo_steps.specs.declared.stamp.Stamp.{Stamp}
+use Rattle.echo_steps.specs.declared.fault.PostFault.{PostFault}
+use Rattle.echo_steps.specs.declared.fault.PostFault.TheVariants as fault
+use Rattle.echo_steps.specs.Posting.{IsAllowed, IsPostFault, has_id, holds_zero, is_too_long, post_refusal, posted}
+use Rattle.echo_steps.specs.Stamps.{is_stamp}
+use Rattle.echo_steps.proofs.FirstRefusals.{refusal_first}
+use Rattle.echo_steps.proofs.Kept.{posted_new}
+use Rattle.echo_toss.specs.Refusals.{IsPrepared, draft_refusal}
+
+-- five tests one after another, before the rest
+abbrev five : Bool → Bool → Bool → Bool → Bool → Option PostFault → Option PostFault
+five area zero long moment reply rest =
+    if not area then Some fault.NoArea
+    else if zero then Some fault.ByteZero
+    else if long then Some fault.FieldTooLong
+    else if not moment then Some fault.BadStamp
+    else if not reply then Some fault.BadReply
+    else rest
+
+five_some : (area zero long moment reply : Bool) (rest : Option PostFault) (f : PostFault) → five area zero long moment reply None ≡ Some f → five area zero long moment reply rest ≡ Some f
+five_some true false false true true rest f h = absurd (cc)
+five_some true false false true false rest f h = h
+five_some true false false false reply rest f h = h
+five_some true false true moment reply rest f h = h
+five_some true true long moment reply rest f h = h
+five_some false zero long moment reply rest f h = h
+
+-- all five are passed
+record Five (area zero long moment reply : Bool) : Type 0 where
+  area_there : area ≡ true
+  no_zero : zero ≡ false
+  short : long ≡ false
+  in_range : moment ≡ true
+  good_reply : reply ≡ true
+
+five_none : (area zero long moment reply : Bool) → five area zero long moment reply None ≡ None → Five area zero long moment reply
+five_none true false false true true h = record { area_there = refl; no_zero = refl; short = refl; in_range = refl; good_reply = refl }
+five_none true false false true false h = absurd (cc)
+five_none true false false false reply h = absurd (cc)
+five_none true false true moment reply h = absurd (cc)
+five_none true true long moment reply h = absurd (cc)
+five_none false zero long moment reply h = absurd (cc)
+
+five_past : (area zero long moment reply : Bool) (rest : Option PostFault) → five area zero long moment reply None ≡ None → five area zero long moment reply rest ≡ rest
+five_past true false false true true rest h = refl
+five_past true false false true false rest h = absurd (cc)
+five_past true false false false reply rest h = absurd (cc)
+five_past true false true moment reply rest h = absurd (cc)
+five_past true true long moment reply rest h = absurd (cc)
+five_past false zero long moment reply rest h = absurd (cc)
+
+-- what the base says where the draft is in order
+abbrev known_serial : LinkFile → List Filed → ℕ → Option PostFault
+known_serial file base serial = if list_any (has_id (id_of file.system serial)) base then Some fault.KnownSerial else None
+
+pub draft_refused : (file : LinkFile) (base : List Filed) (tag : List ℕ) (draft : Draft) (serial : ℕ) (stamp : Stamp) (f : PostFault)
+    → draft_refusal file tag draft stamp ≡ Some f → post_refusal file base tag draft serial stamp ≡ Some f
+unfolding post_refusal
+draft_refused file base tag draft serial stamp f h =
+    five_some (has_area file (upper tag)) (holds_zero draft) (is_too_long draft) (is_stamp stamp) ((length draft.reply == 0) || is_id draft.reply) (known_serial file base serial) f h
+
+pub draft_passes : (file : LinkFile) (base : List Filed) (tag : List ℕ) (draft : Draft) (serial : ℕ) (stamp : Stamp) (known : Bool)
+    → draft_refusal file tag draft stamp ≡ None → list_any (has_id (id_of file.system serial)) base ≡ known
+    → post_refusal file base tag draft serial stamp ≡ (if known then Some fault.KnownSerial else None)
+unfolding post_refusal
+draft_passes file base tag draft serial stamp known h is =
+    five_past (has_area file (upper tag)) (holds_zero draft) (is_too_long draft) (is_stamp stamp) ((length draft.reply == 0) || is_id draft.reply) (known_serial file base serial) h
+    ∙ ap (λ (b : Bool). if b then Some fault.KnownSerial else None) is
+
+pub draft_allowed : (file : LinkFile) (base : List Filed) (tag : List ℕ) (draft : Draft) (serial : ℕ) (stamp : Stamp)
+    → draft_refusal file tag draft stamp ≡ None → list_any (has_id (id_of file.system serial)) base ≡ false → IsAllowed file base tag draft serial stamp
+draft_allowed file base tag draft serial stamp h new =
+    let all = five_none (has_area file (upper tag)) (holds_zero draft) (is_too_long draft) (is_stamp stamp) ((length draft.reply == 0) || is_id draft.reply) h in
+    record { area = all.area_there; zero = all.no_zero; short = all.short; moment = all.in_range; reply = all.good_reply; new = new }
+
+-- a refusal may be answered
+pub is_fault : (file : LinkFile) (base : List Filed) (tag : List ℕ) (draft : Draft) (serial : ℕ) (stamp : Stamp) (f : PostFault)
+    → post_refusal file base tag draft serial stamp ≡ Some f → IsPostFault file base tag draft serial stamp f
+is_fault file base tag draft serial stamp fault.NoArea h = h
+is_fault file base tag draft serial stamp fault.ByteZero h = h
+is_fault file base tag draft serial stamp fault.FieldTooLong h = h
+is_fault file base tag draft serial stamp fault.BadStamp h = h
+is_fault file base tag draft serial stamp fault.BadReply h = h
+is_fault file base tag draft serial stamp fault.KnownSerial h = h
+is_fault file base tag draft serial stamp fault.Memory h = absurd ((refusal_first file base tag draft serial stamp fault.Memory).0 h)
+
+-- want of memory may be answered once the draft is in order
+pub memory_fault : (file : LinkFile) (base : List Filed) (tag : List ℕ) (draft : Draft) (serial : ℕ) (stamp : Stamp)
+    → draft_refusal file tag draft stamp ≡ None → IsPostFault file base tag draft serial stamp fault.Memory
+memory_fault file base tag draft serial stamp h = elim (cases_Bool (list_any (has_id (id_of file.system serial)) base)) [
+  | inl known ↦ inr (draft_passes file base tag draft serial stamp true h known)
+  | inr new ↦ inl (draft_passes file base tag draft serial stamp false h new)
+]
+
+-- a message that is made for a draft
+pub prepared : (file : LinkFile) (base : List Filed) (tag : List ℕ) (draft : Draft) (serial : ℕ) (stamp : Stamp) (key : Key) (m : Filed) → IsFile file
+    → draft_refusal file tag draft stamp ≡ None → list_any (has_id (id_of file.system serial)) base ≡ false → key ≡ key_of m → m ≡ posted file tag draft serial stamp
+    → IsPrepared file base tag draft serial stamp key m
+prepared file base tag draft serial stamp key m is h new own made =
+    let P : Key → Type 0 = λ k. is_known base k ≡ false in
+    record {
+      allowed = draft_passes file base tag draft serial stamp false h new;
+      message = made;
+      own_key = own;
+      new = subst P (sym (own ∙ ap key_of made)) (posted_new file base tag draft serial stamp is (draft_allowed file base tag draft serial stamp h new));
+    }

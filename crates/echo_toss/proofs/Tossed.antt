@@ -1,0 +1,155 @@
+-- What becomes of a received message.
+use Rattle.std.proofs.Common.{◌≡◌, ◌≢◌, ℕ, Bool, true, false, List, [], ◌∷◌, ◌++◌, refl, sym, ap, subst, ◌∙◌, Option, Some, None, suc, length, arith, not, append-nil, if◌then◌else◌, Result, Ok, Err, IfOk, ◌⊎◌, inl, inr}
+use Rattle.std.specs.List.{AllByRecursion, list_any}
+use Rattle.std.specs.Prelude.{All}
+use Rattle.std.proofs.lemmas.Bool.{cases_Bool}
+use Rattle.std.proofs.lemmas.List.Elements.{All-from_recursion}
+use Rattle.echo_addr.specs.declared.address.Address.{Address}
+use Rattle.echo_packet.specs.Message.{HasNoZero, IsMessage, Message}
+use Rattle.echo_text.specs.declared.fault.TextFault.{TextFault}
+use Rattle.echo_text.specs.declared.fault.TextFault.TheVariants as text
+use Rattle.echo_text.specs.Echo.{EchoOf, EchoText}
+use Rattle.echo_text.specs.Refusal.{refusal}
+use Rattle.echo_base.specs.Base.{Filed, LinkFile, has_area, is_known, is_link, key_of}
+use Rattle.echo_base.specs.Written.{echo_of}
+use Rattle.echo_base.proofs.Texts.{says_accepted, says_one}
+use Rattle.echo_steps.specs.declared.outcome.Outcome.{Outcome}
+use Rattle.echo_steps.specs.declared.outcome.Outcome.TheVariants as outcome
+use Rattle.echo_steps.specs.SystemState.{SystemState, state_with}
+use Rattle.echo_steps.specs.Tossing.{IsOutcome, received, toss_outcome, tossing, where_filed}
+use Rattle.echo_steps.proofs.FirstRefusals.{outcome_is_first}
+use Rattle.echo_base.specs.declared.key.Key.{Key}
+use Rattle.echo_toss.specs.Wanted.{IsNew, IsUnwanted, IsWanted, refused_by}
+
+-- a message that has another outcome is not filed
+not_filed : (file : LinkFile) (sender : Address) (packed : Message) (o : Outcome) → ((m : Filed) → where_filed o m ≡ None) → ((base : List Filed) → IsOutcome file base sender packed o)
+    → IsUnwanted file sender packed o
+unfolding tossing
+not_filed file sender packed o none is = λ base.
+    let same : toss_outcome file base sender packed ≡ o = (outcome_is_first file base sender packed o).1 (is base) in
+    (sym same, sym (ap (λ x. where_filed x (received sender packed)) same ∙ none (received sender packed)))
+
+pub no_echo : (file : LinkFile) (sender : Address) (packed : Message) → refusal packed.text ≡ Some text.NotEcho → IsUnwanted file sender packed outcome.NotEcho
+no_echo file sender packed h = not_filed file sender packed outcome.NotEcho (λ m. refl) (λ base. h)
+
+pub bad_tag : (file : LinkFile) (sender : Address) (packed : Message) → refusal packed.text ≡ Some text.BadTag → IsUnwanted file sender packed outcome.BadTag
+bad_tag file sender packed h = not_filed file sender packed outcome.BadTag (λ m. refl) (λ base. h)
+
+-- what the text says
+pub text_said : (packed : Message) (e : EchoText) (dropped : ℕ) → EchoOf packed.text e dropped → (refusal packed.text ≡ None) × (e ≡ echo_of packed.text)
+text_said packed e dropped h = (says_accepted packed.text e dropped h, sym (says_one packed.text e dropped h))
+
+-- the link file refuses it, or not
+abbrev choice : Bool → Bool → Option Outcome
+choice area link = if not area then Some outcome.NoArea else if not link then Some outcome.NotLinked else None
+
+refused : (area link : Bool) (o : Outcome) → choice area link ≡ Some o
+    → ((area ≡ false) × (outcome.NoArea ≡ o)) ⊎ ((area ≡ true) × (link ≡ false) × (outcome.NotLinked ≡ o))
+refused true true o h = absurd (cc)
+refused true false o h = inr (refl, refl, cc)
+refused false link o h = inl (refl, cc)
+
+accepted : (area link : Bool) → choice area link ≡ None → (area ≡ true) × (link ≡ true)
+accepted true true h = (refl, refl)
+accepted true false h = absurd (cc)
+accepted false link h = absurd (cc)
+
+pub link_refused : (file : LinkFile) (sender : Address) (packed : Message) (e : EchoText) (o : Outcome) → refusal packed.text ≡ None → e ≡ echo_of packed.text
+    → refused_by file e.tag sender ≡ Some o → IsUnwanted file sender packed o
+link_refused file sender packed e o none said h =
+    let P : Outcome → Type 0 = λ x. IsUnwanted file sender packed x in
+    let tag : e.tag ≡ (echo_of packed.text).tag = ap (λ (x : EchoText). x.tag) said in
+    let A : List ℕ → Type 0 = λ t. has_area file t ≡ true in
+    let N : List ℕ → Type 0 = λ t. has_area file t ≡ false in
+    let L : List ℕ → Type 0 = λ t. is_link file t sender ≡ false in
+    elim (refused (has_area file e.tag) (is_link file e.tag sender) o h) [
+      | inl area ↦ subst P area.1 (not_filed file sender packed outcome.NoArea (λ m. refl) (λ base. (none, subst N tag area.0)))
+      | inr link ↦ subst P link.2 (not_filed file sender packed outcome.NotLinked (λ m. refl) (λ base. (none, subst A tag link.0, subst L tag link.1)))
+    ]
+
+-- the area is there, and the sender links it
+wanted_area : (file : LinkFile) (sender : Address) (packed : Message) (e : EchoText) → IsWanted file sender packed e
+    → (has_area file (echo_of packed.text).tag ≡ true) × (is_link file (echo_of packed.text).tag sender ≡ true)
+wanted_area file sender packed e h =
+    let tag : e.tag ≡ (echo_of packed.text).tag = ap (λ (x : EchoText). x.tag) h.said in
+    let A : List ℕ → Type 0 = λ t. has_area file t ≡ true in
+    let L : List ℕ → Type 0 = λ t. is_link file t sender ≡ true in
+    let both = accepted (has_area file e.tag) (is_link file e.tag sender) h.allowed in
+    (subst A tag both.0, subst L tag both.1)
+
+-- a state with nothing more
+pub state_same : (s : SystemState) → s ≡ state_with s None
+state_same s = let base = sym (append-nil s.base) in λ i. record { file = s.file; base = base i; cursor = s.cursor }
+
+-- a message that changes nothing
+pub step_left : (s : SystemState) (sender : Address) (packed : Message) (o : Outcome) → (o ≡ toss_outcome s.file s.base sender packed) × (None ≡ tossing s.file s.base sender packed)
+    → (o ≡ toss_outcome s.file s.base sender packed) × (s ≡ state_with s (tossing s.file s.base sender packed))
+step_left s sender packed o h = (h.0, state_same s ∙ ap (state_with s) h.1)
+
+-- a message whose key is known
+pub known_left : (file : LinkFile) (base : List Filed) (sender : Address) (packed : Message) (e : EchoText) (key : Key) → IsWanted file sender packed e → key ≡ key_of (received sender packed)
+    → is_known base key ≡ true → (outcome.Known ≡ toss_outcome file base sender packed) × (None ≡ tossing file base sender packed)
+unfolding tossing
+known_left file base sender packed e key h is known =
+    let both = wanted_area file sender packed e h in
+    let P : Key → Type 0 = λ k. is_known base k ≡ true in
+    let same : toss_outcome file base sender packed ≡ outcome.Known = (outcome_is_first file base sender packed outcome.Known).1 (h.text, both.0, both.1, subst P is known) in
+    (sym same, ap (λ x. where_filed x (received sender packed)) (sym same))
+
+-- a message that is new
+pub found_new : (file : LinkFile) (base : List Filed) (sender : Address) (packed : Message) (e : EchoText) (key : Key) (m : Filed) → IsWanted file sender packed e
+    → key ≡ key_of (received sender packed) → is_known base key ≡ false → m ≡ received sender packed → IsNew file base sender packed key m
+unfolding tossing
+found_new file base sender packed e key m h is new made =
+    let both = wanted_area file sender packed e h in
+    let P : Key → Type 0 = λ k. is_known base k ≡ false in
+    let same : toss_outcome file base sender packed ≡ outcome.Filed =
+    (outcome_is_first file base sender packed outcome.Filed).1 (record { text = h.text; area = both.0; link = both.1; new = subst P is new }) in
+    record {
+      answer = sym same;
+      message = ap (λ x. Some x) made ∙ ap (λ x. where_filed x (received sender packed)) (sym same);
+      own_key = is ∙ ap key_of (sym made);
+      new = new;
+    }
+
+-- one more message is the last of the base
+pub state_grown : (s t : SystemState) (m : Filed) → t.file ≡ s.file → t.base ≡ s.base ++ m ∷ [] → t.cursor ≡ s.cursor → t ≡ state_with s (Some m)
+state_grown s t m file base cursor = λ i. record { file = file i; base = base i; cursor = cursor i }
+
+pub step_new : (s t : SystemState) (sender : Address) (packed : Message) (key : Key) (m : Filed) → IsNew s.file s.base sender packed key m
+    → t.file ≡ s.file → t.base ≡ s.base ++ m ∷ [] → t.cursor ≡ s.cursor
+    → (outcome.Filed ≡ toss_outcome s.file s.base sender packed) × (t ≡ state_with s (tossing s.file s.base sender packed))
+step_new s t sender packed key m h file base cursor = (h.answer, state_grown s t m file base cursor ∙ ap (state_with s) h.message)
+
+-- a text without 00, byte by byte
+each_byte : (bytes : List ℕ) → HasNoZero bytes → AllByRecursion (λ b. b ≢ 0) bytes
+each_byte [] h = tt
+each_byte (b ∷ bytes) h = (h 0 (omega arith), each_byte bytes (λ i inside. h (suc i) (omega arith)))
+
+pub no_zero_byte : (bytes : List ℕ) → HasNoZero bytes → All (λ b. b ≢ 0) bytes
+no_zero_byte bytes h = All-from_recursion (λ b. b ≢ 0) bytes (each_byte bytes h)
+
+-- why a text is refused
+pub refused_text : (packed : Message) (bytes : List ℕ) (f : TextFault) → bytes ≡ packed.text → (f ≡ text.Memory → ⊥)
+    → (refusal bytes ≡ Some f) ⊎ ((refusal bytes ≡ None) × (f ≡ text.Memory)) → refusal packed.text ≡ Some f
+refused_text packed bytes f is other h =
+    let P : List ℕ → Type 0 = λ t. refusal t ≡ Some f in
+    subst P is (elim h [ inl refused ↦ refused | inr memory ↦ absurd (other memory.1) ])
+
+-- the key of what is received
+pub key_received : {E : Type 0} (r : Result Key E) (packed : Message) (date to_name from_name subject : List ℕ) (e : EchoText)
+    → date ≡ packed.date → to_name ≡ packed.to_name → from_name ≡ packed.from_name → subject ≡ packed.subject → e ≡ echo_of packed.text
+    → IfOk r (λ key. (s : Option Address) → key ≡ key_of (record { sender = s; date = date; to_name = to_name; from_name = from_name; subject = subject; echo = e }))
+    → IfOk r (λ key. (s : Address) → key ≡ key_of (received s packed))
+unfolding received
+key_received (Ok key) packed date to_name from_name subject e d t f j k h = λ s.
+    h (Some s) ∙ (λ i. key_of (record { sender = Some s; date = d i; to_name = t i; from_name = f i; subject = j i; echo = k i }))
+key_received (Err e') packed date to_name from_name subject e d t f j k h = tt
+
+-- what is received, part by part
+pub made_received : (sender : Address) (packed : Message) (date to_name from_name subject : List ℕ) (e : EchoText)
+    → date ≡ packed.date → to_name ≡ packed.to_name → from_name ≡ packed.from_name → subject ≡ packed.subject → e ≡ echo_of packed.text
+    → record { sender = Some sender; date = date; to_name = to_name; from_name = from_name; subject = subject; echo = e } ≡ received sender packed
+unfolding received
+made_received sender packed date to_name from_name subject e d t f j k =
+    λ i. record { sender = Some sender; date = d i; to_name = t i; from_name = f i; subject = j i; echo = k i }

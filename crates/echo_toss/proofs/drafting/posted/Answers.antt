@@ -1,0 +1,37 @@
+use Rattle.std.proofs.Common.{◌≡◌, sym, subst, ◌∙◌, [], refl, None}
+use Rattle.echo_base.specs.Base.{Filed, IsFiled}
+use Rattle.echo_steps.specs.Posting.{IsAllowed, posted}
+use Rattle.echo_steps.proofs.Kept.{posted_filed}
+use Rattle.echo_toss.proofs.Drafted.{posted_is}
+use Rattle.echo_toss.proofs.Judged.{draft_allowed}
+use Rattle.echo_toss.proofs.drafting.posted.Goals as goal
+
+pub date_of-requires : goal.date_of-requires
+date_of-requires c = (draft_allowed c.args.links.now [] c.args.tag.now c.args.draft.now c.args.serial c.args.stamp c.requires refl).moment
+
+made : (c : goal.After-date_of) → record {
+  sender = None;
+  date = c.date_of.result;
+  to_name = c.in_ok-to_name.to_name;
+  from_name = c.in_ok-from_name.from_name;
+  subject = c.in_ok-subject.subject;
+  echo = record { tag = c.in_ok-tag.tag; kept = c.in_ok-kept.kept; seen = c.new-2.result; path = c.new-4.result };
+} ≡ posted c.args.links.now c.args.tag.now c.args.draft.now c.args.serial c.args.stamp
+made c =
+    posted_is c.args.links.now c.args.tag.now c.args.draft.now c.args.serial c.args.stamp _ _ _ _ _ _ _ _ c.date_of.ensures
+    (c.in_ok-to_name.ensures ∙ c.as_slice.ensures) (c.in_ok-from_name.ensures ∙ c.as_slice-2.ensures) (c.in_ok-subject.ensures ∙ c.as_slice-3.ensures)
+    c.in_ok-tag.ensures c.in_ok-kept.ensures (c.new-2.ensures ∙ c.new.ensures.items) (c.new-4.ensures ∙ c.new-3.ensures.items)
+
+filed : (c : goal.After-date_of) → IsFiled (posted c.args.links.now c.args.tag.now c.args.draft.now c.args.serial c.args.stamp)
+filed c =
+    posted_filed c.args.links.now [] c.args.tag.now c.args.draft.now c.args.serial c.args.stamp c.system.ensures.file
+    (draft_allowed c.args.links.now [] c.args.tag.now c.args.draft.now c.args.serial c.args.stamp c.requires refl)
+
+pub invariant_of-echo : goal.invariant_of-echo
+invariant_of-echo c = (subst IsFiled (sym (made c)) (filed c)).is_echo
+
+pub invariant_of-result : goal.invariant_of-result
+invariant_of-result c = subst IsFiled (sym (made c)) (filed c)
+
+pub returns : goal.returns
+returns c = made c

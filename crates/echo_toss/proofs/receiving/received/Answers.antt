@@ -1,0 +1,24 @@
+use Rattle.std.proofs.Common.{◌≡◌, sym, subst, ◌∙◌, Some, arith}
+use Rattle.echo_base.specs.Base.{IsFiled}
+use Rattle.echo_steps.specs.Tossing.{received}
+use Rattle.echo_steps.proofs.Kept.{received_filed}
+use Rattle.echo_toss.proofs.Tossed.{made_received}
+use Rattle.echo_toss.proofs.receiving.received.Goals as goal
+
+made : (c : goal.After-result-1) → record {
+  sender = Some c.args.sender;
+  date = c.date.result.now;
+  to_name = c.in_ok-to_name.to_name;
+  from_name = c.in_ok-from_name.from_name;
+  subject = c.in_ok-subject.subject;
+  echo = c.in_ok-echo.echo;
+} ≡ received c.args.sender c.args.packed.now
+made c =
+    made_received c.args.sender c.args.packed.now _ _ _ _ _ c.date.ensures (c.in_ok-to_name.ensures ∙ c.to_name.ensures) (c.in_ok-from_name.ensures ∙ c.from_name.ensures)
+    (c.in_ok-subject.ensures ∙ c.subject.ensures) (c.in_ok-echo.ensures ∙ c.requires.said)
+
+pub invariant_of-result : goal.invariant_of-result
+invariant_of-result c = subst IsFiled (sym (made c)) (received_filed _ c.args.sender c.args.packed.now (omega arith, omega arith, omega arith) c.text.ensures.message c.requires.echomail)
+
+pub returns : goal.returns
+returns c = made c

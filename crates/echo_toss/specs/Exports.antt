@@ -1,0 +1,59 @@
+-- What goes out of the messages that wait.
+use Rattle.std.specs.Prelude.{ℕ, Bool, List, map, filter, Result, Ok, Err, Vec}
+use Rattle.std.specs.declared.alloc.Global.{Global}
+use Rattle.echo_steps.specs.declared.fault.ScanFault.{ScanFault}
+use Rattle.std.specs.List.{flat_map, list_any}
+use Rattle.echo_addr.specs.declared.address.Address.{Address}
+use Rattle.echo_packet.specs.Message.{Message}
+use Rattle.echo_base.specs.Base.{Filed, LinkFile}
+use Rattle.echo_base.specs.Sets.{address_set, same_address}
+use Rattle.echo_base.specs.Written.{text_of}
+use Rattle.echo_steps.specs.declared.packet.Packet.{Packet}
+use Rattle.echo_steps.specs.declared.stamp.Stamp.{Stamp}
+use Rattle.echo_steps.specs.Scanning.{exported, header_to, targets}
+
+-- a message, whom it goes to, and the text that goes out
+pub record Outgoing : Type 0 where
+  pub message : Filed
+  pub targets : List Address
+  pub text : List ℕ
+
+-- what goes out of a message
+abbrev pub outgoing_of : LinkFile → Filed → Outgoing
+outgoing_of file m = record { message = m; targets = targets file m; text = text_of (exported file m.echo) }
+
+-- the copy of it that goes to an address
+abbrev pub copy_out : LinkFile → Address → Outgoing → Message
+copy_out file address o = record {
+  orig_node = file.system.node;
+  dest_node = address.node;
+  orig_net = file.system.net;
+  dest_net = address.net;
+  attribute = 0;
+  cost = 0;
+  date = o.message.date;
+  to_name = o.message.to_name;
+  from_name = o.message.from_name;
+  subject = o.message.subject;
+  text = o.text;
+}
+
+-- whether it goes to an address
+abbrev pub goes_out : Address → Outgoing → Bool
+goes_out address o = list_any (same_address address) o.targets
+
+-- the packet of what goes out to an address
+abbrev pub packet_out : LinkFile → Stamp → List Outgoing → Address → Packet
+packet_out file stamp all address = record {
+  header = header_to file stamp address;
+  messages = map (copy_out file address) (filter (goes_out address) all);
+}
+
+-- one packet for each address that gets some of it
+abbrev pub packets_out : LinkFile → Stamp → List Outgoing → List Packet
+packets_out file stamp all = map (packet_out file stamp all) (address_set (flat_map (λ o. o.targets) all))
+
+-- what a scan answered, its packets as a list
+abbrev pub listed : Result (Vec Packet Global) ScanFault → Result (List Packet) ScanFault
+listed (Ok packets) = Ok packets.items
+listed (Err fault) = Err fault

@@ -1,0 +1,28 @@
+-- Why a draft is refused, whatever the base.
+use Rattle.std.specs.Prelude.{◌≡◌, false, ℕ, ◌==◌, ◌||◌, not, List, length, if◌then◌else◌, Option, Some, None}
+use Rattle.echo_text.specs.Ids.{is_id}
+use Rattle.echo_base.specs.declared.key.Key.{Key}
+use Rattle.echo_base.specs.Base.{Filed, LinkFile, has_area, is_known, key_of, upper}
+use Rattle.echo_steps.specs.declared.draft.Draft.{Draft}
+use Rattle.echo_steps.specs.declared.stamp.Stamp.{Stamp}
+use Rattle.echo_steps.specs.declared.fault.PostFault.{PostFault}
+use Rattle.echo_steps.specs.declared.fault.PostFault.TheVariants as fault
+use Rattle.echo_steps.specs.Posting.{holds_zero, is_too_long, post_refusal, posted}
+use Rattle.echo_steps.specs.Stamps.{is_stamp}
+
+-- the first refusal that applies to a draft, those aside that the base decides
+abbrev pub draft_refusal : LinkFile → List ℕ → Draft → Stamp → Option PostFault
+draft_refusal file tag draft stamp =
+    if not (has_area file (upper tag)) then Some fault.NoArea
+    else if holds_zero draft then Some fault.ByteZero
+    else if is_too_long draft then Some fault.FieldTooLong
+    else if not (is_stamp stamp) then Some fault.BadStamp
+    else if not ((length draft.reply == 0) || is_id draft.reply) then Some fault.BadReply
+    else None
+
+-- a message that may be filed for a draft, and its key
+pub record IsPrepared (file : LinkFile) (base : List Filed) (tag : List ℕ) (draft : Draft) (serial : ℕ) (stamp : Stamp) (key : Key) (m : Filed) : Type 0 where
+  pub allowed : post_refusal file base tag draft serial stamp ≡ None
+  pub message : m ≡ posted file tag draft serial stamp
+  pub own_key : key ≡ key_of m
+  pub new : is_known base key ≡ false

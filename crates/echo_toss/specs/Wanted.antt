@@ -1,0 +1,51 @@
+-- Whether a received message is wanted, whatever the base.
+use Rattle.std.specs.Prelude.{◌≡◌, false, ℕ, not, List, if◌then◌else◌, Option, Some, None}
+use Rattle.echo_addr.specs.declared.address.Address.{Address}
+use Rattle.echo_packet.specs.Message.{Message}
+use Rattle.echo_text.specs.Echo.{EchoText}
+use Rattle.echo_text.specs.Refusal.{refusal}
+use Rattle.echo_base.specs.Base.{Filed, LinkFile, has_area, is_known, is_link, key_of}
+use Rattle.echo_base.specs.declared.key.Key.{Key}
+use Rattle.echo_toss.specs.declared.tossing.Verdict.{Verdict}
+use Rattle.echo_toss.specs.declared.tossing.Verdict.TheVariants.{Left, New}
+use Rattle.echo_base.specs.Written.{echo_of}
+use Rattle.echo_steps.specs.declared.outcome.Outcome.{Outcome}
+use Rattle.echo_steps.specs.declared.outcome.Outcome.TheVariants as outcome
+use Rattle.echo_steps.specs.Tossing.{toss_outcome, tossing}
+use Rattle.echo_toss.specs.declared.receiving.Reading.{Reading}
+use Rattle.echo_toss.specs.declared.receiving.Reading.TheVariants.{Unwanted, Wanted}
+
+-- why the link file keeps a message with this tag from being filed
+abbrev pub refused_by : LinkFile → List ℕ → Address → Option Outcome
+refused_by file tag sender =
+    if not (has_area file tag) then Some outcome.NoArea
+    else if not (is_link file tag sender) then Some outcome.NotLinked
+    else None
+
+-- the text is echomail that says e, of an area that the sender links
+pub record IsWanted (file : LinkFile) (sender : Address) (packed : Message) (e : EchoText) : Type 0 where
+  pub text : refusal packed.text ≡ None
+  pub said : e ≡ echo_of packed.text
+  pub allowed : refused_by file e.tag sender ≡ None
+
+-- whatever the base, this becomes of the message, and it is not filed
+abbrev pub IsUnwanted : LinkFile → Address → Message → Outcome → Type 0
+IsUnwanted file sender packed answer =
+    (base : List Filed) → (answer ≡ toss_outcome file base sender packed) × (None ≡ tossing file base sender packed)
+
+-- what was read of a message is so
+abbrev pub IsRead : LinkFile → Address → Message → Reading → Type 0
+IsRead file sender packed (Wanted e) = IsWanted file sender packed e
+IsRead file sender packed (Unwanted answer) = IsUnwanted file sender packed answer
+
+-- a message that is to be filed, and its key
+pub record IsNew (file : LinkFile) (base : List Filed) (sender : Address) (packed : Message) (key : Key) (m : Filed) : Type 0 where
+  pub answer : outcome.Filed ≡ toss_outcome file base sender packed
+  pub message : Some m ≡ tossing file base sender packed
+  pub own_key : key ≡ key_of m
+  pub new : is_known base key ≡ false
+
+-- what becomes of a message is so
+abbrev pub IsVerdict : LinkFile → List Filed → Address → Message → Verdict → Type 0
+IsVerdict file base sender packed (New key m) = IsNew file base sender packed key m
+IsVerdict file base sender packed (Left answer) = (answer ≡ toss_outcome file base sender packed) × (None ≡ tossing file base sender packed)

@@ -1,0 +1,100 @@
+//! Why a draft is refused, whatever the base.
+ghost use Rattle.std.specs.Prelude.{◌≡◌, ◌==◌, ◌||◌, length, map, nat_lt, Some, None, MatchResult};
+ghost use Rattle.std.specs.Char.{to_ascii_uppercase};
+ghost use Rattle.std.specs.List.{list_any};
+ghost use Rattle.echo_text.specs.Ids.{is_id, is_zero};
+ghost use Rattle.echo_base.specs.Base.{has_area, upper};
+ghost use Rattle.echo_steps.specs.Posting.{holds_zero, is_too_long};
+ghost use Rattle.echo_toss.specs.Refusals.{draft_refusal};
+
+use crate::moment::is_stamp;
+use echo_base::LinkFile;
+use echo_steps::{Draft, PostFault, Stamp};
+use echo_text::MsgId;
+
+/// The most bytes of a name, of the subject and of a tag.
+const NAME: usize = 35;
+
+const SUBJECT: usize = 71;
+
+const TAG: usize = 60;
+
+/// Judges a draft by the link file and by itself.
+pub(crate) fn judge(
+    links: &LinkFile,
+    tag: &[u8],
+    draft: &Draft,
+    stamp: Stamp,
+) -> Result<(), PostFault>
+    ensures { MatchResult result (λ _. draft_refusal links.now tag.now draft.now stamp ≡ None) (λ fault. draft_refusal links.now tag.now draft.now stamp ≡ Some fault) }
+{
+    if !has_area(links, tag) {
+        return Err(PostFault::NoArea);
+    }
+    if holds_zero(draft) {
+        return Err(PostFault::ByteZero);
+    }
+    if is_too_long(draft) {
+        return Err(PostFault::FieldTooLong);
+    }
+    if !is_stamp(stamp) {
+        return Err(PostFault::BadStamp);
+    }
+    if !is_reply(draft.reply.as_slice()) {
+        return Err(PostFault::BadReply);
+    }
+    Ok(())
+}
+
+// Whether the link file has the area of the tag in upper case.
+fn has_area(links: &LinkFile, tag: &[u8]) -> bool
+    ensures { result ≡ has_area links.now (upper tag.now) }
+{
+    if tag.len() > TAG {
+        links.system();
+        return false;
+    }
+    let mut raised = [0u8; TAG];
+    let raised = &mut raised[..tag.len()];
+    raised.copy_from_slice(tag);
+    raise(raised);
+    links.has_area(raised)
+}
+
+// Puts ASCII letters into upper case.
+fn raise(bytes: &mut [u8])
+    ensures { bytes.new ≡ map to_ascii_uppercase bytes.old }
+{
+    'bytes: for byte in bytes.iter_mut() {
+        *byte = byte.to_ascii_uppercase();
+    }
+}
+
+fn holds_zero(draft: &Draft) -> bool
+    ensures { result ≡ holds_zero draft.now }
+{
+    has_zero(draft.to_name.as_slice())
+        || has_zero(draft.from_name.as_slice())
+        || has_zero(draft.subject.as_slice())
+        || has_zero(draft.reply.as_slice())
+        || has_zero(draft.body.as_slice())
+}
+
+fn has_zero(bytes: &[u8]) -> bool
+    ensures { result ≡ list_any is_zero bytes.now }
+{
+    bytes.iter().any(|b| *b == 0)
+}
+
+fn is_too_long(draft: &Draft) -> bool
+    ensures { result ≡ is_too_long draft.now }
+{
+    draft.to_name.len() > NAME || draft.from_name.len() > NAME || draft.subject.len() > SUBJECT
+}
+
+// Whether there is no reply, or an id.
+fn is_reply(reply: &[u8]) -> bool
+    ensures { result ≡ ((length reply.now == 0) || is_id reply.now) }
+{
+    reply.is_empty() || MsgId::read(reply).is_ok()
+}

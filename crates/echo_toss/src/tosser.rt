@@ -1,0 +1,67 @@
+ghost use Rattle.std.specs.Prelude.{◌≡◌, ◌-◌, length, slice_get, option_copied};
+ghost use Rattle.echo_base.specs.Base.{IsBase};
+ghost use Rattle.echo_steps.specs.SystemState.{state_at_first};
+
+use echo_base::{Base, Filed, LinkFile};
+use std::alloc::Global;
+use std::hash::BuildHasher;
+use std::marker::Model;
+
+/// A system that posts, tosses, scans and purges: its link file and its base. The messages of the base
+/// stand in order of filing; those before the cursor were scanned. Look-ups go by the hasher `S`.
+#[derive(Drop)]
+pub struct Tosser<S: BuildHasher> {
+    pub(crate) alloc: Global,
+    pub(crate) links: LinkFile,
+    pub(crate) base: Base<S>,
+}
+
+impl<S: BuildHasher> Model for Tosser<S> {
+    ghost use Rattle.echo_steps.specs.SystemState.{SystemState};
+
+    ghost Value = { SystemState };
+
+    ghost view = { λ t. record { file = t.links; base = t.base.messages; cursor = t.base.cursor } };
+}
+
+impl<S: BuildHasher> Tosser<S> {
+    /// A system that has filed nothing. Takes no memory.
+    pub fn new(alloc: Global, links: LinkFile, hasher: S) -> Tosser<S>
+        ensures { result ≡ state_at_first links }
+    {
+        Tosser {
+            alloc,
+            links,
+            base: Base::new(alloc, hasher),
+        }
+    }
+
+    /// The link file.
+    pub fn links(&self) -> &LinkFile
+        ensures { result.now ≡ self.now.file }
+    {
+        &self.links
+    }
+
+    /// How many messages the base has.
+    pub fn filed(&self) -> usize
+        ensures count { result ≡ length self.now.base }
+        ensures base { IsBase self.now.base self.now.cursor }
+    {
+        self.base.len()
+    }
+
+    /// How many of them were not yet scanned.
+    pub fn waiting(&self) -> usize
+        ensures { result ≡ length self.now.base - self.now.cursor }
+    {
+        self.base.len() - self.base.cursor()
+    }
+
+    /// The message of this number, counted from 0 in order of filing.
+    pub fn message(&self, i: usize) -> Option<&Filed>
+        ensures { option_copied result ≡ slice_get self.now.base i }
+    {
+        self.base.message(i)
+    }
+}
