@@ -1,22 +1,20 @@
 -- What the links of an area that were found wrong, or not, say of the net.
-use Rattle.std.proofs.Common.{◌≡◌, ◌≢◌, ◌↔◌, ◌&&◌, ◌||◌, ◌==◌, ◌<◌, ℕ, Bool, Option, Some, None, MatchOption, true, false, IsTrue, List, [], ◌∷◌, length, get_or, refl, sym, subst, ap, ◌∙◌, arith, inl, inr}
+use Rattle.std.proofs.Common.{◌≡◌, ◌≢◌, ◌↔◌, ◌&&◌, ◌==◌, ℕ, Bool, Option, Some, None, MatchOption, true, false, IsTrue, List, length, get_or, refl, sym, subst, ◌∙◌, arith, inl, inr}
 use Rattle.std.specs.Prelude.{Contains}
-use Rattle.std.specs.List.{All, list_any}
+use Rattle.std.specs.List.{All}
 use Rattle.std.proofs.lemmas.Bool.{and_from, and_parts, cases_Bool, eqb-false, eqb-true, or_parts}
 use Rattle.std.proofs.lemmas.List.Elements.{Contains-get_or}
 use Rattle.echo_addr.specs.declared.address.Address.{Address}
-use Rattle.echo_addr.specs.Address.{net_node_of}
 use Rattle.echo_base.specs.LinkLines.{no_address}
 use Rattle.echo_base.specs.Base.{IsFile, LinkFile, has_area}
 use Rattle.echo_base.specs.Sets.{address_before, same_address}
-use Rattle.echo_graph.specs.Walk.{Among}
 use Rattle.echo_graph.proofs.Members.{Among-index}
 use Rattle.echo_run.specs.Fits.{FilesFit}
 use Rattle.echo_run.specs.Tidy.{Carries, carries, lists}
 use Rattle.echo_run.proofs.Lists.{any-from, any-to}
 use Rattle.echo_net.specs.declared.link.Link.{Link}
 use Rattle.echo_net.specs.Faults.{AllAreAnswered, AllAreKnown, AreSoundLinks, IsCarried, NetNodesDiffer, NoneListsItself}
-use Rattle.echo_net.specs.Firsts.{HasTwin, IsFirstLink, IsSmallest, IsSmallestPair, pair_before}
+use Rattle.echo_net.specs.Firsts.{HasTwin, IsFirstLink, IsSmallest, IsSmallestPair}
 use Rattle.echo_net.specs.Nets.{link}
 use Rattle.echo_net.proofs.Orders.{same_itself, same_where_neither}
 

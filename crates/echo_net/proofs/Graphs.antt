@@ -1,32 +1,30 @@
 -- The graph of an area, and what its faults say of the net.
-use Rattle.std.proofs.Common.{◌≡◌, ◌≢◌, ◌<◌, ◌≤◌, ◌↔◌, nat_lt, ℕ, zero, suc, Bool, true, false, IsTrue, List, [], ◌∷◌, length, map, get_or, refl, sym, subst, ap, ◌∙◌, arith, inl, inr}
+use Rattle.std.proofs.Common.{◌≡◌, ◌≢◌, ◌<◌, ◌≤◌, ◌↔◌, ℕ, zero, suc, Bool, false, IsTrue, List, [], ◌∷◌, length, map, get_or, sym, subst, ap, ◌∙◌, arith, inl, inr}
 use Rattle.std.specs.Prelude.{Contains}
 use Rattle.std.specs.Cmp.{both_ways}
-use Rattle.std.specs.List.{All, list_any}
-use Rattle.std.specs.List.Sorted.{IsStrictlySortedBy}
+use Rattle.std.specs.List.{All}
 use Rattle.std.proofs.lemmas.Bool.{cases_lt}
-use Rattle.std.proofs.lemmas.List.{get_or_default, get_or_past}
+use Rattle.std.proofs.lemmas.List.{get_or_past}
 use Rattle.echo_addr.specs.declared.address.Address.{Address}
-use Rattle.echo_base.specs.LinkLines.{no_address}
 use Rattle.echo_base.specs.Base.{LinkFile}
 use Rattle.echo_base.specs.Sets.{address_before}
 use Rattle.echo_graph.specs.Walk.{Among, Connected, Different, Reaches}
-use Rattle.echo_graph.specs.Cycle.{Cycle, IsCycle, Polygons}
+use Rattle.echo_graph.specs.Cycle.{IsCycle, Polygons}
 use Rattle.echo_graph.specs.Loops.{NamedLoop}
 use Rattle.echo_graph.specs.Reach.{FirstUnreached}
-use Rattle.echo_graph.specs.Rows.{IsAscending, IsGraph, linked, links_of}
+use Rattle.echo_graph.specs.Rows.{IsAscending, IsGraph, linked}
 use Rattle.echo_graph.proofs.Members.{Among-get_or, Among-index}
 use Rattle.echo_graph.proofs.Renaming.{Among-map, Cycle-renamed}
 use Rattle.echo_graph.proofs.Rows.{linked_within}
 use Rattle.echo_graph.proofs.Walks.{walk_links}
-use Rattle.echo_run.specs.Tidy.{Carries, Joined, Tidy, carries, lists}
+use Rattle.echo_run.specs.Tidy.{Carries, Joined, Tidy, lists}
 use Rattle.echo_net.specs.declared.link.Link.{Link}
 use Rattle.echo_net.specs.declared.verdict.NetFault.{NetFault}
 use Rattle.echo_net.specs.declared.verdict.NetFault.TheVariants.{NoSuchArea, TwoFiles, SelfLink, Unknown, OneSided, SameNetNode, Apart, Loop}
-use Rattle.echo_net.specs.Faults.{AreInOrder, AreSoundLinks, IsFirstFault, IsNamedLoop, numbered}
-use Rattle.echo_net.specs.Firsts.{IsAt, IsSmallest}
+use Rattle.echo_net.specs.Faults.{AreInOrder, AreSoundLinks, IsFirstFault, numbered}
+use Rattle.echo_net.specs.Firsts.{IsAt}
 use Rattle.echo_net.specs.Nets.{systems}
-use Rattle.echo_net.specs.Rows.{AreRows, IsRow, system_at}
+use Rattle.echo_net.specs.Rows.{AreRows, system_at}
 use Rattle.echo_net.proofs.Numbers.{back, back_name, carried, connected, loop_apart, name, no_later, number, parts, polygons, polygons_back, reaches, reaches_back, renaming, simple_numbers, whole}
 use Rattle.echo_net.proofs.Orders.{not_before_itself}
 

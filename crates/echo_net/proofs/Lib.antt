@@ -1,7 +1,7 @@
 pub mod Ascending
 pub mod Orders
 pub mod FirstOf
-pub mod Listed
+pub mod Collected
 pub mod Neighbours
 pub mod Owned
 pub mod Twins
@@ -9,3 +9,4 @@ pub mod Runs
 pub mod Faulty
 pub mod Numbers
 pub mod Graphs
+pub mod Absences

@@ -1,10 +1,10 @@
 -- Lists in order of a key and then of a value: of two items with one key, the first stands before another with this key.
-use Rattle.std.proofs.Common.{◌≡◌, ◌<◌, ◌≤◌, ◌+◌, ℕ, true, false, List, length, get_or, refl, sym, ap, ◌∙◌, arith, inl, inr}
+use Rattle.std.proofs.Common.{◌≡◌, ◌<◌, ◌+◌, ℕ, true, false, List, get_or, refl, sym, ap, ◌∙◌, arith, inl, inr}
 use Rattle.std.specs.Cmp.{IsTotalOrder}
 use Rattle.std.specs.List.Sorted.{IsStrictlySortedBy}
 use Rattle.std.specs.declared.cmp.Ordering.{Ordering}
 use Rattle.std.specs.declared.cmp.Ordering.TheVariants.{Less, Equal, Greater}
-use Rattle.std.specs.Ordering.{is_gt, is_lt, ordering_reverse, ordering_then}
+use Rattle.std.specs.Ordering.{is_gt, ordering_reverse, ordering_then}
 use Rattle.echo_net.specs.Firsts.{IsAt}
 use Rattle.echo_net.proofs.Ascending.{at_place, earlier_less, later_not_before, not_gt}
 use Rattle.echo_net.proofs.Orders.{then_less}

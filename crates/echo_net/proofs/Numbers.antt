@@ -1,5 +1,5 @@
 -- Carriers that go by their places in ascending order.
-use Rattle.std.proofs.Common.{◌≡◌, ◌≢◌, ◌<◌, ◌≤◌, ◌&&◌, ◌↔◌, nat_lt, ℕ, zero, suc, Bool, true, false, IsTrue, List, [], ◌∷◌, length, map, get_or, Option, Some, None, refl, sym, subst, ap, ◌∙◌, arith, inl, inr}
+use Rattle.std.proofs.Common.{◌≡◌, ◌≢◌, ◌<◌, ◌≤◌, ◌&&◌, ◌↔◌, nat_lt, ℕ, Bool, true, false, IsTrue, List, [], ◌∷◌, length, Option, Some, None, refl, sym, subst, ap, ◌∙◌, arith, inl, inr}
 use Rattle.std.specs.Prelude.{Contains, is_some, option_map, unwrap_or}
 use Rattle.std.specs.List.{list_any, position_or_len}
 use Rattle.std.specs.List.Sorted.{IsStrictlySortedBy}
@@ -12,14 +12,14 @@ use Rattle.echo_addr.specs.declared.address.Address.{Address}
 use Rattle.echo_base.specs.LinkLines.{no_address}
 use Rattle.echo_base.specs.Base.{Area, LinkFile, area_of, has_area, is_link, links_of}
 use Rattle.echo_base.specs.Sets.{address_before, same_address}
-use Rattle.echo_graph.specs.Walk.{Among, Connected, Different, Reaches, Simple}
-use Rattle.echo_graph.specs.Cycle.{Cycle, IsCycle, Polygons}
+use Rattle.echo_graph.specs.Walk.{Among, Connected, Reaches, Simple}
+use Rattle.echo_graph.specs.Cycle.{IsCycle, Polygons}
 use Rattle.echo_graph.specs.Loops.{NamedLoop}
 use Rattle.echo_graph.specs.Renaming.{IsRenaming}
 use Rattle.echo_graph.proofs.Renaming.{IsRenaming-swap, Polygons-renamed, Reaches-renamed}
-use Rattle.echo_run.specs.Tidy.{Carries, Joined, Tidy, carries, lists}
+use Rattle.echo_run.specs.Tidy.{Carries, lists}
 use Rattle.echo_run.proofs.Lists.{any-from, any-to}
-use Rattle.echo_net.specs.Faults.{AllAreAnswered, AllAreKnown, AreInOrder, AreSoundLinks, NoneListsItself, numbered}
+use Rattle.echo_net.specs.Faults.{AllAreAnswered, AllAreKnown, AreInOrder, NoneListsItself, numbered}
 use Rattle.echo_net.specs.Rows.{system_at}
 use Rattle.echo_net.proofs.Ascending.{earlier_less}
 use Rattle.echo_net.proofs.Orders.{address_order, address_total, before_is, before_less, not_before_itself, same_exact, same_itself}

@@ -1,8 +1,7 @@
 -- Addresses that stand twice among some systems.
-use Rattle.std.proofs.Common.{◌≡◌, ◌≢◌, ◌<◌, ◌≤◌, ◌+◌, ◌-◌, ◌↔◌, ℕ, zero, suc, true, false, Option, Some, None, MatchOption, List, [], ◌∷◌, ◌++◌, length, get_or, refl, sym, subst, ap, ◌∙◌, arith, inl, inr}
+use Rattle.std.proofs.Common.{◌≡◌, ◌≢◌, ◌<◌, ◌≤◌, ◌+◌, ◌-◌, ◌↔◌, ℕ, suc, true, Option, Some, None, MatchOption, List, [], ◌∷◌, ◌++◌, length, get_or, refl, sym, subst, ap, ◌∙◌, arith, inl, inr}
 use Rattle.std.specs.Prelude.{Contains}
 use Rattle.std.specs.List.Sorted.{IsStrictlySortedBy}
-use Rattle.std.specs.Cmp.{nat_cmp_total}
 use Rattle.std.specs.Ordering.{is_lt, nat_cmp, ordering_then}
 use Rattle.std.specs.declared.cmp.Ordering.{Ordering}
 use Rattle.std.specs.declared.cmp.Ordering.TheVariants.{Less, Equal}
@@ -11,14 +10,14 @@ use Rattle.std.proofs.lemmas.Cmp.{tied_itself}
 use Rattle.std.proofs.lemmas.List.{get_or_default}
 use Rattle.std.proofs.lemmas.List.Elements.{Contains-append_left, Contains-push, Contains-push_cases}
 use Rattle.echo_addr.specs.declared.address.Address.{Address}
-use Rattle.echo_base.specs.Sets.{address_before, same_address}
-use Rattle.echo_graph.specs.Walk.{Among, Different}
+use Rattle.echo_base.specs.Sets.{same_address}
+use Rattle.echo_graph.specs.Walk.{Different}
 use Rattle.echo_graph.proofs.Members.{Among-index}
 use Rattle.echo_net.specs.declared.owners.Owner.{Owner}
 use Rattle.echo_net.specs.Firsts.{IsAt, IsSmallest, StandsTwice}
 use Rattle.echo_net.specs.Pairs.{FirstPair, NoPair}
 use Rattle.echo_net.proofs.Ascending.{at_place, earlier_from_less, earlier_less, later_not_before, not_gt, not_lt}
-use Rattle.echo_net.proofs.Neighbours.{gt_first, next_alike, NextAlike}
+use Rattle.echo_net.proofs.Neighbours.{gt_first, next_alike}
 use Rattle.echo_net.proofs.Orders.{address_exact, address_order, address_total, before_is, nat_cmp_less, nat_less, owner_order, owner_total, same_exact, then_less}
 
 abbrev pub owner : Address → ℕ → Owner

@@ -1,10 +1,10 @@
 -- The links from one system, and its row.
-use Rattle.std.proofs.Common.{◌≡◌, ◌≢◌, ◌<◌, ◌≤◌, ◌+◌, ◌-◌, ◌==◌, ◌↔◌, ℕ, suc, true, false, not, IsTrue, List, [], ◌∷◌, ◌++◌, length, take, drop, get_or, refl, sym, subst, ap, ◌∙◌, arith, inl, inr}
+use Rattle.std.proofs.Common.{◌≡◌, ◌<◌, ◌≤◌, ◌+◌, ◌-◌, ◌==◌, ◌↔◌, ℕ, true, false, not, IsTrue, List, [], ◌∷◌, ◌++◌, length, take, drop, get_or, refl, sym, subst, ap, ◌∙◌, arith, inl, inr}
 use Rattle.std.specs.Prelude.{Contains}
 use Rattle.std.specs.List.{AllZip, list_any}
 use Rattle.std.specs.List.Sorted.{IsPartitionedBy, IsPartitionPoint, IsStrictlySortedBy}
-use Rattle.std.specs.Ordering.{is_gt, is_lt, nat_cmp}
-use Rattle.std.proofs.lemmas.Bool.{cases_lt, cases_Bool, not-false, not-true}
+use Rattle.std.specs.Ordering.{nat_cmp}
+use Rattle.std.proofs.lemmas.Bool.{cases_lt, cases_Bool, not-true}
 use Rattle.std.proofs.lemmas.List.{get_or-drop, get_or-take, get_or_at, get_or_append_left, get_or_default, length-drop, length-take, length-append}
 use Rattle.std.proofs.lemmas.Map.Keys.{below_from_sorted}
 use Rattle.echo_addr.specs.declared.address.Address.{Address}
@@ -17,7 +17,7 @@ use Rattle.echo_graph.proofs.Rows.{holds_at, place_of}
 use Rattle.echo_net.specs.declared.link.Link.{Link}
 use Rattle.echo_net.specs.Firsts.{IsAt}
 use Rattle.echo_net.specs.Nets.{link}
-use Rattle.echo_net.specs.Rows.{AreRows, IsRow, system_at}
+use Rattle.echo_net.specs.Rows.{IsRow, system_at}
 use Rattle.echo_net.proofs.Ascending.{later_not_before, not_gt, not_lt, one_place}
 use Rattle.echo_net.proofs.Neighbours.{gt_first}
 use Rattle.echo_net.proofs.Orders.{address_order, address_total, before_again, before_is, link_order, link_total, not_before_itself, same_where_neither}

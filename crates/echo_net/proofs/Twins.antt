@@ -1,5 +1,5 @@
 -- Systems of one net and node.
-use Rattle.std.proofs.Common.{◌≡◌, ◌≢◌, ◌<◌, ◌≤◌, ◌+◌, ◌-◌, ◌↔◌, ℕ, true, false, List, [], ◌∷◌, ◌++◌, length, map, get_or, Option, Some, None, MatchOption, refl, sym, subst, ap, ◌∙◌, arith, inl, inr}
+use Rattle.std.proofs.Common.{◌≡◌, ◌≢◌, ◌<◌, ◌≤◌, ◌+◌, ◌-◌, ◌↔◌, ℕ, false, List, [], ◌∷◌, ◌++◌, length, map, get_or, Option, Some, None, MatchOption, refl, sym, subst, ap, ◌∙◌, arith, inl, inr}
 use Rattle.std.specs.Prelude.{Contains, slice_get}
 use Rattle.std.specs.List.Sorted.{IsStrictlySortedBy}
 use Rattle.std.specs.Ordering.{is_gt, is_lt, ordering_then}
@@ -10,9 +10,7 @@ use Rattle.std.proofs.lemmas.Cmp.{tied_itself, upto}
 use Rattle.std.proofs.lemmas.List.{get_or_default}
 use Rattle.std.proofs.lemmas.List.Elements.{Contains-append_left, Contains-push, Contains-push_cases}
 use Rattle.echo_addr.specs.declared.address.Address.{Address}
-use Rattle.echo_addr.specs.declared.address.NetNode.{NetNode}
 use Rattle.echo_addr.specs.Address.{net_node_of}
-use Rattle.echo_base.specs.Sets.{address_before}
 use Rattle.echo_graph.proofs.Members.{Among-from_Contains, Contains-from_Among}
 use Rattle.echo_run.proofs.Lists.{Among-map_from, Among-map_to}
 use Rattle.echo_net.specs.declared.link.Link.{Link}
@@ -21,8 +19,8 @@ use Rattle.echo_net.specs.Firsts.{HasTwin, IsAt, IsSmallestPair}
 use Rattle.echo_net.specs.Nets.{link}
 use Rattle.echo_net.specs.Pairs.{IsTwin, neighbour_of}
 use Rattle.echo_net.proofs.Ascending.{at_place, earlier_from_less, earlier_less, later_not_before, not_gt, not_lt}
-use Rattle.echo_net.proofs.Neighbours.{next_alike, NextAlike}
-use Rattle.echo_net.proofs.Orders.{address_order, address_total, before_is, before_less, link_order, link_total, neighbour_order, neighbour_total, net_node_exact, net_node_order, net_node_total, pair_before_is, then_less}
+use Rattle.echo_net.proofs.Neighbours.{next_alike}
+use Rattle.echo_net.proofs.Orders.{address_order, address_total, before_is, before_less, link_order, link_total, neighbour_order, neighbour_total, net_node_exact, net_node_order, net_node_total, pair_before_is}
 
 -- what the list of twins before a place holds
 abbrev pub AreTwins : List Neighbour → ℕ → List Link → Type 0

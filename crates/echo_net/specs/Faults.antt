@@ -3,12 +3,12 @@ use Rattle.std.specs.Prelude.{◌≡◌, ◌≢◌, ◌<◌, ◌&&◌, ◌↔◌
 use Rattle.std.specs.List.{list_any}
 use Rattle.echo_addr.specs.declared.address.Address.{Address}
 use Rattle.echo_addr.specs.Address.{net_node_of}
-use Rattle.echo_graph.specs.Walk.{Among, Connected, Different, Reaches}
+use Rattle.echo_graph.specs.Walk.{Among, Different, Reaches}
 use Rattle.echo_graph.specs.Cycle.{IsCycle}
 use Rattle.echo_graph.specs.Loops.{NamedLoop}
 use Rattle.echo_base.specs.Base.{LinkFile, has_area}
 use Rattle.echo_base.specs.Sets.{address_before}
-use Rattle.echo_run.specs.Tidy.{Carries, Joined, carries, lists}
+use Rattle.echo_run.specs.Tidy.{Carries, Joined, lists}
 use Rattle.echo_net.specs.declared.verdict.NetFault.{NetFault}
 use Rattle.echo_net.specs.declared.verdict.NetFault.TheVariants.{NoSuchArea, TwoFiles, SelfLink, Unknown, OneSided, SameNetNode, Apart, Loop}
 use Rattle.echo_net.specs.declared.verdict.Verdict.{Verdict}

@@ -3,3 +3,5 @@ pub mod Firsts
 pub mod Pairs
 pub mod Rows
 pub mod Faults
+pub mod Absent
+pub mod Printed

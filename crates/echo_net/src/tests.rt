@@ -1,5 +1,6 @@
 use super::*;
 use echo_base::{LinkFault, LinkFile};
+use echo_nodelist::Nodelist;
 use std::alloc::Global;
 use std::test::Fail;
 
@@ -249,5 +250,34 @@ fn answers_once_memory_is_there(rt: HostRuntime) -> Result<(), Fail> {
         Err(_) => check(alloc, &ring, b"TEST")?,
     };
     assert!(rt; matches!(&found, Verdict::No(NetFault::Loop(round)) if round.len() == 4));
+    Ok(())
+}
+
+/// A chain beside a nodelist that holds its first system, has the second Down and lacks the third.
+#[test]
+fn nodelist_beside_a_chain(rt: HostRuntime) -> Result<(), Fail> {
+    let alloc = rt.alloc();
+    let text =
+        b"Zone,1,a,b,c,d,9600\nHost,10,a,b,c,d,9600\nHub,100,a,b,c,d,9600\n,101,a,b,c,d,9600\nPvt,102,a,b,c,d,9600\nDown,200,a,b,c,d,9600\nRegion,13,a,b,c,d,9600\n,5,a,b,c,d,9600\nHost,20,a,b,c,d,9600\n,1,a,b,c,d,9600\n";
+    let nodelist = Nodelist::read(alloc, text)?;
+    let chain = files(
+        alloc,
+        &[
+            b"SYSTEM 1:10/300\nAREA TEST 1:10/200",
+            b"SYSTEM 1:10/101\nAREA TEST 1:10/200",
+            b"SYSTEM 1:10/200\nAREA TEST 1:10/101 1:10/300",
+        ],
+    )?;
+    assert_eq!(rt;
+        said(alloc, &chain, b"TEST")?.as_str(),
+        "yes 3 systems 2 links"
+    );
+    let absent = listed(alloc, &chain, &nodelist, b"TEST")?;
+    assert_eq!(rt; absent.len(), 2);
+    assert_eq!(rt; absent[0].0.node, 200);
+    assert_eq!(rt; absent[0].1, Absence::Down);
+    assert_eq!(rt; absent[1].0.node, 300);
+    assert_eq!(rt; absent[1].1, Absence::Missing);
+    assert!(rt; listed(alloc, &chain, &nodelist, b"OTHER")?.is_empty());
     Ok(())
 }

@@ -33,6 +33,11 @@ pub enum NetFault {
 
 /// Writes the number and name of the fault, and its addresses.
 impl fmt::Display for NetFault {
+    ghost use Rattle.std.specs.Prelude.{Some};
+    ghost use Rattle.echo_net.specs.Printed.{fault_text};
+
+    ghost output = { λ fault. Some (fault_text fault) };
+
     fn fmt<W: fmt::Write>(&self, f: &mut fmt::Formatter<W>) -> fmt::Result {
         match self {
             NetFault::NoSuchArea => f.write_str("V1 NoSuchArea"),

@@ -3,7 +3,7 @@ use Rattle.std.proofs.Common.{◌≡◌, ℕ, true, List, sym, Result, Ok, Err}
 use Rattle.std.specs.Result.{MatchResult, is_ok}
 use Rattle.std.proofs.lemmas.Bool.{false_from_ne_true}
 use Rattle.echo_text.specs.Ids.{NoId, SpellsId, is_id}
-use Rattle.echo_text.proofs.SpelledIds.{passed_where_spelled, spelled_where_passed}
+use Rattle.echo_text.proofs.PassedTests.{passed_where_spelled, spelled_where_passed}
 
 pub told : {A E : Type 0} (bytes : List ℕ) (r : Result A E) (P : A → Type 0) (Q : E → Type 0) → ((a : A) → P a → SpellsId bytes) → ((e : E) → Q e → NoId bytes)
     → MatchResult r P Q → is_ok r ≡ is_id bytes

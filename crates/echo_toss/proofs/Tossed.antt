@@ -1,11 +1,7 @@
 -- What becomes of a received message.
-use Rattle.std.proofs.Common.{◌≡◌, ◌≢◌, ℕ, Bool, true, false, List, [], ◌∷◌, ◌++◌, refl, sym, ap, subst, ◌∙◌, Option, Some, None, suc, length, arith, not, append-nil, if◌then◌else◌, Result, Ok, Err, IfOk, ◌⊎◌, inl, inr}
-use Rattle.std.specs.List.{AllByRecursion, list_any}
-use Rattle.std.specs.Prelude.{All}
-use Rattle.std.proofs.lemmas.Bool.{cases_Bool}
-use Rattle.std.proofs.lemmas.List.Elements.{All-from_recursion}
+use Rattle.std.proofs.Common.{◌≡◌, ℕ, Bool, true, false, List, [], ◌∷◌, ◌++◌, refl, sym, ap, subst, ◌∙◌, Option, Some, None, not, append-nil, if◌then◌else◌, Result, Ok, Err, IfOk, ◌⊎◌, inl, inr}
 use Rattle.echo_addr.specs.declared.address.Address.{Address}
-use Rattle.echo_packet.specs.Message.{HasNoZero, IsMessage, Message}
+use Rattle.echo_packet.specs.Message.{Message}
 use Rattle.echo_text.specs.declared.fault.TextFault.{TextFault}
 use Rattle.echo_text.specs.declared.fault.TextFault.TheVariants as text
 use Rattle.echo_text.specs.Echo.{EchoOf, EchoText}
@@ -120,14 +116,6 @@ pub step_new : (s t : SystemState) (sender : Address) (packed : Message) (key : 
     → t.file ≡ s.file → t.base ≡ s.base ++ m ∷ [] → t.cursor ≡ s.cursor
     → (outcome.Filed ≡ toss_outcome s.file s.base sender packed) × (t ≡ state_with s (tossing s.file s.base sender packed))
 step_new s t sender packed key m h file base cursor = (h.answer, state_grown s t m file base cursor ∙ ap (state_with s) h.message)
-
--- a text without 00, byte by byte
-each_byte : (bytes : List ℕ) → HasNoZero bytes → AllByRecursion (λ b. b ≢ 0) bytes
-each_byte [] h = tt
-each_byte (b ∷ bytes) h = (h 0 (omega arith), each_byte bytes (λ i inside. h (suc i) (omega arith)))
-
-pub no_zero_byte : (bytes : List ℕ) → HasNoZero bytes → All (λ b. b ≢ 0) bytes
-no_zero_byte bytes h = All-from_recursion (λ b. b ≢ 0) bytes (each_byte bytes h)
 
 -- why a text is refused
 pub refused_text : (packed : Message) (bytes : List ℕ) (f : TextFault) → bytes ≡ packed.text → (f ≡ text.Memory → ⊥)

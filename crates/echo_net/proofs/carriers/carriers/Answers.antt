@@ -1,7 +1,7 @@
 use Rattle.std.proofs.Common.{sym, subst, List}
 use Rattle.std.specs.Prelude.{Contains}
 use Rattle.echo_addr.specs.declared.address.Address.{Address}
-use Rattle.echo_net.proofs.Listed.{carries_listed}
+use Rattle.echo_net.proofs.Collected.{carries_listed}
 use Rattle.echo_net.proofs.carriers.carriers.Goals as goal
 
 pub returns-clause-members : goal.returns-clause-members

@@ -1,7 +1,7 @@
 use Rattle.std.proofs.Common.{sym, subst, List}
 use Rattle.std.specs.Prelude.{Contains}
 use Rattle.echo_net.specs.declared.link.Link.{Link}
-use Rattle.echo_net.proofs.Listed.{links_listed}
+use Rattle.echo_net.proofs.Collected.{links_listed}
 use Rattle.echo_net.proofs.carriers.links.Goals as goal
 
 pub returns-clause-members : goal.returns-clause-members

@@ -4,7 +4,7 @@ use Rattle.echo_base.specs.Base.{IsFile, LinkFile}
 use Rattle.echo_net.specs.declared.link.Link.{Link}
 use Rattle.echo_net.specs.Nets.{links_from_file}
 use Rattle.echo_net.proofs.FirstOf.{one_more}
-use Rattle.echo_net.proofs.Listed.{flat_map_take}
+use Rattle.echo_net.proofs.Collected.{flat_map_take}
 use Rattle.echo_net.proofs.carriers.listed_links.Goals as goal
 
 pub files-preserved : goal.files-preserved

@@ -1,12 +1,8 @@
-use Rattle.std.proofs.Common.{◌≡◌, ◌<◌, ◌↔◌, ◌∙◌, ℕ, Bool, List, length, get_or, sym, subst, ap, None}
+use Rattle.std.proofs.Common.{◌∙◌, ℕ, List, sym, subst, ap}
 use Rattle.std.specs.Prelude.{Contains}
-use Rattle.std.specs.List.{All}
 use Rattle.std.proofs.lemmas.Option.{MatchOption-at_some}
 use Rattle.echo_addr.specs.declared.address.Address.{Address}
-use Rattle.echo_base.specs.Base.{IsFile, LinkFile}
 use Rattle.echo_graph.specs.Rows.{linked}
-use Rattle.echo_graph.proofs.Members.{Among-index}
-use Rattle.echo_run.specs.Fits.{FilesFit}
 use Rattle.echo_run.specs.Tidy.{Carries, Tidy, lists}
 use Rattle.echo_net.specs.declared.link.Link.{Link}
 use Rattle.echo_net.specs.Faults.{AreInOrder, AreSoundLinks, IsFirstFault, numbered}

@@ -1,4 +1,4 @@
-use Rattle.std.proofs.Common.{◌≡◌, ◌∙◌, sym, subst, List, MatchOption, Some, None, Option}
+use Rattle.std.proofs.Common.{◌∙◌, subst, List, MatchOption, Option}
 use Rattle.std.proofs.lemmas.Option.{MatchOption-at_some}
 use Rattle.echo_addr.specs.declared.address.Address.{Address}
 use Rattle.echo_graph.specs.Walk.{Different}

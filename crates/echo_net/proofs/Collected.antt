@@ -1,7 +1,7 @@
 -- What the lists of carriers and of links hold.
-use Rattle.std.proofs.Common.{◌≡◌, ◌↔◌, true, Bool, ◌&&◌, IsTrue, List, [], ◌∷◌, ◌++◌, map, Option, Some, refl, sym, ap, subst, ◌∙◌, inl, inr, ◌⊎◌, ℕ, ◌<◌, ◌+◌, length, take, get_or}
+use Rattle.std.proofs.Common.{◌≡◌, ◌↔◌, ◌&&◌, IsTrue, List, [], ◌∷◌, ◌++◌, Option, refl, sym, ap, subst, ◌∙◌, inl, inr, ℕ, ◌<◌, ◌+◌, length, take, get_or}
 use Rattle.std.specs.Prelude.{Contains, option_map, unwrap_or}
-use Rattle.std.specs.List.{flat_map, list_any}
+use Rattle.std.specs.List.{flat_map}
 use Rattle.std.proofs.lemmas.Bool.{and_from, and_parts}
 use Rattle.std.proofs.lemmas.List.{append-nil, take_more}
 use Rattle.std.proofs.lemmas.List.Concat.{flat_map-append}

@@ -1,0 +1,118 @@
+-- What a nodelist says of one carrier after another.
+use Rattle.std.proofs.Common.{◌≡◌, ◌<◌, ◌+◌, ◌↔◌, ◌≢◌, nat_lt, ℕ, true, false, List, [], ◌∷◌, ◌++◌, length, get_or, Option, Some, None, refl, sym, subst, ap, ◌∙◌, arith, inl, inr}
+use Rattle.std.specs.Prelude.{AllPairs, Contains}
+use Rattle.std.specs.List.Sorted.{IsStrictlySortedBy}
+use Rattle.std.specs.Ordering.{is_lt}
+use Rattle.std.proofs.lemmas.Bool.{cases_lt, cond-false, le-ltb}
+use Rattle.std.proofs.lemmas.List.{append-nil, get_or_default}
+use Rattle.std.proofs.lemmas.List.Elements.{Contains-append_left, Contains-get_or, Contains-push, Contains-push_cases}
+use Rattle.std.proofs.lemmas.List.Quantifiers.{all_pairs_push}
+use Rattle.echo_addr.specs.declared.address.Address.{Address}
+use Rattle.echo_base.specs.Sets.{address_before}
+use Rattle.echo_nodelist.specs.declared.line.Line.{Line}
+use Rattle.echo_nodelist.specs.Back.{IsFirstAt, address_at, address_back, lines_back}
+use Rattle.echo_net.specs.declared.presence.Absence.{Absence}
+use Rattle.echo_net.specs.declared.presence.Absence.TheVariants.{Missing, Down}
+use Rattle.echo_net.specs.Absent.{IsAbsent, IsWhy, absent_as, is_down_line}
+use Rattle.echo_net.specs.Firsts.{IsAt}
+use Rattle.echo_net.proofs.Ascending.{at_place, earlier_less}
+use Rattle.echo_net.proofs.Orders.{address_order, address_total, before_is}
+
+-- what is listed of the first carriers
+pub record AreListed (lines : List Line) (carriers : List Address) (i : ℕ) (all : List (Address × Absence)) : Type 0 where
+  pub ascending : AllPairs (λ (one later : Address × Absence). address_before one.0 later.0 ≡ true) all
+  pub members : (a : Address) (why : Absence) → Contains all (a, why) ↔ ((k : ℕ) × (k < i) × IsAt carriers k a × IsAbsent lines a why)
+
+pub none_listed : (lines : List Line) (carriers : List Address) → AreListed lines carriers 0 []
+none_listed lines carriers = record {
+  ascending = λ i j d lt inside. absurd (omega arith);
+  members = λ a why. (λ (k, lt, is). absurd (omega (arith, lt)), λ (k, lt, at, absent). absurd (omega (arith, lt)));
+}
+
+module _ (lines : List Line) (carriers : List Address) (up : IsStrictlySortedBy address_order carriers) (i : ℕ) (d : Address) (inside : i < length carriers)
+    (all : List (Address × Absence)) (before : AreListed lines carriers i all) where
+  pub one_held_more : IsWhy lines (get_or carriers i d) None → AreListed lines carriers (i + 1) all
+  one_held_more held = record {
+    ascending = before.ascending;
+    members = λ a why. (
+      λ h. (let (k, lt, at, absent) = (before.members a why).0 h in (k, omega (arith, lt), at, absent)),
+      λ (k, lt, at, absent). elim (cases_lt k i) [
+        | inl earlier ↦ (before.members a why).1 (k, earlier, at, absent)
+        | inr later ↦ (let same : k ≡ i = omega (arith, lt) in
+            let is : a ≡ get_or carriers i d = sym (at.1) ∙ (ap (λ (n : ℕ). get_or carriers n a) same ∙ get_or_default carriers i a d inside) in
+            absurd (held why (subst (λ (b : Address). IsAbsent lines b why) is absent)))
+      ],
+    );
+  }
+
+  pub one_absent_more : (why : Absence) → IsWhy lines (get_or carriers i d) (Some why) → AreListed lines carriers (i + 1) (all ++ (get_or carriers i d, why) ∷ [])
+  one_absent_more why absent = record {
+    ascending = all_pairs_push (λ (one later : Address × Absence). address_before one.0 later.0 ≡ true) all (get_or carriers i d, why) before.ascending
+        (λ k e lt. (let item = get_or all k e in
+        let (j, lower, at, gone) = (before.members item.0 item.1).0 (Contains-get_or all k e lt) in
+        before_is item.0 (get_or carriers i d) ∙ ap is_lt (earlier_less address_total carriers up j i item.0 (get_or carriers i d) at (at_place carriers i d inside) lower)));
+    members = λ a other. (
+      λ h. elim (Contains-push_cases all (get_or carriers i d, why) (a, other) h) [
+        | inl old ↦ (let (k, lt, at, gone) = (before.members a other).0 old in (k, omega (arith, lt), at, gone))
+        | inr new ↦ subst (λ (x : Address × Absence). (k : ℕ) × (k < i + 1) × IsAt carriers k x.0 × IsAbsent lines x.0 x.1) new
+            (i, omega arith, at_place carriers i d inside, absent.0)
+      ],
+      λ (k, lt, at, gone). elim (cases_lt k i) [
+        | inl earlier ↦ Contains-append_left all ((get_or carriers i d, why) ∷ []) (a, other) ((before.members a other).1 (k, earlier, at, gone))
+        | inr later ↦ (let same : k ≡ i = omega (arith, lt) in
+            let is : a ≡ get_or carriers i d = sym (at.1) ∙ (ap (λ (n : ℕ). get_or carriers n a) same ∙ get_or_default carriers i a d inside) in
+            let one : other ≡ why = absent.1 other (subst (λ (b : Address). IsAbsent lines b other) is gone) in
+            let whole : (get_or carriers i d, why) ≡ (a, other) = (λ n. (sym is n, sym one n)) in
+            subst (Contains (all ++ (get_or carriers i d, why) ∷ [])) whole (Contains-push all (get_or carriers i d, why)))
+      ],
+    );
+  }
+
+  pub one_more_judged : (found : Option Absence) → IsWhy lines (get_or carriers i d) found → AreListed lines carriers (i + 1) (all ++ absent_as (get_or carriers i d) found)
+  one_more_judged None held = subst (AreListed lines carriers (i + 1)) (sym (append-nil all)) (one_held_more held)
+  one_more_judged (Some why) absent = one_absent_more why absent
+
+-- what is listed of all carriers
+pub all_listed : (lines : List Line) (carriers : List Address) (IsCarrier : Address → Type 0) → ((a : Address) → Contains carriers a ↔ IsCarrier a) →
+    (all : List (Address × Absence)) → AreListed lines carriers (length carriers) all →
+    (a : Address) (why : Absence) → Contains all (a, why) ↔ (IsCarrier a × IsAbsent lines a why)
+all_listed lines carriers IsCarrier members all are a why = (
+  λ h. (let (k, lt, at, absent) = (are.members a why).0 h in ((members a).0 (k, at.0, at.1), absent)),
+  λ (carrier, absent). (let (k, inside, is) = (members a).1 carrier in (are.members a why).1 (k, inside, (inside, is), absent)),
+)
+
+pub line_within : (lines : List Line) (a : Address) (i : ℕ) → address_at lines i ≡ Some a → i < length lines
+line_within lines a i h = elim (cases_lt i (length lines)) [
+  | inl lt ↦ lt
+  | inr past ↦ (let none : address_at lines i ≡ None = cond-false (nat_lt i (length lines)) (address_back (lines_back lines i)) None (le-ltb i (length lines) past) in cc)
+]
+
+pub is_missing : (lines : List Line) (a : Address) → ((i : ℕ) → address_at lines i ≢ Some a) → IsWhy lines a (Some Missing)
+is_missing lines a none = (none, only)
+  where
+    only : (other : Absence) → IsAbsent lines a other → other ≡ Missing
+    only Missing h = refl
+    only Down h = absurd (none h.0 h.1.here)
+
+pub is_down : (lines : List Line) (a : Address) (i : ℕ) → IsFirstAt lines a i → ((d : Line) → is_down_line (get_or lines i d) ≡ true) → IsWhy lines a (Some Down)
+is_down lines a i first down = ((i, first, down), only)
+  where
+    only : (other : Absence) → IsAbsent lines a other → other ≡ Down
+    only Missing h = absurd (h i first.here)
+    only Down h = refl
+
+pub is_held : (lines : List Line) (a : Address) (i : ℕ) (d : Line) → IsFirstAt lines a i → is_down_line (get_or lines i d) ≡ false → IsWhy lines a None
+is_held lines a i d first up = only
+  where
+    only : (why : Absence) → ¬ IsAbsent lines a why
+    only Missing h = h i first.here
+    only Down (j, other, down) = elim (cases_lt i j) [
+      | inl lt ↦ other.before i lt first.here
+      | inr le ↦ elim (cases_lt j i) [
+        | inl lt ↦ first.before j lt other.here
+        | inr ge ↦ (let same : i ≡ j = omega arith in let yea = ap (λ (n : ℕ). is_down_line (get_or lines n d)) same ∙ down d in cc)
+      ]
+    ]
+
+pub at_any : (lines : List Line) (i : ℕ) (x : Line) → i < length lines → x ≡ get_or lines i x → (d : Line) → get_or lines i d ≡ x
+at_any lines i x inside is d = get_or_default lines i d x inside ∙ sym is
