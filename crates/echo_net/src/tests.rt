@@ -16,7 +16,8 @@ fn files(alloc: Global, texts: &[&[u8]]) -> Result<Vec<LinkFile>, LinkFault> {
 /// The systems 1:10/1, 1:10/2 and so on with the area TEST and these links, each named once.
 fn net(alloc: Global, systems: u16, links: &[(u16, u16)]) -> Result<Vec<LinkFile>, LinkFault> {
     let mut files = Vec::new(alloc);
-    for own in 1..systems + 1 {
+    for before in 0..systems {
+        let own = before + 1;
         let mut text = format!(in alloc; "SYSTEM 1:10/{own}\nAREA TEST")?;
         for (one, other) in links {
             if *one == own {
