@@ -1,7 +1,7 @@
 //! How fast a graph is searched and its cycles are judged.
 //!
-//! Words: `KIND SIZE ROUNDS`. A `star`, a `chain` and a `tree` have SIZE members; `polygons` is a chain
-//! of SIZE full polygons of ten, and `ring` is the same with a ring of four at its end, so that the
+//! Words: `KIND SIZE ROUNDS`. A `star`, a `chain`, a `tree` and one of `tens`, in which each member has ten
+//! others below it, have SIZE members, and of `linked` all are linked; `polygons` is a chain of SIZE full polygons of ten, and `ring` is the same with a ring of four at its end, so that the
 //! cycle which is not fully linked is found last. ROUNDS times it asks which member no walk reaches and
 //! which cycle is not fully linked; with 0 rounds it only builds the graph.
 ghost use Rattle.std.specs.Prelude.{◌≤◌};
@@ -38,6 +38,7 @@ fn trees(alloc: Global, kind: &str, members: usize) -> Result<Vec<Vec<usize>>, A
         let parent = match kind {
             "star" => 0,
             "chain" => member - 1,
+            "tens" => (member - 1) / 10,
             _ => (member - 1) / 2,
         };
         link(&mut rows, parent, member)?;
@@ -62,14 +63,26 @@ fn polygons(alloc: Global, count: usize, further: usize) -> Result<Vec<Vec<usize
     Ok(rows)
 }
 
+/// So many members, all linked.
+fn linked(alloc: Global, members: usize) -> Result<Vec<Vec<usize>>, AllocError> {
+    let mut rows = lone(alloc, members)?;
+    for high in 0..members {
+        for low in 0..high {
+            link(&mut rows, low, high)?;
+        }
+    }
+    Ok(rows)
+}
+
 /// The rows of links of this kind of graph.
-fn rows_of(alloc: Global, kind: &str, size: usize) -> Result<Vec<Vec<usize>>> {
+pub(crate) fn rows_of(alloc: Global, kind: &str, size: usize) -> Result<Vec<Vec<usize>>> {
     if size > MOST {
         bail!("too many");
     }
     match kind {
-        "star" | "chain" | "tree" => Ok(trees(alloc, kind, size)?),
+        "star" | "chain" | "tree" | "tens" => Ok(trees(alloc, kind, size)?),
         "polygons" => Ok(polygons(alloc, size, 0)?),
+        "linked" => Ok(linked(alloc, size)?),
         "ring" => {
             let mut rows = polygons(alloc, size, 3)?;
             let last = 9 * size;
@@ -79,7 +92,7 @@ fn rows_of(alloc: Global, kind: &str, size: usize) -> Result<Vec<Vec<usize>>> {
             link(&mut rows, last + 2, last + 3)?;
             Ok(rows)
         }
-        _ => bail!("star, chain, tree, polygons or ring"),
+        _ => bail!("star, chain, tree, tens, polygons, linked or ring"),
     }
 }
 

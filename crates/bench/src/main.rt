@@ -1,15 +1,20 @@
 //! The benchmarks: a word for each, and the words that its module names after it. Without words each runs
 //! once on a small input. The scripts in bench/ run them and print rates.
 //!
-//! Modules: `strings`, `packets`, `texts`, `nodelist`, `graph`, and `shared` (what several of them use).
+//! Modules: `strings`, `packets`, `texts`, `nodelist`, `graph`, `nets`, `base`, `toss`, `replay`, and `shared`
+//! (what several of them use).
 #![tactic(auto)]
 
+mod base;
 mod graph;
+mod nets;
 mod nodelist;
 mod packets;
+mod replay;
 mod shared;
 mod strings;
 mod texts;
+mod toss;
 
 use anyhow::{Result, bail};
 use std::env;
@@ -17,12 +22,16 @@ use std::env;
 /// Runs the benchmark that the first word names.
 fn run_named(rt: &HostRuntime, name: &str, words: &[String]) -> Result<()> {
     match name {
+        "base" => base::run(rt, words),
+        "check" => nets::run(rt, words),
         "graph" => graph::run(rt, words),
         "nodelist" => nodelist::run(rt, words),
         "packets" => packets::run(rt, words),
+        "replay" => replay::run(rt, words),
         "strings" => strings::run(rt, words),
         "texts" => texts::run(rt, words),
-        _ => bail!("graph, nodelist, packets, strings or texts"),
+        "toss" => toss::run(rt, words),
+        _ => bail!("base, check, graph, nodelist, packets, replay, strings, texts or toss"),
     }
 }
 
@@ -33,7 +42,10 @@ fn main(rt: HostRuntime) -> Result<()> {
     }
     match words.as_slice() {
         [] => {
-            for name in ["graph", "nodelist", "packets", "strings", "texts"] {
+            for name in [
+                "base", "check", "graph", "nodelist", "packets", "replay", "strings", "texts",
+                "toss",
+            ] {
                 run_named(&rt, name, &[])?;
             }
             Ok(())

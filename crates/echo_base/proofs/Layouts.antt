@@ -5,6 +5,7 @@ use Rattle.std.proofs.lemmas.List.{append_assoc, append-nil, drop_at, length-app
 use Rattle.echo_packet.specs.Header.{AreBytes, word}
 use Rattle.echo_packet.proofs.Headers.{AreBytes-drop}
 use Rattle.echo_base.specs.BaseFile.{long, long_at}
+pub use Rattle.echo_base.specs.Fields.{EndsIn, HasLength, IsByte, IsLong, IsWord, itself, one_byte}
 use Rattle.echo_base.proofs.Choices.{same_some}
 
 -- a value of the field and what follows it
@@ -12,14 +13,6 @@ pub record Took (X : Type 0) (Fits : X → Type 0) (write : X → List ℕ) (byt
   pub fits : Fits found.0
   pub whole : bytes ≡ write found.0 ++ found.1
   pub rest_bytes : AreBytes found.1
-
--- the bytes end inside a value of the field
-pub record EndsIn (X : Type 0) (Fits : X → Type 0) (write : X → List ℕ) (bytes : List ℕ) : Type 0 where
-  pub value : X
-  pub fits : Fits value
-  pub missing : List ℕ
-  pub some : 0 < length missing
-  pub cut : write value ≡ bytes ++ missing
 
 -- a field: what is read from the front of bytes is what was written there, or the bytes end inside it
 pub record Layout (X : Type 0) (Fits : X → Type 0) (write : X → List ℕ) : Type 0 where
@@ -38,9 +31,11 @@ inside_unread X Fits write field bytes are (Some found) e h =
     let took = field.takes bytes found are e in
     let longer : write h.value ++ [] ≡ write found.0 ++ (found.1 ++ h.missing) =
     append-nil (write h.value) ∙ h.cut ∙ ap (λ bs. bs ++ h.missing) took.whole ∙ append_assoc (write found.0) found.1 h.missing in
-    let one : Some (h.value, []) ≡ Some (found.0, found.1 ++ h.missing) =
+    let cut : X × List ℕ = (h.value, []) in
+    let taken : X × List ℕ = (found.0, found.1 ++ h.missing) in
+    let one : Some cut ≡ Some taken =
     sym (field.again h.value [] h.fits) ∙ ap field.read longer ∙ field.again found.0 (found.1 ++ h.missing) took.fits in
-    let rests : [] ≡ found.1 ++ h.missing = ap (λ (p : X × List ℕ). p.1) (same_some (h.value, []) (found.0, found.1 ++ h.missing) one) in
+    let rests : [] ≡ found.1 ++ h.missing = ap (λ (p : X × List ℕ). p.1) (same_some cut taken one) in
     let some = h.some in
     absurd (omega (arith, ap length rests, length-append found.1 h.missing))
 
@@ -48,12 +43,6 @@ inside_unread X Fits write field bytes are (Some found) e h =
 read_byte : List ℕ → Option (ℕ × List ℕ)
 read_byte [] = None
 read_byte (b ∷ rest) = Some (b, rest)
-
-abbrev pub IsByte : ℕ → Type 0
-IsByte b = b < 2 ^ 8
-
-abbrev pub one_byte : ℕ → List ℕ
-one_byte b = b ∷ []
 
 pub byte_field : Layout ℕ IsByte one_byte
 unfolding read_byte
@@ -74,9 +63,6 @@ read_word : List ℕ → Option (ℕ × List ℕ)
 read_word [] = None
 read_word (a ∷ []) = None
 read_word (a ∷ (b ∷ rest)) = Some (a + 256 * b, rest)
-
-abbrev pub IsWord : ℕ → Type 0
-IsWord n = n < 2 ^ 16
 
 pub word_field : Layout ℕ IsWord word
 unfolding read_word
@@ -114,9 +100,6 @@ read_long (a ∷ []) = None
 read_long (a ∷ (b ∷ [])) = None
 read_long (a ∷ (b ∷ (c ∷ []))) = None
 read_long (a ∷ (b ∷ (c ∷ (d ∷ rest)))) = Some (a + 256 * b + 65536 * (c + 256 * d), rest)
-
-abbrev pub IsLong : ℕ → Type 0
-IsLong n = n < 2 ^ 32
 
 -- the bytes of a number of four bytes
 long_is : (a b c d : ℕ) → a < 256 → b < 256 → c < 256 → d < 256 → a ∷ (b ∷ (c ∷ (d ∷ []))) ≡ long (a + 256 * b + 65536 * (c + 256 * d))
@@ -226,7 +209,8 @@ front_none : (n : ℕ) (bytes : List ℕ) → front_of n bytes ≡ None → leng
 front_none n bytes h = elim (cases_Bool (nat_lt (length bytes) n)) [
   | inl short ↦ ltb-true (length bytes) n short
   | inr long ↦
-      let never : Some (take n bytes, drop n bytes) ≡ None = sym (cond-false (nat_lt (length bytes) n) None (Some (take n bytes, drop n bytes)) long) ∙ h in
+      let front : List ℕ × List ℕ = (take n bytes, drop n bytes) in
+      let never : Some front ≡ None = sym (cond-false (nat_lt (length bytes) n) None (Some front) long) ∙ h in
       absurd (cc)
 ]
 
@@ -241,12 +225,6 @@ front_again n s rest e =
 -- as many bytes more as are missing
 filled : (n : ℕ) (bytes : List ℕ) → length bytes < n → length (bytes ++ replicate (n - length bytes) 0) ≡ n
 filled n bytes short = omega (arith, length-append bytes (replicate (n - length bytes) 0), length-replicate {A = ℕ} (n - length bytes) 0)
-
-abbrev pub HasLength : ℕ → List ℕ → Type 0
-HasLength n s = length s ≡ n
-
-abbrev pub itself : List ℕ → List ℕ
-itself s = s
 
 pub fixed_field : (n : ℕ) → Layout (List ℕ) (HasLength n) itself
 fixed_field n = record {
@@ -307,37 +285,45 @@ both_takes X Y F w G v first second bytes found are (Some one) e h =
           rest_bytes = more.rest_bytes;
         })
 
+-- bytes that end inside the first of two fields, or inside the second
+pub ends_first : {X Y : Type 0} {F : X → Type 0} {w : X → List ℕ} {G : X → Y → Type 0} {v : X → Y → List ℕ} → Layout X F w → ((x : X) → Layout Y (G x) (v x))
+    → (bytes : List ℕ) → EndsIn X F w bytes → EndsIn (X × Y) (BothFit F G) (both_bytes w v) bytes
+ends_first {X} {Y} {F} {w} {G} {v} first second bytes inside =
+    let some = inside.some in
+    let next = second inside.value in
+    let more : List ℕ = v inside.value next.any in
+    record {
+      value = (inside.value, next.any);
+      fits = (inside.fits, next.any_fits);
+      missing = inside.missing ++ more;
+      some = omega (arith, length-append inside.missing more);
+      cut = ap (λ bs. bs ++ more) inside.cut ∙ append_assoc bytes inside.missing more;
+    }
+
+pub ends_second : {X Y : Type 0} {F : X → Type 0} {w : X → List ℕ} {G : X → Y → Type 0} {v : X → Y → List ℕ} → Layout X F w → ((x : X) → Layout Y (G x) (v x))
+    → (x : X) (bytes : List ℕ) → F x → EndsIn Y (G x) (v x) bytes → EndsIn (X × Y) (BothFit F G) (both_bytes w v) (w x ++ bytes)
+ends_second {X} {Y} {F} {w} {G} {v} first second x bytes fits inside = record {
+  value = (x, inside.value);
+  fits = (fits, inside.fits);
+  missing = inside.missing;
+  some = inside.some;
+  cut = ap (λ bs. w x ++ bs) inside.cut ∙ sym (append_assoc (w x) bytes inside.missing);
+}
+
 both_cuts : (X Y : Type 0) (F : X → Type 0) (w : X → List ℕ) (G : X → Y → Type 0) (v : X → Y → List ℕ) (first : Layout X F w) (second : (x : X) → Layout Y (G x) (v x))
     (bytes : List ℕ) → AreBytes bytes → (o : Option (X × List ℕ)) → first.read bytes ≡ o → both_read (λ x. (second x).read) o ≡ None
     → EndsIn (X × Y) (BothFit F G) (both_bytes w v) bytes
 unfolding both_read second_read
-both_cuts X Y F w G v first second bytes are None e h =
-    let inside = first.cuts bytes are e in
-    let some = inside.some in
-    let next = second inside.value in
-    record {
-      value = (inside.value, next.any);
-      fits = (inside.fits, next.any_fits);
-      missing = inside.missing ++ v inside.value next.any;
-      some = omega (arith, length-append inside.missing (v inside.value next.any));
-      cut = ap (λ bs. bs ++ v inside.value next.any) inside.cut ∙ append_assoc bytes inside.missing (v inside.value next.any);
-    }
-both_cuts X Y F w G v first second bytes are (Some one) e h =
-    second_cuts ((second one.0).read one.1) refl h
+both_cuts X Y F w G v first second bytes are None e h = ends_first first second bytes (first.cuts bytes are e)
+both_cuts X Y F w G v first second bytes are (Some one) e h = second_cuts ((second one.0).read one.1) refl h
   where
     took : Took X F w bytes one
     took = first.takes bytes one are e
 
     second_cuts : (o : Option (Y × List ℕ)) → (second one.0).read one.1 ≡ o → second_read one.0 o ≡ None → EndsIn (X × Y) (BothFit F G) (both_bytes w v) bytes
     second_cuts None e' g =
-        let inside = (second one.0).cuts one.1 took.rest_bytes e' in
-        record {
-          value = (one.0, inside.value);
-          fits = (took.fits, inside.fits);
-          missing = inside.missing;
-          some = inside.some;
-          cut = ap (λ bs. w one.0 ++ bs) inside.cut ∙ sym (append_assoc (w one.0) one.1 inside.missing) ∙ ap (λ bs. bs ++ inside.missing) (sym took.whole);
-        }
+        subst (EndsIn (X × Y) (BothFit F G) (both_bytes w v)) (sym took.whole)
+        (ends_second first second one.0 one.1 took.fits ((second one.0).cuts one.1 took.rest_bytes e'))
     second_cuts (Some other) e' g = absurd (cc)
 
 pub both_by : {X Y : Type 0} {F : X → Type 0} {w : X → List ℕ} {G : X → Y → Type 0} {v : X → Y → List ℕ} → Layout X F w → ((x : X) → Layout Y (G x) (v x))
@@ -392,33 +378,39 @@ counted_takes F w number bytes found are (Some one) e h =
       rest_bytes = AreBytes-drop one.0 one.1 took.rest_bytes;
     })
 
+-- bytes that end inside the length, or inside what follows it
+pub ends_length : (F : ℕ → Type 0) (w : ℕ → List ℕ) (bytes : List ℕ) → EndsIn ℕ F w bytes → EndsIn (List ℕ) (LengthFits F) (length_first w) bytes
+ends_length F w bytes inside =
+    let n : ℕ = inside.value in
+    let some = inside.some in
+    let more : List ℕ = replicate n 0 in
+    let size : length more ≡ n = length-replicate {A = ℕ} n 0 in
+    record {
+      value = more;
+      fits = subst F (sym size) inside.fits;
+      missing = inside.missing ++ more;
+      some = omega (arith, length-append inside.missing more);
+      cut = ap (λ (k : ℕ). w k ++ more) size ∙ ap (λ bs. bs ++ more) inside.cut ∙ append_assoc bytes inside.missing more;
+    }
+
+pub ends_string : (F : ℕ → Type 0) (w : ℕ → List ℕ) (n : ℕ) (bytes : List ℕ) → F n → EndsIn (List ℕ) (HasLength n) itself bytes
+    → EndsIn (List ℕ) (LengthFits F) (length_first w) (w n ++ bytes)
+ends_string F w n bytes fits inside = record {
+  value = inside.value;
+  fits = subst F (sym inside.fits) fits;
+  missing = inside.missing;
+  some = inside.some;
+  cut = (λ i. w (inside.fits i) ++ inside.cut i) ∙ sym (append_assoc (w n) bytes inside.missing);
+}
+
 counted_cuts : (F : ℕ → Type 0) (w : ℕ → List ℕ) (number : Layout ℕ F w) (bytes : List ℕ) → AreBytes bytes → (o : Option (ℕ × List ℕ)) → number.read bytes ≡ o
     → counted_read o ≡ None → EndsIn (List ℕ) (LengthFits F) (length_first w) bytes
-unfolding counted_read
-counted_cuts F w number bytes are None e h =
-    let inside = number.cuts bytes are e in
-    let n = inside.value in
-    let some = inside.some in
-    let size : length (replicate n 0) ≡ n = length-replicate {A = ℕ} n 0 in
-    record {
-      value = replicate n 0;
-      fits = subst F (sym size) inside.fits;
-      missing = inside.missing ++ replicate n 0;
-      some = omega (arith, length-append inside.missing (replicate n 0));
-      cut = ap (λ (k : ℕ). w k ++ replicate n 0) size ∙ ap (λ bs. bs ++ replicate n 0) inside.cut ∙ append_assoc bytes inside.missing (replicate n 0);
-    }
+unfolding counted_read fixed_field
+counted_cuts F w number bytes are None e h = ends_length F w bytes (number.cuts bytes are e)
 counted_cuts F w number bytes are (Some one) e h =
     let took = number.takes bytes one are e in
-    let short = front_none one.0 one.1 h in
-    let more = replicate (one.0 - length one.1) 0 in
-    let size : length (one.1 ++ more) ≡ one.0 = filled one.0 one.1 short in
-    record {
-      value = one.1 ++ more;
-      fits = subst F (sym size) took.fits;
-      missing = more;
-      some = omega (arith, length-replicate {A = ℕ} (one.0 - length one.1) 0);
-      cut = ap (λ (k : ℕ). w k ++ (one.1 ++ more)) size ∙ sym (append_assoc (w one.0) one.1 more) ∙ ap (λ bs. bs ++ more) (sym took.whole);
-    }
+    subst (EndsIn (List ℕ) (LengthFits F) (length_first w)) (sym took.whole)
+    (ends_string F w one.0 one.1 took.fits ((fixed_field one.0).cuts one.1 took.rest_bytes h))
 
 pub counted_field : (F : ℕ → Type 0) (w : ℕ → List ℕ) → F 0 → Layout ℕ F w → Layout (List ℕ) (LengthFits F) (length_first w)
 unfolding counted_read
@@ -436,3 +428,53 @@ counted_field F w zero_fits number = record {
         ap (λ bs. counted_read (number.read bs)) (append_assoc (w (length s)) s rest)
         ∙ ap counted_read (number.again (length s) (s ++ rest) h)
         ∙ front_again (length s) s rest refl
+
+-- a field whose values are told in another way
+told_read : {X Y : Type 0} → (X → Y) → Option (X × List ℕ) → Option (Y × List ℕ)
+told_read f None = None
+told_read f (Some found) = Some (f found.0, found.1)
+
+-- the two ways to tell a value
+pub record Tells (X Y : Type 0) (F : X → Type 0) (w : X → List ℕ) (G : Y → Type 0) (v : Y → List ℕ) : Type 0 where
+  pub to : X → Y
+  pub from : Y → X
+  pub back : (y : Y) → to (from y) ≡ y
+  pub to_fits : (x : X) → F x → G (to x)
+  pub from_fits : (y : Y) → G y → F (from y)
+  pub same : (x : X) → w x ≡ v (to x)
+
+pub told_field : {X Y : Type 0} {F : X → Type 0} {w : X → List ℕ} {G : Y → Type 0} {v : Y → List ℕ} → Tells X Y F w G v → Layout X F w → Layout Y G v
+unfolding told_read
+told_field {X} {Y} {F} {w} {G} {v} t field = record {
+  read = λ bytes. told_read t.to (field.read bytes);
+  takes = λ bytes found are h. takes bytes found are (field.read bytes) refl h;
+  again = again;
+  cuts = λ bytes are h. cuts bytes are (field.read bytes) refl h;
+  any = t.to field.any;
+  any_fits = t.to_fits field.any field.any_fits;
+}
+  where
+    takes : (bytes : List ℕ) (found : Y × List ℕ) → AreBytes bytes → (o : Option (X × List ℕ)) → field.read bytes ≡ o → told_read t.to o ≡ Some found → Took Y G v bytes found
+    takes bytes found are None e h = absurd (cc)
+    takes bytes found are (Some one) e h =
+        let took = field.takes bytes one are e in
+        subst (Took Y G v bytes) (same_some (t.to one.0, one.1) found h)
+        (record { fits = t.to_fits one.0 took.fits; whole = took.whole ∙ ap (λ bs. bs ++ one.1) (t.same one.0); rest_bytes = took.rest_bytes })
+
+    again : (y : Y) (rest : List ℕ) → G y → told_read t.to (field.read (v y ++ rest)) ≡ Some (y, rest)
+    again y rest h =
+        let bytes : v y ≡ w (t.from y) = ap v (sym (t.back y)) ∙ sym (t.same (t.from y)) in
+        let y' = t.back y in
+        ap (λ bs. told_read t.to (field.read (bs ++ rest))) bytes ∙ ap (told_read t.to) (field.again (t.from y) rest (t.from_fits y h)) ∙ (λ i. Some (y' i, rest))
+
+    cuts : (bytes : List ℕ) → AreBytes bytes → (o : Option (X × List ℕ)) → field.read bytes ≡ o → told_read t.to o ≡ None → EndsIn Y G v bytes
+    cuts bytes are None e h =
+        let inside = field.cuts bytes are e in
+        record {
+          value = t.to inside.value;
+          fits = t.to_fits inside.value inside.fits;
+          missing = inside.missing;
+          some = inside.some;
+          cut = sym (t.same inside.value) ∙ inside.cut;
+        }
+    cuts bytes are (Some one) e h = absurd (cc)

@@ -11,8 +11,12 @@ pub mod Texts
 pub mod Plain
 pub mod Bytes
 pub mod Saved
+pub mod Sendings
+pub mod SavedMessages
 pub mod Layouts
 pub mod StoredFields
+pub mod Taken
+pub mod StoredTaken
 pub mod Loading
 pub mod OneBase
 pub mod LinkFiles
@@ -23,7 +27,10 @@ pub mod LinkTaking
 pub mod LinkSteps
 pub mod Stubs
 pub mod Loaded
+pub mod Verdicts
+pub mod Failing
 pub mod Left
 pub mod Purges
 pub mod StubBases
 pub mod AreaMaps
+pub mod SavedAgain

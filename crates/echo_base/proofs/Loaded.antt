@@ -5,16 +5,16 @@ use Rattle.std.specs.List.{AllByRecursion, list_all, list_any}
 use Rattle.std.proofs.lemmas.Bool.{ltb-false, not-false, or_parts}
 use Rattle.std.proofs.lemmas.List.{length-map}
 use Rattle.std.proofs.lemmas.List.Elements.{All-from_recursion}
-use Rattle.echo_packet.specs.Message.{HasNoZero}
+use Rattle.echo_packet.specs.Message.{HasNoZero, max_name, max_subject}
 use Rattle.echo_text.specs.Lines.{is_tag, trimmed}
-use Rattle.echo_text.specs.Echo.{IsEcho}
+use Rattle.echo_text.specs.Echo.{EchoText, IsEcho}
 use Rattle.echo_text.specs.Ids.{is_line_byte, is_zero}
 use Rattle.echo_text.specs.Refusal.{refusal}
 use Rattle.echo_text.proofs.Reread.{read_is_echo}
 use Rattle.echo_base.specs.Written.{echo_of, text_of}
 use Rattle.echo_base.specs.Base.{AreNew, Filed, HasSmallSender, IsBase, IsFiled, is_known, key_of}
 use Rattle.echo_base.specs.Stubs.{bare}
-use Rattle.echo_base.specs.BaseFile.{AreSound, BaseOf, IsStored, Stored, Version, has_tag, has_wrong_form, has_wrong_last, has_wrong_sender, has_wrong_string, is_damaged, is_no_string, is_other_kind, is_posted, is_wrong_id, is_wrong_text, message_in}
+use Rattle.echo_base.specs.BaseFile.{AreSound, BaseOf, IsStored, Stored, Version, echo_in, has_tag, has_wrong_form, has_wrong_last, has_wrong_sender, has_wrong_string, is_damaged, is_no_string, is_other_kind, is_posted, is_wrong_id, is_wrong_text, message_in, sender_in}
 use Rattle.echo_base.proofs.Plain.{no_zero, plain_if, some_bytes}
 use Rattle.echo_base.proofs.Stubs.{bare_echo}
 use Rattle.echo_base.proofs.Texts.{says_read}
@@ -46,7 +46,7 @@ right_text text h =
     let said = says_read text (none_of (refusal text) (not-false (is_none (refusal text)) p2.0)) in
     read_is_echo text (echo_of text) said.0 (All-from_recursion (λ b. b ≢ 0) text (no_zero text p1.0)) said.1
 
-right_last : (with_tag : Bool) (s : Stored) → cond with_tag (not (is_tag s.tag) || is_wrong_id s.last) (is_wrong_text s.last) ≡ false
+pub right_last : (with_tag : Bool) (s : Stored) → cond with_tag (not (is_tag s.tag) || is_wrong_id s.last) (is_wrong_text s.last) ≡ false
     → IsEcho (cond with_tag (bare s.tag s.last) (echo_of s.last))
 right_last true s h =
     let p1 = or_parts (not (is_tag s.tag)) (is_wrong_id s.last) h in
@@ -55,12 +55,33 @@ right_last true s h =
     bare_echo s.tag s.last (not-false (is_tag s.tag) p1.0) (plain_if s.last (not-false (list_all is_line_byte s.last) p3.0))
 right_last false s h = right_text s.last h
 
--- a stored message that is not damaged, as a message of a base
-record IsSound (earlier : List Filed) (m : Filed) : Type 0 where
-  filed : IsFiled m
-  new : is_known earlier (key_of m) ≡ false
+-- a message with right strings and this text
+pub filed_with : (version : Version) (s : Stored) (echo : EchoText) → IsStored version s → has_wrong_string s ≡ false → IsEcho echo
+    → IsFiled (record { sender = sender_in s; date = s.date; to_name = s.to_name; from_name = s.from_name; subject = s.subject; echo = echo })
+filed_with version s echo size h is =
+    let q1 = or_parts (is_no_string max_name s.to_name) _ h in
+    let q2 = or_parts (is_no_string max_name s.from_name) (is_no_string max_subject s.subject) q1.1 in
+    let to = right_string max_name s.to_name q1.0 in
+    let from = right_string max_name s.from_name q2.0 in
+    let subject = right_string max_subject s.subject q2.1 in
+    record {
+      small_sender = small_of (is_posted s.kind) s size.zone size.net size.node;
+      date_len = size.date_len;
+      to_room = to.room;
+      to_bytes = to.bytes;
+      from_room = from.room;
+      from_bytes = from.bytes;
+      subject_room = subject.room;
+      subject_bytes = subject.bytes;
+      is_echo = is;
+    }
 
-stored_sound : (version : Version) (cursor : ℕ) (earlier : List Filed) (s : Stored) → IsStored version s → is_damaged version cursor earlier s ≡ false
+-- a stored message that is not damaged, as a message of a base
+pub record IsSound (earlier : List Filed) (m : Filed) : Type 0 where
+  pub filed : IsFiled m
+  pub new : is_known earlier (key_of m) ≡ false
+
+pub stored_sound : (version : Version) (cursor : ℕ) (earlier : List Filed) (s : Stored) → IsStored version s → is_damaged version cursor earlier s ≡ false
     → IsSound earlier (message_in version s)
 unfolding is_damaged message_in
 stored_sound version cursor earlier s size h =
@@ -69,23 +90,8 @@ stored_sound version cursor earlier s size h =
     let p3 = or_parts (has_wrong_string s) _ p2.1 in
     let p4 = or_parts (has_wrong_last version s) _ p3.1 in
     let p5 = or_parts (has_wrong_form version cursor (length earlier) s) _ p4.1 in
-    let q1 = or_parts (is_no_string 35 s.to_name) _ p3.0 in
-    let q2 = or_parts (is_no_string 35 s.from_name) (is_no_string 71 s.subject) q1.1 in
-    let to = right_string 35 s.to_name q1.0 in
-    let from = right_string 35 s.from_name q2.0 in
-    let subject = right_string 71 s.subject q2.1 in
     record {
-      filed = record {
-        small_sender = small_of (is_posted s.kind) s size.zone size.net size.node;
-        date_len = size.date_len;
-        to_room = to.room;
-        to_bytes = to.bytes;
-        from_room = from.room;
-        from_bytes = from.bytes;
-        subject_room = subject.room;
-        subject_bytes = subject.bytes;
-        is_echo = right_last (has_tag version s.kind) s p4.0;
-      };
+      filed = filed_with version s (echo_in version s) size p3.0 (right_last (has_tag version s.kind) s p4.0);
       new = p5.1;
     }
 

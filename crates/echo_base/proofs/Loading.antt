@@ -162,7 +162,7 @@ cut_is bytes n are h =
     let at : drop (length bytes - length h.rest) bytes ≡ h.rest = rest_of (head_bytes version h.cursor h.number ++ flat_map (stored_bytes version) h.all) h.rest bytes
     (h.begins.whole ∙ sym (append_assoc (head_bytes version h.cursor h.number) (flat_map (stored_bytes version) h.all) h.rest)) in
     subst AreBytes at (AreBytes-drop (length bytes - length h.rest) bytes are) in
-    let stops : StopsIn version h.rest = record { next = h.next; size = h.size; missing = h.missing; some = h.some; cut = h.cut } in
+    let stops : StopsIn version h.rest = record { value = h.next; fits = h.size; missing = h.missing; some = h.some; cut = h.cut } in
     let many = h.many in
     let one = h.one_more in
     let count : h.number ≡ length h.all + suc (h.number - n - 1) = omega arith in
@@ -236,7 +236,7 @@ only_outcome bytes are (Err fault.Memory) h = absurd h
 only_outcome bytes are (Err fault.TooMany) h = absurd h
 
 -- one more message that may stand after the earlier ones
-sound_more : (version : Version) (cursor : ℕ) (earlier : List Filed) (all : List Stored) (s : Stored) → AreSound version cursor earlier all
+pub sound_more : (version : Version) (cursor : ℕ) (earlier : List Filed) (all : List Stored) (s : Stored) → AreSound version cursor earlier all
     → is_damaged version cursor (earlier ++ map (message_in version) all) s ≡ false → AreSound version cursor earlier (all ++ s ∷ [])
 sound_more version cursor earlier [] s h new =
     let P : List Filed → Type 0 = λ l. is_damaged version cursor l s ≡ false in
@@ -248,7 +248,7 @@ sound_more version cursor earlier (b ∷ all) s h new =
           (subst P (sym (append_assoc earlier (message_in version b ∷ []) (map (message_in version) all))) new),
     )
 
-say_more : (version : Version) (all : List Stored) (s : Stored) → map (message_in version) (all ++ s ∷ []) ≡ map (message_in version) all ++ message_in version s ∷ []
+pub say_more : (version : Version) (all : List Stored) (s : Stored) → map (message_in version) (all ++ s ∷ []) ≡ map (message_in version) all ++ message_in version s ∷ []
 say_more version [] s = refl
 say_more version (b ∷ all) s = ap (λ l. message_in version b ∷ l) (say_more version all s)
 
@@ -363,8 +363,8 @@ some_left version cursor number more bytes rec all rest b count are None e =
       begins = b;
       many = sym (length-map all (message_in version));
       one_more = omega (arith, length-map all (message_in version));
-      next = stops.next;
-      size = stops.size;
+      next = stops.value;
+      size = stops.fits;
       missing = stops.missing;
       some = stops.some;
       cut = stops.cut;

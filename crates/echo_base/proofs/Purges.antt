@@ -1,7 +1,7 @@
 -- A purge of the messages before the cursor, from the last of them to the first.
-use Rattle.std.proofs.Common.{◌≡◌, ℕ, zero, suc, ◌+◌, ◌-◌, ◌<◌, ◌≤◌, not, Bool, true, false, cond, List, [], ◌∷◌, ◌++◌, length, map, take, drop, get_or, set, Option, Some, None, refl, sym, ap, subst, ◌∙◌, arith, add-one, count_by}
-use Rattle.std.specs.Prelude.{filter, slice_get, option_to_list}
-use Rattle.std.specs.Map.{keys_of, values_of}
+use Rattle.std.proofs.Common.{◌≡◌, ℕ, zero, suc, ◌+◌, ◌-◌, ◌<◌, ◌≤◌, not, Bool, true, false, cond, List, [], ◌∷◌, ◌++◌, length, map, take, drop, get_or, set, Some, refl, sym, ap, ◌∙◌, arith, add-one, count_by}
+use Rattle.std.specs.Prelude.{filter, slice_get}
+use Rattle.std.specs.Map.{values_of}
 use Rattle.std.proofs.lemmas.List.{append-nil, append_assoc, get_or-take, length-take, length-append, length-map, map-append, take_more}
 use Rattle.std.proofs.lemmas.List.Elements.{filter-append}
 use Rattle.std.proofs.lemmas.Option.{get_or_from_slice_get, slice_get-get_or, slice_get_within}
@@ -20,7 +20,7 @@ values_written (e ∷ es) zero w = refl
 values_written (e ∷ es) (suc i) w = ap (λ l. e.1 ∷ l) (values_written es i w)
 
 -- the messages before a place, and one more
-front_more : (all : List Filed) (i : ℕ) (m : Filed) → slice_get all i ≡ Some m → take (i + 1) all ≡ take i all ++ m ∷ []
+pub front_more : (all : List Filed) (i : ℕ) (m : Filed) → slice_get all i ≡ Some m → take (i + 1) all ≡ take i all ++ m ∷ []
 front_more all i m at =
     take_more all i m (slice_get_within all i m at) ∙ ap (λ x. take i all ++ x ∷ []) (get_or_from_slice_get all i m m at)
 

@@ -7,7 +7,7 @@ use Rattle.std.proofs.lemmas.Bool.{and_from, and_parts, cond-false, cond-true, e
 use Rattle.std.proofs.lemmas.List.Elements.{recursion_from_All}
 use Rattle.std.proofs.lemmas.List.{append-nil, length-append, nil_from_length, take_at}
 use Rattle.echo_addr.specs.declared.address.Address.{Address}
-use Rattle.echo_packet.specs.Message.{HasNoZero}
+use Rattle.echo_packet.specs.Message.{HasNoZero, max_name, max_subject}
 use Rattle.echo_text.specs.Lines.{is_tag, is_tag_byte, msgid_word, trimmed}
 use Rattle.echo_text.specs.Echo.{EchoText, IsEcho, IsLine, msgid_of}
 use Rattle.echo_text.specs.Refusal.{refusal}
@@ -24,7 +24,7 @@ use Rattle.echo_base.proofs.Bytes.{none_zero, text_no_zero}
 use Rattle.echo_base.proofs.Texts.{written_accepted, written_back}
 
 -- the first byte tells the sender and the form
-tagged : (short : Bool) (sender : Option Address) → has_tag Second (kind_of short sender) ≡ short
+pub tagged : (short : Bool) (sender : Option Address) → has_tag Second (kind_of short sender) ≡ short
 tagged true None = refl
 tagged true (Some a) = refl
 tagged false None = refl
@@ -125,9 +125,9 @@ string_right most s room bytes =
 
 strings_right : (short : Bool) (m : Filed) → IsFiled m → has_wrong_string (stored_as short m) ≡ false
 strings_right short m h =
-    or_from (is_no_string 35 m.to_name) (is_no_string 35 m.from_name || is_no_string 71 m.subject) (string_right 35 m.to_name h.to_room h.to_bytes)
-    (or_from (is_no_string 35 m.from_name) (is_no_string 71 m.subject) (string_right 35 m.from_name h.from_room h.from_bytes)
-    (string_right 71 m.subject h.subject_room h.subject_bytes))
+    or_from (is_no_string max_name m.to_name) (is_no_string max_name m.from_name || is_no_string max_subject m.subject) (string_right max_name m.to_name h.to_room h.to_bytes)
+    (or_from (is_no_string max_name m.from_name) (is_no_string max_subject m.subject) (string_right max_name m.from_name h.from_room h.from_bytes)
+    (string_right max_subject m.subject h.subject_room h.subject_bytes))
 
 text_right : (e : EchoText) → IsEcho e → is_wrong_text (text_of e) ≡ false
 text_right e is =

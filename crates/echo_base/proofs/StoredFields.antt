@@ -1,69 +1,93 @@
 -- The fields of a stored message, as they are laid out.
-use Rattle.std.proofs.Common.{◌≡◌, ℕ, ◌^◌, ◌<◌, Bool, true, false, cond, List, [], ◌++◌, length, refl, sym, ap, subst, ◌∙◌, Option, Some, None, lit<}
+use Rattle.std.proofs.Common.{◌≡◌, ℕ, ◌^◌, ◌<◌, Bool, true, false, List, [], ◌++◌, length, refl, sym, subst, Option, Some, None, lit<}
+use Rattle.echo_addr.specs.declared.address.Address.{Address}
 use Rattle.echo_packet.specs.Header.{AreBytes, word}
 use Rattle.echo_base.specs.BaseFile.{IsStored, Stored, Version, after_length, after_long_length, has_tag, long, stored_bytes}
-use Rattle.echo_base.proofs.Layouts.{BothFit, EndsIn, HasLength, IsByte, IsLong, IsWord, Layout, both, both_by, both_bytes, byte_field, counted_field, fixed_field, inside_unread, itself, long_field, nothing_field, one_byte, word_field}
+pub use Rattle.echo_base.specs.Loading.{StopsIn}
+use Rattle.echo_base.specs.Fields.{IsLongString, IsShortString, IsSmall, LastFits, address_bytes, last_of}
+use Rattle.echo_base.proofs.Layouts.{BothFit, HasLength, IsByte, IsLong, IsWord, Layout, Tells, both, both_by, both_bytes, byte_field, counted_field, fixed_field, inside_unread, itself, long_field, nothing_field, one_byte, told_field, word_field}
 
--- a string after a byte, and after four bytes, that tell its length
-abbrev IsShortString : List ℕ → Type 0
-IsShortString s = IsByte (length s)
-
-abbrev IsLongString : List ℕ → Type 0
-IsLongString s = IsLong (length s)
-
-short_field : Layout (List ℕ) IsShortString after_length
+pub short_field : Layout (List ℕ) IsShortString after_length
 short_field = counted_field IsByte one_byte (lit< tt) byte_field
 
-text_field : Layout (List ℕ) IsLongString after_long_length
+pub text_field : Layout (List ℕ) IsLongString after_long_length
 text_field = counted_field IsLong long (lit< tt) long_field
 
--- what stands after the subject
-abbrev LastFits : Bool → List ℕ × List ℕ → Type 0
-LastFits true p = (length p.0 < 2 ^ 8) × (length p.1 < 2 ^ 32)
-LastFits false p = (p.0 ≡ []) × (length p.1 < 2 ^ 32)
-
-abbrev last_of : Bool → List ℕ × List ℕ → List ℕ
-last_of with_tag p = cond with_tag (after_length p.0 ++ after_long_length p.1) (after_long_length p.1)
-
-last_field : (with_tag : Bool) → Layout (List ℕ × List ℕ) (LastFits with_tag) (last_of with_tag)
+pub last_field : (with_tag : Bool) → Layout (List ℕ × List ℕ) (LastFits with_tag) (last_of with_tag)
 last_field true = both short_field text_field
 last_field false = both nothing_field text_field
 
+-- zone, net and node
+pub address_field : Layout Address IsSmall address_bytes
+address_field = told_field tells (both word_field (both word_field word_field))
+  where
+    tells : Tells (ℕ × (ℕ × ℕ)) Address (BothFit IsWord (λ _. BothFit IsWord (λ _. IsWord))) (both_bytes word (λ _. both_bytes word (λ _. word))) IsSmall address_bytes
+    tells = record {
+      to = λ p. record { zone = p.0; net = p.1.0; node = p.1.1 };
+      from = λ a. (a.zone, (a.net, a.node));
+      back = λ a. refl;
+      to_fits = λ p h. record { zone = h.0; net = h.1.0; node = h.1.1 };
+      from_fits = λ a h. (h.zone, (h.net, h.node));
+      same = λ p. refl;
+    }
+
 -- the fields of a stored message in order
-abbrev Fields : Type 0
-Fields = ℕ × (ℕ × (ℕ × (ℕ × (List ℕ × (List ℕ × (List ℕ × (List ℕ × (List ℕ × List ℕ))))))))
+abbrev pub Fields : Type 0
+Fields = ℕ × (Address × (List ℕ × (List ℕ × (List ℕ × (List ℕ × (List ℕ × List ℕ))))))
 
-abbrev FieldsFit : Version → Fields → Type 0
+abbrev pub FieldsFit : Version → Fields → Type 0
 FieldsFit version =
-    BothFit IsByte (λ kind. BothFit IsWord (λ _. BothFit IsWord (λ _. BothFit IsWord (λ _. BothFit (HasLength 20) (λ _.
-    BothFit IsShortString (λ _. BothFit IsShortString (λ _. BothFit IsShortString (λ _. LastFits (has_tag version kind)))))))))
+    BothFit IsByte (λ kind. BothFit IsSmall (λ _. BothFit (HasLength 20) (λ _.
+    BothFit IsShortString (λ _. BothFit IsShortString (λ _. BothFit IsShortString (λ _. LastFits (has_tag version kind)))))))
 
-abbrev fields_bytes : Version → Fields → List ℕ
+abbrev pub fields_bytes : Version → Fields → List ℕ
 fields_bytes version =
-    both_bytes one_byte (λ kind. both_bytes word (λ _. both_bytes word (λ _. both_bytes word (λ _. both_bytes itself (λ _.
-    both_bytes after_length (λ _. both_bytes after_length (λ _. both_bytes after_length (λ _. last_of (has_tag version kind)))))))))
+    both_bytes one_byte (λ kind. both_bytes address_bytes (λ _. both_bytes itself (λ _.
+    both_bytes after_length (λ _. both_bytes after_length (λ _. both_bytes after_length (λ _. last_of (has_tag version kind)))))))
+
+-- the fields from the subject on, from the two names on, from the DateTime on, and from the sender on
+abbrev pub from_subject : (b : Bool) → Layout (List ℕ × (List ℕ × List ℕ)) (BothFit IsShortString (λ _. LastFits b)) (both_bytes after_length (λ _. last_of b))
+from_subject b = both short_field (last_field b)
+
+abbrev pub from_second : (b : Bool) → Layout (List ℕ × (List ℕ × (List ℕ × List ℕ)))
+    (BothFit IsShortString (λ _. BothFit IsShortString (λ _. LastFits b))) (both_bytes after_length (λ _. both_bytes after_length (λ _. last_of b)))
+from_second b = both short_field (from_subject b)
+
+abbrev pub from_first : (b : Bool) → Layout (List ℕ × (List ℕ × (List ℕ × (List ℕ × List ℕ))))
+    (BothFit IsShortString (λ _. BothFit IsShortString (λ _. BothFit IsShortString (λ _. LastFits b))))
+    (both_bytes after_length (λ _. both_bytes after_length (λ _. both_bytes after_length (λ _. last_of b))))
+from_first b = both short_field (from_second b)
+
+abbrev pub from_date : (b : Bool) → Layout (List ℕ × (List ℕ × (List ℕ × (List ℕ × (List ℕ × List ℕ)))))
+    (BothFit (HasLength 20) (λ _. BothFit IsShortString (λ _. BothFit IsShortString (λ _. BothFit IsShortString (λ _. LastFits b)))))
+    (both_bytes itself (λ _. both_bytes after_length (λ _. both_bytes after_length (λ _. both_bytes after_length (λ _. last_of b)))))
+from_date b = both (fixed_field 20) (from_first b)
+
+abbrev pub from_sender : (b : Bool) → Layout (Address × (List ℕ × (List ℕ × (List ℕ × (List ℕ × (List ℕ × List ℕ))))))
+    (BothFit IsSmall (λ _. BothFit (HasLength 20) (λ _. BothFit IsShortString (λ _. BothFit IsShortString (λ _. BothFit IsShortString (λ _. LastFits b))))))
+    (both_bytes address_bytes (λ _. both_bytes itself (λ _. both_bytes after_length (λ _. both_bytes after_length (λ _. both_bytes after_length (λ _. last_of b))))))
+from_sender b = both address_field (from_date b)
 
 all_fields : (version : Version) → Layout Fields (FieldsFit version) (fields_bytes version)
-all_fields version =
-    both_by byte_field (λ kind. both word_field (both word_field (both word_field (both (fixed_field 20)
-    (both short_field (both short_field (both short_field (last_field (has_tag version kind)))))))))
+all_fields version = both_by byte_field (λ kind. from_sender (has_tag version kind))
 
-abbrev of_fields : Fields → Stored
+abbrev pub of_fields : Fields → Stored
 of_fields p = record {
   kind = p.0;
-  zone = p.1.0;
-  net = p.1.1.0;
-  node = p.1.1.1.0;
-  date = p.1.1.1.1.0;
-  to_name = p.1.1.1.1.1.0;
-  from_name = p.1.1.1.1.1.1.0;
-  subject = p.1.1.1.1.1.1.1.0;
-  tag = p.1.1.1.1.1.1.1.1.0;
-  last = p.1.1.1.1.1.1.1.1.1;
+  zone = p.1.0.zone;
+  net = p.1.0.net;
+  node = p.1.0.node;
+  date = p.1.1.0;
+  to_name = p.1.1.1.0;
+  from_name = p.1.1.1.1.0;
+  subject = p.1.1.1.1.1.0;
+  tag = p.1.1.1.1.1.1.0;
+  last = p.1.1.1.1.1.1.1;
 }
 
 abbrev to_fields : Stored → Fields
-to_fields s = (s.kind, (s.zone, (s.net, (s.node, (s.date, (s.to_name, (s.from_name, (s.subject, (s.tag, s.last)))))))))
+to_fields s =
+    (s.kind, (record { zone = s.zone; net = s.net; node = s.node }, (s.date, (s.to_name, (s.from_name, (s.subject, (s.tag, s.last)))))))
 
 last_fits : (with_tag : Bool) (p : List ℕ × List ℕ) → length p.0 < 2 ^ 8 → (with_tag ≡ false → p.0 ≡ []) → length p.1 < 2 ^ 32 → LastFits with_tag p
 last_fits true p tag no_tag last = (tag, last)
@@ -85,22 +109,16 @@ to_fit : (version : Version) (s : Stored) → IsStored version s → FieldsFit v
 to_fit version s h = (
   h.kind,
   (
-    h.zone,
+    record { zone = h.zone; net = h.net; node = h.node },
     (
-      h.net,
+      h.date_len,
       (
-        h.node,
+        h.to_name,
         (
-          h.date_len,
+          h.from_name,
           (
-            h.to_name,
-            (
-              h.from_name,
-              (
-                h.subject,
-                last_fits (has_tag version s.kind) (s.tag, s.last) h.tag h.no_tag h.last,
-              ),
-            ),
+            h.subject,
+            last_fits (has_tag version s.kind) (s.tag, s.last) h.tag h.no_tag h.last,
           ),
         ),
       ),
@@ -108,27 +126,41 @@ to_fit version s h = (
   ),
 )
 
-of_fit : (version : Version) (p : Fields) → FieldsFit version p → IsStored version (of_fields p)
+pub of_fit : (version : Version) (p : Fields) → FieldsFit version p → IsStored version (of_fields p)
 of_fit version p h =
-    let last = h.1.1.1.1.1.1.1.1 in
-    let end : List ℕ × List ℕ = p.1.1.1.1.1.1.1.1 in
+    let last = h.1.1.1.1.1.1 in
+    let end : List ℕ × List ℕ = p.1.1.1.1.1.1 in
     record {
       kind = h.0;
-      zone = h.1.0;
-      net = h.1.1.0;
-      node = h.1.1.1.0;
-      date_len = h.1.1.1.1.0;
-      to_name = h.1.1.1.1.1.0;
-      from_name = h.1.1.1.1.1.1.0;
-      subject = h.1.1.1.1.1.1.1.0;
+      zone = h.1.0.zone;
+      net = h.1.0.net;
+      node = h.1.0.node;
+      date_len = h.1.1.0;
+      to_name = h.1.1.1.0;
+      from_name = h.1.1.1.1.0;
+      subject = h.1.1.1.1.1.0;
       tag = last_tag (has_tag version p.0) end last;
       no_tag = last_no_tag (has_tag version p.0) end last;
       last = last_room (has_tag version p.0) end last;
     }
 
-bytes_are : (version : Version) (s : Stored) → fields_bytes version (to_fields s) ≡ stored_bytes version s
+pub bytes_are : (version : Version) (p : Fields) → fields_bytes version p ≡ stored_bytes version (of_fields p)
 unfolding stored_bytes
-bytes_are version s = refl
+bytes_are version p = refl
+
+-- a stored message
+pub stored_field : (version : Version) → Layout Stored (IsStored version) (stored_bytes version)
+stored_field version = told_field tells (all_fields version)
+  where
+    tells : Tells Fields Stored (FieldsFit version) (fields_bytes version) (IsStored version) (stored_bytes version)
+    tells = record {
+      to = of_fields;
+      from = to_fields;
+      back = λ s. refl;
+      to_fits = of_fit version;
+      from_fits = to_fit version;
+      same = bytes_are version;
+    }
 
 -- a stored message and what follows it
 pub record Stands (version : Version) (bytes : List ℕ) (next : Stored) (rest : List ℕ) : Type 0 where
@@ -136,72 +168,26 @@ pub record Stands (version : Version) (bytes : List ℕ) (next : Stored) (rest :
   pub whole : bytes ≡ stored_bytes version next ++ rest
   pub rest_bytes : AreBytes rest
 
--- the bytes end inside a stored message
-pub record StopsIn (version : Version) (bytes : List ℕ) : Type 0 where
-  pub next : Stored
-  pub size : IsStored version next
-  pub missing : List ℕ
-  pub some : 0 < length missing
-  pub cut : stored_bytes version next ≡ bytes ++ missing
-
 -- the message in front of bytes, and what follows it
-stored_part : Option (Fields × List ℕ) → Option (Stored × List ℕ)
-stored_part None = None
-stored_part (Some found) = Some (of_fields found.0, found.1)
-
 pub stored_in : Version → List ℕ → Option (Stored × List ℕ)
-stored_in version bytes = stored_part ((all_fields version).read bytes)
-
-some_part : (version : Version) (bytes : List ℕ) (o : Option (Fields × List ℕ)) → (all_fields version).read bytes ≡ o → AreBytes bytes
-    → (found : Stored × List ℕ) → stored_part o ≡ Some found → Stands version bytes found.0 found.1
-unfolding stored_part
-some_part version bytes None e are found h = absurd (cc)
-some_part version bytes (Some p) e are found h =
-    let took = (all_fields version).takes bytes p are e in
-    let same : (of_fields p.0, p.1) ≡ found = cc in
-    let P : Stored × List ℕ → Type 0 = λ q. Stands version bytes q.0 q.1 in
-    subst P same (record {
-      size = of_fit version p.0 took.fits;
-      whole = took.whole ∙ ap (λ bs. bs ++ p.1) (bytes_are version (of_fields p.0));
-      rest_bytes = took.rest_bytes;
-    })
+stored_in version bytes = (stored_field version).read bytes
 
 pub stored_stands : (version : Version) (bytes : List ℕ) (found : Stored × List ℕ) → AreBytes bytes → stored_in version bytes ≡ Some found
     → Stands version bytes found.0 found.1
 unfolding stored_in
-stored_stands version bytes found are h = some_part version bytes ((all_fields version).read bytes) refl are found h
+stored_stands version bytes found are h =
+    let took = (stored_field version).takes bytes found are h in
+    record { size = took.fits; whole = took.whole; rest_bytes = took.rest_bytes }
 
 pub stored_again : (version : Version) (s : Stored) (rest : List ℕ) → IsStored version s → stored_in version (stored_bytes version s ++ rest) ≡ Some (s, rest)
-unfolding stored_in stored_part
-stored_again version s rest h =
-    ap (λ bs. stored_part ((all_fields version).read (bs ++ rest))) (sym (bytes_are version s))
-    ∙ ap stored_part ((all_fields version).again (to_fields s) rest (to_fit version s h))
-
-none_part : (version : Version) (bytes : List ℕ) (o : Option (Fields × List ℕ)) → (all_fields version).read bytes ≡ o → AreBytes bytes → stored_part o ≡ None → StopsIn version bytes
-unfolding stored_part
-none_part version bytes None e are h =
-    let inside = (all_fields version).cuts bytes are e in
-    record {
-      next = of_fields inside.value;
-      size = of_fit version inside.value inside.fits;
-      missing = inside.missing;
-      some = inside.some;
-      cut = sym (bytes_are version (of_fields inside.value)) ∙ inside.cut;
-    }
-none_part version bytes (Some p) e are h = absurd (cc)
+unfolding stored_in
+stored_again version s rest h = (stored_field version).again s rest h
 
 pub stored_stops : (version : Version) (bytes : List ℕ) → AreBytes bytes → stored_in version bytes ≡ None → StopsIn version bytes
 unfolding stored_in
-stored_stops version bytes are h = none_part version bytes ((all_fields version).read bytes) refl are h
+stored_stops version bytes are h = (stored_field version).cuts bytes are h
 
 pub stopped_unread : (version : Version) (bytes : List ℕ) → AreBytes bytes → StopsIn version bytes → stored_in version bytes ≡ None
-unfolding stored_in stored_part
+unfolding stored_in
 stopped_unread version bytes are h =
-    let inside : EndsIn Fields (FieldsFit version) (fields_bytes version) bytes = record {
-      value = to_fields h.next;
-      fits = to_fit version h.next h.size;
-      missing = h.missing;
-      some = h.some;
-      cut = bytes_are version h.next ∙ h.cut;
-    } in
-    ap stored_part (inside_unread Fields (FieldsFit version) (fields_bytes version) (all_fields version) bytes are ((all_fields version).read bytes) refl inside)
+    inside_unread Stored (IsStored version) (stored_bytes version) (stored_field version) bytes are ((stored_field version).read bytes) refl h

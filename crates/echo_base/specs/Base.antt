@@ -6,7 +6,7 @@ use Rattle.std.specs.List.{AllByRecursion, list_any}
 use Rattle.echo_addr.specs.declared.address.Address.{Address}
 use Rattle.echo_addr.specs.Address.{IsAddress}
 use Rattle.echo_text.specs.Lines.{is_tag}
-use Rattle.echo_packet.specs.Message.{HasNoZero}
+use Rattle.echo_packet.specs.Message.{HasNoZero, max_name, max_subject}
 use Rattle.echo_text.specs.Echo.{EchoText, IsEcho, IsLine, msgid_of}
 use Rattle.echo_base.specs.declared.key.Key.{Key}
 use Rattle.echo_base.specs.declared.key.Key.TheVariants.{ByContent, ById}
@@ -106,11 +106,11 @@ HasSmallSender (Some a) = (a.zone < 2 ^ 16) × (a.net < 2 ^ 16) × (a.node < 2 ^
 pub record IsFiled (m : Filed) : Type 0 where
   pub small_sender : HasSmallSender m.sender
   pub date_len : length m.date ≡ 20
-  pub to_room : length m.to_name ≤ 35
+  pub to_room : length m.to_name ≤ max_name
   pub to_bytes : HasNoZero m.to_name
-  pub from_room : length m.from_name ≤ 35
+  pub from_room : length m.from_name ≤ max_name
   pub from_bytes : HasNoZero m.from_name
-  pub subject_room : length m.subject ≤ 71
+  pub subject_room : length m.subject ≤ max_subject
   pub subject_bytes : HasNoZero m.subject
   pub is_echo : IsEcho m.echo
 

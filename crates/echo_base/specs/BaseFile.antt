@@ -3,20 +3,18 @@ use Rattle.std.specs.Prelude.{◌≡◌, ℕ, ◌+◌, ◌*◌, ◌/◌, ◌%◌
 use Rattle.std.specs.List.{AllByRecursion, flat_map, list_all, list_any, starts_with}
 use Rattle.echo_addr.specs.declared.address.Address.{Address}
 use Rattle.echo_packet.specs.Header.{number_at, word}
+use Rattle.echo_packet.specs.Message.{max_name, max_subject}
 use Rattle.echo_text.specs.Lines.{is_tag, trimmed}
 use Rattle.echo_text.specs.Echo.{EchoText, msgid_of}
 use Rattle.echo_text.specs.Refusal.{refusal}
 use Rattle.echo_base.specs.declared.fault.BaseFault.{BaseFault}
+pub use Rattle.echo_base.specs.declared.stored.Version.{Version}
+pub use Rattle.echo_base.specs.declared.stored.Version.TheVariants.{First, Second}
 use Rattle.echo_base.specs.declared.fault.BaseFault.TheVariants as fault
 use Rattle.echo_text.specs.Ids.{is_line_byte, is_zero}
 use Rattle.echo_base.specs.Written.{echo_of, text_of}
 use Rattle.echo_base.specs.Base.{Filed, is_known, key_of}
 use Rattle.echo_base.specs.Stubs.{bare, is_stub}
-
--- the two layouts
-pub data Version : Type 0 where
-  First : Version
-  Second : Version
 
 -- what a base begins with
 abbrev pub magic : Version → List ℕ
@@ -120,7 +118,7 @@ is_no_string most s = nat_lt most (length s) || list_any is_zero s
 
 -- a name or the subject is no such string
 abbrev pub has_wrong_string : Stored → Bool
-has_wrong_string s = is_no_string 35 s.to_name || (is_no_string 35 s.from_name || is_no_string 71 s.subject)
+has_wrong_string s = is_no_string max_name s.to_name || (is_no_string max_name s.from_name || is_no_string max_subject s.subject)
 
 -- a text with a 00, one that is no echomail, or one that is not written so
 abbrev pub is_wrong_text : List ℕ → Bool

@@ -6,3 +6,6 @@ pub mod Stubs
 pub mod LinkLines
 pub mod LinkReading
 pub mod BaseFile
+pub mod Saving
+pub mod Fields
+pub mod Loading

@@ -3,6 +3,9 @@ ghost use Rattle.std.specs.List.{list_any};
 ghost use Rattle.echo_base.specs.Base.{IsBase, has_id, is_known, key_of};
 ghost use Rattle.echo_base.specs.Stubs.{is_stub, stub_of};
 
+mod loading;
+mod saving;
+
 use crate::filed::Filed;
 use crate::key::{Key, by_id};
 use crate::stub::{lines_left, put_stubs};
@@ -145,3 +148,6 @@ fn note_tag(tags: &mut IndexSet<Vec<u8>>, tag: &[u8]) -> Result<(), AllocError>
     tags.insert(tag)?;
     Ok(())
 }
+
+#[cfg(test)]
+mod tests;

@@ -14,7 +14,7 @@ ghost use Rattle.echo_base.specs.Written.{echo_of, text_of};
 ghost use Rattle.echo_base.specs.Base.{Filed, IsBase, IsFile, LinkFile, key_of, same_key};
 ghost use Rattle.echo_base.specs.Stubs.{is_stub, stub_of};
 ghost use Rattle.echo_base.specs.LinkLines.{LinksOf};
-ghost use Rattle.echo_base.specs.BaseFile.{BaseFaultOf, BaseOf, LoadOf, Loaded, is_countable, saved_bytes};
+ghost use Rattle.echo_base.specs.BaseFile.{BaseFaultOf, BaseOf, LoadOf, Loaded, Second, is_countable, magic, saved_bytes};
 
 /// The test of keys passes exactly where they are the same.
 pub fn key_law()
@@ -50,6 +50,13 @@ pub fn saved_base_law()
     ensures base { (base : List Filed) (cursor : ℕ) → IsBase base cursor → is_countable base cursor ≡ true → BaseOf base cursor (saved_bytes base cursor) }
     ensures read_back { (base : List Filed) (cursor : ℕ) (rest : List ℕ) → IsBase base cursor → is_countable base cursor ≡ true →
         LoadOf (saved_bytes base cursor ++ rest) (Ok (base, cursor, length (saved_bytes base cursor))) }
+{}
+
+/// What a base file of version 2 says is saved as the same bytes: four bytes count its messages and the
+/// bytes of each text and id.
+pub fn saved_again_law()
+    ensures countable { (base : List Filed) (cursor : ℕ) (bytes : List ℕ) → BaseOf base cursor bytes → take 8 bytes ≡ magic Second → is_countable base cursor ≡ true }
+    ensures same { (base : List Filed) (cursor : ℕ) (bytes : List ℕ) → BaseOf base cursor bytes → take 8 bytes ≡ magic Second → saved_bytes base cursor ≡ bytes }
 {}
 
 /// Bytes are a base, perhaps with more bytes after it, or have a fault, and only one of these holds.

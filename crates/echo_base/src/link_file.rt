@@ -15,6 +15,7 @@ mod reading;
 use crate::fault::LinkFault;
 use areas::Areas;
 use echo_addr::{Address, Items};
+pub use lines::{has_control_byte, is_skipped, split_line};
 use reading::read_lines;
 use std::alloc::{AllocError, Global};
 use std::marker::Model;

@@ -1,5 +1,4 @@
 pub mod Padding
-pub mod Inputs
 pub mod Pushed
 pub mod Stopping
 pub mod Printed
@@ -7,3 +6,10 @@ pub mod Answering
 pub mod Entries
 pub mod Saying
 pub mod OnePrinting
+pub mod Giving
+pub mod Checks
+pub mod Pictures
+pub mod Numerals
+pub mod Systems
+pub mod Stationed
+pub mod Replays

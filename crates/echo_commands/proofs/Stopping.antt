@@ -4,20 +4,14 @@ use Rattle.std.proofs.Math.Nat.{eq-or-lt_of_le}
 use Rattle.echo_device.specs.Device.{Failed}
 use Rattle.echo_device.proofs.Devices.{Failed-le}
 use Rattle.echo_commands.specs.declared.fault.Fault.{Fault}
-use Rattle.echo_commands.specs.declared.fault.Fault.TheVariants.{BadAddress, BadHex, CannotUse, Nodelist, OutOfMemory, Packet, Text, TooLarge}
+use Rattle.echo_commands.specs.declared.fault.Fault.TheVariants.{CannotUse}
 use Rattle.echo_commands.specs.declared.status.Status.{Status}
 use Rattle.echo_commands.specs.Ended.{Answers, CannotPrint}
 
 -- the count never falls
 print_le : (fault : Fault) (a b : ℕ) → CannotPrint a b fault → a ≤ b
 print_le (CannotUse path) a b failed = Failed-le a b failed.1
-print_le OutOfMemory a b failed = absurd failed
-print_le (Packet f) a b failed = absurd failed
-print_le (Text f) a b failed = absurd failed
-print_le (Nodelist f) a b failed = absurd failed
-print_le BadHex a b failed = absurd failed
-print_le BadAddress a b failed = absurd failed
-print_le (TooLarge path) a b failed = absurd failed
+print_le _ a b failed = absurd failed
 
 pub answer_le : (P : Status → Type 0) (Q : Fault → Type 0) (a b : ℕ) (answer : Result Status Fault) → Answers P Q a b answer → a ≤ b
 answer_le P Q a b (Ok status) right = omega (arith, right.1)
@@ -36,10 +30,4 @@ failed_later a b c less (inr (full, same)) = elim (eq-or-lt_of_le less) [
 -- standard output failed after calls that did not lower the count
 pub print_later : (fault : Fault) (a b c : ℕ) → a ≤ b → CannotPrint b c fault → CannotPrint a c fault
 print_later (CannotUse path) a b c less failed = (failed.0, failed_later a b c less failed.1)
-print_later OutOfMemory a b c less failed = absurd failed
-print_later (Packet f) a b c less failed = absurd failed
-print_later (Text f) a b c less failed = absurd failed
-print_later (Nodelist f) a b c less failed = absurd failed
-print_later BadHex a b c less failed = absurd failed
-print_later BadAddress a b c less failed = absurd failed
-print_later (TooLarge path) a b c less failed = absurd failed
+print_later _ a b c less failed = absurd failed

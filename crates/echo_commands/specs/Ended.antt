@@ -1,11 +1,15 @@
 -- How a command ends: what it answers before a fault is reported, and its status.
 use Rattle.std.specs.Prelude.{◌≡◌, ℕ, ◌⊎◌, codes, Result, Ok, Err}
 use Rattle.echo_device.specs.Device.{Failed}
+use Rattle.echo_base.specs.declared.fault.BaseFault.TheVariants as base
+use Rattle.echo_base.specs.declared.fault.LinkFault.TheVariants as link
 use Rattle.echo_nodelist.specs.declared.fault.NodeFault.TheVariants as node
 use Rattle.echo_packet.specs.declared.fault.PacketFault.TheVariants as packet
+use Rattle.echo_steps.specs.declared.fault.PostFault.TheVariants as post
+use Rattle.echo_steps.specs.declared.fault.ScanFault.TheVariants as scan
 use Rattle.echo_text.specs.declared.fault.TextFault.TheVariants as text
 use Rattle.echo_commands.specs.declared.fault.Fault.{Fault}
-use Rattle.echo_commands.specs.declared.fault.Fault.TheVariants.{CannotUse, Nodelist, OutOfMemory, Packet, Text}
+use Rattle.echo_commands.specs.declared.fault.Fault.TheVariants.{Base, CannotUse, Link, Nodelist, OutOfMemory, Packet, Post, Scan, Text, TossMemory}
 use Rattle.echo_commands.specs.declared.status.Status.{Status}
 use Rattle.echo_commands.specs.Status.{status_of}
 
@@ -26,6 +30,11 @@ IsWantOfMemory OutOfMemory = Unit {0}
 IsWantOfMemory (Packet packet.Memory) = Unit {0}
 IsWantOfMemory (Text text.Memory) = Unit {0}
 IsWantOfMemory (Nodelist node.Memory) = Unit {0}
+IsWantOfMemory (Link link.Memory) = Unit {0}
+IsWantOfMemory (Base base.Memory) = Unit {0}
+IsWantOfMemory (Post post.Memory) = Unit {0}
+IsWantOfMemory TossMemory = Unit {0}
+IsWantOfMemory (Scan scan.Memory) = Unit {0}
 IsWantOfMemory _ = ⊥
 
 -- standard output cannot be used: it failed in the call
@@ -37,9 +46,9 @@ CannotPrint before after _ = ⊥
 abbrev pub Stops : ℕ → ℕ → Fault → Type 0
 Stops before after fault = CannotPrint before after fault ⊎ (IsWantOfMemory fault × (after ≡ before))
 
--- A command's answer: a status that is right, a fault that the input has, or one of the machine. Standard output failed only where the answer says so.
-abbrev pub Answers : (Status → Type 0) → (Fault → Type 0) → ℕ → ℕ → Result Status Fault → Type 0
-Answers IsRight IsRefused before after (Ok status) = IsRight status × (after ≡ before)
+-- A command's answer: one that is right, a fault that the input has, or one of the machine. Standard output failed only where the answer says so.
+abbrev pub Answers : {A : Type 0} → (A → Type 0) → (Fault → Type 0) → ℕ → ℕ → Result A Fault → Type 0
+Answers IsRight IsRefused before after (Ok right) = IsRight right × (after ≡ before)
 Answers IsRight IsRefused before after (Err fault) = Stops before after fault ⊎ (IsRefused fault × (after ≡ before))
 
 -- the answer is of the input, and not of the machine

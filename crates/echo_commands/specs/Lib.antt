@@ -5,4 +5,14 @@ pub mod Status
 pub mod Ended
 pub mod Showing
 pub mod Listed
-pub mod Input
+pub mod Given
+pub mod Checked
+pub mod Pictured
+pub mod Options
+pub mod Files
+pub mod System
+pub mod Scanned
+pub mod Purged
+pub mod Posted
+pub mod Unpacked
+pub mod Replayed

@@ -1,11 +1,14 @@
 ghost use Rattle.std.specs.Prelude.{◌≡◌};
-ghost use Rattle.echo_commands.specs.declared.fault.Fault.TheVariants.{Nodelist, OutOfMemory, Packet};
+ghost use Rattle.echo_commands.specs.declared.fault.Fault.TheVariants.{Base, Link, Nodelist, OutOfMemory, Packet, Post, Scan};
 ghost use Rattle.echo_commands.specs.Status.{status_of};
 
 use crate::status::Status;
+use echo_addr::Address;
+use echo_base::{BaseFault, LinkFault};
 use echo_device::Sink;
 use echo_nodelist::NodeFault;
 use echo_packet::PacketFault;
+use echo_steps::{PostFault, ScanFault};
 use echo_text::TextFault;
 use std::alloc::{AllocError, AllocFailed};
 use std::io::Write;
@@ -20,10 +23,36 @@ pub enum Fault<'a> {
     Text(TextFault),
     #[error("{0}")]
     Nodelist(NodeFault),
+    #[error("{0}")]
+    Link(LinkFault),
+    #[error("{0}")]
+    Base(BaseFault),
+    #[error("{0}")]
+    Post(PostFault),
+    /// A packet for this system came to another one.
+    #[error("C1 NotForUs {0}")]
+    NotForUs(Address),
+    /// A growth was refused while a packet was tossed.
+    #[error("C2 Memory")]
+    TossMemory,
+    #[error("{0}")]
+    Scan(ScanFault),
     #[error("bad hex")]
     BadHex,
     #[error("bad address")]
     BadAddress,
+    /// A stamp of another form.
+    #[error("bad stamp")]
+    BadStamp,
+    /// A serial of another form.
+    #[error("bad serial")]
+    BadSerial,
+    /// A number of another form.
+    #[error("bad number")]
+    BadNumber,
+    /// A line of a script, counted from 1, of another form.
+    #[error("script line {0}")]
+    ScriptLine(u64),
     /// A file, or standard input as `-`, has more bytes than allowed.
     #[error("file too large {0}")]
     TooLarge(&'a str),
@@ -50,10 +79,50 @@ impl From<NodeFault> for Fault<'_> {
     }
 }
 
+impl From<LinkFault> for Fault<'_> {
+    ghost from_gives = { λ fault e. e ≡ Link fault };
+
+    fn from(fault: LinkFault) -> Self {
+        Fault::Link(fault)
+    }
+}
+
+impl From<BaseFault> for Fault<'_> {
+    ghost from_gives = { λ fault e. e ≡ Base fault };
+
+    fn from(fault: BaseFault) -> Self {
+        Fault::Base(fault)
+    }
+}
+
+impl From<PostFault> for Fault<'_> {
+    ghost from_gives = { λ fault e. e ≡ Post fault };
+
+    fn from(fault: PostFault) -> Self {
+        Fault::Post(fault)
+    }
+}
+
+impl From<ScanFault> for Fault<'_> {
+    ghost from_gives = { λ fault e. e ≡ Scan fault };
+
+    fn from(fault: ScanFault) -> Self {
+        Fault::Scan(fault)
+    }
+}
+
 impl From<AllocError> for Fault<'_> {
     ghost from_gives = { λ _ e. e ≡ OutOfMemory };
 
     fn from(_e: AllocError) -> Self {
+        Fault::OutOfMemory
+    }
+}
+
+impl<T: Drop> From<AllocFailed<T>> for Fault<'_> {
+    ghost from_gives = { λ _ e. e ≡ OutOfMemory };
+
+    fn from(_e: AllocFailed<T>) -> Self {
         Fault::OutOfMemory
     }
 }
@@ -69,13 +138,27 @@ impl Fault<'_> {
             )
             | Fault::Text(TextFault::Memory)
             | Fault::Nodelist(NodeFault::Memory | NodeFault::Write { .. })
+            | Fault::Link(LinkFault::Memory)
+            | Fault::Base(BaseFault::Read | BaseFault::Write { .. } | BaseFault::Memory)
+            | Fault::Post(PostFault::Memory)
+            | Fault::TossMemory
+            | Fault::Scan(ScanFault::Memory)
             | Fault::CannotUse(_)
             | Fault::OutOfMemory => Status::Device,
             Fault::Packet(_)
             | Fault::Text(_)
             | Fault::Nodelist(_)
+            | Fault::Link(_)
+            | Fault::Base(_)
+            | Fault::Post(_)
+            | Fault::NotForUs(_)
+            | Fault::Scan(_)
             | Fault::BadHex
             | Fault::BadAddress
+            | Fault::BadStamp
+            | Fault::BadSerial
+            | Fault::BadNumber
+            | Fault::ScriptLine(_)
             | Fault::TooLarge(_) => Status::Refused,
         }
     }

@@ -5,30 +5,56 @@
 //! just where that has the fault, after the lines of what came before it; and standard output failed
 //! where the answer says so, and only there.
 //!
-//! Modules in reading order: `fault` and `status` (how a command ends), `input` (files and standard
-//! input), `printing` (lines on their way to standard output), `escape`, `showing` with `show_text` and
-//! `said` (what is printed of a packet, and of what a text says), `listing` with `nodelist_text` (what
-//! is printed of a nodelist), and `laws` (what holds of the definitions).
+//! Modules in reading order: `fault` and `status` (how a command ends), `given` (the files that a command
+//! was given), `options` (stamps, serials and numbers of the command line), `printing` (lines on their way
+//! to standard output), `escape`, `showing` with `show_text` and `said` (what is printed of a packet, and
+//! of what a text says), `listing` with `nodelist_text` (what is printed of a nodelist), `checking` with
+//! `verdict_text` (is an area in order), `picturing` with `picture_text` (an area as a graph), `leaving`
+//! (the files that a command leaves to be written), `system` (a link file and a base are read, and the
+//! base is written), `posting`, `scanning`, `purging` and `unpacking` (packets are tossed),
+//! `replaying` with `replay_text` (what becomes of a net), and `laws`
+//! (what holds of the definitions).
 #![tactic(auto)]
 
+mod checking;
 mod escape;
 mod fault;
-mod input;
+mod given;
 mod laws;
+mod leaving;
 mod listing;
 mod nodelist_text;
+mod options;
+mod picture_text;
+mod picturing;
+mod posting;
 mod printing;
+mod purging;
+mod replay_text;
+mod replaying;
 mod said;
+mod scanning;
 mod show_text;
 mod showing;
 mod status;
+mod system;
+mod unpacking;
+mod verdict_text;
 
+pub use checking::check;
 pub use fault::Fault;
-pub use input::{InputFault, read_whole};
 pub use laws::one_printing;
+pub use leaving::{Done, Files, PacketFile};
 pub use listing::{nodelist, wanted};
+pub use options::{number_of, serial_of, stamp_of};
+pub use picturing::picture;
+pub use posting::{NewMessage, post};
+pub use purging::purge;
+pub use scanning::scan;
+pub use replaying::replay;
 pub use showing::show;
 pub use status::Status;
+pub use unpacking::Tossing;
 
 #[cfg(test)]
 mod tests;

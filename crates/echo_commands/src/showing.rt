@@ -19,7 +19,7 @@ use hex::FromHexError;
 use std::alloc::{AllocError, Global};
 
 /// What `show` takes of a packet: texts of 16 MiB and any number of messages.
-const LIMITS: Limits = Limits {
+pub(crate) const LIMITS: Limits = Limits {
     text: 16_777_216,
     messages: u64::MAX,
 };

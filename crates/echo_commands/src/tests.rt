@@ -1,10 +1,17 @@
+mod checks;
 mod messages;
 mod nodelists;
+mod pictures;
+mod replays;
+mod stations;
 
 use super::*;
-use echo_device::{Trial, Watched};
+use echo_addr::Address;
+use echo_base::{BaseFault, LinkFault};
+use echo_device::Watched;
 use echo_nodelist::NodeFault;
 use echo_packet::PacketFault;
+use echo_steps::{PostFault, ScanFault};
 use echo_text::TextFault;
 use std::alloc::Global;
 use std::test::Fail;
@@ -115,36 +122,6 @@ fn shows_password_and_fill(rt: HostRuntime) -> Result<(), Fail> {
 }
 
 #[test]
-fn reads_whole_inputs(rt: HostRuntime) -> Result<(), Fail> {
-    let alloc = rt.alloc();
-    let mut five: &[u8] = b"hello";
-    let read = read_whole(alloc, &mut five, 5)
-        .ok()
-        .ok_or("five bytes are allowed")?;
-    assert!(rt; is_text(&read, "hello"));
-    let mut six: &[u8] = b"hello!";
-    assert_eq!(rt;
-        read_whole(alloc, &mut six, 5).err(),
-        Some(InputFault::TooLarge)
-    );
-    Ok(())
-}
-
-#[test]
-fn sixteen_interruptions_are_a_failure(rt: HostRuntime) -> Result<(), Fail> {
-    let alloc = rt.alloc();
-    for (again, read) in [(15, Ok(5)), (16, Err(InputFault::Device))] {
-        let slice: &[u8] = b"hello";
-        let mut reader = Watched::new(Trial::new(slice, 1, again, u64::MAX));
-        let got = read_whole(alloc, &mut reader, 100).map(|bytes| bytes.len());
-        if got != Err(InputFault::Memory) {
-            assert_eq!(rt; got, read, "after {again}");
-        }
-    }
-    Ok(())
-}
-
-#[test]
 fn statuses(rt: HostRuntime) {
     for (status, code) in [
         (Status::Good, 0),
@@ -164,6 +141,13 @@ fn statuses(rt: HostRuntime) {
         Fault::Text(TextFault::Memory),
         Fault::Nodelist(NodeFault::Memory),
         Fault::Nodelist(NodeFault::Write { bytes: 0 }),
+        Fault::Link(LinkFault::Memory),
+        Fault::Base(BaseFault::Read),
+        Fault::Base(BaseFault::Write { bytes: 0 }),
+        Fault::Base(BaseFault::Memory),
+        Fault::Post(PostFault::Memory),
+        Fault::TossMemory,
+        Fault::Scan(ScanFault::Memory),
     ] {
         assert_eq!(rt; fault.status(), Status::Device);
     }
@@ -174,6 +158,15 @@ fn statuses(rt: HostRuntime) {
         Fault::Packet(PacketFault::Truncated { at: 58 }),
         Fault::Text(TextFault::BadTag),
         Fault::Nodelist(NodeFault::NoZone { line: 1 }),
+        Fault::Link(LinkFault::NoSystem { line: 0 }),
+        Fault::Base(BaseFault::Truncated { messages: 0 }),
+        Fault::Base(BaseFault::TooMany),
+        Fault::Post(PostFault::KnownSerial),
+        Fault::Scan(ScanFault::BadStamp),
+        Fault::BadStamp,
+        Fault::BadSerial,
+        Fault::BadNumber,
+        Fault::ScriptLine(3),
     ] {
         assert_eq!(rt; fault.status(), Status::Refused);
     }
@@ -195,6 +188,32 @@ fn fault_lines(rt: HostRuntime) {
             Fault::Nodelist(NodeFault::Write { bytes: 7 }),
             "echonet: N6 Write bytes 7\n",
         ),
+        (
+            Fault::Link(LinkFault::BadAddress { line: 3 }),
+            "echonet: L2 BadAddress line 3\n",
+        ),
+        (
+            Fault::Base(BaseFault::Damaged { message: 2 }),
+            "echonet: F3 Damaged record 2\n",
+        ),
+        (
+            Fault::Post(PostFault::KnownSerial),
+            "echonet: B4 KnownSerial\n",
+        ),
+        (
+            Fault::NotForUs(Address {
+                zone: 1,
+                net: 10,
+                node: 2,
+            }),
+            "echonet: C1 NotForUs 1:10/2\n",
+        ),
+        (Fault::TossMemory, "echonet: C2 Memory\n"),
+        (Fault::Scan(ScanFault::BadStamp), "echonet: S1 BadStamp\n"),
+        (Fault::BadStamp, "echonet: bad stamp\n"),
+        (Fault::BadSerial, "echonet: bad serial\n"),
+        (Fault::BadNumber, "echonet: bad number\n"),
+        (Fault::ScriptLine(3), "echonet: script line 3\n"),
     ] {
         let mut room = [0u8; 64];
         let mut errors = Watched::new(room.as_mut_slice());
@@ -204,5 +223,44 @@ fn fault_lines(rt: HostRuntime) {
             room.get(..64usize.saturating_sub(left)) == Some(line.as_bytes()),
             "{line}"
         );
+    }
+}
+
+#[test]
+fn reads_options(rt: HostRuntime) {
+    for (word, moment) in [
+        ("2026-07-03T12:34:56", Some((2026, 7, 3, 12, 34, 56))),
+        ("2080-13-00T24:60:99", Some((2080, 13, 0, 24, 60, 99))),
+        ("2026-07-03 12:34:56", None),
+        ("2026-07-03T12:34:5", None),
+        ("2026-07-03T12:34:5x", None),
+        ("2026-07-03T12:34:567", None),
+        ("+026-07-03T12:34:56", None),
+        ("", None),
+    ] {
+        let found = stamp_of(word)
+            .ok()
+            .map(|s| (s.year, s.month, s.day, s.hour, s.minute, s.second));
+        assert_eq!(rt; found, moment, "{word}");
+    }
+    for (word, serial) in [
+        ("00000001", Some(1)),
+        ("fFfFfFfF", Some(4_294_967_295)),
+        ("0000001", None),
+        ("+0000001", None),
+        ("000000001", None),
+        ("0000000g", None),
+    ] {
+        assert_eq!(rt; serial_of(word).ok(), serial, "{word}");
+    }
+    for (word, n) in [
+        ("0", Some(0)),
+        ("0042", Some(42)),
+        ("99999999999999999999999", Some(u64::MAX)),
+        ("", None),
+        ("+1", None),
+        ("1 ", None),
+    ] {
+        assert_eq!(rt; number_of(word).ok(), n, "{word}");
     }
 }

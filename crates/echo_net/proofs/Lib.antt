@@ -10,3 +10,4 @@ pub mod Faulty
 pub mod Numbers
 pub mod Graphs
 pub mod Absences
+pub mod Drawings

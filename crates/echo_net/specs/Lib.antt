@@ -5,3 +5,4 @@ pub mod Rows
 pub mod Faults
 pub mod Absent
 pub mod Printed
+pub mod Drawn

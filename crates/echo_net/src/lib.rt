@@ -7,12 +7,13 @@
 //! Modules in reading order: `verdict` (the answer and the faults), `link`, `sorting` (values in
 //! ascending order), `carriers` (the systems of an area and their links), `owners`, `first_links` and
 //! `same_net_node` (what sorted addresses decide), `link_faults` (the first of those faults), `rows` (the
-//! net as a graph), `graph_faults` (systems apart, and loops), `checker` (the whole), and `presence`
-//! (carriers beside a nodelist).
+//! net as a graph), `graph_faults` (systems apart, and loops), `checker` (the whole), `presence` (carriers
+//! beside a nodelist), and `drawing` (an area as it is drawn).
 #![tactic(auto)]
 
 mod carriers;
 mod checker;
+mod drawing;
 mod first_links;
 mod graph_faults;
 mod link;
@@ -25,6 +26,7 @@ mod sorting;
 mod verdict;
 
 pub use checker::check;
+pub use drawing::{Drawing, DrawnLink, DrawnSystem, Mark, Sides, draw};
 pub use presence::{Absence, listed};
 pub use verdict::{NetFault, Verdict};
 

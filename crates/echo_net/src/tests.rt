@@ -1,6 +1,9 @@
+mod small;
+
 use super::*;
 use echo_base::{LinkFault, LinkFile};
 use echo_nodelist::Nodelist;
+use small::{NO_AREA, SmallNet};
 use std::alloc::Global;
 use std::test::Fail;
 
@@ -280,5 +283,46 @@ fn nodelist_beside_a_chain(rt: HostRuntime) -> Result<(), Fail> {
     assert_eq!(rt; absent[1].0.node, 300);
     assert_eq!(rt; absent[1].1, Absence::Missing);
     assert!(rt; listed(alloc, &chain, &nodelist, b"OTHER")?.is_empty());
+    Ok(())
+}
+
+/// Whether the answer is that of the definitions, for all link files of so many of these addresses.
+fn agree(
+    alloc: Global,
+    addresses: [&'static str; 4],
+    net_nodes: [usize; 4],
+    systems: usize,
+    nets: usize,
+) -> Result<bool, Fail> {
+    let choices = NO_AREA + 1;
+    for number in 0..nets {
+        let net = SmallNet {
+            addresses,
+            net_nodes,
+            systems,
+            choices: [
+                number % choices,
+                number / choices % choices,
+                number / choices / choices % choices,
+                number / choices / choices / choices % choices,
+            ],
+        };
+        let found = said(alloc, &net.files(alloc)?, b"TEST")?;
+        if found.as_str() != net.expected(alloc)?.as_str() {
+            return Ok(false);
+        }
+    }
+    Ok(true)
+}
+
+/// All link files of four systems, and of three of which two have one net and node, with an address that
+/// has no file.
+#[test]
+fn all_small_nets(rt: HostRuntime) -> Result<(), Fail> {
+    let alloc = rt.alloc();
+    let four = ["1:10/1", "1:10/2", "1:10/3", "1:10/4"];
+    assert!(rt; agree(alloc, four, [0, 1, 2, 3], 4, 83_521)?);
+    let twins = ["1:10/1", "1:10/2", "2:10/1", "2:10/9"];
+    assert!(rt; agree(alloc, twins, [0, 1, 0, 2], 3, 4_913)?);
     Ok(())
 }

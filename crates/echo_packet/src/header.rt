@@ -4,7 +4,7 @@ ghost use Rattle.echo_packet.specs.Header.{header_of, number_at};
 use byteorder::{ByteOrder, LittleEndian};
 
 /// How many bytes a header has.
-pub(crate) const HEADER_BYTES: usize = 58;
+pub const HEADER_BYTES: usize = 58;
 
 /// The header of a packet (FTS-0001). The fields are as they stand in the bytes: the month counts
 /// from 0, the packet type is always 2 and is left out, `password` and `fill` are kept as read.

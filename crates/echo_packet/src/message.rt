@@ -144,7 +144,7 @@ fn read_fields<R: Source>(
 
 /// The message that begins at the place, or none where 00 00 stands there; the place moves past it.
 /// So many messages were given before it.
-pub(crate) fn read_next<R: Source>(
+pub fn read_next<R: Source>(
     alloc: Global,
     reader: &mut R,
     limits: Limits,

@@ -109,7 +109,7 @@ events-last laws (event ∷ events) run kept = λ i s e.
     (z, there, later-still s t z first rest)
 
 -- events one after another
-after-append : (events later : List RunEvent) (run : Run) → after_events run (events ++ later) ≡ after_events (after_events run events) later
+pub after-append : (events later : List RunEvent) (run : Run) → after_events run (events ++ later) ≡ after_events (after_events run events) later
 after-append [] later run = refl
 after-append (event ∷ events) later run = after-append events later (after_event run event)
 

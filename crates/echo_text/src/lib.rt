@@ -35,7 +35,7 @@ pub use laws::{
     written_text_is_read, written_text_read_back,
 };
 pub use lines::cut as lines_of;
-pub use msgid::MsgId;
+pub use msgid::{MsgId, serial_of};
 pub use reading::{read_text, view_text};
 pub use words::trimmed;
 pub use writing::write_text;

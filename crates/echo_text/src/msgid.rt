@@ -101,7 +101,7 @@ fn gap_len(front: &[u8]) -> usize
 }
 
 /// The number that at most eight digits to the base 16 write, in either case.
-fn serial_of(digits: &[u8]) -> Option<u32>
+pub fn serial_of(digits: &[u8]) -> Option<u32>
     requires { length digits.now ≤ 8 }
     ensures { MatchOption result (list_all is_hex_digit digits.now ≡ false) (λ n. AllDigits 16 digits.now × (digits_value 16 digits.now ≡ n)) }
 {

@@ -6,3 +6,8 @@ pub mod Replies
 pub mod Drafted
 pub mod AscendingSets
 pub mod Exports
+pub mod Counted
+pub mod Unpacked
+pub mod Stops
+pub mod Parsed
+pub mod WholePackets

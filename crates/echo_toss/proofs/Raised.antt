@@ -1,5 +1,5 @@
 -- A list whose items are changed from the front on, and tags that are too long for any area.
-use Rattle.std.proofs.Common.{◌≡◌, ℕ, ◌+◌, ◌<◌, ◌≤◌, Bool, true, false, List, [], ◌∷◌, ◌++◌, map, length, take, drop, get_or, refl, sym, ap, subst, ◌∙◌, arith, append_assoc, Option, Some, None}
+use Rattle.std.proofs.Common.{◌≡◌, ℕ, ◌+◌, ◌<◌, ◌≤◌, false, List, [], ◌∷◌, ◌++◌, map, length, take, drop, get_or, refl, sym, ap, ◌∙◌, arith, append_assoc, Option, Some}
 use Rattle.std.specs.Prelude.{bytes_eq, find, is_some}
 use Rattle.std.specs.Cmp.Lexicographic.{bytes_decides}
 use Rattle.std.specs.List.{AllByRecursion, list_all}
@@ -9,7 +9,7 @@ use Rattle.std.proofs.lemmas.Bool.{and_parts, cond-false, false_from_ne_true, le
 use Rattle.std.proofs.lemmas.List.{drop_more, length-map, length-take-le, map_push, take_more}
 use Rattle.std.specs.Prelude.{◌&&◌, nat_le, nat_lt}
 use Rattle.std.specs.Char.{to_ascii_uppercase}
-use Rattle.echo_text.specs.Lines.{is_tag, is_tag_byte}
+use Rattle.echo_text.specs.Lines.{is_tag_byte}
 use Rattle.echo_base.specs.Base.{Area, IsArea, IsFile, LinkFile, has_area, upper}
 
 pub raised_more : (f : ℕ → ℕ) (xs ys : List ℕ) (i y : ℕ) → i < length ys → xs ≡ map f (take i ys) ++ drop i ys → y ≡ f (get_or xs i 0)

@@ -1,5 +1,5 @@
 -- What a reader of ids answers, and the test of ids.
-use Rattle.std.proofs.Common.{◌≡◌, ℕ, true, List, sym, Result, Ok, Err}
+use Rattle.std.proofs.Common.{◌≡◌, ℕ, List, sym, Result, Ok, Err}
 use Rattle.std.specs.Result.{MatchResult, is_ok}
 use Rattle.std.proofs.lemmas.Bool.{false_from_ne_true}
 use Rattle.echo_text.specs.Ids.{NoId, SpellsId, is_id}

@@ -7,10 +7,13 @@
 //! Modules in reading order: `tosser` (the type), `moment`, `refusing`, `drafting` and `posting` (a
 //! draft is judged, made a message and filed), `receiving` and `tossing` (the same of a received
 //! message), `sets`, `outgoing`, `packing` and `scanning` (what waits, its packets, and the scan),
-//! `purging`, `tally` (what became of the messages of a packet).
+//! `purging`, `tally` (what became of the messages of a packet), `fault` and `unpacking` (a whole packet
+//! is tossed), `storing` (the base is written and read), and `laws` (what holds of the definitions).
 #![tactic(auto)]
 
 mod drafting;
+mod fault;
+mod laws;
 mod moment;
 mod outgoing;
 mod packing;
@@ -20,11 +23,18 @@ mod receiving;
 mod refusing;
 mod scanning;
 mod sets;
+mod storing;
 mod tally;
 mod tosser;
 mod tossing;
+mod unpacking;
 
 pub use echo_base::{BaseFault, Filed, LinkFault, LinkFile};
 pub use echo_steps::{Draft, Outcome, Packet, PostFault, ScanFault, Stamp};
+pub use fault::{TossCause, TossFault};
+pub use laws::packet_laws;
 pub use tally::Tally;
 pub use tosser::Tosser;
+
+#[cfg(test)]
+mod tests;

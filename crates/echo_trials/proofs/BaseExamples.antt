@@ -14,7 +14,9 @@ use Rattle.echo_base.specs.Written.{echo_of, short_lines, text_of}
 use Rattle.echo_steps.specs.Posting.{posted, posted_lines}
 use Rattle.echo_base.specs.Stubs.{is_stub, stub_of}
 use Rattle.echo_steps.specs.Purging.{changed, purged}
-use Rattle.echo_base.specs.BaseFile.{BaseFaultOf, BaseOf, EndsInside, First, IsNoBase, IsStored, Second, Stored, Version, head_bytes, is_damaged, message_in, saved_bytes, stored_at, stored_bytes}
+use Rattle.echo_base.specs.BaseFile.{BaseFaultOf, BaseOf, EndsInside, IsNoBase, IsStored, Stored, head_bytes, is_damaged, message_in, saved_bytes, stored_at, stored_bytes}
+use Rattle.echo_base.specs.declared.stored.Version.{Version}
+use Rattle.echo_base.specs.declared.stored.Version.TheVariants.{First, Second}
 use Rattle.echo_trials.proofs.Examples.{date_bytes, first_posting, id_text, kept_text}
 
 -- a number below 256 in four bytes

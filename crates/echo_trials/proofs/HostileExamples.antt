@@ -14,7 +14,9 @@ use Rattle.echo_steps.specs.Stamps.{date_of}
 use Rattle.echo_base.specs.Written.{echo_of, short_lines, text_of}
 use Rattle.echo_base.specs.Base.{key_of}
 use Rattle.echo_steps.specs.Posting.{posted, posted_lines}
-use Rattle.echo_base.specs.BaseFile.{BaseOf, EndsInside, First, IsDamagedAt, IsStored, LoadOf, Second, Stored, Version, head_bytes, is_damaged, long, magic, message_in, stored_bytes}
+use Rattle.echo_base.specs.BaseFile.{BaseOf, EndsInside, IsDamagedAt, IsStored, LoadOf, Stored, head_bytes, is_damaged, long, magic, message_in, stored_bytes}
+use Rattle.echo_base.specs.declared.stored.Version.{Version}
+use Rattle.echo_base.specs.declared.stored.Version.TheVariants.{First, Second}
 use Rattle.echo_trials.proofs.Examples.{date_bytes, first_posting, kept_text}
 use Rattle.echo_trials.proofs.BaseExamples.{fields_bytes, size_with, small, stored, stored_size, stored_with, text_bytes, whole_bytes}
 

@@ -10,7 +10,8 @@ use Rattle.echo_base.specs.Written.{echo_of, short_lines, text_of}
 use Rattle.echo_base.specs.Base.{Filed}
 use Rattle.echo_base.specs.Stubs.{is_stub, stub_of}
 use Rattle.echo_steps.specs.Purging.{changed, purged}
-use Rattle.echo_base.specs.BaseFile.{BaseOf, First, head_bytes, is_damaged, message_in, saved_bytes, stored_at, stored_bytes}
+use Rattle.echo_base.specs.BaseFile.{BaseOf, head_bytes, is_damaged, message_in, saved_bytes, stored_at, stored_bytes}
+use Rattle.echo_base.specs.declared.stored.Version.TheVariants.{First}
 use Rattle.echo_trials.proofs.Examples.{date_bytes, first_received}
 use Rattle.echo_trials.proofs.BaseExamples.{size_with, small, stored_with}
 

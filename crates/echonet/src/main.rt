@@ -1,49 +1,48 @@
-//! The program `echonet`: it reads the command line (`words`) and the files, and calls the commands.
+//! The program `echonet`: it reads the command line (`words`) and the files (`inputs`), and calls the
+//! commands.
 #![tactic(auto)]
 
+mod inputs;
+mod station;
 #[cfg(test)]
 mod tests;
 mod words;
 
 use clap::error::ErrorKind;
 use echo_addr::Address;
-use echo_commands::{Fault, InputFault, Status, nodelist, read_whole, show, wanted};
+use echo_commands::{Fault, Status, check, nodelist, picture, replay, show, wanted};
 use echo_device::{Sink, Watched};
+use inputs::{MOST_INPUT, read_file, read_given, read_if_given, read_links, read_script};
+use station::{run_post, run_purge, run_scan, run_toss};
 use std::process::ExitCode;
-use std::{env, fs, io};
+use std::{env, io};
 use words::{Words, parse};
 
-/// How many bytes a packet given to `show`, or a nodelist, may have.
-const MOST_INPUT: usize = 67_108_864;
-
-fn input_fault(fault: InputFault, path: &str) -> Fault<'_> {
-    match fault {
-        InputFault::TooLarge => Fault::TooLarge(path),
-        InputFault::Device => Fault::CannotUse(path),
-        InputFault::Memory => Fault::OutOfMemory,
+// `show [--hex] PACKET`
+fn run_show<W: Sink, E: Sink>(
+    rt: &HostRuntime,
+    hex: bool,
+    packet: &str,
+    out: &mut W,
+    errors: &mut E,
+) -> Status {
+    match read_given(rt, packet, MOST_INPUT) {
+        Ok(input) => show(rt.alloc(), hex, &input, out, errors),
+        Err(fault) => fault.report(errors),
     }
 }
 
-// The bytes of a file.
-fn read_file<'a>(rt: &HostRuntime, path: &'a str, most: usize) -> Result<Vec<u8>, Fault<'a>> {
-    match fs::open(rt, path) {
-        Ok(file) => {
-            read_whole(rt.alloc(), &mut Watched::new(file), most).map_err(|fault| input_fault(
-                fault, path,
-            ))
-        }
-        Err(_) => Err(Fault::CannotUse(path)),
-    }
-}
-
-// The bytes of a file, or of standard input where the path is `-`.
-fn read_input<'a>(rt: &HostRuntime, path: &'a str, most: usize) -> Result<Vec<u8>, Fault<'a>> {
-    if path == "-" {
-        read_whole(rt.alloc(), &mut Watched::new(rt.reader()), most).map_err(|fault| input_fault(
-            fault, path,
-        ))
-    } else {
-        read_file(rt, path, most)
+// `nodelist [--find ADDRESS] FILE`
+fn run_nodelist<W: Sink, E: Sink>(
+    rt: &HostRuntime,
+    find: Option<&str>,
+    file: &str,
+    out: &mut W,
+    errors: &mut E,
+) -> Status {
+    match nodelist_input(rt, find, file) {
+        Ok((address, input)) => nodelist(rt.alloc(), address, &input, out, errors),
+        Err(fault) => fault.report(errors),
     }
 }
 
@@ -60,6 +59,60 @@ fn nodelist_input<'a>(
     Ok((address, read_file(rt, file, MOST_INPUT)?))
 }
 
+// `check [--nodelist LIST] TAG LINKS...`
+fn run_check<W: Sink, E: Sink>(
+    rt: &HostRuntime,
+    list: Option<&str>,
+    tag: &str,
+    links: &[&str],
+    out: &mut W,
+    errors: &mut E,
+) -> Status {
+    let list = match read_if_given(rt, list, MOST_INPUT) {
+        Ok(list) => list,
+        Err(fault) => return fault.report(errors),
+    };
+    let (files, stopped) = read_links(rt, links);
+    let list = list.as_ref().map(|bytes| bytes.as_slice());
+    check(
+        rt.alloc(),
+        list,
+        tag.as_bytes(),
+        &files,
+        stopped,
+        out,
+        errors,
+    )
+}
+
+// `picture TAG LINKS...`
+fn run_picture<W: Sink, E: Sink>(
+    rt: &HostRuntime,
+    tag: &str,
+    links: &[&str],
+    out: &mut W,
+    errors: &mut E,
+) -> Status {
+    let (files, stopped) = read_links(rt, links);
+    picture(rt.alloc(), tag.as_bytes(), &files, stopped, out, errors)
+}
+
+// `replay SCRIPT LINKS...`
+fn run_replay<W: Sink, E: Sink>(
+    rt: &HostRuntime,
+    script: &str,
+    links: &[&str],
+    out: &mut W,
+    errors: &mut E,
+) -> Status {
+    let script = match read_script(rt, script) {
+        Ok(script) => script,
+        Err(fault) => return fault.report(errors),
+    };
+    let (files, stopped) = read_links(rt, links);
+    replay(rt.alloc(), &script, &files, stopped, out, errors)
+}
+
 fn run_words<W: Sink, E: Sink>(
     rt: &HostRuntime,
     words: Words<'_>,
@@ -67,14 +120,28 @@ fn run_words<W: Sink, E: Sink>(
     errors: &mut E,
 ) -> Status {
     match words {
-        Words::Show { hex, packet } => match read_input(rt, packet, MOST_INPUT) {
-            Ok(input) => show(rt.alloc(), hex, &input, out, errors),
-            Err(fault) => fault.report(errors),
-        },
-        Words::Nodelist { find, file } => match nodelist_input(rt, find, file) {
-            Ok((address, input)) => nodelist(rt.alloc(), address, &input, out, errors),
-            Err(fault) => fault.report(errors),
-        },
+        Words::Show { hex, packet } => run_show(rt, hex, packet, out, errors),
+        Words::Nodelist { find, file } => run_nodelist(rt, find, file, out, errors),
+        Words::Check {
+            nodelist,
+            tag,
+            links,
+        } => run_check(rt, nodelist, tag, &links, out, errors),
+        Words::Picture { tag, links } => run_picture(rt, tag, &links, out, errors),
+        Words::Post(words) => run_post(rt, &words, out, errors),
+        Words::Toss {
+            links,
+            base,
+            packets,
+        } => run_toss(rt, links, base, &packets, out, errors),
+        Words::Scan {
+            at,
+            links,
+            base,
+            folder,
+        } => run_scan(rt, at, links, base, folder, out, errors),
+        Words::Purge { links, base } => run_purge(rt, links, base, out, errors),
+        Words::Replay { script, links } => run_replay(rt, script, &links, out, errors),
     }
 }
 

@@ -1,49 +1,76 @@
 use super::*;
+use std::alloc::Global;
 use std::test::Fail;
 
+/// Whether the line of words asks for this.
+fn asks(alloc: Global, line: &str, asked: Option<Words<'_>>) -> Result<bool, Fail> {
+    let mut words = Vec::new(alloc);
+    for word in line.split(' ') {
+        words.push(String::from_str(alloc, word)?)?;
+    }
+    Ok(parse(alloc, words.as_slice()).ok().flatten() == asked)
+}
+
 #[test]
-fn reads_the_command_line(rt: HostRuntime) -> Result<(), Fail> {
+fn reads_words(rt: HostRuntime) -> Result<(), Fail> {
     let alloc = rt.alloc();
-    for (line, asked) in [
-        (
-            "echonet show x.pkt",
-            Some(Words::Show {
-                hex: false,
-                packet: "x.pkt",
-            }),
-        ),
-        (
-            "echonet show --hex -",
-            Some(Words::Show {
-                hex: true,
-                packet: "-",
-            }),
-        ),
-        (
-            "echonet nodelist x",
-            Some(Words::Nodelist {
-                find: None,
-                file: "x",
-            }),
-        ),
-        (
-            "echonet nodelist --find 1:10/1 x",
-            Some(Words::Nodelist {
-                find: Some("1:10/1"),
-                file: "x",
-            }),
-        ),
-        ("echonet show", None),
-        ("echonet toss x", None),
-        ("echonet", None),
-        ("echonet show a b", None),
+    let packet = "x.pkt";
+    let show = Words::Show { hex: false, packet };
+    assert!(rt; asks(alloc, "echonet show x.pkt", Some(show))?);
+    let packet = "-";
+    let hex = Words::Show { hex: true, packet };
+    assert!(rt; asks(alloc, "echonet show --hex -", Some(hex))?);
+    let file = "x";
+    let list = Words::Nodelist { find: None, file };
+    assert!(rt; asks(alloc, "echonet nodelist x", Some(list))?);
+    let find = Some("1:10/1");
+    let found = Words::Nodelist { find, file };
+    assert!(rt; asks(alloc, "echonet nodelist --find 1:10/1 x", Some(found))?);
+    Ok(())
+}
+
+#[test]
+fn reads_words_of_nets(rt: HostRuntime) -> Result<(), Fail> {
+    let alloc = rt.alloc();
+    let check = Words::Check {
+        nodelist: None,
+        tag: "TEST",
+        links: Vec::from_slice(alloc, &["a"])?,
+    };
+    assert!(rt; asks(alloc, "echonet check TEST a", Some(check))?);
+    let beside = Words::Check {
+        nodelist: Some("x"),
+        tag: "test",
+        links: Vec::from_slice(alloc, &["a", "b", "-"])?,
+    };
+    assert!(rt; asks(alloc, "echonet check --nodelist x test a b -", Some(beside))?);
+    let picture = Words::Picture {
+        tag: "TEST",
+        links: Vec::from_slice(alloc, &["a", "b"])?,
+    };
+    assert!(rt; asks(alloc, "echonet picture TEST a b", Some(picture))?);
+    let replay = Words::Replay {
+        script: "x",
+        links: Vec::from_slice(alloc, &["a", "b"])?,
+    };
+    assert!(rt; asks(alloc, "echonet replay x a b", Some(replay))?);
+    Ok(())
+}
+
+#[test]
+fn refuses_words(rt: HostRuntime) -> Result<(), Fail> {
+    let alloc = rt.alloc();
+    for line in [
+        "echonet",
+        "echonet show",
+        "echonet show a b",
+        "echonet toss x",
+        "echonet check",
+        "echonet check TEST",
+        "echonet picture TEST",
+        "echonet replay x",
     ] {
-        let mut words = Vec::new(alloc);
-        for word in line.split(' ') {
-            words.push(String::from_str(alloc, word)?)?;
-        }
-        let parsed = parse(alloc, words.as_slice()).ok().flatten();
-        assert_eq!(rt; parsed, asked, "{line}");
+        assert!(rt; asks(alloc, line, None)?, "{line}");
     }
     Ok(())
 }

@@ -11,7 +11,7 @@ macro_rules! ending {
 }
 
 /// What the command line asks for. Paths are as given, `-` among them.
-#[derive(Clone, Copy, Debug, PartialEq, Eq)]
+#[derive(Debug, Drop, PartialEq, Eq)]
 pub enum Words<'a> {
     Show {
         hex: bool,
@@ -21,6 +21,49 @@ pub enum Words<'a> {
         find: Option<&'a str>,
         file: &'a str,
     },
+    Check {
+        nodelist: Option<&'a str>,
+        tag: &'a str,
+        links: Vec<&'a str>,
+    },
+    Picture {
+        tag: &'a str,
+        links: Vec<&'a str>,
+    },
+    Replay {
+        script: &'a str,
+        links: Vec<&'a str>,
+    },
+    Post(PostWords<'a>),
+    Toss {
+        links: &'a str,
+        base: &'a str,
+        packets: Vec<&'a str>,
+    },
+    Scan {
+        at: &'a str,
+        links: &'a str,
+        base: &'a str,
+        folder: &'a str,
+    },
+    Purge {
+        links: &'a str,
+        base: &'a str,
+    },
+}
+
+/// The words of `post`.
+#[derive(Debug, Drop, PartialEq, Eq)]
+pub struct PostWords<'a> {
+    pub area: &'a str,
+    pub to: &'a str,
+    pub from: &'a str,
+    pub subject: &'a str,
+    pub serial: &'a str,
+    pub at: &'a str,
+    pub reply: Option<&'a str>,
+    pub links: &'a str,
+    pub base: &'a str,
 }
 
 fn show_command<'a>(alloc: Global) -> Result<Command<'a>, AllocError> {
@@ -51,6 +94,129 @@ fn nodelist_command<'a>(alloc: Global) -> Result<Command<'a>, AllocError> {
         .arg(file)
 }
 
+fn tag_argument<'a>(alloc: Global) -> Arg<'a> {
+    Arg::new(alloc, "TAG")
+        .required(true)
+        .help("The area, in letters of either case")
+}
+
+fn links_argument<'a>(alloc: Global) -> Arg<'a> {
+    Arg::new(alloc, "LINKS")
+        .required(true)
+        .num_args(1..)
+        .help("The link file of each system of the net")
+}
+
+fn check_command<'a>(alloc: Global) -> Result<Command<'a>, AllocError> {
+    let nodelist = Arg::new(alloc, "nodelist")
+        .long("nodelist")
+        .value_name("LIST")
+        .help("Prints which systems of the area this nodelist does not hold");
+    Command::new(alloc, "check")
+        .about("Prints whether an area is in order, or what is wrong with it")
+        .after_help(ending!("echonet check --nodelist NODELIST.184 TEST links/*"))
+        .arg(nodelist)?
+        .arg(tag_argument(alloc))?
+        .arg(links_argument(alloc))
+}
+
+fn picture_command<'a>(alloc: Global) -> Result<Command<'a>, AllocError> {
+    Command::new(alloc, "picture")
+        .about("Prints an area as a graph that Graphviz draws, with what is wrong marked")
+        .after_help(ending!("echonet picture TEST links/* | dot -Tsvg > area.svg"))
+        .arg(tag_argument(alloc))?
+        .arg(links_argument(alloc))
+}
+
+// The link file and the base of the system itself.
+fn with_system<'a>(alloc: Global, command: Command<'a>) -> Result<Command<'a>, AllocError> {
+    let links = Arg::new(alloc, "LINKS")
+        .required(true)
+        .help("The link file of the system");
+    let base = Arg::new(alloc, "BASE")
+        .required(true)
+        .help("The base of the system, which need not exist yet");
+    command.arg(links)?.arg(base)
+}
+
+// An option that must be given.
+fn needed<'a>(alloc: Global, word: &'a str, value: &'a str, help: &'a str) -> Arg<'a> {
+    Arg::new(alloc, word)
+        .long(word)
+        .value_name(value)
+        .required(true)
+        .help(help)
+}
+
+fn stamp_argument<'a>(alloc: Global) -> Arg<'a> {
+    needed(alloc, "at", "STAMP", "The moment, as YYYY-MM-DDThh:mm:ss")
+}
+
+fn post_command<'a>(alloc: Global) -> Result<Command<'a>, AllocError> {
+    let reply = Arg::new(alloc, "reply")
+        .long("reply")
+        .value_name("ID")
+        .help("The MSGID of the message that is replied to");
+    let post = Command::new(alloc, "post")
+        .about("Files a message, whose body is standard input")
+        .after_help(ending!(
+            "echonet post --area TEST --to All --from Ann --subject Hi --serial 00000001 --at 2026-07-03T12:34:56 links base < body"
+        ))
+        .arg(needed(alloc, "area", "TAG", "The area, in letters of either case"))?
+        .arg(needed(alloc, "to", "T", "To whom the message is"))?
+        .arg(needed(alloc, "from", "F", "From whom the message is"))?
+        .arg(needed(alloc, "subject", "S", "The subject"))?
+        .arg(needed(
+            alloc,
+            "serial",
+            "HEX8",
+            "The serial of its MSGID, new for each message",
+        ))?
+        .arg(stamp_argument(alloc))?
+        .arg(reply)?;
+    with_system(alloc, post)
+}
+
+fn toss_command<'a>(alloc: Global) -> Result<Command<'a>, AllocError> {
+    let packets = Arg::new(alloc, "PACKET")
+        .required(true)
+        .num_args(1..)
+        .help("The packet files, in order");
+    let toss = Command::new(alloc, "toss")
+        .about("Files the messages of packets")
+        .after_help(ending!("echonet toss links base inbound/*.pkt"));
+    with_system(alloc, toss)?.arg(packets)
+}
+
+fn scan_command<'a>(alloc: Global) -> Result<Command<'a>, AllocError> {
+    let folder = Arg::new(alloc, "DIR")
+        .required(true)
+        .help("The folder of the packets");
+    let scan = Command::new(alloc, "scan")
+        .about("Makes the packets of the messages that wait")
+        .after_help(ending!("echonet scan --at 2026-07-03T12:34:56 links base outbound"))
+        .arg(stamp_argument(alloc))?;
+    with_system(alloc, scan)?.arg(folder)
+}
+
+fn purge_command<'a>(alloc: Global) -> Result<Command<'a>, AllocError> {
+    let purge = Command::new(alloc, "purge")
+        .about("Leaves of each scanned message nothing of its text but the id")
+        .after_help(ending!("echonet purge links base"));
+    with_system(alloc, purge)
+}
+
+fn replay_command<'a>(alloc: Global) -> Result<Command<'a>, AllocError> {
+    let script = Arg::new(alloc, "SCRIPT").required(true).help(
+        "What happens: a line each of POST, SCAN, DELIVER or PURGE",
+    );
+    Command::new(alloc, "replay")
+        .about("Prints what the systems of a net have after what a script says")
+        .after_help(ending!("echonet replay chain.script links/*"))
+        .arg(script)?
+        .arg(links_argument(alloc))
+}
+
 fn command<'a>(alloc: Global) -> Result<Command<'a>, AllocError> {
     Command::new(alloc, "echonet")
         .about("An echomail tosser and topology checker for FidoNet")
@@ -58,26 +224,117 @@ fn command<'a>(alloc: Global) -> Result<Command<'a>, AllocError> {
         .after_help(ending!("echonet show mail.pkt"))
         .subcommand_required(true)
         .subcommand(show_command(alloc)?)?
-        .subcommand(nodelist_command(alloc)?)
+        .subcommand(nodelist_command(alloc)?)?
+        .subcommand(check_command(alloc)?)?
+        .subcommand(picture_command(alloc)?)?
+        .subcommand(post_command(alloc)?)?
+        .subcommand(toss_command(alloc)?)?
+        .subcommand(scan_command(alloc)?)?
+        .subcommand(purge_command(alloc)?)?
+        .subcommand(replay_command(alloc)?)
 }
 
-fn words_of<'a>(matches: &ArgMatches<'a>) -> Option<Words<'a>> {
-    match matches.subcommand()? {
-        ("show", show) => Some(Words::Show {
-            hex: show.get_flag("hex"),
-            packet: show.get_str("PACKET")?,
-        }),
-        ("nodelist", nodelist) => Some(Words::Nodelist {
-            find: nodelist.get_str("find"),
-            file: nodelist.get_str("FILE")?,
-        }),
+// The values of the argument that is given once or more.
+fn values<'a>(
+    alloc: Global,
+    matches: &ArgMatches<'a>,
+    id: &str,
+) -> Result<Vec<&'a str>, AllocError> {
+    Vec::from_slice(alloc, matches.get_strs(id).unwrap_or(&[]))
+}
+
+fn show_words<'a>(matches: &ArgMatches<'a>) -> Option<Words<'a>> {
+    Some(Words::Show {
+        hex: matches.get_flag("hex"),
+        packet: matches.get_str("PACKET")?,
+    })
+}
+
+fn nodelist_words<'a>(matches: &ArgMatches<'a>) -> Option<Words<'a>> {
+    Some(Words::Nodelist {
+        find: matches.get_str("find"),
+        file: matches.get_str("FILE")?,
+    })
+}
+
+fn check_words<'a>(matches: &ArgMatches<'a>, links: Vec<&'a str>) -> Option<Words<'a>> {
+    Some(Words::Check {
+        nodelist: matches.get_str("nodelist"),
+        tag: matches.get_str("TAG")?,
+        links,
+    })
+}
+
+fn picture_words<'a>(matches: &ArgMatches<'a>, links: Vec<&'a str>) -> Option<Words<'a>> {
+    Some(Words::Picture {
+        tag: matches.get_str("TAG")?,
+        links,
+    })
+}
+
+fn post_words<'a>(matches: &ArgMatches<'a>) -> Option<Words<'a>> {
+    Some(Words::Post(PostWords {
+        area: matches.get_str("area")?,
+        to: matches.get_str("to")?,
+        from: matches.get_str("from")?,
+        subject: matches.get_str("subject")?,
+        serial: matches.get_str("serial")?,
+        at: matches.get_str("at")?,
+        reply: matches.get_str("reply"),
+        links: matches.get_str("LINKS")?,
+        base: matches.get_str("BASE")?,
+    }))
+}
+
+fn toss_words<'a>(matches: &ArgMatches<'a>, packets: Vec<&'a str>) -> Option<Words<'a>> {
+    Some(Words::Toss {
+        links: matches.get_str("LINKS")?,
+        base: matches.get_str("BASE")?,
+        packets,
+    })
+}
+
+fn scan_words<'a>(matches: &ArgMatches<'a>) -> Option<Words<'a>> {
+    Some(Words::Scan {
+        at: matches.get_str("at")?,
+        links: matches.get_str("LINKS")?,
+        base: matches.get_str("BASE")?,
+        folder: matches.get_str("DIR")?,
+    })
+}
+
+fn purge_words<'a>(matches: &ArgMatches<'a>) -> Option<Words<'a>> {
+    Some(Words::Purge {
+        links: matches.get_str("LINKS")?,
+        base: matches.get_str("BASE")?,
+    })
+}
+
+fn replay_words<'a>(matches: &ArgMatches<'a>, links: Vec<&'a str>) -> Option<Words<'a>> {
+    Some(Words::Replay {
+        script: matches.get_str("SCRIPT")?,
+        links,
+    })
+}
+
+fn words_of<'a>(alloc: Global, matches: &ArgMatches<'a>) -> Result<Option<Words<'a>>, AllocError> {
+    Ok(match matches.subcommand() {
+        Some(("show", given)) => show_words(given),
+        Some(("nodelist", given)) => nodelist_words(given),
+        Some(("check", given)) => check_words(given, values(alloc, given, "LINKS")?),
+        Some(("picture", given)) => picture_words(given, values(alloc, given, "LINKS")?),
+        Some(("post", given)) => post_words(given),
+        Some(("toss", given)) => toss_words(given, values(alloc, given, "PACKET")?),
+        Some(("scan", given)) => scan_words(given),
+        Some(("purge", given)) => purge_words(given),
+        Some(("replay", given)) => replay_words(given, values(alloc, given, "LINKS")?),
         _ => None,
-    }
+    })
 }
 
 /// What the words ask for, or why they were refused; help that was asked for is such an error too.
 /// `None` is a command that the program does not have.
 pub fn parse<'a>(alloc: Global, words: &'a [String]) -> Result<Option<Words<'a>>, Error> {
     let matches = command(alloc)?.try_get_matches_from(words)?;
-    Ok(words_of(&matches))
+    Ok(words_of(alloc, &matches)?)
 }

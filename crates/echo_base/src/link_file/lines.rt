@@ -4,8 +4,9 @@ ghost use Rattle.echo_base.specs.LinkLines.{file_lines, is_control_byte, is_skip
 
 use memchr::memchr;
 
-/// The first line, and the bytes after its end.
-pub(super) fn split_line(bytes: &[u8]) -> (&[u8], &[u8])
+/// The first line of a link file or a script, and the bytes after its end. A line ends in 0A or in
+/// 0D 0A; the last may end without either. There is to be a byte. Takes no memory.
+pub fn split_line(bytes: &[u8]) -> (&[u8], &[u8])
     requires { 0 < length bytes.now }
     ensures lines { file_lines bytes.now ≡ result.0.now ∷ file_lines result.1.now }
     ensures shorter { length result.1.now < length bytes.now }
@@ -27,7 +28,7 @@ fn without_return(line: &[u8]) -> &[u8]
 }
 
 /// Whether the line is blank or begins with `;`.
-pub(super) fn is_skipped(line: &[u8]) -> bool
+pub fn is_skipped(line: &[u8]) -> bool
     ensures { result ≡ is_skipped line.now }
 {
     is_blank(line) || line.starts_with(b";")
@@ -41,7 +42,7 @@ fn is_blank(line: &[u8]) -> bool
 }
 
 /// Whether a byte of the line is below 20 and not 09.
-pub(super) fn has_control_byte(line: &[u8]) -> bool
+pub fn has_control_byte(line: &[u8]) -> bool
     ensures { result ≡ list_any is_control_byte line.now }
 {
     line.iter().any(|b| is_control_byte(*b))

@@ -1,7 +1,7 @@
 //! Opening a packet, and its next message.
-ghost use Rattle.std.specs.Prelude.{◌≡◌, ◌+◌, [], length, Ok, Err, None, IfOk, IfErr, IfSome};
+ghost use Rattle.std.specs.Prelude.{◌≡◌, ◌≢◌, ◌+◌, [], length, Ok, Err, None, IfOk, IfErr, IfSome};
 ghost use Rattle.std.specs.Io.KnownBytes.{Consumes};
-ghost use Rattle.echo_packet.specs.declared.fault.PacketFault.TheVariants.{Stopped};
+ghost use Rattle.echo_packet.specs.declared.fault.PacketFault.TheVariants.{Memory, Stopped};
 ghost use Rattle.echo_packet.specs.Header.{IsHeader, header_bytes};
 ghost use Rattle.echo_packet.specs.Fault.{place_of};
 ghost use Rattle.echo_packet.specs.Field.{FailsInField, IsShort};
@@ -20,12 +20,13 @@ use std::alloc::Global;
 
 /// The header at the front of what the source has, and no byte more.
 ///
-/// It is `Truncated` at 0 where fewer than 58 bytes come, `NotType2` at 18 where these hold another
-/// packet type, and `Read` at 0 where the device failed.
+/// It takes no memory. It is `Truncated` at 0 where fewer than 58 bytes come, `NotType2` at 18 where
+/// these hold another packet type, and `Read` at 0 where the device failed.
 pub fn read_header<R: Source>(source: &mut R) -> Result<Header, PacketFault>
     ensures header { IfOk result IsHeader }
     ensures taken { IfOk result (λ h. Consumes (R.remaining source.old) (R.remaining source.new) (header_bytes h)) }
     ensures fault { IfSome (R.remaining source.old) (λ bs. IfErr result (FrontFault bs)) }
+    ensures memory { result ≢ Err Memory }
     ensures inside { IfErr result (FailsInField (IsShort 58) 0 (R.remaining source.old) (R.remaining source.new)) }
     ensures device { CountsFailures result (R.failures source.old) (R.failures source.new) }
 {

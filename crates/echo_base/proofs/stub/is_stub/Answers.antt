@@ -1,8 +1,8 @@
-use Rattle.std.proofs.Common.{◌≡◌, ◌∙◌, ◌==◌, ◌&&◌, ◌∷◌, [], length, ap, sym, true, Some, None}
+use Rattle.std.proofs.Common.{◌∙◌, ◌==◌, ◌&&◌, ◌∷◌, [], length, ap, sym, Some, None}
 use Rattle.std.specs.Prelude.{bytes_eq, option_copied}
 use Rattle.std.specs.Cmp.Lexicographic.{pointwise}
 use Rattle.echo_text.specs.Lines.{msgid_word}
-use Rattle.echo_text.specs.Echo.{EchoText, msgid_of}
+use Rattle.echo_text.specs.Echo.{msgid_of}
 use Rattle.echo_base.specs.Base.{id_line}
 use Rattle.echo_base.proofs.Left.{is_stub_told}
 use Rattle.echo_base.proofs.stub.is_stub.Goals as goal

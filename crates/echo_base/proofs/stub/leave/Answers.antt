@@ -1,9 +1,8 @@
-use Rattle.std.proofs.Common.{◌≡◌, ◌∙◌, ap, subst, sym, List, ℕ, []}
-use Rattle.echo_addr.specs.declared.address.NetNode.{NetNode}
-use Rattle.echo_text.specs.Echo.{EchoText, IsEcho}
-use Rattle.echo_base.specs.Base.{Filed, IsFiled}
+use Rattle.std.proofs.Common.{◌≡◌, ◌∙◌, ap, subst, sym, []}
+use Rattle.echo_text.specs.Echo.{IsEcho}
+use Rattle.echo_base.specs.Base.{IsFiled}
 use Rattle.echo_base.specs.Stubs.{stub_of}
-use Rattle.echo_base.proofs.Left.{left, with_lines}
+use Rattle.echo_base.proofs.Left.{left}
 use Rattle.echo_base.proofs.Stubs.{stub_filed}
 use Rattle.echo_base.proofs.stub.leave.Goals as goal
 

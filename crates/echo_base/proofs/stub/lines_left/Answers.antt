@@ -1,6 +1,5 @@
-use Rattle.std.proofs.Common.{◌≡◌, ◌∙◌, ◌++◌, ◌∷◌, [], ap, sym, take}
+use Rattle.std.proofs.Common.{◌∙◌, ◌++◌, ◌∷◌, [], ap, sym}
 use Rattle.indexmap.specs.IndexMap.{values}
-use Rattle.echo_base.specs.Stubs.{lines_left}
 use Rattle.echo_base.proofs.Purges.{left_changed, left_same}
 use Rattle.echo_base.proofs.stub.lines_left.Goals as goal
 use Rattle.echo_base.proofs.stub.lines_left.Goals.{then-not-is_stub+in_ok-stub_lines+in_ok-push, else-not-is_stub}

@@ -1,4 +1,4 @@
-use Rattle.std.proofs.Common.{◌≡◌, ℕ, ◌+◌, ◌-◌, ◌++◌, map, take, drop}
+use Rattle.std.proofs.Common.{◌≡◌, ◌++◌, map, take, drop}
 use Rattle.indexmap.specs.IndexMap.{keys, values}
 use Rattle.echo_base.specs.Stubs.{lines_left, stub_of}
 use Rattle.echo_base.proofs.stub.put_stubs.Given as goal

@@ -1,4 +1,4 @@
-use Rattle.std.proofs.Common.{◌≡◌, ◌∙◌, ◌∷◌, [], List, ℕ, ap, subst, sym}
+use Rattle.std.proofs.Common.{◌≡◌, ◌∙◌, ◌∷◌, [], List, ℕ, ap, subst}
 use Rattle.std.specs.Prelude.{IfOk, option_copied}
 use Rattle.echo_text.specs.Lines.{msgid_word}
 use Rattle.echo_text.specs.Echo.{msgid_of}

@@ -1,6 +1,6 @@
 use Rattle.std.proofs.Common.{◌≡◌, sym, subst, ◌∙◌, [], refl, None}
-use Rattle.echo_base.specs.Base.{Filed, IsFiled}
-use Rattle.echo_steps.specs.Posting.{IsAllowed, posted}
+use Rattle.echo_base.specs.Base.{IsFiled}
+use Rattle.echo_steps.specs.Posting.{posted}
 use Rattle.echo_steps.proofs.Kept.{posted_filed}
 use Rattle.echo_toss.proofs.Drafted.{posted_is}
 use Rattle.echo_toss.proofs.Judged.{draft_allowed}

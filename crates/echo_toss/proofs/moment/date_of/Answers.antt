@@ -1,4 +1,3 @@
-use Rattle.std.proofs.Common.{◌≡◌, ℕ, ◌∷◌, List, ap, ◌∙◌, sym}
 use Rattle.echo_toss.proofs.Dates.{dated, month_letters, month_within}
 use Rattle.echo_toss.proofs.moment.date_of.Goals as goal
 

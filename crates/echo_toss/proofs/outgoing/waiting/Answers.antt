@@ -1,4 +1,4 @@
-use Rattle.std.proofs.Common.{◌≡◌, ◌∷◌, ◌++◌, [], ap, ◌∙◌, None}
+use Rattle.std.proofs.Common.{◌∷◌, ◌++◌, [], ap, ◌∙◌, None}
 use Rattle.echo_base.specs.Base.{Filed}
 use Rattle.echo_toss.specs.Exports.{Outgoing, outgoing_of}
 use Rattle.echo_toss.proofs.Exports.{next_waits, none_waits}

@@ -1,4 +1,4 @@
-use Rattle.std.proofs.Common.{◌≡◌, ◌==◌, ◌||◌, Bool, false, length, sym, ap, ◌∙◌}
+use Rattle.std.proofs.Common.{◌||◌, Bool, sym, ap, ◌∙◌}
 use Rattle.echo_text.specs.Ids.{is_id}
 use Rattle.echo_toss.proofs.Replies.{told}
 use Rattle.echo_toss.proofs.refusing.is_reply.Goals as goal

@@ -1,4 +1,4 @@
-use Rattle.std.proofs.Common.{◌≡◌, sym, ◌∙◌}
+use Rattle.std.proofs.Common.{sym, ◌∙◌}
 use Rattle.echo_toss.proofs.Tossed.{found_new, known_left}
 use Rattle.echo_toss.proofs.tossing.judged.Goals as goal
 

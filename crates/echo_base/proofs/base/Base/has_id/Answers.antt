@@ -1,10 +1,10 @@
-use Rattle.std.proofs.Common.{◌≡◌, ◌∙◌, ap, subst, sym, map, List, ℕ, true, false, Bool, get_or, take, Vec, Global}
+use Rattle.std.proofs.Common.{◌≡◌, ◌∙◌, ap, subst, sym, map, ℕ, false, Bool, get_or, take, Vec, Global}
 use Rattle.std.specs.List.{AllByRecursion, list_any}
 use Rattle.std.proofs.lemmas.Bool.{or_from}
 use Rattle.std.proofs.lemmas.List.{take_all}
 use Rattle.std.proofs.lemmas.List.Folds.{list_any_more}
 use Rattle.echo_base.specs.declared.key.Key.TheVariants.{ById}
-use Rattle.echo_base.specs.Base.{Base, has_id, is_known}
+use Rattle.echo_base.specs.Base.{Base, is_known}
 use Rattle.echo_base.specs.Entries.{HasTagIn}
 use Rattle.echo_base.proofs.Entries.{any_map, known_by_id, no_such_id}
 use Rattle.echo_base.proofs.base.Base.has_id.Goals as goal

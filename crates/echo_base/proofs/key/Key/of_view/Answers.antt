@@ -1,7 +1,6 @@
-use Rattle.std.proofs.Common.{◌≡◌, ◌∙◌, ap, map, subst, sym, Result, Ok, Err, Option, Some, None}
+use Rattle.std.proofs.Common.{◌≡◌, ◌∙◌, ap, map, sym, Result, Ok, Err, Option, Some, None}
 use Rattle.std.specs.Prelude.{IfOk, option_copied}
 use Rattle.echo_addr.specs.declared.address.Address.{Address}
-use Rattle.echo_text.specs.Echo.{msgid_of}
 use Rattle.echo_base.specs.declared.key.Key.{Key}
 use Rattle.echo_base.specs.declared.key.Key.TheVariants.{ByContent, ById}
 use Rattle.echo_base.specs.Base.{Filed, key_of}

@@ -1,10 +1,9 @@
-use Rattle.std.proofs.Common.{◌≡◌, ◌∷◌, ◌++◌, [], Some, None, refl, sym, subst, ap, ◌∙◌, inl}
+use Rattle.std.proofs.Common.{◌≡◌, ◌∷◌, ◌++◌, [], Some, None, refl, subst, ap, ◌∙◌, inl}
 use Rattle.std.proofs.lemmas.Result.{err_from_is_err_and}
-use Rattle.echo_base.specs.Base.{Base, Filed, LinkFile}
+use Rattle.echo_base.specs.Base.{Base, Filed}
 use Rattle.echo_steps.specs.SystemState.{SystemState, state_with}
 use Rattle.echo_steps.specs.Posting.{IsPostFault, post_refusal, posted}
 use Rattle.echo_toss.proofs.Tossed.{state_grown}
-use Rattle.echo_toss.proofs.tosser.Tosser.post.Given as given
 use Rattle.echo_toss.proofs.tosser.Tosser.post.Goals as goal
 
 pub returns-in_err-new : goal.returns-in_err-new

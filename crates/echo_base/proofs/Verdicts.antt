@@ -1,0 +1,109 @@
+-- Whether a stored message may stand next in a base, test after test.
+use Rattle.std.proofs.Common.{◌≡◌, ◌==◌, ℕ, ◌||◌, not, Bool, true, false, List, [], ◌∷◌, length, refl, sym, ap, subst, ◌∙◌, Option, Some, None}
+use Rattle.std.specs.Prelude.{bytes_eq, is_none}
+use Rattle.std.specs.List.{list_all, list_any}
+use Rattle.std.proofs.lemmas.Bool.{not-false, or_parts}
+use Rattle.echo_addr.specs.declared.address.Address.{Address}
+use Rattle.echo_addr.specs.declared.address.NetNode.{NetNode}
+use Rattle.echo_text.specs.Lines.{is_tag, msgid_word, trimmed}
+use Rattle.echo_text.specs.Echo.{EchoOf, EchoText, IsEcho}
+use Rattle.echo_text.specs.Ids.{is_line_byte, is_zero}
+use Rattle.echo_text.specs.Refusal.{refusal}
+use Rattle.echo_base.specs.declared.key.Key.{Key}
+use Rattle.echo_base.specs.Base.{Filed, IsFiled, id_line, is_known, key_of}
+use Rattle.echo_base.specs.Written.{echo_of, text_of}
+use Rattle.echo_base.specs.BaseFile.{IsStored, Stored, Version, has_tag, has_wrong_form, has_wrong_last, has_wrong_sender, has_wrong_string, is_damaged, is_other_kind, is_wrong_id, is_wrong_text, message_in, sender_in}
+use Rattle.echo_base.specs.Loading.{Judges, UnlessWrong, has_wrong_field, is_out_of_place, told_last, wrong_last}
+use Rattle.echo_base.proofs.Loaded.{filed_with, right_last, stored_sound}
+use Rattle.echo_base.proofs.Plain.{plain_if}
+use Rattle.echo_base.proofs.Stubs.{bare_echo}
+use Rattle.echo_base.proofs.Texts.{says_accepted, says_one}
+
+-- a text that says an echo is wrong where it is not the one that is written
+pub text_wrong : (text : List ℕ) (e : EchoText) (dropped : ℕ) → list_any is_zero text ≡ false → EchoOf text e dropped → is_wrong_text text ≡ not (bytes_eq (text_of e) text)
+text_wrong text e dropped zero says =
+    let read : not (is_none (refusal text)) ≡ false = ap (λ o. not (is_none o)) (says_accepted text e dropped says) in
+    let written : Bool = not (bytes_eq (text_of (echo_of text)) text) in
+    ap (λ b. b || (not (is_none (refusal text)) || written)) zero
+    ∙ ap (λ b. b || written) read
+    ∙ ap (λ x. not (bytes_eq (text_of x) text)) (says_one text e dropped says)
+
+-- a tag and an id that are not wrong are a text
+pub bare_made : (tag id : List ℕ) (kept : List (List ℕ)) (seen path : List NetNode) → is_tag tag ≡ true → is_wrong_id id ≡ false
+    → kept ≡ id_line msgid_word id ∷ [] → seen ≡ [] → path ≡ [] → IsEcho (record { tag = tag; kept = kept; seen = seen; path = path })
+bare_made tag id kept seen path right fine one no_seen no_path =
+    let p1 = or_parts (length id == 0) (not (list_all is_line_byte id) || not (bytes_eq (trimmed id) id)) fine in
+    let p2 = or_parts (not (list_all is_line_byte id)) (not (bytes_eq (trimmed id) id)) p1.1 in
+    let made = bare_echo tag id right (plain_if id (not-false (list_all is_line_byte id) p2.0)) in
+    let one' = sym one in
+    let seen' = sym no_seen in
+    let path' = sym no_path in
+    let P : EchoText → Type 0 = IsEcho in
+    subst P (λ i. record { tag = tag; kept = one' i; seen = seen' i; path = path' i }) made
+
+-- a message whose fields are not wrong
+pub message_made : (version : Version) (s : Stored) (sender : Option Address) (echo : EchoText) → IsStored version s → has_wrong_string s ≡ false → sender ≡ sender_in s
+    → UnlessWrong (has_wrong_last version s) (told_last (has_tag version s.kind) s.tag s.last) (Some echo)
+    → IsFiled (record { sender = sender; date = s.date; to_name = s.to_name; from_name = s.from_name; subject = s.subject; echo = echo })
+message_made version s sender echo size strings same h =
+    let sender' = sym same in
+    let echo' = sym h.1 in
+    subst IsFiled (λ i. record { sender = sender' i; date = s.date; to_name = s.to_name; from_name = s.from_name; subject = s.subject; echo = echo' i })
+    (filed_with version s (told_last (has_tag version s.kind) s.tag s.last) size strings (right_last (has_tag version s.kind) s h.0))
+
+pub message_is : (version : Version) (s : Stored) (sender : Option Address) (echo : EchoText) → sender ≡ sender_in s
+    → echo ≡ told_last (has_tag version s.kind) s.tag s.last
+    → record { sender = sender; date = s.date; to_name = s.to_name; from_name = s.from_name; subject = s.subject; echo = echo } ≡ message_in version s
+unfolding message_in
+message_is version s sender echo same told =
+    λ i. record { sender = same i; date = s.date; to_name = s.to_name; from_name = s.from_name; subject = s.subject; echo = told i }
+
+-- the tests in groups
+regrouped : (o s t l r : Bool) → (o || (s || (t || (l || r)))) ≡ (((o || (s || t)) || l) || r)
+regrouped true s t l r = refl
+regrouped false true t l r = refl
+regrouped false false true l r = refl
+regrouped false false false l r = refl
+
+pub damaged_by : (version : Version) (cursor : ℕ) (earlier : List Filed) (s : Stored)
+    → is_damaged version cursor earlier s ≡ (has_wrong_field version s || is_out_of_place version cursor earlier (has_tag version s.kind) (message_in version s))
+unfolding is_damaged
+damaged_by version cursor earlier s =
+    regrouped (is_other_kind version s.kind) (has_wrong_sender s) (has_wrong_string s) (has_wrong_last version s)
+    (has_wrong_form version cursor (length earlier) s || is_known earlier (key_of (message_in version s)))
+
+-- what stands after the subject, where its parts are told in another way
+pub last_told : (version : Version) (s : Stored) (with_tag : Bool) (last : List ℕ) (o : Option EchoText) (echo : EchoText) → with_tag ≡ has_tag version s.kind → last ≡ s.last
+    → o ≡ Some echo → UnlessWrong (wrong_last with_tag s.tag last) (told_last with_tag s.tag last) o
+    → UnlessWrong (has_wrong_last version s) (told_last (has_tag version s.kind) s.tag s.last) (Some echo)
+last_told version s with_tag last o echo tagged same is h =
+    let P : Bool → List ℕ → Option EchoText → Type 0 = λ t l x. UnlessWrong (wrong_last t s.tag l) (told_last t s.tag l) x in
+    subst (P (has_tag version s.kind) s.last) is (subst (λ l. P (has_tag version s.kind) l o) same (subst (λ t. P t last o) tagged h))
+
+-- a field is wrong; the message is out of place; or neither
+pub damaged_field : (version : Version) (cursor : ℕ) (earlier : List Filed) (s : Stored) → has_wrong_field version s ≡ true → is_damaged version cursor earlier s ≡ true
+damaged_field version cursor earlier s wrong =
+    damaged_by version cursor earlier s
+    ∙ ap (λ b. b || is_out_of_place version cursor earlier (has_tag version s.kind) (message_in version s)) wrong
+
+pub placed : (version : Version) (cursor : ℕ) (earlier : List Filed) (s : Stored) (with_tag : Bool) (m : Filed) → with_tag ≡ has_tag version s.kind → m ≡ message_in version s
+    → has_wrong_field version s ≡ false → is_out_of_place version cursor earlier with_tag m ≡ is_damaged version cursor earlier s
+placed version cursor earlier s with_tag m tagged told right =
+    (λ i. is_out_of_place version cursor earlier (tagged i) (told i))
+    ∙ sym (damaged_by version cursor earlier s
+    ∙ ap (λ b. b || is_out_of_place version cursor earlier (has_tag version s.kind) (message_in version s)) right)
+
+-- what is found is the value, and not wrong
+pub found_right : {X : Type 0} (wrong : Bool) (x y : X) (o : Option X) → o ≡ Some y → UnlessWrong wrong x o → (wrong ≡ false) × (y ≡ x)
+found_right wrong x y o is h = subst (UnlessWrong wrong x) is h
+
+pub none_wrong : {X : Type 0} (wrong : Bool) (x : X) (o : Option X) → o ≡ None → UnlessWrong wrong x o → wrong ≡ true
+none_wrong wrong x o is h = subst (UnlessWrong wrong x) is h
+
+-- no earlier message has the key of one that may stand next
+pub key_is_new : (version : Version) (cursor : ℕ) (earlier : List Filed) (s : Stored) (key : Key) → IsStored version s → is_damaged version cursor earlier s ≡ false
+    → key ≡ key_of (message_in version s) → is_known earlier key ≡ false
+key_is_new version cursor earlier s key size sound own = ap (is_known earlier) own ∙ (stored_sound version cursor earlier s size sound).new
+
+pub judged_right : (damaged : Bool) (m : Filed) (found : Key × Filed) (o : Option (Key × Filed)) → o ≡ Some found → Judges damaged m o → Judges damaged m (Some found)
+judged_right damaged m found o is h = subst (Judges damaged m) is h

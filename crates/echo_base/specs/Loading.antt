@@ -1,0 +1,158 @@
+-- What loading a base answers.
+use Rattle.std.specs.Prelude.{◌≡◌, ℕ, ◌^◌, ◌<◌, ◌≤◌, ◌⊎◌, ◌||◌, not, Bool, true, false, List, [], ◌∷◌, ◌++◌, length, if◌then◌else◌, Option, Some, None, IfSome, Result, Ok, Err, map}
+use Rattle.std.specs.List.{AllByRecursion, flat_map}
+use Rattle.std.specs.Io.KnownBytes.{Consumes, IsAtEnd}
+use Rattle.echo_device.specs.Device.{Failed}
+use Rattle.echo_packet.specs.Field.{Came}
+use Rattle.echo_text.specs.Lines.{is_tag}
+use Rattle.echo_text.specs.Echo.{EchoText}
+use Rattle.echo_base.specs.declared.fault.BaseFault.{BaseFault}
+use Rattle.echo_base.specs.declared.fault.BaseFault.TheVariants as fault
+use Rattle.echo_base.specs.declared.base.loading.Head.{Head}
+use Rattle.echo_base.specs.declared.field.Broken.{Broken}
+use Rattle.echo_base.specs.declared.field.Broken.TheVariants as broken
+use Rattle.echo_base.specs.declared.key.Key.{Key}
+use Rattle.echo_base.specs.Base.{Base, Filed, is_known, key_of}
+use Rattle.echo_base.specs.Stubs.{bare}
+use Rattle.echo_base.specs.Written.{echo_of}
+use Rattle.echo_base.specs.BaseFile.{AreSound, BaseFaultOf, BaseOf, IsStored, Loaded, Stored, Version, has_wrong_last, has_wrong_sender, has_wrong_string, head_bytes, is_damaged, is_front, is_other_kind, is_short, is_wrong_id, is_wrong_text, magic, message_in, stored_bytes}
+use Rattle.echo_base.specs.Fields.{EndsIn}
+
+-- the value, or none where it is wrong
+abbrev pub UnlessWrong : {X : Type 0} → Bool → X → Option X → Type 0
+UnlessWrong wrong x None = wrong ≡ true
+UnlessWrong wrong x (Some found) = (wrong ≡ false) × (found ≡ x)
+
+-- what stands after the subject is wrong, and what it says
+abbrev pub wrong_last : Bool → List ℕ → List ℕ → Bool
+wrong_last with_tag tag last = if with_tag then not (is_tag tag) || is_wrong_id last else is_wrong_text last
+
+abbrev pub told_last : Bool → List ℕ → List ℕ → EchoText
+told_last with_tag tag last = if with_tag then bare tag last else echo_of last
+
+-- the first byte, the sender or a string is wrong; or what stands after the subject, too
+abbrev pub has_wrong_front : Version → Stored → Bool
+has_wrong_front version s = is_other_kind version s.kind || (has_wrong_sender s || has_wrong_string s)
+
+abbrev pub has_wrong_field : Version → Stored → Bool
+has_wrong_field version s = has_wrong_front version s || has_wrong_last version s
+
+-- tag and id do not stand where they are to stand, or stand elsewhere; or an earlier message has the key
+abbrev pub wrong_form : Version → ℕ → ℕ → Bool → Filed → Bool
+wrong_form version cursor place with_tag m =
+    if with_tag then not (is_short version cursor place m) else is_short version cursor place m
+
+abbrev pub is_out_of_place : Version → ℕ → List Filed → Bool → Filed → Bool
+is_out_of_place version cursor earlier with_tag m =
+    wrong_form version cursor (length earlier) with_tag m || is_known earlier (key_of m)
+
+-- the message with its key, or none where it is damaged
+abbrev pub Judges : Bool → Filed → Option (Key × Filed) → Type 0
+Judges damaged m None = damaged ≡ true
+Judges damaged m (Some found) = (damaged ≡ false) × (found.0 ≡ key_of m) × (found.1 ≡ m)
+
+-- how a field that was not read is told, behind so many whole messages
+abbrev pub told_behind : Broken → ℕ → BaseFault
+told_behind broken.Cut messages = fault.Truncated messages
+told_behind broken.Device messages = fault.Read
+told_behind broken.Memory messages = fault.Memory
+
+-- the version that the bytes are the beginning of, or why they are none
+abbrev pub IsVersion : List ℕ → Result Version BaseFault → Type 0
+IsVersion front (Ok version) = front ≡ magic version
+IsVersion front (Err fault.NotBase) = is_front front ≡ false
+IsVersion front (Err (fault.Truncated n)) = (n ≡ 0) × (is_front front ≡ true) × (length front < 8)
+IsVersion front (Err _) = ⊥
+
+-- the bytes that came before the device failed end before a base could: inside its first eight bytes, or as one that is cut
+abbrev pub IsUnfinished : List ℕ → Type 0
+IsUnfinished came = (length came < 8) ⊎ ((n : ℕ) × BaseFaultOf came (fault.Truncated n))
+
+-- the fault of these bytes, or that the device failed, or want of memory
+abbrev pub LoadFault : List ℕ → BaseFault → Type 0
+LoadFault bytes fault.Read = Unit {0}
+LoadFault bytes fault.Memory = Unit {0}
+LoadFault bytes told = BaseFaultOf bytes told
+
+-- why no base was read: a fault of the bytes, and where the device failed, what came before
+pub record FailsToLoad (old new : Option (List ℕ)) (told : BaseFault) : Type 0 where
+  pub wrong : IfSome old (λ bytes. LoadFault bytes told)
+  pub inside : told ≡ fault.Read → Came old new IsUnfinished
+
+-- the first bytes of a version were taken
+abbrev pub ReadsVersion : Option (List ℕ) → Option (List ℕ) → Result Version BaseFault → Type 0
+ReadsVersion old new (Ok version) = Consumes old new (magic version)
+ReadsVersion old new (Err told) = FailsToLoad old new told
+
+-- the head of a base file was taken
+pub record TakesHead (head : Head) (old new : Option (List ℕ)) : Type 0 where
+  pub number_fits : head.number < 2 ^ 32
+  pub cursor_within : head.cursor ≤ head.number
+  pub took : Consumes old new (head_bytes head.version head.cursor head.number)
+
+abbrev pub ReadsHead : Option (List ℕ) → Option (List ℕ) → Result Head BaseFault → Type 0
+ReadsHead old new (Ok head) = TakesHead head old new
+ReadsHead old new (Err told) = FailsToLoad old new told
+
+-- the bytes that came end inside the message that is next
+abbrev pub StopsIn : Version → List ℕ → Type 0
+StopsIn version = EndsIn Stored (IsStored version) (stored_bytes version)
+
+-- a message came that may stand next, and was put at the end
+pub record TakesNext (version : Version) (cursor : ℕ) (base base' : List Filed) (old new : Option (List ℕ)) : Type 0 where
+  pub next : Stored
+  pub size : IsStored version next
+  pub sound : is_damaged version cursor base next ≡ false
+  pub took : Consumes old new (stored_bytes version next)
+  pub filed : base' ≡ base ++ message_in version next ∷ []
+
+-- a message came that is damaged
+pub record TakesDamaged (version : Version) (cursor : ℕ) (base : List Filed) (old new : Option (List ℕ)) : Type 0 where
+  pub next : Stored
+  pub size : IsStored version next
+  pub damaged : is_damaged version cursor base next ≡ true
+  pub took : Consumes old new (stored_bytes version next)
+
+-- what was taken behind the messages of the base
+abbrev pub TakesMessage : {A : Type 0} → Version → ℕ → List Filed → List Filed → Option (List ℕ) → Option (List ℕ) → Result A BaseFault → Type 0
+TakesMessage version cursor base base' old new (Ok _) = TakesNext version cursor base base' old new
+TakesMessage version cursor base base' old new (Err (fault.Truncated n)) = (n ≡ length base) × Came old new (StopsIn version) × IsAtEnd new
+TakesMessage version cursor base base' old new (Err (fault.Damaged n)) = (n ≡ length base) × TakesDamaged version cursor base old new
+TakesMessage version cursor base base' old new (Err fault.Read) = Came old new (StopsIn version)
+TakesMessage version cursor base base' old new (Err fault.Memory) = Unit {0}
+TakesMessage version cursor base base' old new (Err _) = ⊥
+
+-- behind the head of a base file all messages were taken, and they are the base's
+pub record TakesAll (head : Head) (base : Base) (old new : Option (List ℕ)) : Type 0 where
+  pub all : List Stored
+  pub many : length all ≡ head.number
+  pub sizes : AllByRecursion (IsStored head.version) all
+  pub sound : AreSound head.version head.cursor [] all
+  pub took : Consumes old new (flat_map (stored_bytes head.version) all)
+  pub messages : base.messages ≡ map (message_in head.version) all
+
+-- why they were not: these messages came, and then one that was cut or is damaged
+abbrev pub FailsBehind : Head → Option (List ℕ) → Option (List ℕ) → BaseFault → Type 0
+FailsBehind head old new told =
+    (old' : Option (List ℕ)) → Consumes old' old (head_bytes head.version head.cursor head.number) → head.number < 2 ^ 32 → head.cursor ≤ head.number → FailsToLoad old' new told
+
+abbrev pub TakesMessages : {A : Type 0} → Head → Base → Option (List ℕ) → Option (List ℕ) → Result A BaseFault → Type 0
+TakesMessages head base old new (Ok _) = TakesAll head base old new
+TakesMessages head base old new (Err told) = FailsBehind head old new told
+
+-- just the bytes of this base were taken
+abbrev pub TakesBase : List Filed → ℕ → Option (List ℕ) → Option (List ℕ) → Type 0
+TakesBase messages cursor old new = Came old new (BaseOf messages cursor)
+
+-- the count of failures rose where the device failed, and only there
+abbrev pub CountsLoad : {A : Type 0} → Result A BaseFault → ℕ → ℕ → Type 0
+CountsLoad (Err fault.Read) old new = Failed old new
+CountsLoad (Err _) old new = new ≡ old
+CountsLoad (Ok _) old new = new ≡ old
+
+-- this is what loading answered, unless the device failed or memory ran out
+abbrev pub AnswersLoad : Result Base BaseFault → Result Loaded BaseFault → Type 0
+AnswersLoad (Ok base) other = (n : ℕ) × (other ≡ Ok (base.messages, base.cursor, n))
+AnswersLoad (Err fault.Read) other = Unit {0}
+AnswersLoad (Err fault.Memory) other = Unit {0}
+AnswersLoad (Err told) other = other ≡ Err told

@@ -1,0 +1,49 @@
+-- What saving a base sends, and why it stops.
+use Rattle.std.specs.Prelude.{◌≡◌, ℕ, ◌<◌, Bool, true, false, List, ◌∷◌, ◌++◌, length, take, Option, Result, Ok, Err}
+use Rattle.std.specs.Io.KnownBytes.{Appends, Keeps}
+use Rattle.echo_device.specs.Device.{Failed, counted}
+use Rattle.echo_packet.specs.Header.{word}
+use Rattle.echo_base.specs.declared.fault.BaseFault.{BaseFault}
+use Rattle.echo_base.specs.declared.fault.BaseFault.TheVariants as fault
+use Rattle.echo_base.specs.declared.sending.Unsent.{Unsent}
+use Rattle.echo_base.specs.declared.sending.Unsent.TheVariants as unsent
+use Rattle.echo_base.specs.BaseFile.{Stored, after_length}
+
+-- the count of failures rose where the device failed, and only there
+abbrev pub CountsUnsent : {A : Type 0} → Result A Unsent → ℕ → ℕ → Type 0
+CountsUnsent (Err unsent.Device) old new = Failed old new
+CountsUnsent (Err unsent.Memory) old new = new ≡ old
+CountsUnsent (Ok _) old new = new ≡ old
+
+-- the bytes of a message up to its DateTime
+abbrev pub front_bytes : Stored → List ℕ
+front_bytes s = s.kind ∷ (word s.zone ++ (word s.net ++ (word s.node ++ s.date)))
+
+-- its names and the subject
+abbrev pub strings_bytes : List ℕ → List ℕ → List ℕ → List ℕ
+strings_bytes to_name from_name subject = after_length to_name ++ (after_length from_name ++ after_length subject)
+
+-- some first bytes went out, but not all
+abbrev pub SavesFront : Option (List ℕ) → Option (List ℕ) → List ℕ → (ℕ → Type 0) → Type 0
+SavesFront old new bytes P = (n : ℕ) × (n < length bytes) × Appends old new (take n bytes) × P n
+
+-- all bytes went out; or some first ones, which a write fault counts; or none, where there were too many
+abbrev pub Saves : {A : Type 0} → Option (List ℕ) → Option (List ℕ) → Result A BaseFault → List ℕ → Type 0
+Saves old new (Ok _) bytes = Appends old new bytes
+Saves old new (Err (fault.Write told)) bytes = SavesFront old new bytes (λ n. told ≡ counted n)
+Saves old new (Err fault.Memory) bytes = SavesFront old new bytes (λ n. Unit {0})
+Saves old new (Err fault.TooMany) bytes = Keeps old new
+Saves old new (Err _) bytes = ⊥
+
+-- the count of failures rose at a write fault, and only there
+abbrev pub CountsSaved : {A : Type 0} → Result A BaseFault → ℕ → ℕ → Type 0
+CountsSaved (Err (fault.Write told)) old new = Failed old new
+CountsSaved (Err _) old new = new ≡ old
+CountsSaved (Ok _) old new = new ≡ old
+
+-- four bytes count all that is saved, or too many was answered; want of memory may come before that is known
+abbrev pub TellsTooMany : {A : Type 0} → Bool → Result A BaseFault → Type 0
+TellsTooMany countable (Err fault.TooMany) = countable ≡ false
+TellsTooMany countable (Err fault.Memory) = Unit {0}
+TellsTooMany countable (Err _) = countable ≡ true
+TellsTooMany countable (Ok _) = countable ≡ true

@@ -1,0 +1,138 @@
+//! A base is written to a sink.
+ghost use Rattle.std.specs.Prelude.{◌≡◌, ◌^◌, ◌<◌, ◌≤◌, length, IfOk, OnOk, OnErr, true};
+ghost use Rattle.std.specs.List.{flat_map, list_all};
+ghost use Rattle.echo_device.specs.Device.{Failed, Sends};
+ghost use Rattle.indexmap.specs.IndexMap.{index_map_len, values};
+ghost use Rattle.echo_base.specs.Base.{IsBase};
+ghost use Rattle.echo_base.specs.BaseFile.{Second, head_bytes, is_countable, is_short_enough, saved_bytes, stored_bytes, stored_from};
+ghost use Rattle.echo_base.specs.Saving.{CountsSaved, CountsUnsent, Saves, TellsTooMany};
+
+use crate::base::Base;
+use crate::fault::BaseFault;
+use crate::filed::Filed;
+use crate::key::Key;
+use crate::numbers::long_bytes;
+use crate::sending::{Unsent, is_short, is_short_enough, send_message};
+use echo_device::{Failure, Sink, send};
+use indexmap::IndexMap;
+use std::alloc::{AllocError, Global};
+use std::hash::BuildHasher;
+
+// What a base of version 2 begins with.
+const MAGIC: &[u8] = b"ECHOBAS2";
+
+// The most messages that four bytes count.
+const MOST: usize = 0xffff_ffff;
+
+// The first 16 bytes.
+fn send_head<W: Sink>(
+    writer: &mut W,
+    cursor: u32,
+    number: u32,
+    sent: &mut u64,
+) -> Result<(), Failure>
+    ensures bytes { Sends (W.contents writer.old) (W.contents writer.new) result (head_bytes Second cursor number) sent.old sent.new }
+    ensures ok { OnOk result (W.failures writer.new ≡ W.failures writer.old) }
+    ensures err { OnErr result (Failed (W.failures writer.old) (W.failures writer.new)) }
+{
+    send(writer, MAGIC, sent)?;
+    send(writer, &long_bytes(cursor), sent)?;
+    send(writer, &long_bytes(number), sent)
+}
+
+// Whether four bytes count the bytes of each text and id.
+fn are_short_enough<S: BuildHasher>(
+    alloc: Global,
+    entries: &IndexMap<Key, Filed, S>,
+    cursor: usize,
+) -> Result<bool, AllocError>
+    ensures { IfOk result (λ enough. enough ≡ list_all is_short_enough (stored_from cursor 0 (values entries.now))) }
+{
+    'messages: for i in 0..entries.len() {
+        let message = &entries[i];
+        let short = is_short(message, i, cursor);
+        if !is_short_enough(alloc, message, short)? {
+            return Ok(false);
+        }
+    }
+    Ok(true)
+}
+
+// The messages in order.
+fn send_messages<W: Sink, S: BuildHasher>(
+    alloc: Global,
+    writer: &mut W,
+    entries: &IndexMap<Key, Filed, S>,
+    cursor: usize,
+    sent: &mut u64,
+) -> Result<(), Unsent>
+    requires room { list_all is_short_enough (stored_from cursor 0 (values entries.now)) ≡ true }
+    requires count { sent.old < 2 ^ 64 }
+    ensures bytes { Sends (W.contents writer.old) (W.contents writer.new) result (flat_map (stored_bytes Second) (stored_from cursor 0 (values entries.now))) sent.old sent.new }
+    ensures device { CountsUnsent result (W.failures writer.old) (W.failures writer.new) }
+{
+    'messages: for i in 0..entries.len() {
+        let message = &entries[i];
+        let short = is_short(message, i, cursor);
+        send_message(alloc, writer, message, short, sent)?;
+    }
+    Ok(())
+}
+
+// Head and messages.
+fn send_base<W: Sink, S: BuildHasher>(
+    alloc: Global,
+    writer: &mut W,
+    entries: &IndexMap<Key, Filed, S>,
+    cursor: usize,
+    sent: &mut u64,
+) -> Result<(), Unsent>
+    requires within { cursor ≤ length (values entries.now) }
+    requires countable { is_countable (values entries.now) cursor ≡ true }
+    requires count { sent.old ≡ 0 }
+    ensures bytes { Sends (W.contents writer.old) (W.contents writer.new) result (saved_bytes (values entries.now) cursor) 0 sent.new }
+    ensures device { CountsUnsent result (W.failures writer.old) (W.failures writer.new) }
+{
+    send_head(writer, cursor as u32, entries.len() as u32, sent)?;
+    send_messages(alloc, writer, entries, cursor, sent)
+}
+
+// Whether four bytes count the messages, and the bytes of each text and id.
+fn are_countable<S: BuildHasher>(
+    alloc: Global,
+    entries: &IndexMap<Key, Filed, S>,
+    cursor: usize,
+) -> Result<bool, AllocError>
+    ensures { IfOk result (λ countable. countable ≡ is_countable (values entries.now) cursor) }
+{
+    if entries.len() > MOST {
+        return Ok(false);
+    }
+    are_short_enough(alloc, entries, cursor)
+}
+
+impl<S: BuildHasher> Base<S> {
+    /// Writes the base as a base file of version 2.
+    ///
+    /// It is `TooMany` where four bytes do not count the messages or the bytes of a text or an id, before
+    /// a byte went out; `Write` where the device failed, with the number of bytes that went out in this
+    /// call, the greatest `u64` standing for a greater one. Where memory was refused, too, a beginning of
+    /// the bytes went out. What the writer still holds back is its owner's to pass on.
+    pub fn save<W: Sink>(&self, writer: &mut W) -> Result<(), BaseFault>
+        ensures base { IsBase self.now.messages self.now.cursor }
+        ensures bytes { Saves (W.contents writer.old) (W.contents writer.new) result (saved_bytes self.now.messages self.now.cursor) }
+        ensures device { CountsSaved result (W.failures writer.old) (W.failures writer.new) }
+        ensures too_many { TellsTooMany (is_countable self.now.messages self.now.cursor) result }
+    {
+        let alloc = *self.entries.allocator();
+        if !are_countable(alloc, &self.entries, self.cursor)? {
+            return Err(BaseFault::TooMany);
+        }
+        let mut sent = 0;
+        match send_base(alloc, writer, &self.entries, self.cursor, &mut sent) {
+            Ok(()) => Ok(()),
+            Err(Unsent::Device) => Err(BaseFault::Write { bytes: sent }),
+            Err(Unsent::Memory) => Err(BaseFault::Memory),
+        }
+    }
+}

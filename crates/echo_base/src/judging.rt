@@ -1,0 +1,274 @@
+//! Whether a stored message may stand in a base, and which message it is.
+ghost use Rattle.std.specs.Prelude.{◌≡◌, ◌||◌, not, bytes_eq, false, None, Some, if◌then◌else◌, IfOk};
+ghost use Rattle.std.specs.List.{list_all};
+ghost use Rattle.echo_text.specs.Lines.{is_tag, is_tag_byte};
+ghost use Rattle.echo_text.specs.Echo.{IsEcho};
+ghost use Rattle.echo_text.specs.Ids.{is_line_byte};
+ghost use Rattle.echo_base.specs.Written.{echo_of, text_of};
+ghost use Rattle.echo_base.specs.Base.{key_of};
+ghost use Rattle.echo_base.specs.Stubs.{bare};
+ghost use Rattle.echo_base.specs.BaseFile.{IsStored, has_wrong_last, has_wrong_sender, has_wrong_string, is_damaged, is_no_string, is_other_kind, is_posted, is_wrong_id, is_wrong_text, message_in};
+ghost use Rattle.echo_base.specs.Loading.{Judges, UnlessWrong, has_wrong_field, has_wrong_front, is_out_of_place, told_last, wrong_form, wrong_last};
+
+use crate::base::Base;
+use crate::filed::Filed;
+use crate::key::Key;
+use crate::sending::is_short;
+use crate::stored::{StoredMessage, Version, has_tag};
+use crate::stub::lines_of_id;
+use echo_addr::{Address, Items};
+use echo_packet::{MAX_NAME, MAX_SUBJECT};
+use echo_text::{Echo, TextFault, read_text, trimmed, write_text};
+use std::alloc::{AllocError, Global};
+use std::hash::BuildHasher;
+
+// The most bytes of a tag.
+const MAX_TAG: usize = 60;
+
+// Whether the version does not have the first byte.
+fn is_other_kind(version: Version, kind: u8) -> bool
+    ensures { result ≡ is_other_kind version kind }
+{
+    match version {
+        Version::First => kind > 1,
+        Version::Second => kind > 3,
+    }
+}
+
+// Whether a message of this first byte was posted here.
+fn is_posted(kind: u8) -> bool
+    ensures { result ≡ is_posted kind }
+{
+    kind == 0 || kind == 2
+}
+
+// Whether a posted message has a sender.
+fn has_wrong_sender(stored: &StoredMessage) -> bool
+    ensures { result ≡ has_wrong_sender stored.now }
+{
+    let sender = stored.sender;
+    is_posted(stored.kind) && !(sender.zone == 0 && sender.net == 0 && sender.node == 0)
+}
+
+// Whether the bytes are too many or hold a 00.
+fn is_no_string(most: usize, bytes: &[u8]) -> bool
+    ensures { result ≡ is_no_string most bytes.now }
+{
+    bytes.len() > most || bytes.contains(&0)
+}
+
+// Whether a name or the subject is no such string.
+fn has_wrong_string(stored: &StoredMessage) -> bool
+    ensures { result ≡ has_wrong_string stored.now }
+{
+    is_no_string(MAX_NAME, stored.to_name.as_slice())
+        || is_no_string(MAX_NAME, stored.from_name.as_slice())
+        || is_no_string(MAX_SUBJECT, stored.subject.as_slice())
+}
+
+// Whether the bytes are a tag as it is kept, in upper case.
+fn is_tag(bytes: &[u8]) -> bool
+    ensures { result ≡ is_tag bytes.now }
+{
+    !bytes.is_empty() && bytes.len() <= MAX_TAG && has_tag_bytes(bytes)
+}
+
+// Whether each byte may.
+fn has_tag_bytes(bytes: &[u8]) -> bool
+    ensures { result ≡ list_all is_tag_byte bytes.now }
+{
+    bytes.iter().all(|b| is_tag_byte(*b))
+}
+
+// Whether the byte may stand in a tag as it is kept.
+fn is_tag_byte(byte: u8) -> bool
+    ensures { result ≡ is_tag_byte byte }
+{
+    (33..=126).contains(&byte) && !(97..=122).contains(&byte)
+}
+
+// Whether the bytes are no id: none at all, one of them 00 or 0D, or with a blank at an end.
+fn is_wrong_id(id: &[u8]) -> bool
+    ensures { result ≡ is_wrong_id id.now }
+{
+    id.is_empty() || !has_line_bytes(id) || trimmed(id) != id
+}
+
+// Whether no byte is 00 or 0D.
+fn has_line_bytes(bytes: &[u8]) -> bool
+    ensures { result ≡ list_all is_line_byte bytes.now }
+{
+    bytes.iter().all(|b| *b != 0 && *b != 13)
+}
+
+// Whether the text is the one that is written for the echo.
+fn is_written(alloc: Global, echo: &Echo, text: &[u8]) -> Result<bool, AllocError>
+    requires { IsEcho echo.now }
+    ensures { IfOk result (λ same. same ≡ bytes_eq (text_of echo.now) text.now) }
+{
+    let written = write_text(alloc, echo)?;
+    Ok(written.as_slice() == text)
+}
+
+// What the text says, unless it is none that is written so.
+fn echo_of(alloc: Global, text: &[u8]) -> Result<Option<Echo>, AllocError>
+    ensures { IfOk result (UnlessWrong (is_wrong_text text.now) (echo_of text.now)) }
+{
+    if text.contains(&0) {
+        return Ok(None);
+    }
+    let echo = match read_text(alloc, text) {
+        Ok((echo, _)) => echo,
+        Err(TextFault::Memory) => return Err(AllocError),
+        Err(_) => return Ok(None),
+    };
+    if !is_written(alloc, &echo, text)? {
+        return Ok(None);
+    }
+    Ok(Some(echo))
+}
+
+// The text of this tag and id, unless one of them is wrong.
+fn bare(alloc: Global, tag: Items<u8>, id: &[u8]) -> Result<Option<Echo>, AllocError>
+    ensures { IfOk result (UnlessWrong (not (is_tag tag) || is_wrong_id id.now) (bare tag id.now)) }
+{
+    if !is_tag(tag.as_slice()) || is_wrong_id(id) {
+        return Ok(None);
+    }
+    let kept = lines_of_id(alloc, id)?;
+    Ok(Some(Echo {
+        tag,
+        kept,
+        seen: Items::new(Vec::new(alloc)),
+        path: Items::new(Vec::new(alloc)),
+    }))
+}
+
+// What stands after the subject as a text, unless it is wrong.
+fn echo_in(
+    alloc: Global,
+    with_tag: bool,
+    tag: Items<u8>,
+    last: &[u8],
+) -> Result<Option<Echo>, AllocError>
+    ensures { IfOk result (UnlessWrong (wrong_last with_tag tag last.now) (told_last with_tag tag last.now)) }
+{
+    if with_tag {
+        bare(alloc, tag, last)
+    } else {
+        echo_of(alloc, last)
+    }
+}
+
+// What the message says of its sender.
+fn sender_in(kind: u8, sender: Address) -> Option<Address>
+    ensures { result ≡ (if is_posted kind then None else Some sender) }
+{
+    if is_posted(kind) { None } else { Some(sender) }
+}
+
+// The message that is stored so, unless what stands after the subject is wrong.
+fn message_of(
+    alloc: Global,
+    version: Version,
+    stored: StoredMessage,
+) -> Result<Option<Filed>, AllocError>
+    requires sizes { IsStored version stored }
+    requires strings { has_wrong_string stored ≡ false }
+    ensures { IfOk result (UnlessWrong (has_wrong_last version stored) (message_in version stored)) }
+{
+    let with_tag = has_tag(version, stored.kind);
+    let sender = sender_in(stored.kind, stored.sender);
+    let Some(echo) = echo_in(alloc, with_tag, stored.tag, stored.last.as_slice())? else {
+        return Ok(None);
+    };
+    Ok(Some(Filed {
+        sender,
+        date: stored.date,
+        to_name: stored.to_name,
+        from_name: stored.from_name,
+        subject: stored.subject,
+        echo,
+    }))
+}
+
+// Whether the first byte, the sender or a string is wrong.
+fn has_wrong_front(version: Version, stored: &StoredMessage) -> bool
+    ensures { result ≡ has_wrong_front version stored.now }
+{
+    is_other_kind(version, stored.kind) || has_wrong_sender(stored) || has_wrong_string(stored)
+}
+
+// The message that is stored so, unless a field of it is wrong.
+fn right_message(
+    alloc: Global,
+    version: Version,
+    stored: StoredMessage,
+) -> Result<Option<Filed>, AllocError>
+    requires { IsStored version stored }
+    ensures { IfOk result (UnlessWrong (has_wrong_field version stored) (message_in version stored)) }
+{
+    if has_wrong_front(version, &stored) {
+        return Ok(None);
+    }
+    message_of(alloc, version, stored)
+}
+
+// Whether the message has the text where tag and id are to stand, or the other way round.
+fn has_wrong_form(
+    version: Version,
+    cursor: usize,
+    place: usize,
+    with_tag: bool,
+    message: &Filed,
+) -> bool
+    ensures { result ≡ wrong_form version cursor place with_tag message.now }
+{
+    let short = match version {
+        Version::First => false,
+        Version::Second => is_short(message, place, cursor),
+    };
+    if with_tag { !short } else { short }
+}
+
+// The key of the message, unless it may not stand next in the base.
+fn key_if_next<S: BuildHasher>(
+    alloc: Global,
+    base: &Base<S>,
+    version: Version,
+    cursor: usize,
+    with_tag: bool,
+    message: &Filed,
+) -> Result<Option<Key>, AllocError>
+    ensures { IfOk result (UnlessWrong (is_out_of_place version cursor base.now.messages with_tag message.now) (key_of message.now)) }
+{
+    if has_wrong_form(version, cursor, base.len(), with_tag, message) {
+        return Ok(None);
+    }
+    let key = Key::of_message(alloc, message)?;
+    if base.knows(&key) {
+        return Ok(None);
+    }
+    Ok(Some(key))
+}
+
+/// The message with its key, unless it may not stand next in the base.
+pub(crate) fn judged<S: BuildHasher>(
+    alloc: Global,
+    base: &Base<S>,
+    version: Version,
+    cursor: usize,
+    stored: StoredMessage,
+) -> Result<Option<(Key, Filed)>, AllocError>
+    requires { IsStored version stored }
+    ensures { IfOk result (Judges (is_damaged version cursor base.now.messages stored) (message_in version stored)) }
+{
+    let with_tag = has_tag(version, stored.kind);
+    let Some(message) = right_message(alloc, version, stored)? else {
+        return Ok(None);
+    };
+    match key_if_next(alloc, base, version, cursor, with_tag, &message)? {
+        Some(key) => Ok(Some((key, message))),
+        None => Ok(None),
+    }
+}

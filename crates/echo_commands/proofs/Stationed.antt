@@ -1,0 +1,99 @@
+-- What the commands that change a base answer, from what their parts do.
+use Rattle.std.proofs.Common.{◌≡◌, ℕ, ◌-◌, ◌≤◌, true, List, [], ◌∷◌, ◌++◌, map, length, Option, Some, None, Result, Ok, Err, refl, sym, ap, subst, ◌∙◌, arith, ◌⊎◌, inl, inr}
+use Rattle.std.specs.List.{flat_map}
+use Rattle.std.specs.Io.KnownBytes.{Appends}
+use Rattle.echo_base.specs.Base.{IsBase}
+use Rattle.echo_base.specs.BaseFile.{saved_bytes}
+use Rattle.echo_steps.specs.declared.draft.Draft.{Draft}
+use Rattle.echo_steps.specs.declared.packet.Packet.{Packet}
+use Rattle.echo_steps.specs.declared.stamp.Stamp.{Stamp}
+use Rattle.echo_steps.specs.Posting.{IsPostFault, post_refusal, posted}
+use Rattle.echo_steps.specs.Scanning.{ScanStep, scanned}
+use Rattle.echo_steps.specs.SystemState.{SystemState, state_with}
+use Rattle.echo_commands.specs.declared.leaving.Files.{Files}
+use Rattle.echo_commands.specs.declared.leaving.PacketFile.{PacketFile}
+use Rattle.echo_commands.specs.declared.posting.NewMessage.{NewMessage}
+use Rattle.echo_steps.specs.declared.fault.PostFault.{PostFault}
+use Rattle.echo_steps.specs.declared.fault.PostFault.TheVariants as post
+use Rattle.echo_steps.specs.declared.fault.ScanFault.{ScanFault}
+use Rattle.echo_steps.specs.declared.fault.ScanFault.TheVariants as scan
+use Rattle.echo_commands.specs.declared.fault.Fault.{Fault}
+use Rattle.echo_commands.specs.declared.fault.Fault.TheVariants.{Post, Scan}
+use Rattle.echo_commands.specs.Ended.{IsWantOfMemory}
+use Rattle.echo_commands.specs.Posted.{PostAnswers, draft_of}
+use Rattle.echo_commands.specs.Scanned.{IsScanned, ScanAnswers, file_of, line_of}
+use Rattle.echo_commands.specs.System.{IsSystemGiven, IsTooMany}
+use Rattle.echo_commands.proofs.Checks.{went}
+
+-- the number of messages scanned before
+scanned_before : (all waiting cursor before : ℕ) → waiting ≡ all - cursor → cursor ≤ all → before ≡ all - waiting → before ≡ cursor
+scanned_before all waiting cursor before is within counted = omega (arith, is, within, counted)
+
+pub was_scanned : (stamp : Stamp) (links : List ℕ) (base : Option (List ℕ)) (system left : SystemState) (packets : List Packet) (sent : List PacketFile) (all waiting before : ℕ)
+    (bytes none lines : List ℕ) (files : Files) (a b : Option (List ℕ)) → IsSystemGiven links base system → IsBase system.base system.cursor → all ≡ length system.base
+    → waiting ≡ length system.base - system.cursor → before ≡ all - waiting → ScanStep system stamp (Ok packets) left → bytes ≡ saved_bytes left.base left.cursor
+    → sent ≡ map (file_of before) packets → none ≡ [] → lines ≡ none ++ flat_map line_of packets → Appends a b lines → files ≡ record { packets = sent; base = Some bytes }
+    → IsScanned stamp links base a b files
+was_scanned stamp links base system left packets sent all waiting before bytes none lines files a b given is_base counted waits rest step saved made nothing whole out are =
+    let scanned_first : before ≡ system.cursor =
+    scanned_before (length system.base) waiting system.cursor before waits is_base.within (rest ∙ ap (λ (n : ℕ). n - waiting) counted) in
+    record {
+      system = system;
+      given = given;
+      moment = step.0;
+      printed = subst (λ (ps : List Packet). Appends a b (flat_map line_of ps)) step.1 (went none lines (flat_map line_of packets) a b nothing whole out);
+      left = are ∙ ap (λ (fs : List PacketFile). record { packets = fs; base = Some bytes }) (made ∙ ap (λ (n : ℕ). map (file_of n) packets) scanned_first ∙ ap (map (file_of system.cursor)) step.1)
+          ∙ ap (λ (bs : List ℕ). record { packets = map (file_of system.cursor) (scanned system.file system.base system.cursor stamp); base = Some bs }) (saved ∙ ap (λ (s : SystemState). saved_bytes s.base s.cursor) step.2);
+    }
+
+-- the refusal is that of the draft of the words
+refused_draft : (words : NewMessage) (body : List ℕ) (system : SystemState) (draft : Draft) (why : PostFault) → draft ≡ draft_of words body
+    → post_refusal system.file system.base words.tag.now draft words.serial words.stamp ≡ Some why
+    → post_refusal system.file system.base words.tag.now (draft_of words body) words.serial words.stamp ≡ Some why
+refused_draft words body system draft why drafted refused =
+    subst (λ (d : Draft). post_refusal system.file system.base words.tag.now d words.serial words.stamp ≡ Some why) drafted refused
+
+-- a posting that is refused
+pub post_refused : (words : NewMessage) (links : List ℕ) (base : Option (List ℕ)) (stopped : Option Fault) (body : List ℕ) (system left : SystemState) (draft : Draft)
+    (why : PostFault) (old : Option (List ℕ)) (n : ℕ) → IsSystemGiven links base system → stopped ≡ None → draft ≡ draft_of words body
+    → IsPostFault system.file system.base words.tag.now draft words.serial words.stamp why → PostAnswers words links base stopped body old old n n (Err (Post why))
+post_refused words links base stopped body system left draft post.Memory old n given went_on drafted step = inl (inr (tt, refl))
+post_refused words links base stopped body system left draft post.NoArea old n given went_on drafted step =
+    inr ((inr (system, given, went_on, inl (post.NoArea, refl, refused_draft words body system draft post.NoArea drafted step)), refl), refl)
+post_refused words links base stopped body system left draft post.ByteZero old n given went_on drafted step =
+    inr ((inr (system, given, went_on, inl (post.ByteZero, refl, refused_draft words body system draft post.ByteZero drafted step)), refl), refl)
+post_refused words links base stopped body system left draft post.FieldTooLong old n given went_on drafted step =
+    inr ((inr (system, given, went_on, inl (post.FieldTooLong, refl, refused_draft words body system draft post.FieldTooLong drafted step)), refl), refl)
+post_refused words links base stopped body system left draft post.BadStamp old n given went_on drafted step =
+    inr ((inr (system, given, went_on, inl (post.BadStamp, refl, refused_draft words body system draft post.BadStamp drafted step)), refl), refl)
+post_refused words links base stopped body system left draft post.BadReply old n given went_on drafted step =
+    inr ((inr (system, given, went_on, inl (post.BadReply, refl, refused_draft words body system draft post.BadReply drafted step)), refl), refl)
+post_refused words links base stopped body system left draft post.KnownSerial old n given went_on drafted step =
+    inr ((inr (system, given, went_on, inl (post.KnownSerial, refl, refused_draft words body system draft post.KnownSerial drafted step)), refl), refl)
+
+-- a base that is not saved after the posting
+pub post_unsaved : (words : NewMessage) (links : List ℕ) (base : Option (List ℕ)) (stopped : Option Fault) (body : List ℕ) (system left : SystemState) (draft : Draft)
+    (fault : Fault) (old : Option (List ℕ)) (n : ℕ) → IsSystemGiven links base system → stopped ≡ None → draft ≡ draft_of words body
+    → post_refusal system.file system.base words.tag.now draft words.serial words.stamp ≡ None
+    → left ≡ state_with system (Some (posted system.file words.tag.now draft words.serial words.stamp)) → IsWantOfMemory fault ⊎ IsTooMany left.base left.cursor fault
+    → PostAnswers words links base stopped body old old n n (Err fault)
+post_unsaved words links base stopped body system left draft fault old n given went_on drafted allowed_draft moved (inl want) = inl (inr (want, refl))
+post_unsaved words links base stopped body system left draft fault old n given went_on drafted allowed_draft moved (inr many) =
+    let allowed = subst (λ (d : Draft). post_refusal system.file system.base words.tag.now d words.serial words.stamp ≡ None) drafted allowed_draft in
+    let after = subst (λ (s : SystemState). IsTooMany s.base s.cursor fault) moved many in
+    let great = subst (λ (d : Draft). IsTooMany (system.base ++ posted system.file words.tag.now d words.serial words.stamp ∷ []) system.cursor fault) drafted after in
+    inr ((inr (system, given, went_on, inr (allowed, great)), refl), refl)
+
+-- a scan that is refused
+pub scan_refused : (stamp : Stamp) (links : List ℕ) (base : Option (List ℕ)) (stopped : Option Fault) (system left : SystemState) (why : ScanFault) (old : Option (List ℕ)) (n : ℕ)
+    → IsSystemGiven links base system → stopped ≡ None → ScanStep system stamp (Err why) left → ScanAnswers stamp links base stopped old old n n (Err (Scan why))
+scan_refused stamp links base stopped system left scan.Memory old n given went_on step = inl (inr (tt, refl))
+scan_refused stamp links base stopped system left scan.BadStamp old n given went_on step = inr ((inr (system, given, went_on, inl (refl, step.0)), refl), refl)
+
+-- a base that is not saved after the scan
+pub scan_unsaved : (stamp : Stamp) (links : List ℕ) (base : Option (List ℕ)) (stopped : Option Fault) (system left : SystemState) (packets : List Packet) (fault : Fault)
+    (old : Option (List ℕ)) (n : ℕ) → IsSystemGiven links base system → stopped ≡ None → ScanStep system stamp (Ok packets) left
+    → IsWantOfMemory fault ⊎ IsTooMany left.base left.cursor fault → ScanAnswers stamp links base stopped old old n n (Err fault)
+scan_unsaved stamp links base stopped system left packets fault old n given went_on step (inl want) = inl (inr (want, refl))
+scan_unsaved stamp links base stopped system left packets fault old n given went_on step (inr many) =
+    inr ((inr (system, given, went_on, inr (step.0, subst (λ (s : SystemState). IsTooMany s.base s.cursor fault) step.2 many)), refl), refl)

@@ -1,0 +1,27 @@
+use Rattle.std.proofs.Common.{◌≡◌, ℕ, List, ◌∙◌}
+use Rattle.std.specs.Option.{option_copied}
+use Rattle.echo_base.specs.Base.{LinkFile, upper}
+use Rattle.echo_net.specs.Faults.{IsYes}
+use Rattle.echo_commands.specs.Checked.{CheckShown, IsVerdict, RunsAreOrderly}
+use Rattle.echo_commands.specs.Shown.{Pushes}
+use Rattle.echo_commands.proofs.Checks.{of_same, was_checked}
+use Rattle.echo_commands.proofs.checking.check_given.Goals as goal
+
+pub returns : goal.returns
+returns g c =
+    let files : List LinkFile = c.in_ok-links.links.items in
+    let tag : List ℕ = c.in_ok-tag.tag.items in
+    let verdict = c.in_ok-verdict.verdict in
+    let found = c.in_ok-verdict.ensures in
+    let judged = of_same (λ f t. IsVerdict f t verdict) c.deref.result.now files c.deref-2.result.now tag c.deref.ensures.value c.deref-2.ensures.value
+    (record { tidy = found.tidy; counted = found.counted; first = found.first }) in
+    let runs = of_same (λ f t. IsYes verdict → RunsAreOrderly f t) c.deref.result.now files c.deref-2.result.now tag c.deref.ensures.value c.deref-2.ensures.value found.orderly in
+    let pushed = of_same (λ f t. Pushes (CheckShown f t c.in_ok-list.list verdict) c.new-lines.result.items c.push_check.new.lines.items) c.deref-3.result.now files c.deref-4.result.now tag c.deref-3.ensures.value c.deref-4.ensures.value
+    (rw c.as_ref.ensures.value at c.in_ok-push_check.ensures) in (
+      (
+        was_checked (option_copied c.args.nodelist) c.in_ok-list.list c.args.tag.now tag c.args.files.now files verdict _ _ c.status_of.result _ _
+            c.in_ok-list.ensures.ok c.in_ok-links.ensures.ok c.in_ok-tag.ensures.ok judged runs c.new-lines.ensures.items pushed c.in_ok-print_rest.ensures.bytes c.status_of.ensures,
+        c.in_default.is,
+      ),
+      c.in_ok-print_rest.ensures.ok,
+    )

@@ -1,0 +1,26 @@
+-- The files that a command leaves to be written, and how it ends.
+use Rattle.std.specs.Prelude.{◌≡◌, ℕ, List, [], Option, Some, None, Result, Ok, Err}
+use Rattle.echo_commands.specs.declared.fault.Fault.{Fault}
+use Rattle.echo_commands.specs.declared.leaving.Done.{Done}
+use Rattle.echo_commands.specs.declared.leaving.Files.{Files}
+use Rattle.echo_commands.specs.declared.status.Status.TheVariants.{Good}
+use Rattle.echo_commands.specs.Status.{status_of}
+
+-- no file
+abbrev pub no_files : Files
+no_files = record { packets = []; base = None }
+
+-- a base alone
+abbrev pub only_base : List ℕ → Files
+only_base bytes = record { packets = []; base = Some bytes }
+
+-- the status 0 and the files, or the status of the fault and no file
+abbrev pub done_of : Result Files Fault → Done
+done_of (Ok files) = record { status = Good; files = files }
+done_of (Err fault) = record { status = status_of fault; files = no_files }
+
+-- the command answered what is so, and ended with this
+pub record Leaves (IsSo : Result Files Fault → Type 0) (done : Done) : Type 0 where
+  pub answer : Result Files Fault
+  pub so : IsSo answer
+  pub is : done ≡ done_of answer

@@ -1,0 +1,79 @@
+-- What `post` prints and leaves.
+use Rattle.std.specs.Prelude.{◌≡◌, ℕ, ◌⊎◌, ◌==◌, List, [], ◌∷◌, ◌++◌, codes, if◌then◌else◌, Option, Some, None, Result}
+use Rattle.std.specs.Io.KnownBytes.{Appends}
+use Rattle.echo_base.specs.Base.{Filed, LinkFile, upper}
+use Rattle.echo_base.specs.BaseFile.{saved_bytes}
+use Rattle.echo_steps.specs.declared.draft.Draft.{Draft}
+use Rattle.echo_steps.specs.declared.fault.PostFault.{PostFault}
+use Rattle.echo_steps.specs.declared.stamp.Stamp.{Stamp}
+use Rattle.echo_steps.specs.Posting.{post_refusal, posted}
+use Rattle.echo_steps.specs.SystemState.{SystemState}
+use Rattle.echo_text.specs.Ids.{id_of}
+use Rattle.echo_commands.specs.declared.fault.Fault.{Fault}
+use Rattle.echo_commands.specs.declared.fault.Fault.TheVariants.{Post}
+use Rattle.echo_commands.specs.declared.leaving.Files.{Files}
+use Rattle.echo_commands.specs.declared.posting.NewMessage.{NewMessage}
+use Rattle.echo_commands.specs.Ended.{Answers}
+use Rattle.echo_commands.specs.Files.{only_base}
+use Rattle.echo_commands.specs.System.{IsFirstFaultOf, IsSystemGiven, IsTooMany}
+
+-- what a byte of the body becomes in the draft: 0A becomes 0D, and nothing after a 0D
+abbrev pub draft_byte : ℕ → ℕ → List ℕ
+draft_byte before byte = if byte == 10 then (if before == 13 then [] else 13 ∷ []) else byte ∷ []
+
+-- the same of the bytes after one
+abbrev pub draft_after : ℕ → List ℕ → List ℕ
+draft_after before [] = []
+draft_after before (byte ∷ later) = draft_byte before byte ++ draft_after byte later
+
+-- the body of the draft: lines that end in 0A or 0D 0A end in 0D
+abbrev pub draft_body : List ℕ → List ℕ
+draft_body body = draft_after 0 body
+
+-- the draft of the words and the body
+abbrev pub draft_of : NewMessage → List ℕ → Draft
+draft_of words body = record {
+  to_name = words.to_name.now;
+  from_name = words.from_name.now;
+  subject = words.subject.now;
+  reply = words.reply.now;
+  body = draft_body body;
+}
+
+-- the tag in upper case, and the id: the own address and the serial
+abbrev pub posted_line : List ℕ → List ℕ → List ℕ
+posted_line tag id = codes "posted " ++ (upper tag ++ (codes " " ++ (id ++ codes "\n")))
+
+-- the base with one message more
+abbrev pub base_after : SystemState → NewMessage → List ℕ → List Filed
+base_after system words body = system.base ++ posted system.file words.tag.now (draft_of words body) words.serial words.stamp ∷ []
+
+-- no refusal applies, or this is the first that does
+abbrev pub refusal_of : SystemState → NewMessage → List ℕ → Option PostFault
+refusal_of system words body = post_refusal system.file system.base words.tag.now (draft_of words body) words.serial words.stamp
+
+-- the posting at the system that the files make: its tag and id are printed, and the base with it is to be written
+pub record IsPosted (words : NewMessage) (links : List ℕ) (base : Option (List ℕ)) (body : List ℕ) (old new : Option (List ℕ)) (files : Files) : Type 0 where
+  pub system : SystemState
+  pub given : IsSystemGiven links base system
+  pub allowed : refusal_of system words body ≡ None
+  pub printed : Appends old new (posted_line words.tag.now (id_of system.file.system words.serial))
+  pub left : files ≡ only_base (saved_bytes (base_after system words body) system.cursor)
+
+-- a posting is refused at a system: the first refusal that applies, or a base that is too great
+abbrev pub IsUnposted : SystemState → NewMessage → List ℕ → Fault → Type 0
+IsUnposted system words body fault =
+    ((why : PostFault) × (fault ≡ Post why) × (refusal_of system words body ≡ Some why))
+    ⊎ ((refusal_of system words body ≡ None) × IsTooMany (base_after system words body) system.cursor fault)
+
+-- the files have the fault, or the posting is refused
+abbrev pub PostRefuses : NewMessage → List ℕ → Option (List ℕ) → Option Fault → List ℕ → Fault → Type 0
+PostRefuses words links base stopped body fault =
+    IsFirstFaultOf links base stopped fault
+    ⊎ ((system : SystemState) × IsSystemGiven links base system × (stopped ≡ None) × IsUnposted system words body fault)
+
+-- what is answered where a message is to be posted; where it is refused nothing is printed
+abbrev pub PostAnswers : NewMessage → List ℕ → Option (List ℕ) → Option Fault → List ℕ → Option (List ℕ) → Option (List ℕ) → ℕ → ℕ → Result Files Fault → Type 0
+PostAnswers words links base stopped body old new before after answer =
+    Answers (λ files. IsPosted words links base body old new files × (stopped ≡ None))
+    (λ fault. PostRefuses words links base stopped body fault × (new ≡ old)) before after answer

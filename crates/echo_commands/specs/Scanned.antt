@@ -1,0 +1,70 @@
+-- What `scan` prints and leaves.
+use Rattle.std.specs.Prelude.{◌≡◌, ℕ, ◌⊎◌, true, false, List, ◌++◌, map, length, codes, decimal, Option, Some, None, Result}
+use Rattle.std.specs.Io.KnownBytes.{Appends}
+use Rattle.std.specs.List.{flat_map}
+use Rattle.echo_addr.specs.declared.address.Address.{Address}
+use Rattle.echo_addr.specs.Address.{address_text}
+use Rattle.echo_base.specs.BaseFile.{saved_bytes}
+use Rattle.echo_packet.specs.Packet.{packet_bytes}
+use Rattle.echo_steps.specs.declared.fault.ScanFault.TheVariants.{BadStamp}
+use Rattle.echo_steps.specs.declared.packet.Packet.{Packet}
+use Rattle.echo_steps.specs.declared.stamp.Stamp.{Stamp}
+use Rattle.echo_steps.specs.Scanning.{scanned}
+use Rattle.echo_steps.specs.Stamps.{is_stamp}
+use Rattle.echo_steps.specs.SystemState.{SystemState}
+use Rattle.echo_commands.specs.declared.fault.Fault.{Fault}
+use Rattle.echo_commands.specs.declared.fault.Fault.TheVariants.{Scan}
+use Rattle.echo_commands.specs.declared.leaving.Files.{Files}
+use Rattle.echo_commands.specs.declared.leaving.PacketFile.{PacketFile}
+use Rattle.echo_commands.specs.Ended.{Answers}
+use Rattle.echo_commands.specs.Shown.{destination}
+use Rattle.echo_commands.specs.System.{IsFirstFaultOf, IsSystemGiven, IsTooMany}
+
+-- `zone.net.node.N.pkt`, for the system that the packet is for and the number of messages scanned before
+abbrev pub packet_name : Address → ℕ → List ℕ
+packet_name to before =
+    decimal to.zone ++ (codes "." ++ (decimal to.net ++ (codes "." ++ (decimal to.node ++ (codes "." ++ (decimal before ++ codes ".pkt"))))))
+
+-- a packet's file
+abbrev pub file_of : ℕ → Packet → PacketFile
+file_of before p = record { name = packet_name (destination p.header) before; bytes = packet_bytes p.header p.messages }
+
+-- a packet's line: whom it is for, and how many messages and bytes it has
+abbrev pub sent_line : Address → ℕ → ℕ → List ℕ
+sent_line to messages bytes =
+    codes "packet " ++ (address_text to ++ (codes " " ++ (decimal messages ++ (codes " messages " ++ (decimal bytes ++ codes " bytes\n")))))
+
+abbrev pub line_of : Packet → List ℕ
+line_of p = sent_line (destination p.header) (length p.messages) (length (packet_bytes p.header p.messages))
+
+-- the files of the packets of a scan, and then the base whose messages are all scanned
+abbrev pub files_of : SystemState → List Packet → Files
+files_of system packets = record {
+  packets = map (file_of system.cursor) packets;
+  base = Some (saved_bytes system.base (length system.base));
+}
+
+-- the scan of the system that the files make: a line for each of its packets is printed, and these and the base are to be written
+pub record IsScanned (stamp : Stamp) (links : List ℕ) (base : Option (List ℕ)) (old new : Option (List ℕ)) (files : Files) : Type 0 where
+  pub system : SystemState
+  pub given : IsSystemGiven links base system
+  pub moment : is_stamp stamp ≡ true
+  pub printed : Appends old new (flat_map line_of (scanned system.file system.base system.cursor stamp))
+  pub left : files ≡ files_of system (scanned system.file system.base system.cursor stamp)
+
+-- a system is not scanned: a part of the stamp is out of its range, or the base is too great
+abbrev pub IsUnscanned : Stamp → SystemState → Fault → Type 0
+IsUnscanned stamp system fault =
+    ((fault ≡ Scan BadStamp) × (is_stamp stamp ≡ false)) ⊎ ((is_stamp stamp ≡ true) × IsTooMany system.base (length system.base) fault)
+
+-- the files have the fault, or their system is not scanned
+abbrev pub ScanRefuses : Stamp → List ℕ → Option (List ℕ) → Option Fault → Fault → Type 0
+ScanRefuses stamp links base stopped fault =
+    IsFirstFaultOf links base stopped fault
+    ⊎ ((system : SystemState) × IsSystemGiven links base system × (stopped ≡ None) × IsUnscanned stamp system fault)
+
+-- what is answered where a system is to be scanned; where it is refused nothing is printed
+abbrev pub ScanAnswers : Stamp → List ℕ → Option (List ℕ) → Option Fault → Option (List ℕ) → Option (List ℕ) → ℕ → ℕ → Result Files Fault → Type 0
+ScanAnswers stamp links base stopped old new before after answer =
+    Answers (λ files. IsScanned stamp links base old new files × (stopped ≡ None))
+    (λ fault. ScanRefuses stamp links base stopped fault × (new ≡ old)) before after answer

@@ -1,0 +1,51 @@
+ghost use Rattle.echo_commands.specs.Ended.{Ends};
+ghost use Rattle.echo_commands.specs.Pictured.{PictureAnswers};
+
+use crate::checking::status_of;
+use crate::fault::Fault;
+use crate::given::link_files;
+use crate::picture_text::push_picture;
+use crate::printing::print_rest;
+use crate::status::{Status, ended};
+use echo_addr::Items;
+use echo_device::Sink;
+use std::alloc::Global;
+
+/// `picture TAG LINKS...`: prints the systems and links of the area of the tag, its letters made upper
+/// case, as a graph in the language DOT of Graphviz, with what `check` finds wrong marked. It has the
+/// status that `check` has. Of a faulty file nothing is printed; the first fault goes to `errors`.
+/// `stopped` is why no further file was read, and comes last.
+pub fn picture<W: Sink, E: Sink>(
+    alloc: Global,
+    tag: &[u8],
+    files: &[Items<u8>],
+    stopped: Option<Fault<'_>>,
+    out: &mut W,
+    errors: &mut E,
+) -> Status
+    ensures { Ends (PictureAnswers tag.now files.now stopped.entry (W.contents out.old) (W.contents out.new) (W.failures out.old) (W.failures out.new)) result }
+{
+    ended(picture_given(alloc, tag, files, stopped, out), errors)
+}
+
+fn picture_given<'a, W: Sink>(
+    alloc: Global,
+    tag: &[u8],
+    files: &[Items<u8>],
+    stopped: Option<Fault<'a>>,
+    out: &mut W,
+) -> Result<Status, Fault<'a>>
+    ensures { PictureAnswers tag.now files.now stopped.entry (W.contents out.old) (W.contents out.new) (W.failures out.old) (W.failures out.new) result }
+{
+    let links = link_files(alloc, files)?;
+    if let Some(fault) = stopped {
+        return Err(fault);
+    }
+    let tag = tag.to_ascii_uppercase(alloc)?;
+    let verdict = echo_net::check(alloc, &links, &tag)?;
+    let drawing = echo_net::draw(alloc, &links, &tag, &verdict)?;
+    let mut lines = Vec::new(alloc);
+    push_picture(alloc, &mut lines, &tag, &verdict, &drawing)?;
+    print_rest(&mut lines, out)?;
+    Ok(status_of(&verdict))
+}

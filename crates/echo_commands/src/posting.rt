@@ -1,0 +1,139 @@
+ghost use Rattle.std.specs.Prelude.{◌≡◌, ◌++◌, IfOk, OnOk, option_copied};
+ghost use Rattle.echo_text.specs.Ids.{id_of};
+ghost use Rattle.echo_commands.specs.Files.{Leaves};
+ghost use Rattle.echo_commands.specs.Posted.{PostAnswers, draft_body, draft_byte, draft_of, posted_line};
+
+use crate::fault::Fault;
+use crate::leaving::{Done, Files, leave};
+use crate::printing::print_rest;
+use crate::system::{saved, system_given};
+use echo_addr::{Address, Items};
+use echo_device::Sink;
+use echo_steps::{Draft, Stamp};
+use echo_text::MsgId;
+use std::alloc::{AllocError, Global};
+use std::hash::BuildHasher;
+
+/// The words of `post`: the area, the names, the subject, the id of the message that is replied to or
+/// no bytes, the serial and the moment.
+#[derive(Clone, Copy, Debug)]
+pub struct NewMessage<'a> {
+    pub tag: &'a [u8],
+    pub to_name: &'a [u8],
+    pub from_name: &'a [u8],
+    pub subject: &'a [u8],
+    pub reply: &'a [u8],
+    pub serial: u32,
+    pub stamp: Stamp,
+}
+
+/// `post --area TAG --to T --from F --subject S --serial HEX8 --at STAMP [--reply ID] LINKS BASE`: files
+/// a message with this body, whose lines end in 0A or 0D 0A, and prints its tag and its id. The base is
+/// to be written where no fault is answered. Of faulty files nothing is printed; the first fault goes to
+/// `errors`. `base` is none where the file does not exist; `stopped` is why no further file, or not the
+/// body, was read, and comes last.
+pub fn post<S: BuildHasher + Drop, W: Sink, E: Sink>(
+    alloc: Global,
+    words: NewMessage<'_>,
+    links: &[u8],
+    base: Option<&[u8]>,
+    stopped: Option<Fault<'_>>,
+    body: &[u8],
+    hasher: S,
+    out: &mut W,
+    errors: &mut E,
+) -> Done
+    ensures { Leaves (PostAnswers words.entry links.now (option_copied base.entry) stopped.entry body.now (W.contents out.old) (W.contents out.new) (W.failures out.old) (W.failures out.new)) result }
+{
+    leave(
+        alloc,
+        post_given(alloc, words, links, base, stopped, body, hasher, out),
+        errors,
+    )
+}
+
+fn post_given<'a, S: BuildHasher + Drop, W: Sink>(
+    alloc: Global,
+    words: NewMessage<'_>,
+    links: &[u8],
+    base: Option<&[u8]>,
+    stopped: Option<Fault<'a>>,
+    body: &[u8],
+    hasher: S,
+    out: &mut W,
+) -> Result<Files, Fault<'a>>
+    ensures { PostAnswers words.entry links.now (option_copied base.entry) stopped.entry body.now (W.contents out.old) (W.contents out.new) (W.failures out.old) (W.failures out.new) result }
+{
+    let mut system = system_given(alloc, links, base, stopped, hasher)?;
+    let draft = draft_of(alloc, words, body)?;
+    system.post(words.tag, &draft, words.serial, words.stamp)?;
+    let base = saved(alloc, &system)?;
+    let mut lines = Vec::new(alloc);
+    push_posted(
+        alloc,
+        &mut lines,
+        words.tag,
+        system.links().system(),
+        words.serial,
+    )?;
+    print_rest(&mut lines, out)?;
+    Ok(Files::of_base(alloc, base))
+}
+
+// The draft of the words and the body.
+fn draft_of(alloc: Global, words: NewMessage<'_>, body: &[u8]) -> Result<Draft, AllocError>
+    ensures { IfOk result (λ draft. draft ≡ draft_of words.entry body.now) }
+{
+    Ok(Draft {
+        to_name: Items::new(Vec::from_slice(alloc, words.to_name)?),
+        from_name: Items::new(Vec::from_slice(alloc, words.from_name)?),
+        subject: Items::new(Vec::from_slice(alloc, words.subject)?),
+        reply: Items::new(Vec::from_slice(alloc, words.reply)?),
+        body: Items::new(draft_body(alloc, body)?),
+    })
+}
+
+// The body of the draft: lines that end in 0A or 0D 0A end in 0D.
+fn draft_body(alloc: Global, body: &[u8]) -> Result<Vec<u8>, AllocError>
+    ensures { IfOk result (λ bytes. bytes.items ≡ draft_body body.now) }
+{
+    let mut lines = Vec::new(alloc);
+    let mut before = 0;
+    'bytes: for byte in body {
+        push_byte(&mut lines, before, *byte)?;
+        before = *byte;
+    }
+    Ok(lines)
+}
+
+// Adds what the byte becomes in the draft.
+fn push_byte(lines: &mut Vec<u8>, before: u8, byte: u8) -> Result<(), AllocError>
+    ensures { OnOk result (lines.new.items ≡ lines.old.items ++ draft_byte before byte) }
+{
+    if byte != b'\n' {
+        lines.push(byte)?;
+    } else if before != b'\r' {
+        lines.push(b'\r')?;
+    }
+    Ok(())
+}
+
+// Adds the tag in upper case, and the id.
+fn push_posted(
+    alloc: Global,
+    lines: &mut Vec<u8>,
+    tag: &[u8],
+    system: Address,
+    serial: u32,
+) -> Result<(), AllocError>
+    ensures { OnOk result (lines.new.items ≡ lines.old.items ++ posted_line tag.now (id_of system serial)) }
+{
+    let tag = tag.to_ascii_uppercase(alloc)?;
+    let id = MsgId::write(alloc, system, serial)?;
+    lines.extend_from_slice(b"posted ")?;
+    lines.extend_from_slice(&tag)?;
+    lines.push(b' ')?;
+    lines.extend_from_slice(&id)?;
+    lines.push(b'\n')?;
+    Ok(())
+}

@@ -1,0 +1,140 @@
+ghost use Rattle.std.specs.Prelude.{◌≡◌, ◌++◌, length, map, IfOk, OnOk, option_copied};
+ghost use Rattle.std.specs.List.{flat_map};
+ghost use Rattle.echo_packet.specs.Packet.{packet_bytes};
+ghost use Rattle.echo_commands.specs.Files.{Leaves};
+ghost use Rattle.echo_commands.specs.Scanned.{ScanAnswers, file_of, line_of, packet_name, sent_line};
+ghost use Rattle.echo_commands.specs.Shown.{destination};
+
+use crate::escape::written;
+use crate::fault::Fault;
+use crate::leaving::{Done, Files, PacketFile, leave};
+use crate::printing::print_rest;
+use crate::system::{saved, system_given};
+use echo_addr::{Address, Items};
+use echo_device::Sink;
+use echo_packet::Header;
+use echo_steps::{Packet, Stamp};
+use std::alloc::{AllocError, Global};
+use std::hash::BuildHasher;
+use std::io::Write;
+
+/// `scan --at STAMP LINKS BASE DIR`: makes the packets of the messages that wait, and prints a line for
+/// each. The packets, and then the base, are to be written where no fault is answered. Of faulty files
+/// nothing is printed; the first fault goes to `errors`. `base` is none where the file does not exist;
+/// `stopped` is why no further file was read, and comes last.
+pub fn scan<S: BuildHasher + Drop, W: Sink, E: Sink>(
+    alloc: Global,
+    stamp: Stamp,
+    links: &[u8],
+    base: Option<&[u8]>,
+    stopped: Option<Fault<'_>>,
+    hasher: S,
+    out: &mut W,
+    errors: &mut E,
+) -> Done
+    ensures { Leaves (ScanAnswers stamp links.now (option_copied base.entry) stopped.entry (W.contents out.old) (W.contents out.new) (W.failures out.old) (W.failures out.new)) result }
+{
+    leave(
+        alloc,
+        scan_given(alloc, stamp, links, base, stopped, hasher, out),
+        errors,
+    )
+}
+
+fn scan_given<'a, S: BuildHasher + Drop, W: Sink>(
+    alloc: Global,
+    stamp: Stamp,
+    links: &[u8],
+    base: Option<&[u8]>,
+    stopped: Option<Fault<'a>>,
+    hasher: S,
+    out: &mut W,
+) -> Result<Files, Fault<'a>>
+    ensures { ScanAnswers stamp links.now (option_copied base.entry) stopped.entry (W.contents out.old) (W.contents out.new) (W.failures out.old) (W.failures out.new) result }
+{
+    let mut system = system_given(alloc, links, base, stopped, hasher)?;
+    let before = system.filed() - system.waiting();
+    let packets = system.scan(stamp)?;
+    let base = saved(alloc, &system)?;
+    let mut lines = Vec::new(alloc);
+    let files = packet_files(alloc, &packets, before, &mut lines)?;
+    print_rest(&mut lines, out)?;
+    Ok(Files {
+        packets: Items::new(files),
+        base: Some(base),
+    })
+}
+
+// The file of each packet. Adds a line for each.
+fn packet_files(
+    alloc: Global,
+    packets: &[Packet],
+    before: usize,
+    lines: &mut Vec<u8>,
+) -> Result<Vec<PacketFile>, AllocError>
+    ensures files { IfOk result (λ files. files.items ≡ map (file_of before) packets.now) }
+    ensures lines { OnOk result (lines.new.items ≡ lines.old.items ++ flat_map line_of packets.now) }
+{
+    let mut files = Vec::new(alloc);
+    'packets: for packet in packets {
+        let file = packet_file(alloc, packet, before)?;
+        push_packet(lines, packet, file.bytes.len())?;
+        files.push(file)?;
+    }
+    Ok(files)
+}
+
+// The file of a packet.
+fn packet_file(alloc: Global, packet: &Packet, before: usize) -> Result<PacketFile, AllocError>
+    ensures { IfOk result (λ file. file ≡ file_of before packet.now) }
+{
+    let name = packet_name(alloc, destination(&packet.header), before)?;
+    let bytes = packet.encode(alloc)?;
+    Ok(PacketFile {
+        name: Items::new(name),
+        bytes: Items::new(bytes),
+    })
+}
+
+// Whom a packet is for.
+fn destination(header: &Header) -> Address
+    ensures { result ≡ destination header.now }
+{
+    Address {
+        zone: header.dest_zone,
+        net: header.dest_net,
+        node: header.dest_node,
+    }
+}
+
+// The name of the file of a packet.
+fn packet_name(alloc: Global, to: Address, before: usize) -> Result<Vec<u8>, AllocError>
+    ensures { IfOk result (λ name. name.items ≡ packet_name to before) }
+{
+    let zone = to.zone;
+    let net = to.net;
+    let node = to.node;
+    let name = format!(in alloc; "{zone}.{net}.{node}.{before}.pkt")?;
+    Ok(name.into_bytes())
+}
+
+// Adds the line of a packet of so many bytes.
+fn push_packet(lines: &mut Vec<u8>, packet: &Packet, bytes: usize) -> Result<(), AllocError>
+    requires { bytes ≡ length (packet_bytes packet.now.header packet.now.messages) }
+    ensures { OnOk result (lines.new.items ≡ lines.old.items ++ line_of packet.now) }
+{
+    let to = destination(&packet.header);
+    push_sent(lines, to, packet.messages.len(), bytes)
+}
+
+// Adds the line of a packet to this system, with so many messages and bytes.
+fn push_sent(
+    lines: &mut Vec<u8>,
+    to: Address,
+    messages: usize,
+    bytes: usize,
+) -> Result<(), AllocError>
+    ensures { OnOk result (lines.new.items ≡ lines.old.items ++ sent_line to messages bytes) }
+{
+    written(writeln!(lines, "packet {to} {messages} messages {bytes} bytes"))
+}

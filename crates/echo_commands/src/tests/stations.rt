@@ -1,0 +1,278 @@
+use super::*;
+use echo_steps::Stamp;
+use std::hash::{BuildHasherDefault, FoldHasher};
+
+const ALPHA: &[u8] = b"SYSTEM 1:10/1\nNAME Alpha\nAREA TEST 1:10/2\n";
+
+const BETA: &[u8] = b"SYSTEM 1:10/2\nAREA TEST 1:10/1 1:10/3\n";
+
+const NOON: Stamp = Stamp {
+    year: 2026,
+    month: 7,
+    day: 3,
+    hour: 12,
+    minute: 34,
+    second: 56,
+};
+
+/// The base of the first posting before its scan.
+const BASE: &str =
+    "4543484f42415332 00000000 01000000 00 000000000000 3033204a756c203236202031323a33343a353600 03416c6c 03416e6e 024869 4e000000 415245413a544553540d 014d534749443a20313a31302f312030303030303030310d 48656c6c6f0d 2d2d2d206563686f6e65740d 202a204f726967696e3a20416c7068612028313a31302f31290d";
+
+/// The packet of its scan.
+const PACKET: &str =
+    "0100 0200 ea07 0600 0300 0c00 2200 3800 0000 0200 0a00 0a00 00 00 0000000000000000 0100 0100 0000000000000000000000000000000000000000 0200 0100 0200 0a00 0a00 0000 0000 3033204a756c203236202031323a33343a353600 416c6c00 416e6e00 486900 415245413a544553540d 014d534749443a20313a31302f312030303030303030310d 48656c6c6f0d 2d2d2d206563686f6e65740d 202a204f726967696e3a20416c7068612028313a31302f31290d 5345454e2d42593a2031302f3120320d 01504154483a2031302f310d 00 0000";
+
+/// The base after the scan and a purge.
+const PURGED: &str =
+    "4543484f42415332 01000000 01000000 02 000000000000 3033204a756c203236202031323a33343a353600 03416c6c 03416e6e 024869 0454455354 0f000000 313a31302f31203030303030303031";
+
+type Hasher = BuildHasherDefault<FoldHasher>;
+
+const WORDS: NewMessage<'static> = NewMessage {
+    tag: b"test",
+    to_name: b"All",
+    from_name: b"Ann",
+    subject: b"Hi",
+    reply: b"",
+    serial: 1,
+    stamp: NOON,
+};
+
+/// What a command left: status, lines, the fault's line, the packets and the base.
+#[derive(Drop)]
+struct Left {
+    done: Done,
+    out: Vec<u8>,
+    errors: Vec<u8>,
+}
+
+impl Left {
+    fn base(&self) -> Option<&[u8]> {
+        self.done.files.base.as_ref().map(|bytes| bytes.as_slice())
+    }
+
+    fn printed(&self, status: Status, out: &str, errors: &str) -> bool {
+        self.done.status == status && is_text(&self.out, out) && is_text(&self.errors, errors)
+    }
+}
+
+fn posted(alloc: Global, words: NewMessage<'_>, base: Option<&[u8]>, body: &[u8]) -> Left {
+    let mut out = Watched::new(Vec::new(alloc));
+    let mut errors = Watched::new(Vec::new(alloc));
+    let done = post(
+        alloc,
+        words,
+        ALPHA,
+        base,
+        None,
+        body,
+        Hasher::default(),
+        &mut out,
+        &mut errors,
+    );
+    Left {
+        done,
+        out: out.into_inner(),
+        errors: errors.into_inner(),
+    }
+}
+
+fn scanned(alloc: Global, stamp: Stamp, links: &[u8], base: Option<&[u8]>) -> Left {
+    let mut out = Watched::new(Vec::new(alloc));
+    let mut errors = Watched::new(Vec::new(alloc));
+    let done = scan(
+        alloc,
+        stamp,
+        links,
+        base,
+        None,
+        Hasher::default(),
+        &mut out,
+        &mut errors,
+    );
+    Left {
+        done,
+        out: out.into_inner(),
+        errors: errors.into_inner(),
+    }
+}
+
+fn purged(alloc: Global, links: &[u8], base: Option<&[u8]>, stopped: Option<Fault<'_>>) -> Left {
+    let mut out = Watched::new(Vec::new(alloc));
+    let mut errors = Watched::new(Vec::new(alloc));
+    let done = purge(
+        alloc,
+        links,
+        base,
+        stopped,
+        Hasher::default(),
+        &mut out,
+        &mut errors,
+    );
+    Left {
+        done,
+        out: out.into_inner(),
+        errors: errors.into_inner(),
+    }
+}
+
+/// A run of `toss` over these packets, up to the first fault.
+fn tossed(
+    alloc: Global,
+    links: &[u8],
+    base: Option<&[u8]>,
+    packets: &[&[u8]],
+) -> Result<Left, Fail> {
+    let mut out = Watched::new(Vec::new(alloc));
+    let mut errors = Watched::new(Vec::new(alloc));
+    let mut run = Tossing::begin(alloc, links, base, None, Hasher::default())?;
+    let mut stopped = None;
+    for packet in packets {
+        let mut bytes: &[u8] = *packet;
+        if stopped.is_none() {
+            stopped = run.packet(&mut bytes).err();
+        }
+    }
+    let done = run.end(stopped, &mut out, &mut errors);
+    Ok(Left {
+        done,
+        out: out.into_inner(),
+        errors: errors.into_inner(),
+    })
+}
+
+fn bytes_of(alloc: Global, digits: &str) -> Result<Vec<u8>, Fail> {
+    let joined = digits.replace(alloc, " ", "")?;
+    Ok(hex::decode(alloc, joined.as_str())?)
+}
+
+#[test]
+fn first_posting(rt: HostRuntime) -> Result<(), Fail> {
+    let alloc = rt.alloc();
+    let left = posted(alloc, WORDS, None, b"Hello\n");
+    assert!(rt; left.printed(Status::Good, "posted TEST 1:10/1 00000001\n", ""));
+    let base = bytes_of(alloc, BASE)?;
+    assert_eq!(rt; base.len(), 136);
+    assert!(rt; left.base() == Some(base.as_slice()));
+    let left = scanned(alloc, NOON, ALPHA, Some(base.as_slice()));
+    assert!(rt; left.printed(Status::Good, "packet 1:10/2 1 messages 212 bytes\n", ""));
+    let packet = bytes_of(alloc, PACKET)?;
+    assert_eq!(rt; left.done.files.packets.len(), 1);
+    let Some(file) = left.done.files.packets.as_slice().first() else {
+        return Ok(());
+    };
+    assert!(rt;
+        file.name.as_slice() == b"1.10.2.0.pkt".as_slice() && file.bytes.as_slice() == packet.as_slice()
+    );
+    let left = purged(alloc, ALPHA, left.base(), None);
+    assert!(rt; left.printed(Status::Good, "purged 1\n", ""));
+    let short = bytes_of(alloc, PURGED)?;
+    assert!(rt; left.base() == Some(short.as_slice()));
+    let left = purged(alloc, ALPHA, Some(short.as_slice()), None);
+    assert!(rt; left.printed(Status::Good, "purged 0\n", ""));
+    Ok(())
+}
+
+#[test]
+fn on_to_the_third_system(rt: HostRuntime) -> Result<(), Fail> {
+    let alloc = rt.alloc();
+    let packet = bytes_of(alloc, PACKET)?;
+    let filed = "filed 1 known 0 notecho 0 badtag 0 noarea 0 notlinked 0\n";
+    let known = "filed 0 known 1 notecho 0 badtag 0 noarea 0 notlinked 0\n";
+    let left = tossed(alloc, BETA, None, &[packet.as_slice()])?;
+    assert!(rt; left.printed(Status::Good, filed, ""));
+    let again = tossed(alloc, BETA, left.base(), &[packet.as_slice()])?;
+    assert!(rt; again.printed(Status::Good, known, "") && again.base() == left.base());
+    let sent = scanned(alloc, NOON, BETA, left.base());
+    assert!(rt; sent.printed(Status::Good, "packet 1:10/3 1 messages 216 bytes\n", ""));
+    let empty = tossed(alloc, ALPHA, None, &[packet.as_slice(), packet.as_slice()])?;
+    let zeros = "filed 0 known 0 notecho 0 badtag 0 noarea 0 notlinked 0\n";
+    assert!(rt; empty.printed(Status::Refused, zeros, "echonet: C1 NotForUs 1:10/2\n"));
+    assert!(rt; empty.base().map(|bytes| bytes.len()) == Some(16));
+    Ok(())
+}
+
+#[test]
+fn postings_accepted_and_refused(rt: HostRuntime) -> Result<(), Fail> {
+    let alloc = rt.alloc();
+    let base = bytes_of(alloc, BASE)?;
+    let other = NewMessage { serial: 2, ..WORDS };
+    for (words, line) in [
+        (WORDS, "echonet: B4 KnownSerial\n"),
+        (
+            NewMessage {
+                tag: b"TEST2",
+                ..other
+            },
+            "echonet: B1 NoArea\n",
+        ),
+        (
+            NewMessage {
+                subject: b"a\0",
+                ..other
+            },
+            "echonet: B2 ByteZero\n",
+        ),
+        (
+            NewMessage {
+                reply: b" ",
+                ..other
+            },
+            "echonet: B6 BadReply\n",
+        ),
+        (
+            NewMessage {
+                stamp: Stamp { month: 13, ..NOON },
+                ..other
+            },
+            "echonet: B5 BadStamp\n",
+        ),
+    ] {
+        let left = posted(alloc, words, Some(base.as_slice()), b"Hello\n");
+        assert!(rt;
+            left.printed(Status::Refused, "", line) && left.base().is_none(),
+            "{line}"
+        );
+    }
+    let left = posted(alloc, other, Some(base.as_slice()), b"Hello\r\n\n");
+    assert!(rt; left.printed(Status::Good, "posted TEST 1:10/1 00000002\n", ""));
+    assert!(rt; left.base().map(|bytes| bytes.len()) == Some(257));
+    Ok(())
+}
+
+#[test]
+fn faults_of_files(rt: HostRuntime) -> Result<(), Fail> {
+    let alloc = rt.alloc();
+    let far = Stamp { year: 1979, ..NOON };
+    let left = scanned(alloc, far, ALPHA, None);
+    assert!(rt; left.printed(Status::Refused, "", "echonet: S1 BadStamp\n"));
+    for (links, base, line) in [
+        (b"AREA X".as_slice(), None, "echonet: L3 NoSystem line 0\n"),
+        (
+            b"x".as_slice(),
+            Some(b"x".as_slice()),
+            "echonet: L1 UnknownWord line 1\n",
+        ),
+        (
+            ALPHA,
+            Some(b"ECHOBAS".as_slice()),
+            "echonet: F2 Truncated record 0\n",
+        ),
+        (
+            ALPHA,
+            Some(b"".as_slice()),
+            "echonet: F2 Truncated record 0\n",
+        ),
+        (ALPHA, Some(b"x".as_slice()), "echonet: F1 NotBase\n"),
+    ] {
+        let left = purged(alloc, links, base, Some(Fault::CannotUse("base")));
+        assert!(rt;
+            left.printed(Status::Refused, "", line) && left.base().is_none(),
+            "{line}"
+        );
+    }
+    let left = purged(alloc, ALPHA, None, Some(Fault::CannotUse("base")));
+    assert!(rt; left.printed(Status::Device, "", "echonet: cannot use base\n"));
+    Ok(())
+}

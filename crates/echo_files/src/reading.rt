@@ -1,0 +1,65 @@
+//! Files that are read whole.
+ghost use Rattle.std.specs.Prelude.{◌≡◌, ◌≤◌, ◌↔◌, length, IfOk, IfSome, IsTrue};
+ghost use Rattle.std.specs.IoError.{error_kind};
+
+use crate::input::{InputFault, read_whole};
+use echo_device::Watched;
+use std::alloc::Global;
+use std::io::{ErrorKind, Read};
+use std::rt::Files;
+use std::{fs, io};
+
+/// The bytes of the file with this path, where they are at most so many.
+pub fn read_file<R: Files>(
+    alloc: Global,
+    files: &R,
+    path: &str,
+    most: usize,
+) -> Result<Vec<u8>, InputFault>
+    ensures { IfOk result (λ bytes. length bytes.items ≤ most) }
+{
+    match fs::open(files, path) {
+        Ok(file) => read_open(alloc, file, most),
+        Err(error) => Err(input_fault(&error)),
+    }
+}
+
+/// The same, or `None` where no file has the path.
+pub fn read_file_if_there<R: Files>(
+    alloc: Global,
+    files: &R,
+    path: &str,
+    most: usize,
+) -> Result<Option<Vec<u8>>, InputFault>
+    ensures { IfOk result (λ found. IfSome found (λ bytes. length bytes.items ≤ most)) }
+{
+    match fs::open(files, path) {
+        Ok(file) => Ok(Some(read_open(alloc, file, most)?)),
+        Err(error) if is_missing(&error) => Ok(None),
+        Err(error) => Err(input_fault(&error)),
+    }
+}
+
+// The bytes of an open file. It keeps no more room than they take.
+fn read_open<F: Read + Drop>(alloc: Global, file: F, most: usize) -> Result<Vec<u8>, InputFault>
+    ensures bounded { IfOk result (λ bytes. length bytes.items ≤ most) }
+    ensures all { IfOk result (λ bytes. IfSome (F.remaining file) (λ all. bytes.items ≡ all)) }
+{
+    let mut bytes = read_whole(alloc, &mut Watched::new(file), most)?;
+    bytes.shrink_to_fit();
+    Ok(bytes)
+}
+
+/// Does the error say that no file has the path?
+pub(crate) fn is_missing(error: &io::Error) -> bool
+    ensures { IsTrue result ↔ (error_kind error.now ≡ ErrorKind.NotFound) }
+{
+    error.kind() == ErrorKind::NotFound
+}
+
+fn input_fault(error: &io::Error) -> InputFault {
+    match error.kind() {
+        ErrorKind::OutOfMemory => InputFault::Memory,
+        _ => InputFault::Device,
+    }
+}

@@ -1,0 +1,264 @@
+//! A file system in memory, of which some calls fail.
+
+use std::alloc::{AllocError, Allocator, Global};
+use std::cell::{RefCell, RefMut};
+use std::fs::{Metadata, OpenFile, OpenOptions, Permissions};
+use std::io;
+use std::io::{Empty, ErrorKind, Read, Seek, SeekFrom, Write};
+use std::rt::Files;
+
+/// How many bytes a write takes at most.
+const PIECE: usize = 4;
+
+/// A file: its name and its bytes.
+#[derive(Drop)]
+struct Kept {
+    name: String,
+    bytes: Vec<u8>,
+}
+
+/// The files, how many calls came, and which of them fail.
+#[derive(Drop)]
+pub struct State {
+    alloc: Global,
+    files: Vec<Kept>,
+    calls: u64,
+    from: u64,
+    to: u64,
+    /// How many bytes a file had when its permissions were set.
+    pub allowed_at: Option<usize>,
+}
+
+impl State {
+    /// No files; the calls from this number on and before that one fail.
+    pub fn new(alloc: Global, from: u64, to: u64) -> State {
+        State {
+            alloc,
+            files: Vec::new(alloc),
+            calls: 0,
+            from,
+            to,
+            allowed_at: None,
+        }
+    }
+
+    /// Puts a file there.
+    pub fn put(&mut self, name: &str, bytes: &[u8]) -> Result<(), AllocError> {
+        let name = String::from_str(self.alloc, name)?;
+        let bytes = Vec::from_slice(self.alloc, bytes)?;
+        self.files.push(Kept { name, bytes })?;
+        Ok(())
+    }
+
+    fn place(&self, name: &str) -> Option<usize> {
+        self.files
+            .iter()
+            .position(|kept| kept.name.as_str() == name)
+    }
+
+    /// The bytes of the file, if there is one.
+    pub fn bytes(&self, name: &str) -> Option<&[u8]> {
+        let place = self.place(name)?;
+        let kept = self.files.get(place)?;
+        Some(kept.bytes.as_slice())
+    }
+
+    fn size(&self, name: &str) -> io::Result<usize> {
+        match self.bytes(name) {
+            Some(bytes) => Ok(bytes.len()),
+            None => Err(io::Error::from(ErrorKind::NotFound)),
+        }
+    }
+
+    fn bytes_mut(&mut self, name: &str) -> io::Result<&mut Vec<u8>> {
+        match self.place(name) {
+            Some(place) => match self.files.get_mut(place) {
+                Some(kept) => Ok(&mut kept.bytes),
+                None => Err(io::Error::from(ErrorKind::NotFound)),
+            },
+            None => Err(io::Error::from(ErrorKind::NotFound)),
+        }
+    }
+
+    fn remove(&mut self, name: &str) -> io::Result<()> {
+        match self.place(name) {
+            Some(place) if place < self.files.len() => {
+                self.files.remove(place);
+                Ok(())
+            }
+            _ => Err(io::Error::from(ErrorKind::NotFound)),
+        }
+    }
+
+    // Counts a call, and answers whether it fails.
+    fn count(&mut self) -> io::Result<()> {
+        let call = self.calls;
+        self.calls = call.saturating_add(1);
+        if self.from <= call && call < self.to {
+            return Err(io::Error::from(ErrorKind::Other));
+        }
+        Ok(())
+    }
+}
+
+/// The file system of a state.
+#[derive(Clone, Copy)]
+pub struct Disk<'a> {
+    state: &'a RefCell<State>,
+}
+
+impl<'a> Disk<'a> {
+    pub fn new(state: &'a RefCell<State>) -> Disk<'a> {
+        Disk { state }
+    }
+}
+
+/// The state, where the call does not fail.
+fn called<'b>(state: &'b RefCell<State>) -> io::Result<RefMut<'b, State>> {
+    match state.try_borrow_mut() {
+        Ok(mut state) => {
+            state.count()?;
+            Ok(state)
+        }
+        Err(_) => Err(io::Error::from(ErrorKind::Other)),
+    }
+}
+
+/// An open file of a disk.
+#[derive(Drop)]
+pub struct Opened<'a> {
+    state: &'a RefCell<State>,
+    name: String,
+    at: usize,
+}
+
+impl Read for Opened<'_> {
+    fn read(&mut self, buf: &mut [u8]) -> io::Result<usize> {
+        let state = called(self.state)?;
+        let rest = match state.bytes(self.name.as_str()) {
+            Some(bytes) => bytes.get(self.at..).unwrap_or(&[]),
+            None => return Err(io::Error::from(ErrorKind::NotFound)),
+        };
+        let count = rest.len().min(buf.len());
+        buf[..count].copy_from_slice(&rest[..count]);
+        self.at = self.at.saturating_add(count);
+        Ok(count)
+    }
+}
+
+impl Write for Opened<'_> {
+    fn write(&mut self, buf: &[u8]) -> io::Result<usize> {
+        let mut state = called(self.state)?;
+        let count = buf.len().min(PIECE);
+        state
+            .bytes_mut(self.name.as_str())?
+            .extend_from_slice(&buf[..count])?;
+        Ok(count)
+    }
+
+    fn flush(&mut self) -> io::Result<()> {
+        Ok(())
+    }
+}
+
+impl Seek for Opened<'_> {
+    fn seek(&mut self, _to: SeekFrom) -> io::Result<u64> {
+        Err(io::Error::from(ErrorKind::Unsupported))
+    }
+}
+
+impl OpenFile for Opened<'_> {
+    fn metadata(&self) -> io::Result<Metadata> {
+        let state = called(self.state)?;
+        Ok(Metadata::of_file(state.size(self.name.as_str())? as u64))
+    }
+
+    fn set_len(&self, _size: u64) -> io::Result<()> {
+        Err(io::Error::from(ErrorKind::Unsupported))
+    }
+
+    fn sync_all(&self) -> io::Result<()> {
+        called(self.state)?;
+        Ok(())
+    }
+
+    fn sync_data(&self) -> io::Result<()> {
+        called(self.state)?;
+        Ok(())
+    }
+
+    fn set_permissions(&self, _perm: Permissions) -> io::Result<()> {
+        let mut state = called(self.state)?;
+        let size = state.size(self.name.as_str())?;
+        state.allowed_at = Some(size);
+        Ok(())
+    }
+}
+
+impl<'a> Files for Disk<'a> {
+    type File = Opened<'a>;
+
+    type Dir = Empty;
+
+    fn open_file(&self, how: &OpenOptions, path: &str) -> io::Result<Opened<'a>> {
+        let mut state = called(self.state)?;
+        let there = state.bytes(path).is_some();
+        if how.asks_create() && !there {
+            state.put(path, &[])?;
+        }
+        if how.asks_truncate() {
+            state.bytes_mut(path)?.clear();
+        }
+        state.size(path)?;
+        let name = String::from_str(state.alloc, path)?;
+        Ok(Opened {
+            state: self.state,
+            name,
+            at: 0,
+        })
+    }
+
+    fn open_dir(&self, _path: &str) -> io::Result<Empty> {
+        Err(io::Error::from(ErrorKind::Unsupported))
+    }
+
+    fn metadata(&self, path: &str) -> io::Result<Metadata> {
+        let state = called(self.state)?;
+        Ok(Metadata::of_file(state.size(path)? as u64))
+    }
+
+    fn symlink_metadata(&self, path: &str) -> io::Result<Metadata> {
+        self.metadata(path)
+    }
+
+    fn copy(&self, _from: &str, _to: &str) -> io::Result<u64> {
+        Err(io::Error::from(ErrorKind::Unsupported))
+    }
+
+    fn rename(&self, from: &str, to: &str) -> io::Result<()> {
+        let mut state = called(self.state)?;
+        let bytes = match state.bytes(from) {
+            Some(bytes) => Vec::from_slice(state.alloc, bytes)?,
+            None => return Err(io::Error::from(ErrorKind::NotFound)),
+        };
+        let _ = state.remove(to);
+        state.put(to, &bytes)?;
+        state.remove(from)
+    }
+
+    fn remove_file(&self, path: &str) -> io::Result<()> {
+        called(self.state)?.remove(path)
+    }
+
+    fn create_dir(&self, _path: &str) -> io::Result<()> {
+        Err(io::Error::from(ErrorKind::Unsupported))
+    }
+
+    fn remove_dir(&self, _path: &str) -> io::Result<()> {
+        Err(io::Error::from(ErrorKind::Unsupported))
+    }
+
+    fn remove_dir_all<B: Allocator>(&self, _alloc: B, _path: &str) -> io::Result<()> {
+        Err(io::Error::from(ErrorKind::Unsupported))
+    }
+}

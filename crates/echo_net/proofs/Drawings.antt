@@ -1,0 +1,217 @@
+-- An area as it is drawn: what its lists hold, and what is told of each member.
+use Rattle.std.specs.Prelude.{Contains}
+use Rattle.std.specs.Cmp.{both_ways}
+use Rattle.std.proofs.Common.{◌≡◌, ◌<◌, ◌+◌, ◌-◌, ◌↔◌, ◌⊎◌, inl, inr, ℕ, Bool, true, false, IsTrue, if◌then◌else◌, List, [], ◌∷◌, ◌++◌, length, map, take, get_or, refl, sym, ap, subst, ◌∙◌, arith}
+use Rattle.std.specs.List.Sorted.{IsStrictlySortedBy}
+use Rattle.std.specs.Ordering.{is_lt}
+use Rattle.std.proofs.lemmas.Bool.{and_from, and_parts}
+use Rattle.std.proofs.lemmas.List.{take_more}
+use Rattle.std.proofs.lemmas.List.Elements.{Contains-append_cases, Contains-append_left, Contains-append_right}
+use Rattle.echo_addr.specs.declared.address.Address.{Address}
+use Rattle.echo_base.specs.Base.{LinkFile}
+use Rattle.echo_base.specs.Sets.{address_before, same_address}
+use Rattle.echo_graph.proofs.Members.{Among-from_Contains, Contains-from_Among}
+use Rattle.echo_run.proofs.Lists.{Among-map_from, Among-map_to, any-from, any-to}
+use Rattle.echo_run.specs.Tidy.{Carries, carries, lists}
+use Rattle.echo_net.specs.declared.drawing.DrawnLink.{DrawnLink}
+use Rattle.echo_net.specs.declared.drawing.DrawnSystem.{DrawnSystem}
+use Rattle.echo_net.specs.declared.drawing.Drawing.{Drawing}
+use Rattle.echo_net.specs.declared.drawing.Mark.TheVariants.{Plain, Named, OnLoop}
+use Rattle.echo_net.specs.declared.link.Link.{Link}
+use Rattle.echo_net.specs.declared.verdict.Verdict.{Verdict}
+use Rattle.echo_net.specs.Drawn.{AreLinksInOrder, IsDrawing, IsDrawn, IsDrawnPair, back, has_address, has_link, link_drawn, link_from, loop_links, loop_named, mark_of, same_link, sides_of, steps_from, system_drawn, system_from, systems_named, upward}
+use Rattle.echo_net.specs.Nets.{link}
+use Rattle.echo_net.proofs.Ascending.{at_place, earlier_less}
+use Rattle.echo_net.proofs.Numbers.{in_order_from_sorted}
+use Rattle.echo_net.proofs.Orders.{address_order, before_again, link_order, link_total, not_before_itself, pair_before_is, same_exact, same_itself, same_where_neither}
+
+-- the tests of members pass exactly where they are members
+address_held : (all : List Address) (a : Address) → IsTrue (has_address all a) ↔ Contains all a
+address_held all a = (
+  λ h. (let (x, there, same) = any-from (same_address a) all h in
+      subst (Contains all) (sym (same_exact a x same)) (Contains-from_Among x all there)),
+  λ there. any-to (same_address a) a all (Among-from_Contains a all there) (same_itself a a refl),
+)
+
+link_held : (all : List Link) (l : Link) → IsTrue (has_link all l) ↔ Contains all l
+link_held all l = (
+  λ h. (let (m, there, same) = any-from (same_link l) all h in
+      let (from, to) = and_parts (same_address l.from m.from) (same_address l.to m.to) same in
+      let is : m ≡ l = (λ i. record { from = sym (same_exact l.from m.from from) i; to = sym (same_exact l.to m.to to) i }) in
+      subst (Contains all) is (Contains-from_Among m all there)),
+  λ there. any-to (same_link l) l all (Among-from_Contains l all there)
+      (and_from (same_address l.from l.from) (same_address l.to l.to) (same_itself l.from l.from refl) (same_itself l.to l.to refl)),
+)
+
+pub address_told : (all : List Address) (a : Address) (r : Bool) → IsTrue r ↔ Contains all a → r ≡ has_address all a
+address_told all a r told =
+    both_ways r (has_address all a) (λ yes. (address_held all a).1 (told.0 yes)) (λ yes. told.1 ((address_held all a).0 yes))
+
+pub link_told : (all : List Link) (l : Link) (r : Bool) → IsTrue r ↔ Contains all l → r ≡ has_link all l
+link_told all l r told =
+    both_ways r (has_link all l) (λ yes. (link_held all l).1 (told.0 yes)) (λ yes. told.1 ((link_held all l).0 yes))
+
+-- the last of these, or the one before them
+abbrev pub last_or : Address → List Address → Address
+last_or before [] = before
+last_or before (a ∷ later) = last_or a later
+
+pub last_or-push : (before : Address) (all : List Address) (a : Address) → last_or before (all ++ a ∷ []) ≡ a
+last_or-push before [] a = refl
+last_or-push before (b ∷ all) a = last_or-push b all a
+
+-- one link more
+pub steps_from-push : (before : Address) (all : List Address) (a : Address) → steps_from before (all ++ a ∷ []) ≡ steps_from before all ++ upward (link (last_or before all) a) ∷ []
+steps_from-push before [] a = refl
+steps_from-push before (b ∷ all) a = ap (λ t. upward (link before b) ∷ t) (steps_from-push b all a)
+
+-- a step of the loop that follows the links around
+pub step_taken : (first : Address) (round : List Address) (i : ℕ) (d from : Address) (all new : List Link) → i < length round → all ≡ steps_from first (take i round)
+    → from ≡ last_or first (take i round) → new ≡ all ++ upward (link from (get_or round i d)) ∷ []
+    → (new ≡ steps_from first (take (i + 1) round)) × (get_or round i d ≡ last_or first (take (i + 1) round))
+step_taken first round i d from all new inside links last is =
+    let x = get_or round i d in
+    let more : take (i + 1) round ≡ take i round ++ x ∷ [] = take_more round i d inside in (
+      is
+          ∙ ap (λ (a : Address). all ++ upward (link a x) ∷ []) last
+          ∙ ap (λ (t : List Link). t ++ upward (link (last_or first (take i round)) x) ∷ []) links
+          ∙ sym (steps_from-push first (take i round) x)
+          ∙ ap (steps_from first) (sym more),
+      sym (last_or-push first (take i round) x) ∙ ap (last_or first) (sym more),
+    )
+
+-- what was put in order holds what it held
+pub held_again : {X : Type 0} (before after all : List X) → before ≡ all → ((x : X) → Contains after x ↔ Contains before x) → (x : X) → Contains after x ↔ Contains all x
+held_again {X} before after all is same x = (
+  λ h. subst (λ (xs : List X). Contains xs x) is ((same x).0 h),
+  λ h. (same x).1 (subst (λ (xs : List X). Contains xs x) (sym is) h),
+)
+
+-- a list that holds the same addresses has the same test
+pub same_held : (xs ys : List Address) → ((a : Address) → Contains xs a ↔ Contains ys a) → (a : Address) → has_address xs a ≡ has_address ys a
+same_held xs ys same a =
+    address_told ys a (has_address xs a) (λ h. (same a).0 ((address_held xs a).0 h), λ there. (address_held xs a).1 ((same a).1 there))
+
+pub same_links_held : (xs ys : List Link) → ((l : Link) → Contains xs l ↔ Contains ys l) → (l : Link) → has_link xs l ≡ has_link ys l
+same_links_held xs ys same l =
+    link_told ys l (has_link xs l) (λ h. (same l).0 ((link_held xs l).0 h), λ there. (link_held xs l).1 ((same l).1 there))
+
+-- the carriers are tested as the files are
+pub carriers_held : (files : List LinkFile) (tag : List ℕ) (all : List Address) → ((a : Address) → Contains all a ↔ IsTrue (carries files tag a)) → (a : Address)
+    → has_address all a ≡ carries files tag a
+carriers_held files tag all members a = sym (address_told all a (carries files tag a) ((members a).1, (members a).0))
+
+pub links_held : (files : List LinkFile) (tag : List ℕ) (all : List Link) → ((l : Link) → Contains all l ↔ IsTrue (lists files tag l.from l.to)) → (l : Link)
+    → has_link all l ≡ lists files tag l.from l.to
+links_held files tag all members l = sym (link_told all l (lists files tag l.from l.to) ((members l).1, (members l).0))
+
+-- which of a link's ends is the smaller one
+upward_where : (l : Link) (b : Bool) → address_before l.to l.from ≡ b → upward l ≡ (if b then back l else l)
+upward_where l b is = ap (λ (x : Bool). if x then back l else l) is
+
+before_not_after : (a b : Address) → address_before a b ≡ true → address_before b a ≡ false
+before_not_after a b h = other (address_before b a) refl
+  where
+    other : (r : Bool) → address_before b a ≡ r → address_before b a ≡ false
+    other false is = is
+    other true is = let again = before_again a b a h is in let itself = not_before_itself a a refl in absurd cc
+
+-- a link with its smaller end first is drawn
+pair_from : (files : List LinkFile) (tag : List ℕ) (m : Link) → IsTrue (lists files tag m.from m.to) → IsDrawnPair files tag (upward m)
+pair_from files tag m listed = turned (address_before m.to m.from) refl
+  where
+    turned : (r : Bool) → address_before m.to m.from ≡ r → IsDrawnPair files tag (upward m)
+    turned true is =
+        subst (IsDrawnPair files tag) (sym (upward_where m true is)) (let drawn : IsDrawnPair files tag (back m) = (before_not_after m.to m.from is, inr listed) in drawn)
+    turned false is =
+        subst (IsDrawnPair files tag) (sym (upward_where m false is)) (let drawn : IsDrawnPair files tag m = (is, inl listed) in drawn)
+
+-- and what is drawn is such a link
+pair_to : (files : List LinkFile) (tag : List ℕ) (l : Link) → IsDrawnPair files tag l → (m : Link) × IsTrue (lists files tag m.from m.to) × (upward m ≡ l)
+pair_to files tag l (up, inl listed) = (l, listed, upward_where l false up)
+pair_to files tag l (up, inr listed) = (back l, listed, turned (address_before l.from l.to) refl)
+  where
+    turned : (r : Bool) → address_before l.from l.to ≡ r → upward (back l) ≡ l
+    turned true is = upward_where (back l) true is
+    turned false is =
+        let same : l.from ≡ l.to = same_where_neither l.from l.to is up in
+        upward_where (back l) false is ∙ (λ i. record { from = sym same i; to = same i })
+
+-- the pairs are the links with their smaller ends first
+pub pairs_drawn : (files : List LinkFile) (tag : List ℕ) (links pairs : List Link) → ((l : Link) → Contains links l ↔ IsTrue (lists files tag l.from l.to))
+    → ((l : Link) → Contains pairs l ↔ Contains (map upward links) l) → (l : Link) → Contains pairs l ↔ IsDrawnPair files tag l
+pairs_drawn files tag links pairs listed members l = (
+  λ there. (let (m, in', is) = Among-map_from upward l links (Among-from_Contains l (map upward links) ((members l).0 there)) in
+      subst (IsDrawnPair files tag) (sym is) (pair_from files tag m ((listed m).0 (Contains-from_Among m links in')))),
+  λ drawn. (let (m, given, is) = pair_to files tag l drawn in
+      let in' = Among-map_to upward m links (Among-from_Contains m links ((listed m).1 given)) in
+      (members l).1 (subst (Contains (map upward links)) is (Contains-from_Among (upward m) (map upward links) in'))),
+)
+
+-- the addresses are the carriers and what they list
+pub addresses_drawn : (files : List LinkFile) (tag : List ℕ) (carriers : List Address) (links : List Link) (all : List Address)
+    → ((a : Address) → Contains carriers a ↔ IsTrue (carries files tag a)) → ((l : Link) → Contains links l ↔ IsTrue (lists files tag l.from l.to))
+    → ((a : Address) → Contains all a ↔ Contains (carriers ++ map (λ (l : Link). l.to) links) a) → (a : Address) → Contains all a ↔ IsDrawn files tag a
+addresses_drawn files tag carriers links all carried listed members a =
+    let to : Link → Address = λ l. l.to in (
+      λ there. elim (Contains-append_cases carriers (map to links) a ((members a).0 there)) [
+        | inl one ↦ inl ((carried a).0 one)
+        | inr other ↦ (let (l, in', is) = Among-map_from to a links (Among-from_Contains a (map to links) other) in
+            let given = (listed l).0 (Contains-from_Among l links in') in
+            inr (l.from, subst (λ (b : Address). IsTrue (lists files tag l.from b)) (sym is) given))
+      ],
+      λ drawn. (members a).1 (elim drawn [
+        | inl one ↦ Contains-append_left carriers (map to links) a ((carried a).1 one)
+        | inr (b, given) ↦ (let in' = Among-map_to to (link b a) links (Among-from_Contains (link b a) links ((listed (link b a)).1 given)) in
+            Contains-append_right carriers (map to links) a (Contains-from_Among a (map to links) in'))
+      ]),
+    )
+
+links_in_order : (IsMember : Link → Type 0) (all : List Link) → IsStrictlySortedBy link_order all → ((l : Link) → Contains all l ↔ IsMember l) → AreLinksInOrder IsMember all
+links_in_order IsMember all up members = record {
+  ascending = λ i j d lt inside.
+      pair_before_is (get_or all i d) (get_or all j d)
+      ∙ ap is_lt (earlier_less link_total all up i j (get_or all i d) (get_or all j d) (at_place all i d (omega arith)) (at_place all j d inside) lt);
+  members = members;
+}
+
+-- what is told of each is the same
+same_each : {X Y : Type 0} (f g : X → Y) → ((x : X) → f x ≡ g x) → (xs : List X) → map f xs ≡ map g xs
+same_each f g same [] = refl
+same_each f g same (x ∷ xs) = ap (λ y. y ∷ map f xs) (same x) ∙ ap (λ ys. g x ∷ ys) (same_each f g same xs)
+
+module _ (files : List LinkFile) (tag : List ℕ) (verdict : Verdict) (carriers round : List Address) (links steps : List Link)
+    (carried : (a : Address) → Contains carriers a ↔ IsTrue (carries files tag a)) (listed : (l : Link) → Contains links l ↔ IsTrue (lists files tag l.from l.to))
+    (rounds : (a : Address) → Contains round a ↔ Contains (loop_named verdict) a) (stepped : (l : Link) → Contains steps l ↔ Contains (loop_links (loop_named verdict)) l) where
+  system_same : (a : Address) → system_from carriers round (systems_named verdict) a ≡ system_drawn files tag verdict a
+  system_same a =
+      let carries_same = carriers_held files tag carriers carried a in
+      let round_same = same_held round (loop_named verdict) rounds a in
+      λ i. record {
+        system = a;
+        carries = carries_same i;
+        mark = if round_same i then OnLoop else if has_address (systems_named verdict) a then Named else Plain;
+      }
+
+  link_same : (l : Link) → link_from links steps l ≡ link_drawn files tag verdict l
+  link_same l =
+      let one = links_held files tag links listed l in
+      let other = links_held files tag links listed (back l) in
+      let looped = same_links_held steps (loop_links (loop_named verdict)) stepped l in
+      λ i. record { one = l.from; other = l.to; sides = sides_of (one i) (other i); on_loop = looped i }
+
+  -- the whole drawing
+  pub is_drawing : (addresses named : List Address) (pairs : List Link) (drawing : Drawing) → IsStrictlySortedBy address_order addresses
+      → ((a : Address) → Contains addresses a ↔ Contains (carriers ++ map (λ (l : Link). l.to) links) a) → IsStrictlySortedBy link_order pairs
+      → ((l : Link) → Contains pairs l ↔ Contains (map upward links) l) → named ≡ systems_named verdict
+      → drawing.systems ≡ map (system_from carriers round named) addresses → drawing.links ≡ map (link_from links steps) pairs → IsDrawing files tag verdict drawing
+  is_drawing addresses named pairs drawing up members pairs_up pairs_members is_named systems drawn = record {
+    addresses = addresses;
+    addresses_in_order = in_order_from_sorted (IsDrawn files tag) addresses up (addresses_drawn files tag carriers links addresses carried listed members);
+    systems =
+        systems ∙ ap (λ (n : List Address). map (system_from carriers round n) addresses) is_named
+        ∙ same_each (system_from carriers round (systems_named verdict)) (system_drawn files tag verdict) system_same addresses;
+    pairs = pairs;
+    pairs_in_order = links_in_order (IsDrawnPair files tag) pairs pairs_up (pairs_drawn files tag links pairs listed pairs_members);
+    links = drawn ∙ same_each (link_from links steps) (link_drawn files tag verdict) link_same pairs;
+  }

@@ -1,0 +1,7 @@
+use Rattle.std.proofs.Common.{List}
+use Rattle.echo_addr.specs.declared.address.Address.{Address}
+use Rattle.echo_net.proofs.Drawings.{held_again}
+use Rattle.echo_net.proofs.drawing.in_order.Goals as goal
+
+pub returns-clause-members : goal.returns-clause-members
+returns-clause-members c = held_again _ _ _ c.in_ok-sorted.ensures.items c.put_in_order.ensures.members

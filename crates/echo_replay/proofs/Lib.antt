@@ -1,0 +1,7 @@
+pub mod Changes
+pub mod Exports
+pub mod Readings
+pub mod Runs
+pub mod Numbers
+pub mod Scripts
+pub mod Words

@@ -1,0 +1,39 @@
+use Rattle.std.proofs.Common.{◌∙◌, List, [], map, sym, ap, subst}
+use Rattle.std.proofs.lemmas.List.{take_all}
+use Rattle.echo_addr.specs.declared.address.Address.{Address}
+use Rattle.echo_run.specs.Event.{run_event}
+use Rattle.echo_run.specs.declared.event.Event.{Event}
+use Rattle.echo_run.specs.Run.{Run, run_of}
+use Rattle.echo_replay.specs.Worlds.{IsRun, Leads, WorldState, addresses}
+use Rattle.echo_replay.proofs.Runs.{addresses-first, event-more, first-run}
+use Rattle.echo_replay.proofs.replaying.replay.Goals as goal
+
+pub events-init : goal.events-init
+events-init c =
+    let A : List Address → Type 0 = λ all. Leads c.in_ok-receivers.receivers.first.entries all in
+    let W : WorldState → Type 0 = λ w. IsRun w (run_of c.args.files.items []) in
+    record {
+      leads = subst A
+          (sym (ap addresses c.in_ok-systems.ensures ∙ addresses-first c.args.files.items ∙ ap (map (λ f. f.system)) (sym c.deref.ensures.value)))
+          c.in_ok-receivers.ensures;
+      run = subst W
+          (sym (λ i. record { systems = c.in_ok-systems.ensures i; packets = c.new-2.ensures.items i }))
+          (first-run c.args.files.items);
+    }
+
+pub events-preserved : goal.events-preserved
+events-preserved c =
+    let before = c.events.invariant in
+    let A : List Address → Type 0 = λ all. Leads c.in_ok-receivers.receivers.first.entries all in
+    let R : Run → Type 0 = λ run. IsRun c.happen.new.world run in
+    record {
+      leads = subst A (sym c.in_ok-happen.ensures.addresses) before.leads;
+      run = subst R (event-more c.args.files.items c.args.events.now c.events.event-index c.event-item.result c.events-test.true c.event-item.is)
+          (c.in_ok-happen.ensures.run _ before.run);
+    }
+
+pub returns : goal.returns
+returns c =
+    let whole = take_all c.events.event-index c.args.events.now c.events-test.false in
+    let R : List Event → Type 0 = λ events. IsRun c.events.world (run_of c.args.files.items (map run_event events)) in
+    subst R whole c.events.invariant.run

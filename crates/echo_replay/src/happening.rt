@@ -1,0 +1,239 @@
+//! What one event does to a net.
+
+ghost use Rattle.std.specs.Prelude.{◌≡◌, ◌≢◌, ◌++◌, ◌∷◌, [], ◌<◌, length, map, Bool, List, None, Some, IfOk, OnOk};
+ghost use Rattle.std.specs.List.{All};
+ghost use Rattle.echo_addr.specs.declared.address.Address.{Address};
+ghost use Rattle.echo_steps.specs.declared.fault.PostFault.TheVariants as post_fault;
+ghost use Rattle.echo_run.specs.Event.{run_event};
+ghost use Rattle.echo_run.specs.Run.{Run, after_event, change, destination, nth};
+ghost use Rattle.echo_steps.specs.declared.packet.Packet.{Packet};
+ghost use Rattle.echo_steps.specs.SystemState.{SystemState};
+ghost use Rattle.echo_replay.specs.Worlds.{Fits, IsRun, Leads, ScanFits, addresses, after_posting, after_purge, after_scan, after_toss, arrived, encoded, made, made_by, scanned_world, with_change, world_after};
+
+use crate::receivers::Receivers;
+use crate::world::{Exported, Hashing, World};
+use echo_addr::{Address, Items};
+use echo_packet::{Header, Limits};
+use echo_run::Event;
+use echo_steps::{Draft, Packet, PostFault, ScanFault, Stamp};
+use echo_toss::Tosser;
+use std::alloc::{AllocError, Global};
+
+/// The event happens. Fails only by want of memory, and the world is then of no run.
+pub(crate) fn happen(
+    alloc: Global,
+    receivers: &Receivers,
+    world: &mut World,
+    event: &Event,
+) -> Result<(), AllocError>
+    requires { Leads receivers.now.first.entries (addresses world.old.systems) }
+    ensures addresses { addresses world.new.systems ≡ addresses world.old.systems }
+    ensures run { OnOk result ((run : Run) → IsRun world.old run → IsRun world.new (after_event run (run_event event.now))) }
+{
+    match event {
+        Event::Post {
+            system,
+            tag,
+            draft,
+            serial,
+            stamp,
+        } => post(world, *system, tag.as_slice(), draft, *serial, *stamp),
+        Event::Scan { system, stamp } => scan(alloc, world, *system, *stamp),
+        Event::Deliver { packet } => deliver(receivers, world, *packet),
+        Event::Purge { system } => purge(world, *system),
+    }
+}
+
+// A system posts.
+fn post(
+    world: &mut World,
+    system: usize,
+    tag: &[u8],
+    draft: &Draft,
+    serial: u32,
+    stamp: Stamp,
+) -> Result<(), AllocError>
+    ensures addresses { addresses world.new.systems ≡ addresses world.old.systems }
+    ensures posted { OnOk result (world.new ≡ with_change world.old system (after_posting tag.now draft.now serial stamp)) }
+{
+    if system >= world.systems.len() {
+        return Ok(());
+    }
+    let tosser = &mut world.systems[system];
+    post_at(tosser, tag, draft, serial, stamp)
+}
+
+// A refused posting leaves the system as it was.
+fn post_at(
+    tosser: &mut Tosser<Hashing>,
+    tag: &[u8],
+    draft: &Draft,
+    serial: u32,
+    stamp: Stamp,
+) -> Result<(), AllocError>
+    ensures file { tosser.new.file ≡ tosser.old.file }
+    ensures posted { OnOk result (tosser.new ≡ after_posting tag.now draft.now serial stamp tosser.old) }
+{
+    match tosser.post(tag, draft, serial, stamp) {
+        Ok(()) => Ok(()),
+        Err(fault) => unless_memory(fault),
+    }
+}
+
+// Nothing is wrong where the posting was refused for another cause than memory.
+fn unless_memory(fault: PostFault) -> Result<(), AllocError>
+    ensures { OnOk result (fault ≢ post_fault.Memory) }
+{
+    match fault {
+        PostFault::Memory => Err(AllocError),
+        PostFault::NoArea
+        | PostFault::ByteZero
+        | PostFault::FieldTooLong
+        | PostFault::BadStamp
+        | PostFault::BadReply
+        | PostFault::KnownSerial => Ok(()),
+    }
+}
+
+// A system is purged.
+fn purge(world: &mut World, system: usize) -> Result<(), AllocError>
+    ensures addresses { addresses world.new.systems ≡ addresses world.old.systems }
+    ensures purged { OnOk result (world.new ≡ with_change world.old system after_purge) }
+{
+    if system >= world.systems.len() {
+        return Ok(());
+    }
+    let tosser = &mut world.systems[system];
+    purge_at(tosser)
+}
+
+fn purge_at(tosser: &mut Tosser<Hashing>) -> Result<(), AllocError>
+    ensures file { tosser.new.file ≡ tosser.old.file }
+    ensures purged { OnOk result (tosser.new ≡ after_purge tosser.old) }
+{
+    tosser.purge()?;
+    Ok(())
+}
+
+// A system scans: its packets go last.
+fn scan(alloc: Global, world: &mut World, system: usize, stamp: Stamp) -> Result<(), AllocError>
+    ensures addresses { addresses world.new.systems ≡ addresses world.old.systems }
+    ensures scanned { OnOk result (world.new ≡ scanned_world world.old system stamp (nth system world.old.systems)) }
+    ensures fit { OnOk result (ScanFits stamp (nth system world.old.systems)) }
+{
+    if system >= world.systems.len() {
+        return Ok(());
+    }
+    let tosser = &mut world.systems[system];
+    let packets = scan_at(alloc, tosser, stamp)?;
+    export(alloc, &mut world.packets, &packets)
+}
+
+// The packets of the scan, none where its stamp is out of range.
+fn scan_at(
+    alloc: Global,
+    tosser: &mut Tosser<Hashing>,
+    stamp: Stamp,
+) -> Result<Vec<Packet>, AllocError>
+    ensures file { tosser.new.file ≡ tosser.old.file }
+    ensures packets { IfOk result (λ packets. packets.items ≡ made_by stamp tosser.old) }
+    ensures scanned { OnOk result (tosser.new ≡ after_scan stamp tosser.old) }
+{
+    match tosser.scan(stamp) {
+        Ok(packets) => Ok(packets),
+        Err(ScanFault::Memory) => Err(AllocError),
+        Err(ScanFault::BadStamp) => Ok(Vec::new(alloc)),
+    }
+}
+
+// The packets are put last, as their bytes.
+fn export(alloc: Global, exported: &mut Vec<Exported>, packets: &[Packet]) -> Result<(), AllocError>
+    ensures bytes { OnOk result (exported.new.items ≡ exported.old.items ++ map made packets.now) }
+    ensures fit { OnOk result (All Fits packets.now) }
+{
+    for packet in packets {
+        export_one(alloc, exported, packet)?;
+    }
+    Ok(())
+}
+
+// The packet is put last, as its bytes.
+fn export_one(
+    alloc: Global,
+    exported: &mut Vec<Exported>,
+    packet: &Packet,
+) -> Result<(), AllocError>
+    ensures bytes { OnOk result (exported.new.items ≡ exported.old.items ++ made packet.now ∷ []) }
+    ensures fit { OnOk result (Fits packet.now) }
+{
+    let bytes = packet.encode(alloc)?;
+    exported.push(Exported {
+        bytes: Items::new(bytes),
+        to: destination_in(&packet.header),
+        came: false,
+    })?;
+    Ok(())
+}
+
+// Whom the packet is for.
+fn destination_in(header: &Header) -> Address
+    ensures { result ≡ record { zone = header.now.dest_zone; net = header.now.dest_net; node = header.now.dest_node } }
+{
+    Address {
+        zone: header.dest_zone,
+        net: header.dest_net,
+        node: header.dest_node,
+    }
+}
+
+// A packet comes to the first system of its destination, where there is one.
+fn deliver(receivers: &Receivers, world: &mut World, packet: usize) -> Result<(), AllocError>
+    requires { Leads receivers.now.first.entries (addresses world.old.systems) }
+    ensures addresses { addresses world.new.systems ≡ addresses world.old.systems }
+    ensures none { OnOk result (nth packet world.old.packets ≡ None → world.new ≡ world.old) }
+    ensures came { OnOk result ((p : Packet) → Fits p → (came : Bool) → nth packet world.old.packets ≡ Some (record { bytes = encoded p; to = destination p; came = came }) →
+        world.new ≡ world_after world.old packet p) }
+{
+    if packet >= world.packets.len() {
+        return Ok(());
+    }
+    let to = world.packets[packet].to;
+    match receivers.of(to) {
+        Some(system) => arrive(world, packet, system),
+        None => Ok(()),
+    }
+}
+
+// The packet comes to the system, which has its destination.
+fn arrive(world: &mut World, packet: usize, system: usize) -> Result<(), AllocError>
+    requires packet { packet < length world.old.packets }
+    requires system { system < length world.old.systems }
+    ensures addresses { addresses world.new.systems ≡ addresses world.old.systems }
+    ensures came { OnOk result ((p : Packet) → Fits p → (came : Bool) → nth packet world.old.packets ≡ Some (record { bytes = encoded p; to = destination p; came = came }) →
+        (s : SystemState) → nth system world.old.systems ≡ Some s → destination p ≡ s.file.system →
+        world.new ≡ record { systems = change system (after_toss p) world.old.systems; packets = change packet arrived world.old.packets }) }
+{
+    let tosser = &mut world.systems[system];
+    toss_at(tosser, world.packets[packet].bytes.as_slice())?;
+    mark(&mut world.packets[packet]);
+    Ok(())
+}
+
+// A system tosses the bytes of a packet that is for it.
+fn toss_at(tosser: &mut Tosser<Hashing>, bytes: &[u8]) -> Result<(), AllocError>
+    ensures file { tosser.new.file ≡ tosser.old.file }
+    ensures tossed { OnOk result ((p : Packet) → Fits p → bytes.now ≡ encoded p → destination p ≡ tosser.old.file.system → tosser.new ≡ after_toss p tosser.old) }
+{
+    let mut rest = bytes;
+    match tosser.toss(&mut rest, Limits::NONE) {
+        Ok(_) => Ok(()),
+        Err(_) => Err(AllocError),
+    }
+}
+
+// The packet came.
+fn mark(packet: &mut Exported)
+    ensures { packet.new ≡ arrived packet.old }
+{
+    packet.came = true;
+}

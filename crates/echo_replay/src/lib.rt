@@ -1,0 +1,24 @@
+//! What would happen to a net (FTS-0004): events are replayed over the bytes of real packets.
+//!
+//! The contract for the layer above is that of `replay`: the world that it answers is that of the run
+//! of these events on these files, which the laws of runs speak of.
+//!
+//! Modules in reading order: `world` (the systems and packets after the events, and what one reads off
+//! them), `receivers` (which system has an address), `happening` (what one event does), `replaying`,
+//! `script` (events as text), and `laws` (what holds of every replay).
+#![tactic(auto)]
+
+mod happening;
+mod laws;
+mod receivers;
+mod replaying;
+mod script;
+mod world;
+
+pub use laws::replay_laws;
+pub use replaying::replay;
+pub use script::{ScriptFault, read_script};
+pub use world::World;
+
+#[cfg(test)]
+mod tests;

@@ -1,0 +1,43 @@
+//! Events, one after another.
+
+ghost use Rattle.std.specs.Prelude.{◌≡◌, IfOk, map};
+ghost use Rattle.echo_run.specs.Event.{run_event};
+ghost use Rattle.echo_run.specs.Run.{run_of};
+ghost use Rattle.echo_replay.specs.Worlds.{IsRun, WorldState};
+ghost use Rattle.echo_steps.specs.SystemState.{state_at_first};
+
+use crate::happening::happen;
+use crate::receivers::Receivers;
+use crate::world::{Hashing, World};
+use echo_base::LinkFile;
+use echo_run::Event;
+use echo_toss::Tosser;
+use std::alloc::{AllocError, Global};
+
+/// What becomes of a net on which these events happen, one after another. Each system begins with an
+/// empty base. Packets travel as their bytes and are tossed by the packet reader; one comes to the first
+/// system that has its destination. An event that names nothing, or whose posting or scan is refused,
+/// does nothing. Fails only by want of memory.
+pub fn replay(alloc: Global, files: Vec<LinkFile>, events: &[Event]) -> Result<World, AllocError>
+    ensures { IfOk result (λ world. IsRun world (run_of files.items (map run_event events.now))) }
+{
+    let receivers = Receivers::new(alloc, &files)?;
+    let mut world = World {
+        systems: systems(alloc, files)?,
+        packets: Vec::new(alloc),
+    };
+    'events: for event in events {
+        happen(alloc, &receivers, &mut world, event)?;
+    }
+    Ok(world)
+}
+
+// The systems of these files, which have filed nothing.
+fn systems(alloc: Global, files: Vec<LinkFile>) -> Result<Vec<Tosser<Hashing>>, AllocError>
+    ensures { IfOk result (λ all. all.items ≡ map state_at_first files.items) }
+{
+    files
+        .into_iter()
+        .map(|file| Tosser::new(alloc, file, Hashing::new()))
+        .collect(alloc)
+}

@@ -1,0 +1,162 @@
+//! The systems and packets of a net, and what one reads off them.
+
+ghost use Rattle.std.specs.Prelude.{◌≡◌, length, drop, count_by, nat_le, not, false, bytes_eq, unwrap_or, slice_get, option_copied, option_map};
+ghost use Rattle.std.specs.List.{list_all};
+ghost use Rattle.echo_run.specs.Run.{Run, nth};
+ghost use Rattle.echo_run.specs.World.{area_count, filed_at, waiting_at, is_settled, undelivered};
+ghost use Rattle.echo_replay.specs.Worlds.{IsRun, encoded, message_at};
+
+use echo_addr::{Address, Items};
+use echo_base::{Filed, LinkFile};
+use echo_toss::Tosser;
+use std::hash::{BuildHasher, BuildHasherDefault, FoldHasher};
+use std::marker::Model;
+
+/// The hasher of the look-ups in bases: the one that maps have where none is handed in.
+pub type Hashing = BuildHasherDefault<FoldHasher>;
+
+/// A packet that was made: its bytes, whom it is for, and whether it came.
+#[derive(Drop)]
+pub struct Exported {
+    pub bytes: Items<u8>,
+    pub to: Address,
+    pub came: bool,
+}
+
+impl Model for Exported {
+    ghost use Rattle.echo_replay.specs.Worlds as model;
+
+    ghost Value = { model.Exported };
+
+    ghost view = { λ e. record { bytes = e.bytes; to = e.to; came = e.came } };
+}
+
+/// A net after some events. Systems go by their index in the list of link files, packets by their order
+/// of export, both from 0.
+#[derive(Drop)]
+pub struct World {
+    pub(crate) systems: Vec<Tosser<Hashing>>,
+    pub(crate) packets: Vec<Exported>,
+}
+
+impl Model for World {
+    ghost use Rattle.echo_replay.specs.Worlds.{WorldState};
+
+    ghost Value = { WorldState };
+
+    ghost view = { λ w. record { systems = w.systems.items; packets = w.packets.items } };
+}
+
+impl World {
+    /// How many messages of the area the system has filed, 0 where there is no such system. Tags are
+    /// compared byte for byte.
+    pub fn filed(&self, system: usize, tag: &[u8]) -> usize
+        ensures { (run : Run) → IsRun self.now run → result ≡ filed_at run system tag.now }
+    {
+        match self.systems.get(system) {
+            Some(tosser) => count_from(tosser, 0, tag),
+            None => 0,
+        }
+    }
+
+    /// How many of them wait for a scan.
+    pub fn waiting(&self, system: usize, tag: &[u8]) -> usize
+        ensures { (run : Run) → IsRun self.now run → result ≡ waiting_at run system tag.now }
+    {
+        match self.systems.get(system) {
+            Some(tosser) => count_from(tosser, tosser.filed() - tosser.waiting(), tag),
+            None => 0,
+        }
+    }
+
+    /// How many packets were made.
+    pub fn packets(&self) -> usize
+        ensures { (run : Run) → IsRun self.now run → result ≡ length run.packets }
+    {
+        let packets = self.packets.as_slice();
+        packets.len()
+    }
+
+    /// How many of them did not come.
+    pub fn undelivered(&self) -> usize
+        ensures { (run : Run) → IsRun self.now run → result ≡ undelivered run }
+    {
+        count_missing(&self.packets)
+    }
+
+    /// Whether no message of any area waits for a scan and every packet came.
+    pub fn settled(&self) -> bool
+        ensures { (run : Run) → IsRun self.now run → result ≡ is_settled run }
+    {
+        all_scanned(&self.systems) && count_missing(&self.packets) == 0
+    }
+
+    /// The link file of the system.
+    pub fn links(&self, system: usize) -> Option<&LinkFile>
+        ensures { (run : Run) → IsRun self.now run → option_copied result ≡ option_map (λ s. s.file) (nth system run.systems) }
+    {
+        Some(self.systems.get(system)?.links())
+    }
+
+    /// The message of this number that the system has, counted from 0 in order of filing.
+    pub fn message(&self, system: usize, i: usize) -> Option<&Filed>
+        ensures { (run : Run) → IsRun self.now run → option_copied result ≡ message_at run system i }
+    {
+        self.systems.get(system)?.message(i)
+    }
+
+    /// The bytes of the packet.
+    pub fn packet(&self, k: usize) -> Option<&[u8]>
+        ensures { (run : Run) → IsRun self.now run → option_copied result ≡ option_map encoded (nth k run.packets) }
+    {
+        bytes_at(&self.packets, k)
+    }
+}
+
+// How many messages of the area there are from this one on.
+fn count_from<S: BuildHasher>(tosser: &Tosser<S>, from: usize, tag: &[u8]) -> usize
+    ensures { result ≡ area_count tag.now (drop from tosser.now.base) }
+{
+    let mut count = 0;
+    for i in from..tosser.filed() {
+        if is_of_area(tosser, i, tag) {
+            count += 1;
+        }
+    }
+    count
+}
+
+// Whether there is a message of this number, and it is of the area.
+fn is_of_area<S: BuildHasher>(tosser: &Tosser<S>, i: usize, tag: &[u8]) -> bool
+    ensures { result ≡ unwrap_or (option_map (λ m. bytes_eq m.echo.tag tag.now) (slice_get tosser.now.base i)) false }
+{
+    match tosser.message(i) {
+        Some(message) => {
+            let echo = &message.echo;
+            echo.tag.as_slice() == tag
+        }
+        None => false,
+    }
+}
+
+// How many of the packets did not come.
+fn count_missing(packets: &[Exported]) -> usize
+    ensures { result ≡ count_by (λ e. not e.came) packets.now }
+{
+    packets.iter().filter(|packet| !packet.came).count()
+}
+
+// Whether no message waits for a scan at any of the systems.
+fn all_scanned(systems: &[Tosser<Hashing>]) -> bool
+    ensures { result ≡ list_all (λ s. nat_le (length s.base) s.cursor) systems.now }
+{
+    systems.iter().all(|tosser| tosser.waiting() == 0)
+}
+
+// The bytes of the packet of this index.
+fn bytes_at(packets: &[Exported], k: usize) -> Option<&[u8]>
+    ensures { option_copied result ≡ option_map (λ e. e.bytes) (slice_get packets.now k) }
+{
+    let packet = packets.get(k)?;
+    Some(packet.bytes.as_slice())
+}

@@ -1,0 +1,119 @@
+-- What became of messages that are tossed one after another, and how it is counted.
+use Rattle.std.proofs.Common.{◌≡◌, suc, ◌+◌, Bool, true, false, List, [], ◌∷◌, ◌++◌, length, refl, ap, ◌∙◌, arith, cond}
+use Rattle.std.proofs.lemmas.List.Sums.{sum_by-append}
+use Rattle.std.specs.Prelude.{count_by, option_to_list}
+use Rattle.echo_addr.specs.declared.address.Address.{Address}
+use Rattle.echo_packet.specs.Message.{Message}
+use Rattle.echo_base.specs.Base.{Filed as FiledMessage, LinkFile}
+use Rattle.echo_steps.specs.declared.outcome.Outcome.{Outcome}
+use Rattle.echo_steps.specs.declared.outcome.Outcome.TheVariants.{BadTag, Filed, Known, NoArea, NotEcho, NotLinked}
+use Rattle.echo_steps.specs.Tossing.{outcomes, toss_outcome, tossed, tossing}
+use Rattle.echo_toss.specs.Tallies.{all_counted, same_outcome, tally_of, tally_with}
+
+counted_more : (p : Outcome → Bool) (all : List Outcome) (o : Outcome) → count_by p (all ++ o ∷ []) ≡ count_by p all + cond (p o) 1 0
+counted_more p all o = let sum = sum_by-append (λ x. cond (p x) 1 0) all (o ∷ []) in omega arith
+
+counted_yes : (p : Outcome → Bool) (all : List Outcome) (o : Outcome) → p o ≡ true → count_by p (all ++ o ∷ []) ≡ count_by p all + 1
+counted_yes p all o is = counted_more p all o ∙ ap (λ b. count_by p all + cond b 1 0) is
+
+counted_no : (p : Outcome → Bool) (all : List Outcome) (o : Outcome) → p o ≡ false → count_by p (all ++ o ∷ []) ≡ count_by p all
+counted_no p all o not = let more = counted_more p all o ∙ ap (λ b. count_by p all + cond b 1 0) not in omega arith
+
+-- one more outcome
+pub tally_of-push : (all : List Outcome) (o : Outcome) → tally_of (all ++ o ∷ []) ≡ tally_with (tally_of all) o
+tally_of-push all Filed = λ i. record {
+  filed = counted_yes (same_outcome Filed) all Filed refl i;
+  known = counted_no (same_outcome Known) all Filed refl i;
+  not_echo = counted_no (same_outcome NotEcho) all Filed refl i;
+  bad_tag = counted_no (same_outcome BadTag) all Filed refl i;
+  no_area = counted_no (same_outcome NoArea) all Filed refl i;
+  not_linked = counted_no (same_outcome NotLinked) all Filed refl i;
+}
+tally_of-push all Known = λ i. record {
+  filed = counted_no (same_outcome Filed) all Known refl i;
+  known = counted_yes (same_outcome Known) all Known refl i;
+  not_echo = counted_no (same_outcome NotEcho) all Known refl i;
+  bad_tag = counted_no (same_outcome BadTag) all Known refl i;
+  no_area = counted_no (same_outcome NoArea) all Known refl i;
+  not_linked = counted_no (same_outcome NotLinked) all Known refl i;
+}
+tally_of-push all NotEcho = λ i. record {
+  filed = counted_no (same_outcome Filed) all NotEcho refl i;
+  known = counted_no (same_outcome Known) all NotEcho refl i;
+  not_echo = counted_yes (same_outcome NotEcho) all NotEcho refl i;
+  bad_tag = counted_no (same_outcome BadTag) all NotEcho refl i;
+  no_area = counted_no (same_outcome NoArea) all NotEcho refl i;
+  not_linked = counted_no (same_outcome NotLinked) all NotEcho refl i;
+}
+tally_of-push all BadTag = λ i. record {
+  filed = counted_no (same_outcome Filed) all BadTag refl i;
+  known = counted_no (same_outcome Known) all BadTag refl i;
+  not_echo = counted_no (same_outcome NotEcho) all BadTag refl i;
+  bad_tag = counted_yes (same_outcome BadTag) all BadTag refl i;
+  no_area = counted_no (same_outcome NoArea) all BadTag refl i;
+  not_linked = counted_no (same_outcome NotLinked) all BadTag refl i;
+}
+tally_of-push all NoArea = λ i. record {
+  filed = counted_no (same_outcome Filed) all NoArea refl i;
+  known = counted_no (same_outcome Known) all NoArea refl i;
+  not_echo = counted_no (same_outcome NotEcho) all NoArea refl i;
+  bad_tag = counted_no (same_outcome BadTag) all NoArea refl i;
+  no_area = counted_yes (same_outcome NoArea) all NoArea refl i;
+  not_linked = counted_no (same_outcome NotLinked) all NoArea refl i;
+}
+tally_of-push all NotLinked = λ i. record {
+  filed = counted_no (same_outcome Filed) all NotLinked refl i;
+  known = counted_no (same_outcome Known) all NotLinked refl i;
+  not_echo = counted_no (same_outcome NotEcho) all NotLinked refl i;
+  bad_tag = counted_no (same_outcome BadTag) all NotLinked refl i;
+  no_area = counted_no (same_outcome NoArea) all NotLinked refl i;
+  not_linked = counted_yes (same_outcome NotLinked) all NotLinked refl i;
+}
+
+counted_front : (p : Outcome → Bool) (o : Outcome) (all : List Outcome) → count_by p (o ∷ all) ≡ cond (p o) 1 0 + count_by p all
+counted_front p o all = let sum = sum_by-append (λ x. cond (p x) 1 0) (o ∷ []) all in omega arith
+
+-- an outcome and later ones, each counted
+counted_first : (o : Outcome) (all : List Outcome) → all_counted (tally_of (o ∷ all))
+    ≡ cond (same_outcome Filed o) 1 0 + (cond (same_outcome Known o) 1 0 + (cond (same_outcome NotEcho o) 1 0 + (cond (same_outcome BadTag o) 1 0
+    + (cond (same_outcome NoArea o) 1 0 + cond (same_outcome NotLinked o) 1 0)))) + all_counted (tally_of all)
+counted_first o all =
+    let filed = counted_front (same_outcome Filed) o all in
+    let known = counted_front (same_outcome Known) o all in
+    let not_echo = counted_front (same_outcome NotEcho) o all in
+    let bad_tag = counted_front (same_outcome BadTag) o all in
+    let no_area = counted_front (same_outcome NoArea) o all in
+    let not_linked = counted_front (same_outcome NotLinked) o all in
+    omega arith
+
+one_outcome : (o : Outcome) → cond (same_outcome Filed o) 1 0 + (cond (same_outcome Known o) 1 0 + (cond (same_outcome NotEcho o) 1 0 + (cond (same_outcome BadTag o) 1 0
+    + (cond (same_outcome NoArea o) 1 0 + cond (same_outcome NotLinked o) 1 0)))) ≡ 1
+one_outcome Filed = refl
+one_outcome Known = refl
+one_outcome NotEcho = refl
+one_outcome BadTag = refl
+one_outcome NoArea = refl
+one_outcome NotLinked = refl
+
+-- a tally counts each of the outcomes
+pub all_counted-tally_of : (all : List Outcome) → all_counted (tally_of all) ≡ length all
+all_counted-tally_of [] = refl
+all_counted-tally_of (o ∷ all) = counted_first o all ∙ ap (λ n. n + all_counted (tally_of all)) (one_outcome o) ∙ (let so = all_counted-tally_of all in omega arith)
+
+-- the base after one more message
+pub tossed-push : (file : LinkFile) (base : List FiledMessage) (sender : Address) (ms : List Message) (m : Message)
+    → tossed file base sender (ms ++ m ∷ []) ≡ tossed file base sender ms ++ option_to_list (tossing file (tossed file base sender ms) sender m)
+tossed-push file base sender [] m = refl
+tossed-push file base sender (x ∷ ms) m = tossed-push file (base ++ option_to_list (tossing file base sender x)) sender ms m
+
+-- the outcome of one more message
+pub outcomes-push : (file : LinkFile) (base : List FiledMessage) (sender : Address) (ms : List Message) (m : Message)
+    → outcomes file base sender (ms ++ m ∷ []) ≡ outcomes file base sender ms ++ toss_outcome file (tossed file base sender ms) sender m ∷ []
+outcomes-push file base sender [] m = refl
+outcomes-push file base sender (x ∷ ms) m =
+    ap (λ all. toss_outcome file base sender x ∷ all) (outcomes-push file (base ++ option_to_list (tossing file base sender x)) sender ms m)
+
+-- each message has an outcome
+pub length-outcomes : (file : LinkFile) (base : List FiledMessage) (sender : Address) (ms : List Message) → length (outcomes file base sender ms) ≡ length ms
+length-outcomes file base sender [] = refl
+length-outcomes file base sender (m ∷ ms) = ap suc (length-outcomes file (base ++ option_to_list (tossing file base sender m)) sender ms)

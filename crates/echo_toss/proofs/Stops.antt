@@ -1,0 +1,127 @@
+-- A toss of a packet that stopped behind its header.
+use Rattle.std.proofs.Common.{◌≡◌, ℕ, ◌⊎◌, inl, inr, List, [], ◌++◌, refl, ◌∙◌, subst, append_assoc, Option, Some, None, IfSome}
+use Rattle.std.specs.Io.KnownBytes.{Consumes}
+use Rattle.std.proofs.KnownBytes.{Consumes-trans}
+use Rattle.echo_addr.specs.declared.address.Address.{Address}
+use Rattle.echo_packet.specs.declared.header.Header.{Header}
+use Rattle.echo_packet.specs.declared.limits.Limits.{Limits}
+use Rattle.echo_packet.specs.declared.fault.PacketFault.{PacketFault}
+use Rattle.echo_packet.specs.declared.fault.PacketFault.TheVariants as fault
+use Rattle.echo_packet.specs.Header.{IsHeader, header_bytes}
+use Rattle.echo_packet.specs.Message.{AreMessages, Message, messages_bytes}
+use Rattle.echo_packet.specs.Fault.{FaultOf}
+use Rattle.echo_packet.specs.Field.{Came}
+use Rattle.echo_packet.specs.Next.{FailsInMessage, NextFault}
+use Rattle.echo_packet.specs.Run.{IsOfCall, SoFar}
+use Rattle.echo_packet.proofs.MessageByMessage.{run-fails}
+use Rattle.echo_steps.specs.SystemState.{SystemState}
+use Rattle.echo_toss.specs.declared.tally.Tally.{Tally}
+use Rattle.echo_toss.specs.declared.fault.TossCause.{TossCause}
+use Rattle.echo_toss.specs.declared.fault.TossCause.TheVariants as stop
+use Rattle.echo_toss.specs.Unpacked.{BeginsWith, HasTossed, TossesPart, TossesSome}
+use Rattle.echo_toss.specs.Messages.{HasTaken, IsOpened, TakesSome}
+
+-- known bytes begin with the header and the messages that were lost
+begins_with : (limits : Limits) (header : Header) (ms : List Message) (before left : Option (List ℕ)) → IsHeader header → AreMessages limits ms
+    → Consumes before left (header_bytes header ++ messages_bytes ms) → IfSome before (BeginsWith limits header ms)
+begins_with limits header ms None left is are lost = tt
+begins_with limits header ms (Some bs) None is are lost = absurd lost
+begins_with limits header ms (Some bs) (Some rest) is are lost =
+    record { is_header = is; are_messages = are; rest = rest; bytes = lost ∙ append_assoc (header_bytes header) (messages_bytes ms) rest }
+
+-- the packet up to the next message
+so_far : (limits : Limits) (header : Header) (ms : List Message) (bs rest : List ℕ) (sender : Address) (old new : SystemState) (mid left : Option (List ℕ)) (given at : ℕ) (tally : Tally)
+    → IsHeader header → HasTaken limits sender old mid left ms given at tally new → bs ≡ header_bytes header ++ (messages_bytes ms ++ rest)
+    → SoFar limits bs header ms rest given at
+so_far limits header ms bs rest sender old new mid left given at tally is h bytes =
+    record { is_header = is; are_messages = h.are_messages; bytes = bytes; count = h.count; place = h.place }
+
+of_bytes : (bs : List ℕ) (limits : Limits) (ms : List Message) (f : PacketFault) → (IsOfCall f → ⊥) → FaultOf bs limits ms f ⊎ IsOfCall f → FaultOf bs limits ms f
+of_bytes bs limits ms f not_call (inl wrong) = wrong
+of_bytes bs limits ms f not_call (inr call) = absurd (not_call call)
+
+-- the fault of known bytes
+behind : (limits : Limits) (header : Header) (sender : Address) (old new : SystemState) (before mid left after : Option (List ℕ)) (ms : List Message) (given at : ℕ) (tally : Tally) (f : PacketFault)
+    → (IsOfCall f → ⊥) → IsHeader header → Consumes before mid (header_bytes header) → HasTaken limits sender old mid left ms given at tally new
+    → IfSome left (λ bs. NextFault limits given at bs f) → IfSome before (λ bs. FaultOf bs limits ms f)
+behind limits header sender old new None mid left after ms given at tally f not_call is lost h wrong = tt
+behind limits header sender old new (Some bs) mid None after ms given at tally f not_call is lost h wrong =
+    absurd (Consumes-trans (Some bs) mid None (header_bytes header) (messages_bytes ms) lost h.bytes)
+behind limits header sender old new (Some bs) mid (Some rest) after ms given at tally f not_call is lost h wrong =
+    let all = Consumes-trans (Some bs) mid (Some rest) (header_bytes header) (messages_bytes ms) lost h.bytes in
+    let bytes = all ∙ append_assoc (header_bytes header) (messages_bytes ms) rest in
+    of_bytes bs limits ms f not_call (run-fails limits bs header ms rest given at f (so_far limits header ms bs rest sender old new mid (Some rest) given at tally is h bytes) wrong)
+
+-- the bytes that were lost where the device failed
+cut : (limits : Limits) (header : Header) (sender : Address) (old new : SystemState) (before mid left after : Option (List ℕ)) (ms : List Message) (given at place : ℕ) (tally : Tally)
+    → IsHeader header → Consumes before mid (header_bytes header) → HasTaken limits sender old mid left ms given at tally new
+    → FailsInMessage limits given at [] left after (fault.Read place) → Came before after (λ came. FaultOf came limits ms (fault.Truncated place))
+cut limits header sender old new before mid left after ms given at place tally is lost h (came, gone, part) =
+    let front = Consumes-trans before mid left (header_bytes header) (messages_bytes ms) lost h.bytes in
+    let all = Consumes-trans before left after (header_bytes header ++ messages_bytes ms) came front gone in
+    let total = header_bytes header ++ (messages_bytes ms ++ came) in (
+      total,
+      subst (Consumes before after) (append_assoc (header_bytes header) (messages_bytes ms) came) all,
+      of_bytes total limits ms (fault.Truncated place) (λ c. c)
+          (run-fails limits total header ms came given at (fault.Truncated place) (so_far limits header ms total came sender old new mid left given at tally is h refl) part),
+    )
+
+-- the messages before the stop
+abbrev some_tossed : (limits : Limits) (sender : Address) (old new : SystemState) (before mid left : Option (List ℕ)) (ms : List Message) (given at : ℕ) (tally : Tally)
+    → (o : IsOpened old.file before mid sender) → HasTaken limits sender old mid left ms given at tally new → TossesSome limits old before tally new
+some_tossed limits sender old new before mid left ms given at tally o h = record {
+  header = o.header;
+  messages = ms;
+  begins = begins_with limits o.header ms before left o.is_header h.are_messages
+      (Consumes-trans before mid left (header_bytes o.header) (messages_bytes ms) o.bytes h.bytes);
+  for_us = o.for_us;
+  done = subst (λ s. HasTossed s ms old tally new) o.origin h.done;
+}
+
+-- a packet that was opened was tossed in part
+pub tossed_part : (limits : Limits) (sender : Address) (old new : SystemState) (before mid after : Option (List ℕ)) (tally : Tally) (cause : TossCause)
+    → IsOpened old.file before mid sender → TakesSome limits sender old mid after tally cause new → TossesPart limits old before after tally cause new
+tossed_part limits sender old new before mid after tally (stop.NotForUs a) o t = absurd t.stops
+tossed_part limits sender old new before mid after tally stop.Memory o t =
+    some_tossed limits sender old new before mid t.left t.messages t.given t.at tally o t.taken
+tossed_part limits sender old new before mid after tally (stop.Packet fault.Memory) o t = absurd t.stops
+tossed_part limits sender old new before mid after tally (stop.Packet (fault.Read at)) o t = inr (record {
+  some = some_tossed limits sender old new before mid t.left t.messages t.given t.at tally o t.taken;
+  fault = cut limits o.header sender old new before mid t.left after t.messages t.given t.at at tally o.is_header o.bytes t.taken t.stops.1;
+})
+tossed_part limits sender old new before mid after tally (stop.Packet (fault.Truncated n)) o t = inr (record {
+  some = some_tossed limits sender old new before mid t.left t.messages t.given t.at tally o t.taken;
+  fault = behind limits o.header sender old new before mid t.left after t.messages t.given t.at tally (fault.Truncated n) (λ c. c) o.is_header o.bytes t.taken t.stops.0;
+})
+tossed_part limits sender old new before mid after tally (stop.Packet (fault.NotType2 n)) o t = inr (record {
+  some = some_tossed limits sender old new before mid t.left t.messages t.given t.at tally o t.taken;
+  fault = behind limits o.header sender old new before mid t.left after t.messages t.given t.at tally (fault.NotType2 n) (λ c. c) o.is_header o.bytes t.taken t.stops.0;
+})
+tossed_part limits sender old new before mid after tally (stop.Packet (fault.NotMessage n)) o t = inr (record {
+  some = some_tossed limits sender old new before mid t.left t.messages t.given t.at tally o t.taken;
+  fault = behind limits o.header sender old new before mid t.left after t.messages t.given t.at tally (fault.NotMessage n) (λ c. c) o.is_header o.bytes t.taken t.stops.0;
+})
+tossed_part limits sender old new before mid after tally (stop.Packet (fault.FieldTooLong n)) o t = inr (record {
+  some = some_tossed limits sender old new before mid t.left t.messages t.given t.at tally o t.taken;
+  fault = behind limits o.header sender old new before mid t.left after t.messages t.given t.at tally (fault.FieldTooLong n) (λ c. c) o.is_header o.bytes t.taken t.stops.0;
+})
+tossed_part limits sender old new before mid after tally (stop.Packet (fault.TextTooLong n)) o t = inr (record {
+  some = some_tossed limits sender old new before mid t.left t.messages t.given t.at tally o t.taken;
+  fault = behind limits o.header sender old new before mid t.left after t.messages t.given t.at tally (fault.TextTooLong n) (λ c. c) o.is_header o.bytes t.taken t.stops.0;
+})
+tossed_part limits sender old new before mid after tally (stop.Packet fault.Stopped) o t = inr (record {
+  some = some_tossed limits sender old new before mid t.left t.messages t.given t.at tally o t.taken;
+  fault = behind limits o.header sender old new before mid t.left after t.messages t.given t.at tally fault.Stopped (λ c. c) o.is_header o.bytes t.taken t.stops.0;
+})
+tossed_part limits sender old new before mid after tally (stop.Packet (fault.Write n)) o t = inr (record {
+  some = some_tossed limits sender old new before mid t.left t.messages t.given t.at tally o t.taken;
+  fault = behind limits o.header sender old new before mid t.left after t.messages t.given t.at tally (fault.Write n) (λ c. c) o.is_header o.bytes t.taken t.stops.0;
+})
+tossed_part limits sender old new before mid after tally (stop.Packet (fault.TooManyMessages n)) o t = inr (record {
+  some = some_tossed limits sender old new before mid t.left t.messages t.given t.at tally o t.taken;
+  fault = behind limits o.header sender old new before mid t.left after t.messages t.given t.at tally (fault.TooManyMessages n) (λ c. c) o.is_header o.bytes t.taken t.stops.0;
+})
+tossed_part limits sender old new before mid after tally (stop.Packet (fault.BadField n)) o t = inr (record {
+  some = some_tossed limits sender old new before mid t.left t.messages t.given t.at tally o t.taken;
+  fault = behind limits o.header sender old new before mid t.left after t.messages t.given t.at tally (fault.BadField n) (λ c. c) o.is_header o.bytes t.taken t.stops.0;
+})

@@ -1,0 +1,22 @@
+use Rattle.std.proofs.Common.{◌∙◌, arith}
+use Rattle.echo_toss.proofs.Unpacked.{all_given, one_more_taken}
+use Rattle.echo_toss.proofs.tosser.Tosser.toss_messages.Goals as goal
+
+pub count-requires : goal.count-requires
+count-requires g c =
+    let so = all_given _ _ _ _ _ _ _ _ _ _ c.messages.invariant.taken in
+    let within = rw c.in-Some.is at c.in_ok-message.ensures.within in
+    omega (arith, so, within)
+
+pub messages-preserved : goal.messages-preserved
+messages-preserved g c =
+    let within = rw c.in-Some.is at c.in_ok-message.ensures.within in
+    let taken = rw c.in-Some.is at c.in_ok-message.ensures.taken in
+    let place = rw c.in-Some.is at c.in_ok-message.ensures.place in
+    let h = c.messages.invariant in
+    record {
+      messages = _;
+      taken = one_more_taken c.args.limits c.args.sender _ _ _ _ _ _ h.messages c.in-Some.message c.messages.given c.messages.place _ _ _ c.in_ok-outcome-in-Some.outcome
+          h.taken within.0 within.1 taken place c.in_ok-outcome-in-Some.ensures c.count.ensures;
+      device = c.in_ok-message.ensures.device ∙ h.device;
+    }

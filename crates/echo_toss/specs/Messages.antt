@@ -1,0 +1,93 @@
+-- What the calls below a toss of a packet do: its header, and its messages.
+use Rattle.std.specs.Prelude.{◌≡◌, ◌≢◌, ℕ, ◌+◌, List, [], length, Option, IfSome, Result, Ok, Err}
+use Rattle.std.specs.Io.KnownBytes.{Consumes}
+use Rattle.echo_addr.specs.declared.address.Address.{Address}
+use Rattle.echo_packet.specs.declared.header.Header.{Header}
+use Rattle.echo_packet.specs.declared.limits.Limits.{Limits}
+use Rattle.echo_packet.specs.declared.fault.PacketFault.{PacketFault}
+use Rattle.echo_packet.specs.declared.fault.PacketFault.TheVariants as fault
+use Rattle.echo_packet.specs.Header.{IsHeader, header_bytes, word}
+use Rattle.echo_packet.specs.Message.{AreMessages, Message, messages_bytes}
+use Rattle.echo_packet.specs.Fault.{place_of}
+use Rattle.echo_packet.specs.Field.{FailsInField, IsShort}
+use Rattle.echo_packet.specs.Next.{FailsInMessage, NextFault}
+use Rattle.echo_packet.specs.Reader.{FrontFault}
+use Rattle.echo_base.specs.Base.{LinkFile}
+use Rattle.echo_steps.specs.SystemState.{SystemState}
+use Rattle.echo_steps.specs.Tossing.{destination_of, origin_of}
+use Rattle.echo_toss.specs.declared.tally.Tally.{Tally}
+use Rattle.echo_toss.specs.declared.fault.TossCause.{TossCause}
+use Rattle.echo_toss.specs.declared.fault.TossCause.TheVariants as stop
+use Rattle.echo_toss.specs.Unpacked.{CountsCause, HasTossed}
+
+-- the reader lost a header, of a packet for this system from the sender
+pub record IsOpened (file : LinkFile) (before after : Option (List ℕ)) (sender : Address) : Type 0 where
+  pub header : Header
+  pub is_header : IsHeader header
+  pub bytes : Consumes before after (header_bytes header)
+  pub for_us : destination_of file header ≡ file.system
+  pub origin : sender ≡ origin_of file header
+
+-- the reader lost a header, of a packet that is for another system
+pub record IsRefused (file : LinkFile) (before after : Option (List ℕ)) (destination : Address) : Type 0 where
+  pub header : Header
+  pub is_header : IsHeader header
+  pub bytes : Consumes before after (header_bytes header)
+  pub is : destination ≡ destination_of file header
+  pub other : destination ≢ file.system
+
+-- no header was read
+pub record IsHeaderless (before after : Option (List ℕ)) (f : PacketFault) : Type 0 where
+  pub fault : IfSome before (λ bs. FrontFault bs f)
+  pub inside : FailsInField (IsShort 58) 0 before after f
+
+-- why no message is looked at
+abbrev pub IsUnopened : LinkFile → Option (List ℕ) → Option (List ℕ) → TossCause → Type 0
+IsUnopened file before after (stop.NotForUs a) = IsRefused file before after a
+IsUnopened file before after stop.Memory = ⊥
+IsUnopened file before after (stop.Packet fault.Memory) = ⊥
+IsUnopened file before after (stop.Packet f) = IsHeaderless before after f
+
+-- the reader lost messages, and they were tossed
+pub record HasTaken (limits : Limits) (sender : Address) (old : SystemState) (before after : Option (List ℕ)) (ms : List Message) (given at : ℕ) (tally : Tally) (new : SystemState) : Type 0 where
+  pub are_messages : AreMessages limits ms
+  pub bytes : Consumes before after (messages_bytes ms)
+  pub count : given ≡ length ms
+  pub place : at ≡ place_of (58 + length (messages_bytes ms))
+  pub done : HasTossed sender ms old tally new
+
+-- the reader lost messages and the terminator, and they were tossed
+pub record TakesAll (limits : Limits) (sender : Address) (old : SystemState) (before after : Option (List ℕ)) (tally : Tally) (new : SystemState) : Type 0 where
+  pub messages : List Message
+  pub left : Option (List ℕ)
+  pub given : ℕ
+  pub at : ℕ
+  pub taken : HasTaken limits sender old before left messages given at tally new
+  pub ends : Consumes left after (word 0)
+
+-- why the next message was not tossed
+abbrev pub StopsNext : Limits → ℕ → ℕ → Option (List ℕ) → Option (List ℕ) → TossCause → Type 0
+StopsNext limits given at left after (stop.NotForUs a) = ⊥
+StopsNext limits given at left after stop.Memory = Unit {0}
+StopsNext limits given at left after (stop.Packet fault.Memory) = ⊥
+StopsNext limits given at left after (stop.Packet f) =
+    IfSome left (λ bs. NextFault limits given at bs f) × FailsInMessage limits given at [] left after f
+
+-- the reader lost messages, they were tossed, and the next was not
+pub record TakesSome (limits : Limits) (sender : Address) (old : SystemState) (before after : Option (List ℕ)) (tally : Tally) (cause : TossCause) (new : SystemState) : Type 0 where
+  pub messages : List Message
+  pub left : Option (List ℕ)
+  pub given : ℕ
+  pub at : ℕ
+  pub taken : HasTaken limits sender old before left messages given at tally new
+  pub stops : StopsNext limits given at left after cause
+
+-- the toss of the messages at the front of a reader's bytes
+abbrev pub TossesMessages : {A : Type 0} → Limits → Address → SystemState → Option (List ℕ) → Option (List ℕ) → Tally → Result A TossCause → SystemState → Type 0
+TossesMessages limits sender old before after tally (Ok done) new = TakesAll limits sender old before after tally new
+TossesMessages limits sender old before after tally (Err cause) new = TakesSome limits sender old before after tally cause new
+
+-- the count of failures rose where the reader failed, and only there
+abbrev pub CountsStop : {A : Type 0} → Result A TossCause → ℕ → ℕ → Type 0
+CountsStop (Ok done) before after = after ≡ before
+CountsStop (Err cause) before after = CountsCause cause before after

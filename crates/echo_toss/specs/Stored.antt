@@ -1,0 +1,10 @@
+-- What loading a system answers.
+use Rattle.std.specs.Prelude.{Result, Ok, Err}
+use Rattle.echo_base.specs.declared.fault.BaseFault.{BaseFault}
+use Rattle.echo_base.specs.Base.{Base}
+use Rattle.echo_steps.specs.SystemState.{SystemState}
+
+-- its base, or the fault
+abbrev pub base_in : Result SystemState BaseFault → Result Base BaseFault
+base_in (Ok s) = Ok (record { messages = s.base; cursor = s.cursor })
+base_in (Err fault) = Err fault

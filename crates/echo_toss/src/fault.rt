@@ -1,0 +1,52 @@
+use crate::tally::Tally;
+use echo_addr::Address;
+use echo_packet::PacketFault;
+use std::alloc::AllocError;
+use thiserror::Error;
+
+/// Why the toss of a packet stopped.
+#[derive(Clone, Copy, Debug, PartialEq, Eq, Error)]
+pub enum TossCause {
+    /// The packet is for this other system, and none of its messages was looked at.
+    #[error("C1 NotForUs {0}")]
+    NotForUs(Address),
+    /// A growth was refused.
+    #[error("C2 Memory")]
+    Memory,
+    /// The packet is faulty, or the reader failed.
+    #[error("{0}")]
+    Packet(PacketFault),
+}
+
+impl From<AllocError> for TossCause {
+    ghost use Rattle.std.specs.Prelude.{◌≡◌};
+    ghost use Rattle.echo_toss.specs.declared.fault.TossCause.TheVariants as stop;
+
+    ghost from_gives = { λ _ cause. cause ≡ stop.Memory };
+
+    fn from(_refused: AllocError) -> TossCause {
+        TossCause::Memory
+    }
+}
+
+impl From<PacketFault> for TossCause {
+    ghost use Rattle.std.specs.Prelude.{◌≡◌};
+    ghost use Rattle.echo_toss.specs.Unpacked.{cause_of};
+
+    ghost from_gives = { λ fault cause. cause ≡ cause_of fault };
+
+    fn from(fault: PacketFault) -> TossCause {
+        match fault {
+            PacketFault::Memory => TossCause::Memory,
+            other => TossCause::Packet(other),
+        }
+    }
+}
+
+/// A toss of a packet that stopped, and what became of the messages before. These stay tossed.
+#[derive(Clone, Copy, Debug, PartialEq, Eq, Error)]
+#[error("{cause}")]
+pub struct TossFault {
+    pub tally: Tally,
+    pub cause: TossCause,
+}

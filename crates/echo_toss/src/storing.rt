@@ -1,0 +1,51 @@
+//! The base of a system, written and read.
+ghost use Rattle.std.specs.Prelude.{◌≡◌, IfErr, IfOk, IfSome, Result};
+ghost use Rattle.echo_packet.specs.Header.{AreBytes};
+ghost use Rattle.echo_base.specs.declared.fault.BaseFault.{BaseFault as Fault};
+ghost use Rattle.echo_base.specs.Base.{IsBase};
+ghost use Rattle.echo_base.specs.BaseFile.{LoadOf, Loaded, is_countable, saved_bytes};
+ghost use Rattle.echo_base.specs.Loading.{AnswersLoad, CountsLoad, FailsToLoad, TakesBase};
+ghost use Rattle.echo_base.specs.Saving.{CountsSaved, Saves, TellsTooMany};
+ghost use Rattle.echo_toss.specs.Stored.{base_in};
+
+use crate::tosser::Tosser;
+use echo_base::{Base, BaseFault, LinkFile};
+use echo_device::{Sink, Source};
+use std::alloc::Global;
+use std::hash::BuildHasher;
+
+impl<S: BuildHasher> Tosser<S> {
+    /// Writes the base. What the writer holds back is left to its owner. It is `TooMany` where four
+    /// bytes do not count the messages, or the bytes of a text or an id, and `Write` with the number of
+    /// bytes that went out.
+    pub fn save<W: Sink>(&self, writer: &mut W) -> Result<(), BaseFault>
+        ensures base { IsBase self.now.base self.now.cursor }
+        ensures bytes { Saves (W.contents writer.old) (W.contents writer.new) result (saved_bytes self.now.base self.now.cursor) }
+        ensures device { CountsSaved result (W.failures writer.old) (W.failures writer.new) }
+        ensures too_many { TellsTooMany (is_countable self.now.base self.now.cursor) result }
+    {
+        self.base.save(writer)
+    }
+
+    /// The system of the link file with the base at the front of what the reader has. No byte after the
+    /// last message is taken.
+    pub fn load<R: Source>(
+        alloc: Global,
+        links: LinkFile,
+        reader: &mut R,
+        hasher: S,
+    ) -> Result<Tosser<S>, BaseFault>
+    where
+        S: Drop,
+        ensures links { IfOk result (λ system. system.file ≡ links) }
+        // What it answers is so of the bytes.
+        ensures taken { IfOk result (λ system. TakesBase system.base system.cursor (R.remaining reader.old) (R.remaining reader.new)) }
+        ensures fault { IfErr result (FailsToLoad (R.remaining reader.old) (R.remaining reader.new)) }
+        // What is so of the bytes, it answers.
+        ensures only { (other : Result Loaded Fault) → IfSome (R.remaining reader.old) (λ bytes. AreBytes bytes → LoadOf bytes other → AnswersLoad (base_in result) other) }
+        ensures device { CountsLoad result (R.failures reader.old) (R.failures reader.new) }
+    {
+        let base = Base::load(alloc, reader, hasher)?;
+        Ok(Tosser { alloc, links, base })
+    }
+}

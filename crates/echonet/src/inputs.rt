@@ -1,0 +1,75 @@
+//! The files that the command line names, and standard input.
+
+use echo_addr::Items;
+use echo_commands::Fault;
+use echo_device::Watched;
+use echo_files::{InputFault, read_whole};
+
+/// How many bytes a packet given to `show`, or a nodelist, may have.
+pub const MOST_INPUT: usize = 67_108_864;
+
+/// How many bytes a link file, a script or a posted body may have.
+pub const MOST_LINKS: usize = 1_048_576;
+
+/// Why the file with this path was not read.
+pub fn input_fault(fault: InputFault, path: &str) -> Fault<'_> {
+    match fault {
+        InputFault::TooLarge => Fault::TooLarge(path),
+        InputFault::Device => Fault::CannotUse(path),
+        InputFault::Memory => Fault::OutOfMemory,
+    }
+}
+
+/// The bytes of a file.
+pub fn read_file<'a>(rt: &HostRuntime, path: &'a str, most: usize) -> Result<Vec<u8>, Fault<'a>> {
+    echo_files::read_file(rt.alloc(), rt, path, most).map_err(|fault| input_fault(fault, path))
+}
+
+/// The bytes of a file, where one is given.
+pub fn read_if_given<'a>(
+    rt: &HostRuntime,
+    path: Option<&'a str>,
+    most: usize,
+) -> Result<Option<Vec<u8>>, Fault<'a>> {
+    match path {
+        Some(path) => Ok(Some(read_file(rt, path, most)?)),
+        None => Ok(None),
+    }
+}
+
+/// The bytes of a file, or of standard input where the path is `-`.
+pub fn read_given<'a>(rt: &HostRuntime, path: &'a str, most: usize) -> Result<Vec<u8>, Fault<'a>> {
+    if path == "-" {
+        read_standard_input(rt, most)
+    } else {
+        read_file(rt, path, most)
+    }
+}
+
+/// The bytes of standard input.
+pub fn read_standard_input<'a>(rt: &HostRuntime, most: usize) -> Result<Vec<u8>, Fault<'a>> {
+    read_whole(rt.alloc(), &mut Watched::new(rt.reader()), most).map_err(|fault| input_fault(
+        fault, "-",
+    ))
+}
+
+/// The bytes of a script.
+pub fn read_script<'a>(rt: &HostRuntime, path: &'a str) -> Result<Vec<u8>, Fault<'a>> {
+    read_file(rt, path, MOST_LINKS)
+}
+
+/// The bytes of link files one after another, and the fault of the first that cannot be read.
+pub fn read_links<'a>(rt: &HostRuntime, paths: &[&'a str]) -> (Vec<Items<u8>>, Option<Fault<'a>>) {
+    let mut files = Vec::new(rt.alloc());
+    for path in paths {
+        match read_file(rt, *path, MOST_LINKS) {
+            Ok(bytes) => {
+                if files.push(Items::new(bytes)).is_err() {
+                    return (files, Some(Fault::OutOfMemory));
+                }
+            }
+            Err(fault) => return (files, Some(fault)),
+        }
+    }
+    (files, None)
+}
