@@ -209,7 +209,9 @@ fn changed(alloc: Global, place: usize, way: usize) -> Result<Vec<Step>, AllocEr
             steps.push(*step)?;
         }
     }
-    if way == 2 && let Some(step) = REPLAYED.get(place) {
+    if way == 2
+        && let Some(step) = REPLAYED.get(place)
+    {
         steps.push(*step)?;
     }
     Ok(steps)

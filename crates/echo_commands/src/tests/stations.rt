@@ -163,7 +163,8 @@ fn first_posting(rt: HostRuntime) -> Result<(), Fail> {
         return Ok(());
     };
     assert!(rt;
-        file.name.as_slice() == b"1.10.2.0.pkt".as_slice() && file.bytes.as_slice() == packet.as_slice()
+        file.name.as_slice() == b"1.10.2.0.pkt".as_slice()
+            && file.bytes.as_slice() == packet.as_slice()
     );
     let left = purged(alloc, ALPHA, left.base(), None);
     assert!(rt; left.printed(Status::Good, "purged 1\n", ""));
