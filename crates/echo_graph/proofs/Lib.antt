@@ -16,6 +16,7 @@ pub mod Family
 pub mod Descent
 pub mod Turns
 pub mod Renaming
+pub mod RenamedLoops
 pub mod Kinship
 pub mod ForestGrowth
 pub mod Parents

@@ -61,8 +61,8 @@ FirstOther-here rows at one k row levels graph is lt link are earlier order some
         | inl before ↦ absurd (earlier p.0 before (subst (IsPinch (linked rows) at one) (sym p.2) pinch))
         | inr after ↦
             elim (cases_eq p.0 k) [
-              | inl same ↦ omega (arith, ap (λ j. get_or row j 0) same, p.2)
-              | inr differ ↦ omega (arith, row_rises rows at row graph is k p.0 (omega arith) p.1, p.2)
+              | inl same ↦ inr (ap (λ j. get_or row j 0) (sym same) ∙ p.2)
+              | inr differ ↦ inl (omega (arith, row_rises rows at row graph is k p.0 (omega arith) p.1, p.2))
             ]
       ];
 }

@@ -1,5 +1,6 @@
 -- What a graph keeps when its members get other names.
-use Rattle.std.proofs.Common.{◌≡◌, inl, inr, refl, sym, ap, ◌∙◌, arith, Bool, List, [], ◌∷◌, length, map}
+use Rattle.std.proofs.Common.{◌≡◌, inl, inr, refl, sym, ap, ◌∙◌, arith, Bool, List, [], ◌∷◌, map}
+use Rattle.std.proofs.lemmas.List.{length-map}
 use Rattle.echo_graph.specs.Walk.{Simple, Among, Different, Walk, Reaches}
 use Rattle.echo_graph.specs.Cycle.{Cycle, Polygons}
 use Rattle.echo_graph.specs.Renaming.{IsRenaming}
@@ -20,7 +21,7 @@ Among-map name x [] h = h
 Among-map name x (y ∷ ys) h = elim h [ inl e ↦ inl (ap name e) | inr t ↦ inr (Among-map name x ys t) ]
 
 -- where names are taken back, no two members get one name
-Among-from_map : {A B : Type 0} (name : A → B) (back : B → A) (x : A) → back (name x) ≡ x → (xs : List A) →
+pub Among-from_map : {A B : Type 0} (name : A → B) (back : B → A) (x : A) → back (name x) ≡ x → (xs : List A) →
     ((y : A) → Among y xs → back (name y) ≡ y) → Among (name x) (map name xs) → Among x xs
 Among-from_map name back x own [] owns h = h
 Among-from_map name back x own (y ∷ ys) owns h =
@@ -29,17 +30,13 @@ Among-from_map name back x own (y ∷ ys) owns h =
       | inr t ↦ inr (Among-from_map name back x own ys (λ z i. owns z (inr i)) t)
     ]
 
-Different-map : {A B : Type 0} (name : A → B) (back : B → A) (xs : List A) → ((y : A) → Among y xs → back (name y) ≡ y) →
+pub Different-map : {A B : Type 0} (name : A → B) (back : B → A) (xs : List A) → ((y : A) → Among y xs → back (name y) ≡ y) →
     Different xs → Different (map name xs)
 Different-map name back [] owns h = h
 Different-map name back (x ∷ xs) owns h = (
   λ t. h.0 (Among-from_map name back x (owns x (inl refl)) xs (λ z i. owns z (inr i)) t),
   Different-map name back xs (λ z i. owns z (inr i)) h.1,
 )
-
-length-mapped : {A B : Type 0} (name : A → B) (xs : List A) → length (map name xs) ≡ length xs
-length-mapped name [] = refl
-length-mapped name (x ∷ xs) = omega (arith, length-mapped name xs)
 
 module _ {A B : Type 0} (linked : A → A → Bool) (joined : B → B → Bool) (name : A → B) (back : B → A)
     (renaming : IsRenaming linked joined name back) where
@@ -51,7 +48,7 @@ module _ {A B : Type 0} (linked : A → A → Bool) (joined : B → B → Bool) 
   Reaches-renamed a b reaches = (map name reaches.0, Walk-renamed a reaches.0 b reaches.1)
 
   -- each member of a cycle has a link
-  cycle_owns : Simple linked → (first : A) (rest : List A) → Cycle linked first rest → (x : A) → Among x (first ∷ rest) →
+  pub cycle_owns : Simple linked → (first : A) (rest : List A) → Cycle linked first rest → (x : A) → Among x (first ∷ rest) →
       back (name x) ≡ x
   cycle_owns simple first rest cycle x h =
       let (last, w, closes) = cycle.closed in
@@ -64,7 +61,7 @@ module _ {A B : Type 0} (linked : A → A → Bool) (joined : B → B → Bool) 
   Cycle-renamed simple first rest cycle =
       let (last, w, closes) = cycle.closed in
       record {
-        long = omega (arith, cycle.long, length-mapped name rest);
+        long = omega (arith, cycle.long, length-map rest name);
         different = Different-map name back (first ∷ rest) (cycle_owns simple first rest cycle) cycle.different;
         closed = (name last, Walk-renamed first rest last w, renaming.links last first closes);
       }

@@ -1,8 +1,8 @@
 -- Cycles turned and reversed, and how they are written.
-use Rattle.std.proofs.Common.{◌≡◌, ◌+◌, ◌-◌, ◌<◌, ◌≤◌, ◌++◌, ℕ, zero, suc, Bool, List, [], ◌∷◌, length, get_or, take, drop, reverse, refl, sym, ap, ◌∙◌, subst, append_assoc, arith, inl, inr}
-use Rattle.std.proofs.lemmas.Bool.{cases_lt}
-use Rattle.std.proofs.lemmas.List.{append-nil, reverse-append, length-append, length-reverse, get_or-reverse, take_more, drop_more, take-append-drop, take_all, drop_all}
-use Rattle.echo_graph.specs.Walk.{Among, Different, Simple}
+use Rattle.std.proofs.Common.{◌≡◌, ◌+◌, ◌-◌, ◌<◌, ◌≤◌, ◌⊎◌, ◌++◌, ℕ, zero, suc, Bool, List, [], ◌∷◌, length, get_or, take, drop, reverse, refl, sym, ap, ◌∙◌, subst, append_assoc, arith, inl, inr}
+use Rattle.std.proofs.lemmas.Bool.{cases_eq, cases_lt}
+use Rattle.std.proofs.lemmas.List.{append-nil, get_or_default, reverse-append, length-append, length-reverse, get_or-reverse, take_more, drop_more, take-append-drop, take_all, drop_all}
+use Rattle.echo_graph.specs.Walk.{Among, Different, IsAt, Simple}
 use Rattle.echo_graph.specs.Cycle.{Cycle, IsCycle}
 use Rattle.echo_graph.specs.Pinches.{IsPinch, FirstPinch}
 use Rattle.echo_graph.specs.Loops.{FirstWalk, turned, IsWritten, NamedLoop}
@@ -33,7 +33,7 @@ pub IsCycle-begun_at : (links : ℕ → ℕ → Bool) (ring : List ℕ) → IsCy
 IsCycle-begun_at links ring cycle k =
     IsCycle-rotated links (take k ring) (drop k ring) (subst (IsCycle links) (sym (take-append-drop k ring)) cycle)
 
-reverse_cons : (x : ℕ) (xs : List ℕ) → reverse (x ∷ xs) ≡ reverse xs ++ x ∷ []
+pub reverse_cons : {A : Type 0} (x : A) (xs : List A) → reverse (x ∷ xs) ≡ reverse xs ++ x ∷ []
 reverse_cons x xs = reverse-append (x ∷ []) xs
 
 pub Among-reverse : (x : ℕ) (xs : List ℕ) → Among x xs → Among x (reverse xs)
@@ -123,16 +123,31 @@ pub length-turned : (ring : List ℕ) (k : ℕ) → length (turned k ring) ≡ l
 length-turned ring k =
     length-append (drop k ring) (take k ring) ∙ (omega (arith, length-append (take k ring) (drop k ring), ap length (take-append-drop k ring)))
 
-smallest_first : (ring : List ℕ) (k m : ℕ) → get_or ring k 0 ≡ m → ((j : ℕ) → j < length ring → get_or ring k 0 ≤ get_or ring j 0) → (x : ℕ) → Among x ring → m ≤ x
-smallest_first ring k m is least x among = let p = Among-index x 0 ring among in omega (arith, least p.0 p.1, p.2)
+-- what stands at a place is read there
+at_place : (xs : List ℕ) (i x : ℕ) → IsAt xs i x → get_or xs i 0 ≡ x
+at_place xs i x at = sym (get_or_default xs i x 0 at.0) ∙ at.1
+
+split_le : (m n : ℕ) → m ≤ n → (m < n) ⊎ (m ≡ n)
+split_le m n le = elim (cases_eq m n) [ inl same ↦ inr same | inr differ ↦ inl (omega (arith, le)) ]
+
+smallest_first : (ring loop : List ℕ) (k : ℕ) → get_or ring k 0 ≡ get_or loop 0 0 → ((j : ℕ) → j < length ring → get_or ring k 0 ≤ get_or ring j 0) →
+    (m x : ℕ) → IsAt loop 0 m → Among x ring → (m < x) ⊎ (m ≡ x)
+smallest_first ring loop k is least m x at among =
+    let p = Among-index x 0 ring among in
+    split_le m x (omega (arith, least p.0 p.1, p.2, at_place loop 0 m at))
+
+-- the two neighbours of the first, where they are read as numbers
+sides : (loop : List ℕ) → get_or loop 1 0 < get_or loop (length loop - 1) 0 → (second last : ℕ) → IsAt loop 1 second → IsAt loop (length loop - 1) last → second < last
+sides loop smaller second last at_second at_last =
+    omega (arith, smaller, at_place loop 1 second at_second, at_place loop (length loop - 1) last at_last)
 
 pub IsWritten-forth : (ring loop : List ℕ) (k : ℕ) → k < length ring → ((j : ℕ) → j < length ring → get_or ring k 0 ≤ get_or ring j 0) → loop ≡ turned k ring → get_or loop 1 0 < get_or loop (length ring - 1) 0 → IsWritten ring loop
 IsWritten-forth ring loop k lt least is smaller =
     let next = turned_next ring k lt in
     record {
       goes_round = (k, inl is);
-      smallest = smallest_first ring k (get_or loop 0 0) (sym (ap (λ (xs : List ℕ). get_or xs 0 0) (is ∙ next.0))) least;
-      smaller_side = subst (λ n. get_or loop 1 0 < get_or loop (n - 1) 0) (sym (ap length is ∙ length-turned ring k)) smaller;
+      smallest = smallest_first ring loop k (sym (ap (λ (xs : List ℕ). get_or xs 0 0) (is ∙ next.0))) least;
+      smaller_side = sides loop (subst (λ n. get_or loop 1 0 < get_or loop (n - 1) 0) (sym (ap length is ∙ length-turned ring k)) smaller);
     }
 
 back_side : (m : ℕ) (rest : List ℕ) → Different rest → 2 ≤ length rest → get_or (m ∷ rest) (length rest) 0 ≤ get_or (m ∷ rest) 1 0 → get_or (m ∷ reverse rest) 1 0 < get_or (m ∷ reverse rest) (length (m ∷ reverse rest) - 1) 0
@@ -153,9 +168,9 @@ IsWritten-back ring forth loop k long different lt least forth_is greater is =
     let others : Different (m ∷ rest) = subst Different next.0 (Different-turned ring different k) in
     record {
       goes_round = (k + 1, inr is);
-      smallest = smallest_first ring k (get_or loop 0 0) (sym (ap (λ (xs : List ℕ). get_or xs 0 0) loop_is)) least;
-      smaller_side = subst (λ (xs : List ℕ). get_or xs 1 0 < get_or xs (length xs - 1) 0) (sym loop_is)
+      smallest = smallest_first ring loop k (sym (ap (λ (xs : List ℕ). get_or xs 0 0) loop_is)) least;
+      smaller_side = sides loop (subst (λ (xs : List ℕ). get_or xs 1 0 < get_or xs (length xs - 1) 0) (sym loop_is)
           (back_side m rest others.1 (omega arith)
           (subst (λ n. get_or (m ∷ rest) n 0 ≤ get_or (m ∷ rest) 1 0) (let e : length ring - 1 ≡ length rest = omega arith in e)
-          (subst (λ (xs : List ℕ). get_or xs (length ring - 1) 0 ≤ get_or xs 1 0) forth_own greater)));
+          (subst (λ (xs : List ℕ). get_or xs (length ring - 1) 0 ≤ get_or xs 1 0) forth_own greater))));
     }

@@ -7,3 +7,8 @@ pub record IsRenaming {A B : Type 0} (linked : A → A → Bool) (joined : B →
   pub links_back : (a c : B) → IsTrue (joined a c) → IsTrue (linked (back a) (back c))
   pub back_name : (a c : A) → IsTrue (linked a c) → back (name a) ≡ a
   pub name_back : (a c : B) → IsTrue (joined a c) → name (back a) ≡ a
+
+-- of members that have links, one that comes before another has a name that comes before the other's
+abbrev pub KeepsOrder : {A B : Type 0} → (A → A → Bool) → (A → A → Type 0) → (B → B → Type 0) → (A → B) → Type 0
+KeepsOrder {A} linked Before Earlier name =
+    (x y u v : A) → IsTrue (linked x u) → IsTrue (linked y v) → Before x y → Earlier (name x) (name y)

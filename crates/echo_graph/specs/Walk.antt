@@ -1,5 +1,5 @@
 -- Members that links join, and walks along the links.
-use Rattle.std.specs.Prelude.{◌≡◌, ◌⊎◌, Bool, IsTrue, List, [], ◌∷◌}
+use Rattle.std.specs.Prelude.{◌≡◌, ◌<◌, ◌⊎◌, ℕ, Bool, IsTrue, List, [], ◌∷◌, length, slice_index_or}
 
 -- links go both ways, and none joins a member with itself
 pub record Simple {A : Type 0} (linked : A → A → Bool) : Type 0 where
@@ -10,6 +10,10 @@ pub record Simple {A : Type 0} (linked : A → A → Bool) : Type 0 where
 abbrev pub Among : {A : Type 0} → A → List A → Type 0
 Among x [] = ⊥
 Among x (y ∷ ys) = (x ≡ y) ⊎ Among x ys
+
+-- this member stands at this place
+abbrev pub IsAt : {A : Type 0} → List A → ℕ → A → Type 0
+IsAt xs i x = (i < length xs) × (slice_index_or xs i x ≡ x)
 
 -- no member stands twice
 abbrev pub Different : {A : Type 0} → List A → Type 0

@@ -1,7 +1,7 @@
 -- An area as it is drawn: what its lists hold, and what is told of each member.
 use Rattle.std.specs.Prelude.{Contains}
 use Rattle.std.specs.Cmp.{both_ways}
-use Rattle.std.proofs.Common.{◌≡◌, ◌<◌, ◌+◌, ◌-◌, ◌↔◌, ◌⊎◌, inl, inr, ℕ, Bool, true, false, IsTrue, if◌then◌else◌, List, [], ◌∷◌, ◌++◌, length, map, take, get_or, refl, sym, ap, subst, ◌∙◌, arith}
+use Rattle.std.proofs.Common.{◌≡◌, ◌<◌, ◌+◌, ◌↔◌, inl, inr, ℕ, Bool, true, false, IsTrue, if◌then◌else◌, List, [], ◌∷◌, ◌++◌, length, map, take, get_or, refl, sym, ap, subst, ◌∙◌, arith}
 use Rattle.std.specs.List.Sorted.{IsStrictlySortedBy}
 use Rattle.std.specs.Ordering.{is_lt}
 use Rattle.std.proofs.lemmas.Bool.{and_from, and_parts}
@@ -12,14 +12,12 @@ use Rattle.echo_base.specs.Base.{LinkFile}
 use Rattle.echo_base.specs.Sets.{address_before, same_address}
 use Rattle.echo_graph.proofs.Members.{Among-from_Contains, Contains-from_Among}
 use Rattle.echo_run.proofs.Lists.{Among-map_from, Among-map_to, any-from, any-to}
-use Rattle.echo_run.specs.Tidy.{Carries, carries, lists}
-use Rattle.echo_net.specs.declared.drawing.DrawnLink.{DrawnLink}
-use Rattle.echo_net.specs.declared.drawing.DrawnSystem.{DrawnSystem}
+use Rattle.echo_run.specs.Tidy.{carries, lists}
 use Rattle.echo_net.specs.declared.drawing.Drawing.{Drawing}
 use Rattle.echo_net.specs.declared.drawing.Mark.TheVariants.{Plain, Named, OnLoop}
 use Rattle.echo_net.specs.declared.link.Link.{Link}
 use Rattle.echo_net.specs.declared.verdict.Verdict.{Verdict}
-use Rattle.echo_net.specs.Drawn.{AreLinksInOrder, IsDrawing, IsDrawn, IsDrawnPair, back, has_address, has_link, link_drawn, link_from, loop_links, loop_named, mark_of, same_link, sides_of, steps_from, system_drawn, system_from, systems_named, upward}
+use Rattle.echo_net.specs.Drawn.{AreLinksInOrder, IsDrawing, IsDrawn, IsDrawnPair, back, has_address, has_link, link_drawn, link_from, loop_links, loop_named, same_link, sides_of, steps_from, system_drawn, system_from, systems_named, upward}
 use Rattle.echo_net.specs.Nets.{link}
 use Rattle.echo_net.proofs.Ascending.{at_place, earlier_less}
 use Rattle.echo_net.proofs.Numbers.{in_order_from_sorted}

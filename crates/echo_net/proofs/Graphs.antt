@@ -1,5 +1,5 @@
 -- The graph of an area, and what its faults say of the net.
-use Rattle.std.proofs.Common.{◌≡◌, ◌≢◌, ◌<◌, ◌≤◌, ◌↔◌, ℕ, zero, suc, Bool, false, IsTrue, List, [], ◌∷◌, length, map, get_or, sym, subst, ap, ◌∙◌, arith, inl, inr}
+use Rattle.std.proofs.Common.{◌≡◌, ◌<◌, ◌≤◌, ◌↔◌, ℕ, zero, suc, Bool, true, false, IsTrue, List, [], ◌∷◌, length, map, get_or, sym, subst, ◌∙◌, arith, inl, inr}
 use Rattle.std.specs.Prelude.{Contains}
 use Rattle.std.specs.Cmp.{both_ways}
 use Rattle.std.specs.List.{All}
@@ -8,24 +8,23 @@ use Rattle.std.proofs.lemmas.List.{get_or_past}
 use Rattle.echo_addr.specs.declared.address.Address.{Address}
 use Rattle.echo_base.specs.Base.{LinkFile}
 use Rattle.echo_base.specs.Sets.{address_before}
-use Rattle.echo_graph.specs.Walk.{Among, Connected, Different, Reaches}
+use Rattle.echo_graph.specs.Walk.{Among, Connected, Different, IsAt, Reaches}
 use Rattle.echo_graph.specs.Cycle.{IsCycle, Polygons}
 use Rattle.echo_graph.specs.Loops.{NamedLoop}
 use Rattle.echo_graph.specs.Reach.{FirstUnreached}
 use Rattle.echo_graph.specs.Rows.{IsAscending, IsGraph, linked}
-use Rattle.echo_graph.proofs.Members.{Among-get_or, Among-index}
-use Rattle.echo_graph.proofs.Renaming.{Among-map, Cycle-renamed}
+use Rattle.echo_graph.proofs.Members.{Among-get_or}
+use Rattle.echo_graph.proofs.RenamedLoops.{NamedLoop-renamed}
 use Rattle.echo_graph.proofs.Rows.{linked_within}
 use Rattle.echo_graph.proofs.Walks.{walk_links}
 use Rattle.echo_run.specs.Tidy.{Carries, Joined, Tidy, lists}
 use Rattle.echo_net.specs.declared.link.Link.{Link}
 use Rattle.echo_net.specs.declared.verdict.NetFault.{NetFault}
 use Rattle.echo_net.specs.declared.verdict.NetFault.TheVariants.{NoSuchArea, TwoFiles, SelfLink, Unknown, OneSided, SameNetNode, Apart, Loop}
-use Rattle.echo_net.specs.Faults.{AreInOrder, AreSoundLinks, IsFirstFault, numbered}
-use Rattle.echo_net.specs.Firsts.{IsAt}
+use Rattle.echo_net.specs.Faults.{AreInOrder, AreSoundLinks, IsFirstFault, IsNamedLoop, numbered}
 use Rattle.echo_net.specs.Nets.{systems}
 use Rattle.echo_net.specs.Rows.{AreRows, system_at}
-use Rattle.echo_net.proofs.Numbers.{back, back_name, carried, connected, loop_apart, name, no_later, number, parts, polygons, polygons_back, reaches, reaches_back, renaming, simple_numbers, whole}
+use Rattle.echo_net.proofs.Numbers.{back, carried, connected, keeps, keeps_back, loop_apart, name, no_later, number, parts, polygons, reaches, reaches_back, renaming, simple, simple_numbers, whole}
 use Rattle.echo_net.proofs.Orders.{not_before_itself}
 
 -- the rows of an area whose links are sound
@@ -117,51 +116,15 @@ module _ (files : List LinkFile) (tag : List ℕ) (all : List Address) (order : 
     },
   )
 
-  loop_cycle : (places : List ℕ) → IsCycle joined places → IsCycle (lists files tag) (map (system_at all) places)
-  loop_cycle [] cycle = cycle
-  loop_cycle (first ∷ rest) cycle =
-      Cycle-renamed joined (lists files tag) (name files tag all order) (back files tag all order)
-      (renaming files tag all order sound.no_self sound.known sound.both) (simple_numbers files tag all order sound.no_self sound.known sound.both) first rest cycle
-
-  loop_places : (places : List ℕ) → IsCycle joined places → (x : ℕ) → Among x places → x < length all
-  loop_places places cycle x among =
-      let simple = simple_numbers files tag all order sound.no_self sound.known sound.both in
-      let (k, inside, is) = Among-index x 0 places among in
-      subst (λ (y : ℕ). y < length all) is
-      (loop_within joined (length all) (λ i j h. (parts files tag all order i j h).one) simple.both_ways simple.no_self places cycle k 0 inside)
-
-  record Unlinked (loop : List Address) : Type 0 where
-    two : (x : Address) × (y : Address) × Among x loop × Among y loop × (x ≢ y) × (¬ IsTrue (lists files tag x y))
-
-  loop_unlinked : (places : List ℕ) → NamedLoop joined places → Unlinked (map (system_at all) places)
-  loop_unlinked places named =
-      let (x, y, at_x, at_y, other, apart) = named.unlinked in
-      let in_x = loop_places places named.cycle x at_x in
-      let in_y = loop_places places named.cycle y at_y in
-      record {
-        two = (
-          system_at all x,
-          system_at all y,
-          Among-map (system_at all) x places at_x,
-          Among-map (system_at all) y places at_y,
-          λ e. other (sym (back_name files tag all order x in_x) ∙ (ap (back files tag all order) e ∙ back_name files tag all order y in_y)),
-          λ linked. apart (whole files tag all order x y in_x in_y linked),
-        );
-      }
-
   pub is_loop : Connected (λ i. i < length all) joined → (places : List ℕ) → NamedLoop joined places → (loop : List Address) → loop ≡ map (system_at all) places →
       IsFirstFault files tag (Loop loop)
   is_loop h places named loop is = (
     is_joined h,
-    record {
-      carriers = all;
-      in_order = order;
-      places = places;
-      named = named;
-      written = is;
-      cycle = subst (IsCycle (lists files tag)) (sym is) (loop_cycle places named.cycle);
-      unlinked = (subst Unlinked (sym is) (loop_unlinked places named)).two;
-    },
+    subst (IsNamedLoop files tag) (sym is)
+        (NamedLoop-renamed joined (lists files tag) (name files tag all order) (back files tag all order)
+        (renaming files tag all order sound.no_self sound.known sound.both) (simple_numbers files tag all order sound.no_self sound.known sound.both)
+        (simple files tag all order sound.no_self sound.known sound.both) (λ i j. i < j) (λ a b. address_before a b ≡ true)
+        (keeps files tag all order sound.no_self sound.known sound.both) (keeps_back files tag all order sound.no_self sound.known sound.both) places named),
   )
 
 Different-apart : {X : Type 0} (xs : List X) → Different xs → (i j : ℕ) (x : X) → i < j → IsAt xs i x → IsAt xs j x → ⊥
@@ -187,8 +150,4 @@ not_tidy files tag (SameNetNode a b) h tidy =
     let up = not_before_itself a b same in
     cc
 not_tidy files tag (Apart a b) h tidy = h.2.holds.1 (tidy.joined.connected a b h.1.holds h.2.holds.0)
-not_tidy files tag (Loop loop) h tidy =
-    let named = h.1 in
-    let j = tidy.joined in
-    loop_apart (numbered named.carriers (lists files tag)) named.places named.named
-    (polygons_back files tag named.carriers named.in_order j.no_self j.known j.both tidy.cycles)
+not_tidy files tag (Loop loop) h tidy = loop_apart (lists files tag) loop h.1.cycle h.1.unlinked tidy.cycles

@@ -12,10 +12,10 @@ use Rattle.echo_addr.specs.declared.address.Address.{Address}
 use Rattle.echo_base.specs.LinkLines.{no_address}
 use Rattle.echo_base.specs.Base.{Area, LinkFile, area_of, has_area, is_link, links_of}
 use Rattle.echo_base.specs.Sets.{address_before, same_address}
-use Rattle.echo_graph.specs.Walk.{Among, Connected, Reaches, Simple}
+use Rattle.echo_graph.specs.Walk.{Connected, Reaches, Simple}
 use Rattle.echo_graph.specs.Cycle.{IsCycle, Polygons}
-use Rattle.echo_graph.specs.Loops.{NamedLoop}
-use Rattle.echo_graph.specs.Renaming.{IsRenaming}
+use Rattle.echo_graph.specs.Loops.{HasUnlinked}
+use Rattle.echo_graph.specs.Renaming.{IsRenaming, KeepsOrder}
 use Rattle.echo_graph.proofs.Renaming.{IsRenaming-swap, Polygons-renamed, Reaches-renamed}
 use Rattle.echo_run.specs.Tidy.{Carries, lists}
 use Rattle.echo_run.proofs.Lists.{any-from, any-to}
@@ -133,8 +133,21 @@ module _ (files : List LinkFile) (tag : List ℕ) (all : List Address) (order : 
     pub polygons : Polygons joined → Polygons (lists files tag)
     polygons h = Polygons-renamed joined (lists files tag) name back renaming simple h
 
-    pub polygons_back : Polygons (lists files tag) → Polygons joined
-    polygons_back h = Polygons-renamed (lists files tag) joined back name (IsRenaming-swap joined (lists files tag) name back renaming) simple_numbers h
+    -- places and addresses have one order
+    pub keeps : KeepsOrder joined (λ i j. i < j) (λ a b. address_before a b ≡ true) name
+    keeps i j k l link_i link_j lt = order.ascending i j lt (parts j l link_j).one
+
+    pub keeps_back : KeepsOrder (lists files tag) (λ a b. address_before a b ≡ true) (λ i j. i < j) back
+    keeps_back a b c d link_a link_b before =
+        let (i, in_i, is_i) = number a (lister_carries files tag a c link_a) in
+        let (j, in_j, is_j) = number b (lister_carries files tag b d link_b) in
+        let back_i : i ≡ back a = sym (back_name i in_i) ∙ ap back is_i in
+        let back_j : j ≡ back b = sym (back_name j in_j) ∙ ap back is_j in
+        let named : address_before (name i) (name j) ≡ true = subst (λ (x : Address). address_before x (name j) ≡ true) (sym is_i) (subst (λ (x : Address). address_before a x ≡ true) (sym is_j) before) in
+        elim (cases_lt i j) [
+          | inl lt ↦ omega (arith, lt, back_i, back_j)
+          | inr le ↦ (let late = no_later j i le in_i in cc)
+        ]
 
     pub reaches : (i j : ℕ) → Reaches joined i j → Reaches (lists files tag) (name i) (name j)
     reaches i j h = Reaches-renamed joined (lists files tag) name back renaming i j h
@@ -152,9 +165,6 @@ module _ (files : List LinkFile) (tag : List ℕ) (all : List Address) (order : 
         (subst (λ (c : Address). Reaches (lists files tag) (name i) c) is_j (reaches i j (h i j in_i in_j)))
 
 -- a loop with two members that are not linked is no polygon
-pub loop_apart : (linked : ℕ → ℕ → Bool) (loop : List ℕ) → NamedLoop linked loop → Polygons linked → ⊥
-loop_apart linked loop named polygons = at loop named.cycle named.unlinked.2 named.unlinked.3
-  where
-    at : (ring : List ℕ) → IsCycle linked ring → Among named.unlinked.0 ring → Among named.unlinked.1 ring → ⊥
-    at [] cycle x y = cycle
-    at (first ∷ rest) cycle x y = named.unlinked.5 (polygons first rest cycle named.unlinked.0 named.unlinked.1 x y named.unlinked.4)
+pub loop_apart : {A : Type 0} (linked : A → A → Bool) (loop : List A) → IsCycle linked loop → HasUnlinked linked loop → Polygons linked → ⊥
+loop_apart linked [] cycle unlinked polygons = cycle
+loop_apart linked (first ∷ rest) cycle (x, y, at_x, at_y, differ, apart) polygons = apart (polygons first rest cycle x y at_x at_y differ)

@@ -11,10 +11,10 @@ use Rattle.std.proofs.lemmas.List.{get_or_default}
 use Rattle.std.proofs.lemmas.List.Elements.{Contains-append_left, Contains-push, Contains-push_cases}
 use Rattle.echo_addr.specs.declared.address.Address.{Address}
 use Rattle.echo_base.specs.Sets.{same_address}
-use Rattle.echo_graph.specs.Walk.{Different}
+use Rattle.echo_graph.specs.Walk.{Different, IsAt}
 use Rattle.echo_graph.proofs.Members.{Among-index}
 use Rattle.echo_net.specs.declared.owners.Owner.{Owner}
-use Rattle.echo_net.specs.Firsts.{IsAt, IsSmallest, StandsTwice}
+use Rattle.echo_net.specs.Firsts.{IsSmallest, StandsTwice}
 use Rattle.echo_net.specs.Pairs.{FirstPair, NoPair}
 use Rattle.echo_net.proofs.Ascending.{at_place, earlier_from_less, earlier_less, later_not_before, not_gt, not_lt}
 use Rattle.echo_net.proofs.Neighbours.{gt_first, next_alike}

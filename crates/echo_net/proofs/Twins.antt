@@ -15,7 +15,8 @@ use Rattle.echo_graph.proofs.Members.{Among-from_Contains, Contains-from_Among}
 use Rattle.echo_run.proofs.Lists.{Among-map_from, Among-map_to}
 use Rattle.echo_net.specs.declared.link.Link.{Link}
 use Rattle.echo_net.specs.declared.same_net_node.Neighbour.{Neighbour}
-use Rattle.echo_net.specs.Firsts.{HasTwin, IsAt, IsSmallestPair}
+use Rattle.echo_graph.specs.Walk.{IsAt}
+use Rattle.echo_net.specs.Firsts.{HasTwin, IsSmallestPair}
 use Rattle.echo_net.specs.Nets.{link}
 use Rattle.echo_net.specs.Pairs.{IsTwin, neighbour_of}
 use Rattle.echo_net.proofs.Ascending.{at_place, earlier_from_less, earlier_less, later_not_before, not_gt, not_lt}

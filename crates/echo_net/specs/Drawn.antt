@@ -3,7 +3,6 @@ use Rattle.std.specs.Prelude.{◌≡◌, ◌<◌, ◌-◌, ◌&&◌, ◌↔◌, 
 use Rattle.std.specs.List.{list_any}
 use Rattle.echo_addr.specs.declared.address.Address.{Address}
 use Rattle.echo_base.specs.Base.{LinkFile}
-use Rattle.echo_base.specs.LinkLines.{no_address}
 use Rattle.echo_base.specs.Sets.{address_before, same_address}
 use Rattle.echo_run.specs.Tidy.{Carries, carries, lists}
 use Rattle.echo_net.specs.declared.link.Link.{Link}

@@ -1,11 +1,10 @@
 -- What is wrong with an area of a net: the first clause that fails, and where.
-use Rattle.std.specs.Prelude.{◌≡◌, ◌≢◌, ◌<◌, ◌&&◌, ◌↔◌, ⊤, nat_lt, ℕ, Bool, true, IsTrue, List, Contains, length, map}
+use Rattle.std.specs.Prelude.{◌≡◌, ◌<◌, ◌&&◌, ◌↔◌, ⊤, nat_lt, ℕ, Bool, true, IsTrue, List, Contains, length}
 use Rattle.std.specs.List.{list_any}
 use Rattle.echo_addr.specs.declared.address.Address.{Address}
 use Rattle.echo_addr.specs.Address.{net_node_of}
-use Rattle.echo_graph.specs.Walk.{Among, Different, Reaches}
-use Rattle.echo_graph.specs.Cycle.{IsCycle}
-use Rattle.echo_graph.specs.Loops.{NamedLoop}
+use Rattle.echo_graph.specs.Walk.{Different, Reaches}
+use Rattle.echo_graph.specs.Loops.{NamedLoopBy}
 use Rattle.echo_base.specs.Base.{LinkFile, has_area}
 use Rattle.echo_base.specs.Sets.{address_before}
 use Rattle.echo_run.specs.Tidy.{Carries, Joined, lists}
@@ -59,16 +58,10 @@ pub record AreInOrder (IsMember : Address → Type 0) (all : List Address) : Typ
 abbrev pub numbered : List Address → (Address → Address → Bool) → ℕ → ℕ → Bool
 numbered all linked i j = (nat_lt i (length all) && nat_lt j (length all)) && linked (system_at all i) (system_at all j)
 
--- the loop that is named: a cycle with two systems that are not linked, and the one of the definition of
--- graphs where systems go by their places in ascending order
-pub record IsNamedLoop (files : List LinkFile) (tag : List ℕ) (loop : List Address) : Type 0 where
-  pub carriers : List Address
-  pub in_order : AreInOrder (Carries files tag) carriers
-  pub places : List ℕ
-  pub named : NamedLoop (numbered carriers (lists files tag)) places
-  pub written : loop ≡ map (system_at carriers) places
-  pub cycle : IsCycle (lists files tag) loop
-  pub unlinked : (x : Address) × (y : Address) × Among x loop × Among y loop × (x ≢ y) × (¬ IsTrue (lists files tag x y))
+-- the loop that is named: a cycle with two systems that are not linked, the first of these as addresses
+-- ascend, as it is written
+abbrev pub IsNamedLoop : List LinkFile → List ℕ → List Address → Type 0
+IsNamedLoop files tag loop = NamedLoopBy (λ a b. address_before a b ≡ true) (lists files tag) loop
 
 -- the fault is the first clause that fails, with the smallest addresses of which it fails
 abbrev pub IsFirstFault : List LinkFile → List ℕ → NetFault → Type 0

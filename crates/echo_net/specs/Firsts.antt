@@ -1,8 +1,9 @@
 -- The smallest addresses, and the smallest pairs of addresses, of which something holds.
-use Rattle.std.specs.Prelude.{◌≡◌, ◌<◌, ◌&&◌, ◌||◌, ℕ, Bool, true, false, List, Contains, length, slice_index_or}
+use Rattle.std.specs.Prelude.{◌≡◌, ◌<◌, ◌&&◌, ◌||◌, ℕ, Bool, true, false, List, Contains}
 use Rattle.echo_addr.specs.declared.address.Address.{Address}
 use Rattle.echo_addr.specs.Address.{net_node_of}
 use Rattle.echo_base.specs.Sets.{address_before, same_address}
+use Rattle.echo_graph.specs.Walk.{IsAt}
 use Rattle.echo_net.specs.declared.link.Link.{Link}
 
 -- it holds of this address, and of none that comes before it
@@ -18,10 +19,6 @@ pair_before a b c d = address_before a c || (same_address a c && address_before 
 pub record IsSmallestPair (Holds : Address → Address → Type 0) (a b : Address) : Type 0 where
   pub holds : Holds a b
   pub first : (c d : Address) → Holds c d → pair_before c d a b ≡ false
-
--- this item stands at this place
-abbrev pub IsAt : {X : Type 0} → List X → ℕ → X → Type 0
-IsAt xs i x = (i < length xs) × (slice_index_or xs i x ≡ x)
 
 -- it stands at two places
 abbrev pub StandsTwice : {X : Type 0} → List X → X → Type 0

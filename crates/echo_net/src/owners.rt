@@ -2,9 +2,9 @@
 
 ghost use Rattle.std.specs.Prelude.{◌≡◌, ◌<◌, ◌↔◌, IfOk, MatchOption, Contains};
 ghost use Rattle.std.specs.List.Sorted.{IsStrictlySortedBy};
-ghost use Rattle.echo_graph.specs.Walk.{Different};
+ghost use Rattle.echo_graph.specs.Walk.{Different, IsAt};
 ghost use Rattle.echo_net.specs.declared.owners.Owner.{Owner};
-ghost use Rattle.echo_net.specs.Firsts.{IsAt, IsSmallest, StandsTwice};
+ghost use Rattle.echo_net.specs.Firsts.{IsSmallest, StandsTwice};
 ghost use Rattle.echo_net.specs.Pairs.{FirstPair, NoPair};
 
 use crate::sorting::put_in_order;

@@ -4,7 +4,7 @@ ghost use Rattle.std.specs.Prelude.{◌≡◌, ◌<◌, ◌↔◌, ℕ, IfOk, Co
 ghost use Rattle.std.specs.List.Sorted.{IsStrictlySortedBy};
 ghost use Rattle.echo_graph.specs.Rows.{IsAscending};
 ghost use Rattle.echo_net.specs.declared.link.Link.{Link};
-ghost use Rattle.echo_net.specs.Firsts.{IsAt};
+ghost use Rattle.echo_graph.specs.Walk.{IsAt};
 ghost use Rattle.echo_net.specs.Rows.{AreRows};
 
 use crate::carriers::is_before;

@@ -1,5 +1,3 @@
-use Rattle.std.proofs.Common.{List}
-use Rattle.echo_addr.specs.declared.address.Address.{Address}
 use Rattle.echo_net.proofs.Drawings.{held_again}
 use Rattle.echo_net.proofs.drawing.addresses.Goals as goal
 

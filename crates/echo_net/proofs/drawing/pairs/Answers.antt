@@ -1,5 +1,3 @@
-use Rattle.std.proofs.Common.{List}
-use Rattle.echo_net.specs.declared.link.Link.{Link}
 use Rattle.echo_net.proofs.Drawings.{held_again}
 use Rattle.echo_net.proofs.drawing.pairs.Goals as goal
 

@@ -1,4 +1,4 @@
-use Rattle.std.proofs.Common.{List, ◌++◌, ◌∷◌, [], ap, ◌∙◌}
+use Rattle.std.proofs.Common.{◌++◌, ◌∷◌, [], ap, ◌∙◌}
 use Rattle.echo_base.specs.LinkLines.{no_address}
 use Rattle.echo_net.specs.declared.link.Link.{Link}
 use Rattle.echo_net.proofs.Drawings.{step_taken}
