@@ -4,6 +4,10 @@
 .PHONY: all test demo show-examples toolchain clean
 MAKEFLAGS += --jobs=$(shell nproc)
 
+# The program that the examples are run with. After the gate that is the one that it built and left in
+# crates/echonet/out.
+program ?= bin/echonet
+
 # The crates that the program stands on, lowest first.
 lower = $(shell sed -n 's/^$(1):\(.*\)/\1/p' crates.txt)
 ours := $(shell sed -n 's/^\([a-z_]*\):.*/\1/p' crates.txt)
@@ -31,9 +35,10 @@ test: toolchain
 demo: bin/echonet
 	bin/echonet show --hex - < examples/packets/sixty-byte.hex
 
-show-examples: bin/echonet
+show-examples: $(program)
+	@mkdir -p bin
 	@for packet in examples/packets/*.pkt; do \
-	  bin/echonet show $$packet > bin/shown.txt || exit 1; \
+	  $(program) show $$packet > bin/shown.txt || exit 1; \
 	  diff $${packet%.pkt}.txt bin/shown.txt || exit 1; \
 	  echo "$$packet: as expected"; \
 	done
