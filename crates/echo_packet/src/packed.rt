@@ -6,6 +6,7 @@ ghost use Rattle.echo_packet.specs.declared.fault.PacketFault.TheVariants.{BadFi
 
 use crate::fault::{Field, PacketFault};
 use crate::limits::{MAX_NAME, MAX_SUBJECT};
+use memchr::memchr;
 use std::marker::Model;
 
 /// A packed message: three strings and a text without 00, of which the names have at most `MAX_NAME`
@@ -78,7 +79,7 @@ pub(crate) fn from_parts(
 fn is_string(bytes: &[u8], most: usize) -> bool
     ensures { IsTrue result ↔ IsString most bytes.now }
 {
-    bytes.len() <= most && bytes.iter().all(|b| *b != 0)
+    bytes.len() <= most && memchr(0, bytes).is_none()
 }
 
 fn first_bad(to_name: &[u8], from_name: &[u8], subject: &[u8], text: &[u8]) -> Option<Field>
