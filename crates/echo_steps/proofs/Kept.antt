@@ -5,7 +5,7 @@ use Rattle.std.specs.List.{list_any}
 use Rattle.std.proofs.lemmas.Bool.{and_parts, leb-true, ltb-false, or_parts}
 use Rattle.std.proofs.lemmas.List.{length-append, length-drop, length-take}
 use Rattle.echo_addr.specs.declared.address.Address.{Address}
-use Rattle.echo_packet.specs.Message.{IsMessage, Message}
+use Rattle.echo_packet.specs.Message.{IsMessage, Message, max_name, max_subject}
 use Rattle.echo_text.specs.Ids.{id_of, is_zero}
 use Rattle.echo_text.specs.Refusal.{refusal}
 use Rattle.echo_steps.specs.declared.draft.Draft.{Draft}
@@ -56,16 +56,16 @@ posted_filed file base tag draft serial stamp h ok =
     let zero = or_parts (list_any is_zero draft.to_name) _ ok.zero in
     let zero' = or_parts (list_any is_zero draft.from_name) _ zero.1 in
     let zero'' = or_parts (list_any is_zero draft.subject) _ zero'.1 in
-    let short = or_parts (nat_lt 35 (length draft.to_name)) _ ok.short in
-    let short' = or_parts (nat_lt 35 (length draft.from_name)) (nat_lt 71 (length draft.subject)) short.1 in
+    let short = or_parts (nat_lt max_name (length draft.to_name)) _ ok.short in
+    let short' = or_parts (nat_lt max_name (length draft.from_name)) (nat_lt max_subject (length draft.subject)) short.1 in
     record {
       small_sender = tt;
       date_len = date_long stamp ok.moment;
-      to_room = ltb-false 35 (length draft.to_name) short.0;
+      to_room = ltb-false max_name (length draft.to_name) short.0;
       to_bytes = some_bytes draft.to_name zero.0;
-      from_room = ltb-false 35 (length draft.from_name) short'.0;
+      from_room = ltb-false max_name (length draft.from_name) short'.0;
       from_bytes = some_bytes draft.from_name zero'.0;
-      subject_room = ltb-false 71 (length draft.subject) short'.1;
+      subject_room = ltb-false max_subject (length draft.subject) short'.1;
       subject_bytes = some_bytes draft.subject zero''.0;
       is_echo = posted_is_echo file base tag draft serial stamp h ok;
     }

@@ -5,6 +5,7 @@ use Rattle.std.specs.List.{list_any}
 use Rattle.echo_addr.specs.Address.{address_text}
 use Rattle.echo_text.specs.Lines.{lines, msgid_word, origin_word, reply_word, trimmed}
 use Rattle.echo_text.specs.Echo.{msgid_of}
+use Rattle.echo_packet.specs.Message.{max_name, max_subject}
 use Rattle.echo_steps.specs.declared.draft.Draft.{Draft}
 use Rattle.echo_steps.specs.declared.stamp.Stamp.{Stamp}
 use Rattle.echo_steps.specs.declared.fault.PostFault.{PostFault}
@@ -46,10 +47,10 @@ holds_zero draft =
     || (list_any is_zero draft.from_name
     || (list_any is_zero draft.subject || (list_any is_zero draft.reply || list_any is_zero draft.body)))
 
--- a name has over 35 bytes, or the subject over 71
+-- a name or the subject is too long for a packed message
 abbrev pub is_too_long : Draft → Bool
 is_too_long draft =
-    nat_lt 35 (length draft.to_name) || (nat_lt 35 (length draft.from_name) || nat_lt 71 (length draft.subject))
+    nat_lt max_name (length draft.to_name) || (nat_lt max_name (length draft.from_name) || nat_lt max_subject (length draft.subject))
 
 -- the first refusal that applies to a posting
 unfoldable pub post_refusal : LinkFile → List Filed → List ℕ → Draft → ℕ → Stamp → Option PostFault

@@ -9,14 +9,11 @@ ghost use Rattle.echo_toss.specs.Refusals.{draft_refusal};
 
 use crate::moment::is_stamp;
 use echo_base::LinkFile;
+use echo_packet::{MAX_NAME, MAX_SUBJECT};
 use echo_steps::{Draft, PostFault, Stamp};
 use echo_text::MsgId;
 
-/// The most bytes of a name, of the subject and of a tag.
-const NAME: usize = 35;
-
-const SUBJECT: usize = 71;
-
+/// The most bytes of a tag.
 const TAG: usize = 60;
 
 /// Judges a draft by the link file and by itself.
@@ -89,7 +86,9 @@ fn has_zero(bytes: &[u8]) -> bool
 fn is_too_long(draft: &Draft) -> bool
     ensures { result ≡ is_too_long draft.now }
 {
-    draft.to_name.len() > NAME || draft.from_name.len() > NAME || draft.subject.len() > SUBJECT
+    draft.to_name.len() > MAX_NAME
+        || draft.from_name.len() > MAX_NAME
+        || draft.subject.len() > MAX_SUBJECT
 }
 
 // Whether there is no reply, or an id.
