@@ -4,7 +4,7 @@ use Rattle.std.specs.Io.KnownBytes.{Appends}
 use Rattle.std.specs.List.{flat_map}
 use Rattle.echo_addr.specs.declared.address.Address.{Address}
 use Rattle.echo_addr.specs.Address.{address_text}
-use Rattle.echo_base.specs.BaseFile.{saved_bytes}
+use Rattle.echo_base.specs.BaseFile.{is_countable, saved_bytes}
 use Rattle.echo_packet.specs.Packet.{packet_bytes}
 use Rattle.echo_steps.specs.declared.fault.ScanFault.TheVariants.{BadStamp}
 use Rattle.echo_steps.specs.declared.packet.Packet.{Packet}
@@ -51,6 +51,7 @@ pub record IsScanned (stamp : Stamp) (links : List ℕ) (base : Option (List ℕ
   pub moment : is_stamp stamp ≡ true
   pub printed : Appends old new (flat_map line_of (scanned system.file system.base system.cursor stamp))
   pub left : files ≡ files_of system (scanned system.file system.base system.cursor stamp)
+  pub countable : is_countable system.base (length system.base) ≡ true
 
 -- a system is not scanned: a part of the stamp is out of its range, or the base is too great
 abbrev pub IsUnscanned : Stamp → SystemState → Fault → Type 0
