@@ -8,6 +8,7 @@ pub mod Entries
 pub mod Runs
 pub mod StubTests
 pub mod Texts
+pub mod TextLengths
 pub mod Plain
 pub mod Bytes
 pub mod Saved

@@ -6,14 +6,14 @@ use Rattle.std.specs.List.{AllByRecursion, flat_map, list_all, list_any}
 use Rattle.std.proofs.lemmas.Bool.{and_from, and_parts, lt-ltb, ltb-false, not-false, or_parts}
 use Rattle.std.proofs.lemmas.List.{append-nil, length-append, length-map}
 use Rattle.echo_addr.specs.declared.address.Address.{Address}
-use Rattle.echo_text.specs.Lines.{is_tag, msgid_word, trimmed}
+use Rattle.echo_text.specs.Lines.{is_tag, trimmed}
 use Rattle.echo_text.specs.Echo.{EchoText, msgid_of}
 use Rattle.echo_text.specs.Ids.{is_line_byte, is_zero}
 use Rattle.echo_text.specs.Refusal.{refusal}
 use Rattle.echo_base.specs.Written.{echo_of, text_of}
-use Rattle.echo_base.specs.Base.{Filed, id_line, is_known, key_of}
+use Rattle.echo_base.specs.Base.{Filed}
 use Rattle.echo_base.specs.Stubs.{bare}
-use Rattle.echo_base.specs.BaseFile.{AreSound, BaseOf, First, IsStored, Second, Stored, Version, has_tag, has_wrong_form, has_wrong_last, has_wrong_sender, has_wrong_string, head_bytes, is_countable, is_damaged, is_other_kind, is_posted, is_short, is_short_enough, is_wrong_id, is_wrong_text, kind_of, magic, message_in, saved_bytes, sender_in, sender_or_zeros, stored_as, stored_at, stored_bytes, stored_from}
+use Rattle.echo_base.specs.BaseFile.{AreSound, BaseOf, First, IsStored, Second, Stored, Version, has_tag, has_wrong_form, has_wrong_last, has_wrong_sender, has_wrong_string, head_bytes, is_countable, is_damaged, is_other_kind, is_posted, is_short, is_short_enough, is_wrong_id, is_wrong_text, kind_of, magic, message_in, saved_bytes, sender_or_zeros, stored_as, stored_at, stored_bytes, stored_from}
 use Rattle.echo_base.proofs.Keys.{IsIdText, msgid_first}
 use Rattle.echo_base.proofs.Trims.{IsTrim, trimmed_trim}
 

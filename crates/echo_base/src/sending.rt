@@ -1,8 +1,9 @@
 //! A message as it is stored in version 2 of a base, written to a sink. A failed call wrote a beginning
 //! of its bytes and nothing else.
-ghost use Rattle.std.specs.Prelude.{◌≡◌, [], ◌^◌, ◌<◌, ◌++◌, length, unwrap_or, IfOk, OnOk, OnErr, true};
+ghost use Rattle.std.specs.Prelude.{◌≡◌, [], ◌^◌, ◌<◌, ◌++◌, ◌≤◌, length, unwrap_or, IsTrue, IfOk, OnOk, OnErr, true};
+ghost use Rattle.std.specs.List.{flat_map};
 ghost use Rattle.echo_device.specs.Device.{Failed, Sends};
-ghost use Rattle.echo_text.specs.Echo.{msgid_of};
+ghost use Rattle.echo_text.specs.Echo.{ended, msgid_of};
 ghost use Rattle.echo_base.specs.Written.{text_of};
 ghost use Rattle.echo_base.specs.BaseFile.{Second, after_length, after_long_length, is_short, is_short_enough, kind_of, last_bytes, sender_or_zeros, stored_as, stored_bytes};
 ghost use Rattle.echo_base.specs.Saving.{CountsUnsent, front_bytes, strings_bytes};
@@ -10,7 +11,7 @@ ghost use Rattle.echo_base.specs.Saving.{CountsUnsent, front_bytes, strings_byte
 use crate::filed::Filed;
 use crate::numbers::{long_bytes, word_bytes};
 use crate::stub::is_stub;
-use echo_addr::Address;
+use echo_addr::{Address, Items};
 use echo_device::{Failure, Sink, send};
 use echo_text::{Echo, write_text};
 use std::alloc::{AllocError, AllocFailed, Global};
@@ -51,6 +52,11 @@ const FRONT_BYTES: usize = 27;
 
 // The most bytes that four bytes count.
 const MOST: usize = 0xffff_ffff;
+
+// So many entries of SEEN-BY or PATH, and so many bytes of kept lines, are little beside that.
+const FEW: usize = 0x0100_0000;
+
+const LITTLE: usize = 0x4000_0000;
 
 /// Whether the message has tag and id in place of the text at this place.
 pub(crate) fn is_short(message: &Filed, place: usize, cursor: usize) -> bool
@@ -198,6 +204,30 @@ pub(crate) fn send_message<W: Sink>(
     }
 }
 
+// Whether the lines, each with its 0D, have at most so many bytes.
+fn have_at_most(most: usize, lines: &[Items<u8>]) -> bool
+    ensures { IsTrue result → length (flat_map ended lines.now) ≤ most }
+{
+    let mut left = most;
+    'lines: for line in lines {
+        if line.len() >= left {
+            return false;
+        }
+        left -= line.len() + 1;
+    }
+    true
+}
+
+// Whether so little is written for the echo that four bytes count it, told without writing it.
+fn is_little(echo: &Echo) -> bool
+    ensures { IsTrue result → length (text_of echo.now) < 2 ^ 32 }
+{
+    if echo.seen.len() > FEW || echo.path.len() > FEW {
+        return false;
+    }
+    have_at_most(LITTLE, echo.kept.as_slice())
+}
+
 /// Whether four bytes count the bytes of the text, or of the id where the message is stored in short.
 pub(crate) fn is_short_enough(
     alloc: Global,
@@ -208,6 +238,9 @@ pub(crate) fn is_short_enough(
 {
     if short {
         return Ok(id_of(&message.echo).len() <= MOST);
+    }
+    if is_little(&message.echo) {
+        return Ok(true);
     }
     let text = text_of(alloc, message)?;
     Ok(text.len() <= MOST)

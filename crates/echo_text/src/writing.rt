@@ -13,13 +13,29 @@ use std::alloc::{AllocError, Global};
 pub fn write_text(alloc: Global, echo: &Echo) -> Result<Vec<u8>, AllocError>
     ensures { IfOk result (λ text. TextOf echo.now text.items) }
 {
-    let mut text = Vec::new(alloc);
+    let mut text = Vec::with_capacity(alloc, room_of(echo))?;
     text.extend_from_slice(AREA)?;
     push_line(&mut text, echo.tag.as_slice())?;
     push_lines(&mut text, echo.kept.as_slice())?;
     text.extend_from_slice(&write_seen(alloc, echo.seen.as_slice())?)?;
     text.extend_from_slice(&write_path(alloc, echo.path.as_slice())?)?;
     Ok(text)
+}
+
+/// How many bytes most lines of SEEN-BY and PATH have at most, and how many an entry has there.
+const LINE_ROOM: usize = 80;
+
+const ENTRY_ROOM: usize = 6;
+
+/// How many bytes most such texts have at most.
+fn room_of(echo: &Echo) -> usize {
+    let entries = echo.seen.len().saturating_add(echo.path.len());
+    let mut room = entries.saturating_mul(ENTRY_ROOM);
+    room = room.saturating_add(3 * LINE_ROOM);
+    'lines: for line in echo.kept.as_slice() {
+        room = room.saturating_add(line.len()).saturating_add(1);
+    }
+    room
 }
 
 /// Writes the lines, each with its 0D.

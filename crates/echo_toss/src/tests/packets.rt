@@ -83,9 +83,11 @@ fn readers_that_fail(rt: HostRuntime) -> Result<(), Fail> {
 fn packets_that_are_stopped(rt: HostRuntime) -> Result<(), Fail> {
     let mut gamma = system(rt.alloc(), GAMMA)?;
     let tally = Tally::NONE;
-    let other = tossed(&mut gamma, &FIRST[..100], Limits::NONE);
     let cause = TossCause::NotForUs(address(2));
-    assert!(rt; other == Err(TossFault { tally, cause }));
+    for size in [100, 212] {
+        let other = tossed(&mut gamma, &FIRST[..size], Limits::NONE);
+        assert!(rt; other == Err(TossFault { tally, cause }));
+    }
     let cut = tossed(&mut gamma, &FIRST[..57], Limits::NONE);
     let cause = TossCause::Packet(PacketFault::Truncated { at: 0 });
     assert!(rt; cut == Err(TossFault { tally, cause }));

@@ -44,39 +44,116 @@ fn own_serial_taken(rt: HostRuntime) -> Result<(), Fail> {
     Ok(())
 }
 
-// What the first posting is answered with this tag, addressee, reply and month.
-fn answer(
-    alloc: Global,
-    tag: &[u8],
-    to: &[u8],
-    reply: &[u8],
-    month: u16,
-) -> Result<Option<PostFault>, Fail> {
+/// What the first posting is changed to: tag, addressee, subject, reply, and year, month and day.
+type Posting = (
+    &'static [u8],
+    &'static [u8],
+    &'static [u8],
+    &'static [u8],
+    [u16; 3],
+);
+
+/// The day of the first posting.
+const DAY: [u16; 3] = [2026, 7, 3];
+
+/// 36 bytes, one more than a name may have.
+const LONG_NAME: &[u8] = b"123456789012345678901234567890123456";
+
+/// 72 bytes, one more than a subject may have.
+const LONG_SUBJECT: &[u8] =
+    b"123456789012345678901234567890123456789012345678901234567890123456789012";
+
+/// Postings and what they are answered.
+const POSTINGS: &[(Posting, Option<PostFault>)] = &[
+    ((b"test", b"All", b"Hi", b"", DAY), None),
+    ((b"NONE", b"\0", b"Hi", b"", DAY), Some(PostFault::NoArea)),
+    (
+        (b"TEST", b"All", b"\0", b"", [2026, 13, 3]),
+        Some(PostFault::ByteZero),
+    ),
+    (
+        (b"TEST", LONG_NAME, b"Hi", b"", DAY),
+        Some(PostFault::FieldTooLong),
+    ),
+    (
+        (b"TEST", b"All", LONG_SUBJECT, b"", DAY),
+        Some(PostFault::FieldTooLong),
+    ),
+    (
+        (b"TEST", b"All", b"Hi", b"x", [2026, 13, 3]),
+        Some(PostFault::BadStamp),
+    ),
+    (
+        (b"TEST", b"All", b"Hi", b"", [2080, 7, 3]),
+        Some(PostFault::BadStamp),
+    ),
+    ((b"TEST", b"All", b"Hi", b"", [2026, 2, 31]), None),
+    (
+        (b"TEST", b"All", b"Hi", b"x", DAY),
+        Some(PostFault::BadReply),
+    ),
+    ((b"TEST", b"All", b"Hi", b" 1:10/9 00000009 ", DAY), None),
+];
+
+// The system that was asked to post so, and its answer.
+fn answer(alloc: Global, posting: &Posting) -> Result<(System, Option<PostFault>), Fail> {
+    let (tag, to, subject, reply, [year, month, day]) = *posting;
     let mut alpha = system(alloc, ALPHA)?;
-    let posting = draft(alloc, to, b"Hi", reply, b"Hello\r")?;
-    let stamp = Stamp { month, ..STAMP };
-    Ok(alpha.post(tag, &posting, 1, stamp).err())
+    let draft = draft(alloc, to, subject, reply, b"Hello\r")?;
+    let stamp = Stamp {
+        year,
+        month,
+        day,
+        ..STAMP
+    };
+    let fault = alpha.post(tag, &draft, 1, stamp).err();
+    Ok((alpha, fault))
 }
 
 #[test]
-fn postings_refused(rt: HostRuntime) -> Result<(), Fail> {
-    let no_area = answer(rt.alloc(), b"NONE", b"\0", b"", 7)?;
-    assert!(rt; no_area == Some(PostFault::NoArea));
-    let zero = answer(rt.alloc(), b"TEST", b"\0", b"", 13)?;
-    assert!(rt; zero == Some(PostFault::ByteZero));
-    let long = answer(rt.alloc(), b"TEST", ALPHA, b"", 7)?;
-    assert!(rt; long == Some(PostFault::FieldTooLong));
+fn postings_accepted_and_refused(rt: HostRuntime) -> Result<(), Fail> {
+    for (posting, expected) in POSTINGS {
+        let (alpha, fault) = answer(rt.alloc(), posting)?;
+        assert!(rt; fault == *expected);
+        assert_eq!(rt; alpha.filed(), if fault.is_none() { 1 } else { 0 });
+    }
     Ok(())
 }
 
+// Whether the first message has this DateTime, and carries this reply.
+fn is_dated(at: &System, date: &[u8], reply: Option<&[u8]>) -> bool {
+    match at.message(0) {
+        Some(message) => message.date.as_slice() == date && message.echo.reply() == reply,
+        None => false,
+    }
+}
+
 #[test]
-fn postings_refused_and_accepted(rt: HostRuntime) -> Result<(), Fail> {
-    let stamp = answer(rt.alloc(), b"TEST", b"All", b"x", 13)?;
-    assert!(rt; stamp == Some(PostFault::BadStamp));
-    let reply = answer(rt.alloc(), b"TEST", b"All", b"x", 7)?;
-    assert!(rt; reply == Some(PostFault::BadReply));
-    let none = answer(rt.alloc(), b"test", b"All", b"", 7)?;
-    assert!(rt; none.is_none());
+fn dates_and_replies(rt: HostRuntime) -> Result<(), Fail> {
+    let no_day = (
+        b"TEST".as_slice(),
+        b"All".as_slice(),
+        b"Hi".as_slice(),
+        b"".as_slice(),
+        [2026, 2, 31],
+    );
+    let (alpha, _) = answer(rt.alloc(), &no_day)?;
+    assert!(rt; is_dated(&alpha, b"31 Feb 26  12:34:56\0", None));
+    let replied = (
+        b"TEST".as_slice(),
+        b"All".as_slice(),
+        b"Hi".as_slice(),
+        b" 1:10/9 00000009 ".as_slice(),
+        DAY,
+    );
+    let (alpha, _) = answer(rt.alloc(), &replied)?;
+    assert!(rt;
+        is_dated(
+            &alpha,
+            b"03 Jul 26  12:34:56\0",
+            Some(b"1:10/9 00000009".as_slice())
+        )
+    );
     Ok(())
 }
 

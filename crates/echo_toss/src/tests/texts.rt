@@ -1,42 +1,45 @@
 //! What becomes of single messages, and the texts that go out.
 use super::*;
 
-#[test]
-fn known_by_id(rt: HostRuntime) -> Result<(), Fail> {
-    let mut beta = system(rt.alloc(), BETA)?;
-    let text = b"AREA:TEST\r\x01MSGID: 1:10/1 00000001\rHi\r";
-    let first = outcome_of(rt.alloc(), &mut beta, 1, text)?;
-    assert!(rt; first == Outcome::Filed);
-    let again = outcome_of(rt.alloc(), &mut beta, 3, text)?;
-    assert!(rt; again == Outcome::Known);
-    let other = b"AREA:OTHER\r\x01MSGID: 1:10/1 00000001\rHi\r";
-    let elsewhere = outcome_of(rt.alloc(), &mut beta, 1, other)?;
-    assert!(rt; elsewhere == Outcome::Filed);
-    Ok(())
-}
+/// What becomes of texts that come one after another, each from the system of this node.
+const OUTCOMES: &[(u16, &[u8], Outcome)] = &[
+    (
+        1,
+        b"AREA:TEST\r\x01MSGID: 1:10/1 00000001\rHi\r",
+        Outcome::Filed,
+    ),
+    (
+        3,
+        b"AREA:TEST\r\x01MSGID: 1:10/1 00000001\rHo\r",
+        Outcome::Known,
+    ),
+    (
+        1,
+        b"AREA:OTHER\r\x01MSGID: 1:10/1 00000001\rHi\r",
+        Outcome::Filed,
+    ),
+    (1, b"AREA:TEST\rHello\r", Outcome::Filed),
+    (1, b"AREA:TEST\rHello\r", Outcome::Known),
+    (1, b"AREA:TEST\rHello\rHello\r", Outcome::Filed),
+    (
+        3,
+        b"AREA:TEST\rHello\rHello\rSEEN-BY: 10/3\r",
+        Outcome::Known,
+    ),
+    (4, b"AREA:TEST\rHello\r", Outcome::NotLinked),
+    (4, b"AREA:NONE\rHello\r", Outcome::NoArea),
+    (1, b"Hello", Outcome::NotEcho),
+    (1, b"AREA:", Outcome::BadTag),
+];
 
 #[test]
-fn known_by_content(rt: HostRuntime) -> Result<(), Fail> {
+fn outcomes(rt: HostRuntime) -> Result<(), Fail> {
     let mut beta = system(rt.alloc(), BETA)?;
-    let text = b"AREA:TEST\rHello\r";
-    let first = outcome_of(rt.alloc(), &mut beta, 1, text)?;
-    assert!(rt; first == Outcome::Filed);
-    let again = outcome_of(rt.alloc(), &mut beta, 1, text)?;
-    assert!(rt; again == Outcome::Known);
-    let stranger = outcome_of(rt.alloc(), &mut beta, 4, text)?;
-    assert!(rt; stranger == Outcome::NotLinked);
-    Ok(())
-}
-
-#[test]
-fn not_filed(rt: HostRuntime) -> Result<(), Fail> {
-    let mut beta = system(rt.alloc(), BETA)?;
-    let no_area = outcome_of(rt.alloc(), &mut beta, 4, b"AREA:NONE\rHello\r")?;
-    assert!(rt; no_area == Outcome::NoArea);
-    let not_echo = outcome_of(rt.alloc(), &mut beta, 1, b"Hello")?;
-    assert!(rt; not_echo == Outcome::NotEcho);
-    let bad_tag = outcome_of(rt.alloc(), &mut beta, 1, b"AREA:")?;
-    assert!(rt; bad_tag == Outcome::BadTag);
+    for (node, text, expected) in OUTCOMES {
+        let outcome = outcome_of(rt.alloc(), &mut beta, *node, *text)?;
+        assert!(rt; outcome == *expected);
+    }
+    assert_eq!(rt; beta.filed(), 4);
     Ok(())
 }
 

@@ -6,7 +6,7 @@ pub returns : goal.returns
 returns c =
     text_of_parts c.args.echo.now c.as_slice.result.now c.as_slice-2.result.now c.as_slice-3.result.now c.as_slice-4.result.now
     _ _ _ _ _ _ c.in_ok-write_seen.field-0.items c.in_ok-write_path.field-0.items
-    c.new-text.ensures.items c.in_ok-extend_from_slice.ensures.items c.in_ok-push_line.ensures c.in_ok-push_lines.ensures
+    c.in_ok-text.ensures.items c.in_ok-extend_from_slice.ensures.items c.in_ok-push_line.ensures c.in_ok-push_lines.ensures
     (c.in_ok-extend_from_slice-2.ensures.items ∙ ap (λ s. c.push_lines.new.text.items ++ s) c.deref.ensures.value)
     (c.in_ok-extend_from_slice-3.ensures.items ∙ ap (λ s. c.extend_from_slice-2.new.self.items ++ s) c.deref-2.ensures.value)
     c.in_ok-write_seen.ensures c.in_ok-write_path.ensures
