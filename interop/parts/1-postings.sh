@@ -1,0 +1,36 @@
+# Messages posted at each station in each area, with the links' jobs running at the same time
+
+long_name="A name of thirty-five bytes, no more"
+long_name=${long_name:0:35}
+long_subject=$(printf 'subject%.0s ' 1 2 3 4 5 6 7 8 9)
+long_subject=${long_subject:0:71}
+
+"$program" check MIDDLE {one,two,three}/links > verdict.txt
+same "MIDDLE is in order" "yes MIDDLE 3 systems 2 links" "$(cat verdict.txt)"
+"$program" check LEAF {one,two,three}/links > verdict.txt
+same "LEAF is in order" "yes LEAF 3 systems 2 links" "$(cat verdict.txt)"
+"$program" check ALL {one,two,three}/links > verdict.txt
+same "ALL is in order" "yes ALL 3 systems 3 links" "$(cat verdict.txt)"
+
+number=0
+for area in $areas; do
+  for station in one three; do
+    number=$((number + 1))
+    printf 'Hello from %s\n\nThe third line\n' $station | post_echonet $station $area All Ann "Hi" \
+      "$(printf '%08x' $number)" "2026-07-03T12:34:$((10 + number))"
+    scan $station &
+    # Lines with tabs, bytes over 7F, a quotation, and one of 300 bytes.
+    printf ' two\ttabs\t\n > quoted\n\351\201\377\n%300s\n' x | post_echonet $station $area "$long_name" \
+      "$long_name" "$long_subject" "$(printf '%08X' $((number + 100)) | tr A-F a-f)" 2079-12-31T23:59:59
+    scan $station
+    wait $!
+  done
+  printf 'Hello from two\n\nThe third line\n' | post_crashmail $area All Bob Hi
+  printf ' two\ttabs\t\n > quoted\n\351\201\377\n%300s\n' x | post_crashmail $area "$long_name" "$long_name" \
+    "${long_subject:0:70}"
+done
+wait_for 18 60
+same_everywhere
+same "Beta took nothing for bad" "" "$(ls two/msg/bad)"
+same "Alpha put nothing aside" "" "$(ls one/bad)"
+same "Gamma put nothing aside" "" "$(ls three/bad)"
