@@ -19,13 +19,13 @@ trap 'rm -f "$body" "$fault"' EXIT
 cat > "$body"
 
 set -- "$station/links" "$station/base"
-if [ -n "$reply" ]; then set -- --reply "$reply" "$@"; fi
+if [ -n "$reply" ]; then set -- "--reply=$reply" "$@"; fi
 at=$(date +%Y-%m-%dT%H:%M:%S)
 number=$(date +%s)
 while true; do
   status=0
-  "$program" post --area "$area" --to "$to" --from "$from" --subject "$subject" \
-    --serial "$(printf '%08x' "$number")" --at "$at" "$@" < "$body" 2> "$fault" || status=$?
+  "$program" post "--area=$area" "--to=$to" "--from=$from" "--subject=$subject" \
+    "--serial=$(printf '%08x' "$number")" "--at=$at" "$@" < "$body" 2> "$fault" || status=$?
   if [ $status -eq 0 ]; then exit 0; fi
   if ! grep -q '^echonet: B4 ' "$fault"; then
     cat "$fault" >&2
