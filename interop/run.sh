@@ -114,14 +114,13 @@ messages_of() {
 
 # Waits until each station has so many messages and nothing is on its way. Words: how many, seconds.
 wait_for() {
-  local until=$((SECONDS + $2)) station all
+  local until=$((SECONDS + $2)) station missing
   while [ $SECONDS -lt $until ]; do
-    all=yes
+    missing=
     for station in $stations; do
-      if [ "$(messages_of $station | wc -l)" -lt "$1" ]; then all=no; fi
+      if [ "$(messages_of $station | wc -l)" -lt "$1" ]; then missing=$station; fi
     done
-    if [ $all = yes ] && [ -z "$(ls {one,two,three}/outbound/*.?lo one/inbound two/inbound/*.pkt 2> /dev/null \
-      | grep -v ':$')" ]; then
+    if [ -z "$missing$(find {one,two,three}/{inbound,outbound} -name '*.pkt' -o -name '*.?lo')" ]; then
       return 0
     fi
     sleep 0.5

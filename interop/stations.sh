@@ -21,7 +21,10 @@ linked() {
 
 # The PATH of a message where it comes. Words: area, the poster's number, the receiver's.
 path_of() {
-  if linked "$1" "$2" | grep -q "$3"; then echo "10/$2"; else echo "10/$2 10/$(hub_of "$1")"; fi
+  case " $(linked "$1" "$2" | tr '\n' ' ')" in
+    *" $3 "*) echo "10/$2" ;;
+    *) echo "10/$2 10/$(hub_of "$1")" ;;
+  esac
 }
 
 # Its SEEN-BY there: each system of the PATH with its links.

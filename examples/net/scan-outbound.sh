@@ -39,20 +39,25 @@ drop_unfinished() {
   rm -f "$station"/scanned/*.new
 }
 
-# A name that no packet of this station had before: the moment in eight hexadecimal digits, or the next.
+# The own address.
+own=$(awk '$1 == "SYSTEM" { sub(/\r$/, "", $2); print $2 }' "$station/links")
+
+# A name that no packet of this station had before, in eight hexadecimal digits: the second, or the next
+# one, and a number of the own address added. Without that number two systems would give packets of one
+# second one name, and a mailer takes a packet of the same name, size and second for one that it has.
 new_name() {
   last=$(cat "$station/last-name" 2> /dev/null || true)
   number=$(date +%s)
   if [ "$number" -le "${last:-0}" ]; then number=$((last + 1)); fi
   echo "$number" > "$station/last-name"
-  printf '%08x.pkt\n' "$number"
+  address=$(printf '%s' "$own" | cksum | cut -d ' ' -f 1)
+  printf '%08x.pkt\n' $(((number + address) % 4294967296))
 }
 
 # The flow file of a packet's link, without its ending. Words: zone, net, node.
 flow_file() {
-  own=$(sed -n 's/^[ 	]*SYSTEM[ 	]*0*\([0-9]*\):.*/\1/p' "$station/links")
   folder=$station/outbound
-  if [ "$1" -ne "$own" ]; then folder=$folder.$(printf '%03x' "$1"); fi
+  if [ "$1" -ne "${own%%:*}" ]; then folder=$folder.$(printf '%03x' "$1"); fi
   mkdir -p "$folder"
   printf '%s/%04x%04x\n' "$folder" "$2" "$3"
 }

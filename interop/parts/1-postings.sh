@@ -12,6 +12,13 @@ same "LEAF is in order" "yes LEAF 3 systems 2 links" "$(cat verdict.txt)"
 "$program" check ALL {one,two,three}/links > verdict.txt
 same "ALL is in order" "yes ALL 3 systems 3 links" "$(cat verdict.txt)"
 
+# The job of cron, beside the hooks of binkd.
+while sleep 0.3; do
+  one/toss.sh
+  three/toss.sh
+done 2> /dev/null &
+cron=$!
+
 number=0
 for area in $areas; do
   for station in one three; do
@@ -30,6 +37,26 @@ for area in $areas; do
     "${long_subject:0:70}"
 done
 wait_for 18 60
+
+# Twenty postings at once, whose moments and serials post.sh finds.
+postings=()
+for number in $(seq 1 20); do
+  echo "Body $number" | "$scripts/post.sh" three MIDDLE All Cid "At once $number" > "posted/$number" &
+  postings+=($!)
+done
+wait "${postings[@]}"
+wait_for 38 60
+kill $cron
+wait $cron || true
+cat posted/* | sed 's/^posted MIDDLE //' | sort > ids.txt
+same "twenty ids" 20 "$(uniq ids.txt | wc -l)"
+for number in $(seq 1 20); do
+  line=$(messages_of three | awk -F '|' -v subject="At once $number" '$6 == subject')
+  same "posting $number of twenty" "MIDDLE|$(sed 's/^posted MIDDLE //' "posted/$number")||Cid|All|At once $number" \
+    "$(cut -d '|' -f 1-6 <<< "$line")"
+  same "body $number of twenty" "Body $number\r--- echonet\r * Origin: Gamma (1:10/3)\r" "$(cut -d '|' -f 8 <<< "$line")"
+  cut -d '|' -f 1-8 <<< "$line" >> expected/three
+done
 same_everywhere
 same "Beta took nothing for bad" "" "$(ls two/msg/bad)"
 same "Alpha put nothing aside" "" "$(ls one/bad)"

@@ -32,5 +32,5 @@ got=$(part_of three)
 stop_daemon two KILL
 same "Beta was stopped again, while it sent" yes "$([ "$got" -gt 0 ] && echo yes)"
 start_daemon two
-wait_for 168 120
+wait_for 188 120
 same_everywhere

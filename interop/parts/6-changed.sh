@@ -4,7 +4,7 @@
 body_at() { messages_of "$1" | awk -F '|' -v subject="$2" '$6 == subject { print $8 }'; }
 
 # SEEN-BY lines of a body. The area LEAF goes from Alpha to both others; MIDDLE goes by Beta to Gamma.
-printf 'before\nSEEN-BY: 10/9\nafter\n' | post_echonet one MIDDLE All Ann Quoted 00000301 2026-07-06T00:00:00
+printf 'before\nSEEN-BY: 10/9\n> SEEN-BY: 10/8\nafter\n' | post_echonet one MIDDLE All Ann Quoted 00000301 2026-07-06T00:00:00
 printf 'before\nSEEN-BY: 10/3\nafter\n' | post_echonet one MIDDLE All Ann Unsent 00000302 2026-07-06T00:00:01
 printf 'before\nSEEN-BY: 10/3\nafter\n' | post_echonet one LEAF All Ann Kept 00000303 2026-07-06T00:00:02
 scan one
@@ -15,8 +15,8 @@ while [ $SECONDS -lt $until ]; do
 done
 sleep 3
 ending='--- echonet\r * Origin: Alpha (1:10/1)\r'
-same "Beta takes a SEEN-BY line out of the body" 'before\rafter\r'"$ending" "$(body_at two Quoted)"
-same "so Gamma gets it without" 'before\rafter\r'"$ending" "$(body_at three Quoted)"
+same "Beta takes a SEEN-BY line out of the body" 'before\r> SEEN-BY: 10/8\rafter\r'"$ending" "$(body_at two Quoted)"
+same "so Gamma gets it without" 'before\r> SEEN-BY: 10/8\rafter\r'"$ending" "$(body_at three Quoted)"
 same "and what it names counts as seen" "10/1 10/2 10/3 10/9" \
   "$(messages_of three | awk -F '|' '$6 == "Quoted" { print $9 }')"
 same "what it names is not sent the message" "" "$(body_at three Unsent)"
