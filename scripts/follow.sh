@@ -12,7 +12,15 @@ mkdir "$place/bin" "$place/empty"
 ln -s "$program" "$place/bin/echonet"
 ln -s "$sources" "$place/echonet"
 export HOME=$place PATH=$place/bin:$PATH:/usr/sbin LC_ALL=C
-trap 'jobs -p | while read -r job; do kill "$job" 2> /dev/null || true; done' EXIT
+
+# Ends the mailers where a session did not come to its end.
+end_mailers() {
+  for file in "$place"/empty/*/binkd.pid; do
+    if [ -e "$file" ]; then kill "$(cat "$file")" || true; fi
+  done
+  rm -rf "$place"
+}
+trap end_mailers EXIT
 cd "$place/empty"
 
 # What may differ from day to day is written alike.
