@@ -1,10 +1,11 @@
 # `make` proves what has changed and builds bin/echonet, `make test` is the gate, `make demo` runs the
 # first example, `make show-examples` compares what `show` prints of the packets in examples/ with what
-# it is to print. `make story` runs three systems on real files; `make manual-test` compares the manual
-# page with the program's help; `make follow` does what docs/OPERATORS.md says (it needs binkd); `make
-# interop` runs a net with another tosser (it needs binkd and crashmail). `make install` puts the program
-# and its manual page under PREFIX, or under DESTDIR and PREFIX, and `make uninstall` takes them away.
-.PHONY: all test demo show-examples story manual-test follow interop install uninstall toolchain clean
+# it is to print. `make story` runs three systems on real files, `make net-test` the scripts of
+# examples/net; `make manual-test` compares the manual page with the program's help; `make follow` does
+# what docs/OPERATORS.md says (it needs binkd); `make interop` runs a net with another tosser (it needs
+# binkd and crashmail). `make install` puts the program and its manual page under PREFIX, or under DESTDIR
+# and PREFIX, and `make uninstall` takes them away.
+.PHONY: all test demo show-examples story net-test manual-test follow interop install uninstall toolchain clean
 MAKEFLAGS += --jobs=$(shell nproc)
 PREFIX = /usr/local
 
@@ -44,6 +45,9 @@ show-examples: bin/echonet
 
 story: bin/echonet
 	examples/story.sh bin/echonet
+
+net-test: bin/echonet
+	scripts/net-test.sh bin/echonet
 
 manual-test: bin/echonet
 	scripts/manual.sh docs/echonet.1 bin/echonet
