@@ -1,8 +1,13 @@
 # `make` proves what has changed and builds bin/echonet, `make test` is the gate, `make demo` runs the
 # first example, `make show-examples` compares what `show` prints of the packets in examples/ with what
-# it is to print.
-.PHONY: all test demo show-examples toolchain clean
+# it is to print. `make story` runs three systems on real files, `make net-test` the scripts of
+# examples/net; `make manual-test` compares the manual page with the program's help; `make follow` does
+# what docs/OPERATORS.md says (it needs binkd); `make interop` runs a net with another tosser (it needs
+# binkd and crashmail). `make install` puts the program and its manual page under PREFIX, or under DESTDIR
+# and PREFIX, and `make uninstall` takes them away.
+.PHONY: all test demo show-examples story net-test manual-test follow interop install uninstall toolchain clean
 MAKEFLAGS += --jobs=$(shell nproc)
+PREFIX = /usr/local
 
 # The program that the examples are run with. After the gate that is the one that it built and left in
 # crates/echonet/out.
@@ -42,6 +47,29 @@ show-examples: $(program)
 	  diff $${packet%.pkt}.txt bin/shown.txt || exit 1; \
 	  echo "$$packet: as expected"; \
 	done
+
+story: bin/echonet
+	examples/story.sh bin/echonet
+
+net-test: bin/echonet
+	scripts/net-test.sh bin/echonet
+
+manual-test: bin/echonet
+	scripts/manual.sh docs/echonet.1 bin/echonet
+
+follow: bin/echonet
+	scripts/follow.sh docs/OPERATORS.md bin/echonet
+
+interop: bin/echonet
+	interop/run.sh bin/echonet
+
+install: bin/echonet
+	mkdir -p $(DESTDIR)$(PREFIX)/bin $(DESTDIR)$(PREFIX)/share/man/man1
+	install -m 755 bin/echonet $(DESTDIR)$(PREFIX)/bin/echonet
+	install -m 644 docs/echonet.1 $(DESTDIR)$(PREFIX)/share/man/man1/echonet.1
+
+uninstall:
+	rm -f $(DESTDIR)$(PREFIX)/bin/echonet $(DESTDIR)$(PREFIX)/share/man/man1/echonet.1
 
 clean:
 	rm -rf bin crates/*/out

@@ -1,0 +1,143 @@
+#!/usr/bin/env bash
+# Three systems on this machine, of which Beta runs CrashMail II and the other two echonet, joined by binkd
+# daemons on local ports. What is posted at each is to come to each other one exactly once, unchanged.
+# Word: the program. PORT is the first of the four ports that are used (24570 where it is not given).
+# Needs binkd and crashmail, and perl, flock and setsid, which Debian always has.
+set -euo pipefail
+here=$(cd "$(dirname "$0")" && pwd)
+export PATH=$PATH:/usr/sbin
+for command in binkd crashmail crashwrite perl flock setsid; do
+  if ! command -v $command > /dev/null; then
+    echo "interop: there is no $command here; try: apt-get install binkd crashmail" >&2
+    exit 1
+  fi
+done
+program=$(realpath "${1:-$here/../bin/echonet}")
+export ECHONET=$program
+scripts=$here/../examples/net
+port=${PORT:-24570}
+. "$here/stations.sh"
+. "$here/checks.sh"
+
+work=$(mktemp -d)
+cd "$work"
+declare -A daemons
+
+# Makes the folders and files of all stations.
+make_stations() {
+  local station
+  mkdir -p expected posted two/{msg/{netmail,bad,middle,leaf,all},temp,create,write}
+  for station in $stations; do
+    mkdir -p $station/{inbound,outbound,strangers,partly,packets,kept}
+  done
+  links_text 1 Alpha > one/links
+  links_text 2 Beta > two/links
+  links_text 3 Gamma > three/links
+  crashmail_text "$work" > two/prefs
+  # A copy of each packet that comes stays in STATION/kept.
+  for station in $stations; do
+    printf '#!/bin/sh\nset -eu\nn=$(ls %s | wc -l)\ncp "$1" %s/$n.pkt\n' "$work/$station/kept" \
+      "$work/$station/kept" > $station/keep.sh
+  done
+  printf '#!/bin/sh\nexec 9> %s\nflock 9\nsleep 1.1\ncrashmail SETTINGS %s TOSS > /dev/null 9>&-\n' \
+    "$work/two/lock" "$work/two/prefs" > two/toss.sh
+  for station in one three; do
+    cat > $station/toss.sh <<END
+#!/bin/sh
+for packet in $work/$station/inbound/*.pkt; do $work/$station/keep.sh "\$packet"; done
+$scripts/toss-inbound.sh $station >> $station/toss.log 2>&1
+$scripts/scan-outbound.sh $station >> $station/scan.log 2>&1
+END
+    binkd_text $station "$(number_of $station)" "$station/toss.sh" > $station/binkd.conf
+  done
+  chmod +x */keep.sh */toss.sh
+  binkd_text two 2 two/toss.sh > two/binkd.conf
+}
+
+# Starts the daemon of a station as a group of processes of its own.
+start_daemon() {
+  setsid binkd "$1/binkd.conf" > "$1/daemon.log" 2>&1 &
+  daemons[$1]=$!
+}
+
+# Ends it, and what it has started. Words: station, signal.
+stop_daemon() {
+  kill "-${2:-TERM}" -- "-${daemons[$1]}" 2> /dev/null || true
+  wait "${daemons[$1]}" 2> /dev/null || true
+  unset "daemons[$1]"
+}
+
+stop_all() {
+  for station in "${!daemons[@]}"; do stop_daemon "$station" KILL; done
+}
+trap stop_all EXIT
+
+scan() { "$scripts/scan-outbound.sh" "$1" >> "$1/scan.log" 2>&1; }
+
+# Posts at a station of echonet, and notes what is to be found everywhere. Words: station, area, to, from,
+# subject, serial, moment, reply; the body is standard input.
+post_echonet() {
+  local number name id date reply=()
+  number=$(number_of "$1")
+  name=$(sed -n 's/^NAME //p' "$1/links")
+  id="1:10/$number $6"
+  if [ -n "${8:-}" ]; then reply=(--reply "$8"); fi
+  cat > body.txt
+  "$program" post --area "$2" --to "$3" --from "$4" --subject "$5" --serial "$6" --at "$7" \
+    "${reply[@]}" "$1/links" "$1/base" < body.txt > posted.txt
+  same "a posting at $1 is told" "posted $2 $id" "$(cat posted.txt)"
+  date=$(LC_ALL=C date -u -d "$7Z" '+%d %b %y  %H:%M:%S')
+  perl "$here/mail.pl" posted "$2" "$id" "${8:-}" "$4" "$3" "$5" "$date" \
+    "--- echonet" " * Origin: $name (1:10/$number)" < body.txt >> "expected/$1"
+}
+
+# Posts at Beta. Words: area, to, from, subject, further words of crashwrite; the body is standard input. Both
+# crashwrite and crashmail name their packets after the second, and the second packet of a second takes
+# the place of the first, so each waits for a new one.
+post_crashmail() {
+  cat > body.txt
+  sleep 1.1
+  crashwrite DIR "$work/two/write" AREA "$1" TONAME "$2" TOADDR 1:10/2 FROMNAME "$3" FROMADDR 1:10/2 \
+    SUBJECT "$4" ORIGIN Beta TEXT "$work/body.txt" "${@:5}" > /dev/null
+  perl "$here/mail.pl" packet two/write/*.pkt | cut -d '|' -f 1-8 >> expected/two
+  flock two/lock sh -c 'sleep 1.1; exec crashmail SETTINGS "$0" TOSSDIR "$1" NOSECURITY' \
+    "$work/two/prefs" "$work/two/write" > /dev/null
+}
+
+# All messages of a station.
+messages_of() {
+  case $1 in
+    two) perl "$here/mail.pl" msg two/msg/{middle,leaf,all} ;;
+    *) if [ -e "$1/base" ]; then perl "$here/mail.pl" base "$1/base"; fi ;;
+  esac
+}
+
+# Waits until each station has so many messages and nothing is on its way. Words: how many, seconds.
+wait_for() {
+  local until=$((SECONDS + $2)) station missing
+  while [ $SECONDS -lt $until ]; do
+    missing=
+    for station in $stations; do
+      if [ "$(messages_of $station | wc -l)" -lt "$1" ]; then missing=$station; fi
+    done
+    if [ -z "$missing$(find {one,two,three}/{inbound,outbound} -name '*.pkt' -o -name '*.?lo')" ]; then
+      return 0
+    fi
+    sleep 0.5
+  done
+  echo "interop: after $2 seconds not all has come" >&2
+}
+
+make_stations
+for station in $stations; do start_daemon $station; done
+for part in "$here"/parts/*.sh; do
+  echo "== $(sed -n '1s/^# //p' "$part")"
+  . "$part"
+done
+stop_all
+echo "$passed checks passed, $failed failed"
+if [ $failed -ne 0 ]; then
+  echo "The stations are in $work" >&2
+  exit 1
+fi
+rm -rf "$work"

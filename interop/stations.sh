@@ -1,0 +1,112 @@
+# The three systems of `make interop`: what the other files here share. Alpha (1:10/1) and Gamma (1:10/3)
+# run echonet, Beta (1:10/2) runs CrashMail II. In the area MIDDLE Beta stands between the two, in LEAF
+# Alpha does, in ALL each is linked with each.
+
+areas="MIDDLE LEAF ALL"
+stations="one two three"
+number_of() { case $1 in one) echo 1 ;; two) echo 2 ;; three) echo 3 ;; esac; }
+
+# The system that passes mail on in an area, if one does.
+hub_of() { case $1 in MIDDLE) echo 2 ;; LEAF) echo 1 ;; ALL) ;; esac; }
+
+# The systems that a system is linked with. Words: area, number.
+linked() {
+  local hub other
+  hub=$(hub_of "$1")
+  for other in 1 2 3; do
+    if [ "$other" = "$2" ]; then continue; fi
+    if [ -z "$hub" ] || [ "$hub" = "$2" ] || [ "$hub" = "$other" ]; then echo "$other"; fi
+  done
+}
+
+# The PATH of a message where it comes. Words: area, the poster's number, the receiver's.
+path_of() {
+  case " $(linked "$1" "$2" | tr '\n' ' ')" in
+    *" $3 "*) echo "10/$2" ;;
+    *) echo "10/$2 10/$(hub_of "$1")" ;;
+  esac
+}
+
+# Its SEEN-BY there: each system of the PATH with its links.
+seen_of() {
+  local system
+  for system in $(path_of "$1" "$2" "$3"); do
+    echo "$system"
+    linked "$1" "${system#10/}" | sed 's,^,10/,'
+  done | sort -u | tr '\n' ' ' | sed 's/ $//'
+}
+
+# The link file of a station. Words: number, name.
+links_text() {
+  echo "SYSTEM 1:10/$1"
+  echo "NAME $2"
+  for area in $areas; do
+    echo "AREA $area $(linked "$area" "$1" | sed 's,^,1:10/,' | tr '\n' ' ')"
+  done
+}
+
+# The configuration of a station's binkd. Words: station, number, the hook.
+binkd_text() {
+  local other
+  cat <<END
+domain fidonet $1/outbound 1
+address 1:10/$2@fidonet
+sysname "$1"
+location "This machine"
+sysop "Sysop"
+nodeinfo 115200,TCP,BINKP
+listen 127.0.0.1:$((port + $2))
+log $1/binkd.log
+loglevel 4
+rescan-delay 1
+call-delay 1
+limit-rate all 64k *.pkt
+inbound $1/inbound
+inbound-nonsecure $1/strangers
+temp-inbound $1/partly
+check-pkthdr all .bad
+kill-dup-partial-files
+kill-old-bsy 5
+exec "$3" *.pkt
+END
+  for other in 1 2 3; do
+    if [ "$other" != "$2" ]; then
+      echo "node 1:10/$other@fidonet 127.0.0.1:$((port + other)) secret"
+    fi
+  done
+}
+
+# The configuration of CrashMail at Beta. Word: the folder of all stations.
+crashmail_text() {
+  cat <<END
+SYSOP "Bob"
+LOGFILE "$1/two/crashmail.log"
+LOGLEVEL 5
+DUPEFILE "$1/two/dupes" 100000
+DUPEMODE BAD
+LOOPMODE LOG
+MAXPKTSIZE 2000
+MAXBUNDLESIZE 2000
+DEFAULTZONE 1
+INBOUND "$1/two/inbound"
+OUTBOUND "$1/two/outbound"
+TEMPDIR "$1/two/temp"
+CREATEPKTDIR "$1/two/create"
+PACKETDIR "$1/two/packets"
+STATSFILE "$1/two/stats"
+BEFORETOSS "$1/two/keep.sh %f"
+CHECKSEENBY
+CHECKPKTDEST
+IMPORTSEENBY
+AKA 1:10/2
+DOMAIN "fidonet"
+NODE 1:10/1 "" ""
+NODE 1:10/3 "" ""
+NETMAIL "NETMAIL" 1:10/2 MSG "$1/two/msg/netmail"
+AREA "BAD" 1:10/2 MSG "$1/two/msg/bad"
+END
+  for area in $areas; do
+    echo "AREA \"$area\" 1:10/2 MSG \"$1/two/msg/$(echo "$area" | tr A-Z a-z)\""
+    echo "EXPORT $(linked "$area" 2 | sed 's,^,1:10/,' | tr '\n' ' ')"
+  done
+}

@@ -1,0 +1,65 @@
+#!/usr/bin/env bash
+# Follows the sessions of a document from its first line to its last in an empty folder: each line
+# `    $ COMMAND` is typed, and what is printed is compared with the lines below it. Serials of eight
+# hexadecimal digits, moments and dates may differ. Words: the document, the program.
+set -eu
+cd "$(dirname "$0")/.."
+document=$(realpath "${1:-docs/OPERATORS.md}")
+program=$(realpath "${2:-bin/echonet}")
+sources=$PWD
+place=$(mktemp -d)
+mkdir "$place/bin" "$place/empty"
+ln -s "$program" "$place/bin/echonet"
+ln -s "$sources" "$place/echonet"
+export HOME=$place PATH=$place/bin:$PATH:/usr/sbin LC_ALL=C
+
+# Ends the mailers where a session did not come to its end.
+end_mailers() {
+  for file in "$place"/empty/*/binkd.pid; do
+    if [ -e "$file" ]; then kill "$(cat "$file")" || true; fi
+  done
+  rm -rf "$place"
+}
+trap end_mailers EXIT
+cd "$place/empty"
+
+# What may differ from day to day is written alike.
+alike() {
+  sed -E 's/\b[0-9a-f]{8}\b/SERIAL/g; s/[0-9]{4}-[0-9]{2}-[0-9]{2}[T ][0-9:]{8}/MOMENT/g
+    s/[0-9]{2} [A-Z][a-z]{2} [0-9]{2}  [0-9:]{8}/DATE/g'
+}
+
+good=0
+bad=0
+expected=
+command=
+
+# Types the command, in this shell so that folders, variables and jobs stay.
+type_it() {
+  if [ -z "$command" ]; then return; fi
+  set +eu
+  eval "$command" > "$place/printed" 2>&1 < /dev/null
+  set -eu
+  if [ "$(printf '%s' "$expected" | alike)" = "$(alike < "$place/printed")" ]; then
+    good=$((good + 1))
+  else
+    bad=$((bad + 1))
+    printf 'DIFFERS: %s\n  told:\n%s\n  printed:\n%s\n' "$command" "$expected" "$(cat "$place/printed")"
+  fi
+  command=
+  expected=
+}
+
+while IFS= read -r line; do
+  case $line in
+    '    $ '*)
+      type_it
+      command=${line#    \$ }
+      ;;
+    '    '*) if [ -n "$command" ]; then expected=$expected${line#    }$'\n'; fi ;;
+    *) type_it ;;
+  esac
+done < "$document"
+type_it
+echo "$good commands printed what is told, $bad did not"
+[ $bad -eq 0 ]

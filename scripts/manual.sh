@@ -1,0 +1,70 @@
+#!/usr/bin/env bash
+# Compares the words of the manual page with those that the program's help prints: its commands, of each
+# the words and options with what stands for their values, the statuses, and the version. Words: the page,
+# the program.
+set -eu
+cd "$(dirname "$0")/.."
+page=$(realpath "${1:-docs/echonet.1}")
+program=$(realpath "${2:-bin/echonet}")
+place=$(mktemp -d)
+trap 'rm -rf "$place"' EXIT
+passed=0
+failed=0
+
+# Words: what is compared, the help's words, the page's words.
+same() {
+  if [ "$2" = "$3" ]; then
+    passed=$((passed + 1))
+  else
+    failed=$((failed + 1))
+    printf 'DIFFERS %s\n  help: %s\n  page: %s\n' "$1" "$2" "$3"
+  fi
+}
+
+# The page without its font changes.
+sed -E 's/\\-/-/g; s/\\f[A-Z]//g' "$page" > "$place/page"
+
+# The lines of a section of the page, or of a command in it. Words: the beginning of its heading.
+part_of_page() { awk -v from="$1" 'index($0, ".S") == 1 { on = index($0, from) == 1 } on' "$place/page"; }
+
+# The lines of a part of a help text. Words: the help, the part's heading.
+part_of_help() { awk -v from="$2:" '/^[^ ]/ { on = $0 == from; next } on && NF' <<< "$1"; }
+
+# The options of a page's part, with their values, a line each: those of its heading and of its paragraphs.
+page_options() {
+  sed -nE 's/^\.BI (--[a-z-]+) " ([A-Z0-9]+)"$/\1 \2/p; s/^\.B (--[a-z-]+)$/\1/p' <<< "$1" | sort
+}
+heading_options() { grep -oE -e '--[a-z-]+( [A-Z0-9]+)?' <<< "$1" | while read -r option value; do
+  if [ -n "$value" ]; then echo "$option $value"; else echo "$option"; fi; done | sort; }
+help_options() {
+  part_of_help "$1" Options | sed -nE 's/^ +(-., )?(--[a-z-]+)( <([A-Z0-9]+)>)?  .*/\2 \4/p' | sed 's/ $//' |
+    grep -v -e '^--help$' | sort
+}
+
+help=$("$program" --help)
+commands=$(part_of_help "$help" Commands | awk '$1 != "help" { print $1 }' | sort)
+same "the commands" "$commands" "$(sed -nE 's/^\.SS ([a-z]+).*/\1/p' "$place/page" | sort)"
+
+for command in $commands; do
+  help=$("$program" "$command" --help)
+  part=$(part_of_page ".SS $command")
+  heading=$(sed -n 's/^\.SS //p' <<< "$part")
+  options=$(help_options "$help")
+  same "$command: options in the heading" "$options" "$(heading_options "$heading" || true)"
+  same "$command: options told" "$options" "$(page_options "$part")"
+  # An option stands in brackets in the heading where the usage line leaves it out.
+  same "$command: options that may be left out" \
+    "$(while read -r option _; do [ -z "$option" ] || grep '^Usage' <<< "$help" | grep -q -e "$option" || echo "$option"; done <<< "$options")" \
+    "$(grep -oE '\[--[a-z]+' <<< "$heading" | tr -d '[' | sort || true)"
+  same "$command: words" "$(sed -n 's/^Usage: echonet [a-z]* //p' <<< "$help" |
+    sed -E 's/\[OPTIONS\] ?//; s/--[a-z-]+ <[A-Z0-9]+> ?//g' | tr -d '<>')" \
+    "$(sed -E 's/^[a-z]+ //; s/\[--[a-z-]+( [A-Z0-9]+)?\] ?//g; s/--[a-z-]+ [A-Z0-9]+ ?//g' <<< "$heading")"
+  same "$command: statuses" \
+    "$(part_of_help "$help" 'Exit status' | sed -E 's/^ +([0-9]) +/\1 /')" \
+    "$(part_of_page '.SH EXIT STATUS' | awk '/^\.B [0-9]$/ { number = $2; getline; print number, $0 }' |
+      sed -e 's/, or help that was asked for//' -e 's/\.$//')"
+done
+
+same "the version" "$("$program" --version)" "$(sed -nE 's/^\.TH .* "(echonet [0-9.]+)" .*/\1/p' "$place/page")"
+echo "$passed checks passed, $failed failed"
+[ $failed -eq 0 ]

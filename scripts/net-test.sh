@@ -1,0 +1,169 @@
+#!/usr/bin/env bash
+# Tries the scripts of examples/net on a net of three whose mailer is `mv`: stopped scans, packets that are
+# cut or for others or not filed, flow files that are held, runs at the same moment. Word: the program.
+set -eu
+cd "$(dirname "$0")/.."
+program=$(realpath "${1:-bin/echonet}")
+scripts=$PWD/examples/net
+export ECHONET=$program
+place=$(mktemp -d)
+trap 'rm -rf "$place"' EXIT
+cp -r "$scripts"/{one,two,three} "$place"
+cd "$place"
+passed=0
+failed=0
+
+# Words: what is compared, what it is to be, what it is.
+same() {
+  if [ "$2" = "$3" ]; then
+    passed=$((passed + 1))
+  else
+    failed=$((failed + 1))
+    printf 'FAILED %s\n  expected: %s\n  found:    %s\n' "$1" "$2" "$3"
+  fi
+}
+
+post() { echo "Body of $3" | "$scripts/post.sh" "$1" TEST All "$2" "$3" "${@:4}"; }
+scan() { "$scripts/scan-outbound.sh" "$1"; }
+toss() { "$scripts/toss-inbound.sh" "$1"; }
+
+# The cursor of a base, and how many messages it has.
+counts() { od -An -v -tu4 -j8 -N8 "$1/base" | tr -s ' ' | sed 's/^ //'; }
+
+# Does what the mailer does with a flow file. Words: from which station, the flow file, to which station.
+carry() {
+  local path
+  while IFS= read -r path; do mv "${path#^}" "$3/inbound/"; done < "$1/outbound/$2.flo"
+  rm "$1/outbound/$2.flo"
+}
+to_two=000a0002
+to_three=000a0003
+mkdir -p two/inbound three/inbound
+
+# A posting, and how its packet is handed over. Its text: 10 + 24 + 14 + 12 + 26 + 16 + 12 = 114; the packet:
+# 58 + 14 + 20 + 4 + 4 + 6 + 115 + 2.
+printed=$(post one Ann First)
+same "post.sh prints what post prints" yes "$([[ $printed =~ ^posted\ TEST\ 1:10/1\ [0-9a-f]{8}$ ]] && echo yes)"
+same "scan-outbound.sh prints what scan prints" "packet 1:10/2 1 messages 223 bytes" "$(scan one)"
+same "one packet" 1 "$(ls one/packets | wc -l)"
+same "its name" yes "$([[ $(ls one/packets) =~ ^[0-9a-f]{8}\.pkt$ ]] && echo yes)"
+same "the line of the flow file" "^$place/one/packets/$(ls one/packets)" "$(cat one/outbound/$to_two.flo)"
+same "no lock is left" "" "$(ls one/outbound | grep bsy || true)"
+same "nothing waits" "" "$(scan one)"
+same "the flow file has one line" 1 "$(wc -l < one/outbound/$to_two.flo)"
+
+# It is tossed and removed.
+cp one/packets/*.pkt kept.pkt
+carry one $to_two two
+same "a toss" "filed 1 known 0 notecho 0 badtag 0 noarea 0 notlinked 0" "$(toss two)"
+same "the packet is gone" "" "$(ls two/inbound two/bad | grep pkt || true)"
+
+# A packet that is cut, one that is for another system, and one that comes again in other letters.
+head -c 98 kept.pkt > two/inbound/cut.pkt
+cp kept.pkt two/inbound/AGAIN.PKT
+cp kept.pkt three/inbound/wrong.pkt
+toss two > /dev/null
+same "the cut packet lies apart" "echonet: P1 Truncated at 96" "$(cat two/bad/cut.pkt.why)"
+same "as it was" "$(head -c 98 kept.pkt | cksum)" "$(cksum < two/bad/cut.pkt)"
+same "the other one is gone" "" "$(ls two/inbound)"
+toss three > /dev/null
+same "a packet for another system lies apart" "echonet: C1 NotForUs 1:10/2" "$(cat three/bad/wrong.pkt.why)"
+head -c 98 kept.pkt > two/inbound/cut.pkt
+toss two > /dev/null
+same "two of one name lie apart" "cut.pkt cut.pkt.1 cut.pkt.1.why cut.pkt.why" "$(ls two/bad | tr '\n' ' ' | sed 's/ $//')"
+rm two/bad/* three/bad/*
+
+# Messages that are not filed: the link is missing, then mended.
+post one Ann Second > /dev/null
+scan one > /dev/null
+carry one $to_two two
+cp two/links two.links
+sed -i 's, 1:10/1,,' two/links
+toss two > /dev/null
+same "a packet of no link lies apart" "filed 0 known 0 notecho 0 badtag 0 noarea 0 notlinked 1" "$(cat two/bad/*.why)"
+cp two.links two/links
+mv two/bad/*.pkt two/inbound/
+rm two/bad/*
+same "it is tossed once the link is there" "filed 1 known 0 notecho 0 badtag 0 noarea 0 notlinked 0" "$(toss two)"
+
+# A faulty link file or base is no fault of the packet.
+cp kept.pkt two/inbound/
+echo FOO >> two/links
+status=0
+toss two > /dev/null 2> fault.txt || status=$?
+same "a faulty link file" "2 echonet: L1 UnknownWord line 5" "$status $(cat fault.txt)"
+same "the packet stays" kept.pkt "$(ls two/inbound)"
+cp two.links two/links
+cp two/base two.base
+echo x > two/base
+status=0
+toss two > /dev/null 2> fault.txt || status=$?
+same "a faulty base" "2 echonet: F1 NotBase" "$status $(cat fault.txt)"
+same "the packet stays again" kept.pkt "$(ls two/inbound)"
+cp two.base two/base
+toss two > /dev/null
+
+# A scan that was stopped after its packet: it is made anew, with what has come since.
+before=$(counts two)
+mkdir -p two/scanned
+"$program" scan --at 2026-07-03T12:34:56 two/links two/base two/scanned > /dev/null
+cp two.base two/base
+touch two/scanned/1.10.3.7.pkt.new
+same "the stopped scan left its packet" 1.10.3.0.pkt "$(ls two/scanned | grep 'pkt$')"
+same "and its cursor stood" "$before" "$(counts two)"
+post two Bob Third > /dev/null
+# Third has a text of 10 + 24 + 14 + 12 + 25 + 18 + 12 = 115, First and Second grow to 118 and 119. Packets:
+# 58 + (14 + 20 + 4 + 4 + 6 + 116) + 2; 58 + (48 + 119) + (49 + 120) + 164 + 2.
+same "the next scan" "packet 1:10/1 1 messages 224 bytes
+packet 1:10/3 3 messages 560 bytes" "$(scan two)"
+same "one packet for each link" 2 "$(ls two/packets | wc -l)"
+same "nothing of the stopped one is left" "" "$(ls two/scanned)"
+
+# A scan that came to its end, of which the mailer was not told.
+post two Bob Fourth > /dev/null
+"$program" scan --at 2026-07-03T12:34:56 two/links two/base two/scanned > /dev/null
+scan two
+same "its packets are handed over" "4 2 2" "$(ls two/packets | wc -l) $(cat two/outbound/$to_three.flo | wc -l) $(cat two/outbound/000a0001.flo | wc -l)"
+
+# The mailer holds a link.
+touch two/outbound/$to_three.bsy
+post two Bob Fifth > /dev/null
+scan two > /dev/null
+same "the held link waits" "1 2" "$(ls two/scanned | wc -l) $(cat two/outbound/$to_three.flo | wc -l)"
+rm two/outbound/$to_three.bsy
+scan two > /dev/null
+same "and goes with the next run" "0 3" "$(ls two/scanned | wc -l) $(cat two/outbound/$to_three.flo | wc -l)"
+carry two $to_three three
+toss three > /dev/null
+same "what Gamma has" "0 5" "$(counts three)"
+
+# A link of another zone.
+sed 's/^AREA.*/& 2:5020\/999/' two.links > two/links
+post two Bob Sixth > /dev/null
+scan two > /dev/null
+same "the folder of zone 2" 139c03e7.flo "$(ls two/outbound.002)"
+cp two.links two/links
+rm -r two/outbound.002
+
+# Twenty postings, five scans and five tosses at the same moment.
+rm -f one/packets/* one/outbound/* two/inbound/* two/packets/* two/outbound/*
+for number in $(seq 1 20); do post one Ann "At once $number" "1:10/1 00000001" > "told.$number" & done
+for number in $(seq 1 5); do scan one > /dev/null & done
+wait
+same "twenty ids" 20 "$(cat told.* | sort -u | wc -l)"
+scan one > /dev/null
+carry one $to_two two
+for number in $(seq 1 5); do toss two > "tossed.$number" & done
+wait
+same "twenty were filed, once" 20 "$(cat tossed.* | awk '{ filed += $2 } END { print filed }')"
+same "and no packet is left" "" "$(ls two/inbound two/bad | grep pkt || true)"
+same "what Beta has" "6 26" "$(counts two)"
+
+# A reply and a refused posting.
+status=0
+post one Ann Refused "no id" 2> fault.txt || status=$?
+same "a reply to no id" "2 echonet: B6 BadReply" "$status $(cat fault.txt)"
+same "names and subjects that begin with a hyphen" posted "$(post one -a --help | cut -d ' ' -f 1)"
+
+echo "$passed checks passed, $failed failed"
+[ $failed -eq 0 ]
