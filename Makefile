@@ -1,7 +1,7 @@
 # `make` proves what has changed and builds bin/echonet, `make test` is the gate, `make demo` runs the
 # first example, `make show-examples` compares what `show` prints of the packets in examples/ with what
-# it is to print.
-.PHONY: all test demo show-examples toolchain clean
+# it is to print, `make trials` tries the program from outside (docs/TRIALS.md).
+.PHONY: all test demo show-examples trials toolchain clean
 MAKEFLAGS += --jobs=$(shell nproc)
 
 # The crates that the program stands on, lowest first.
@@ -37,6 +37,9 @@ show-examples: bin/echonet
 	  diff $${packet%.pkt}.txt bin/shown.txt || exit 1; \
 	  echo "$$packet: as expected"; \
 	done
+
+trials: bin/echonet
+	trials/all.sh
 
 clean:
 	rm -rf bin crates/*/out
