@@ -66,8 +66,7 @@ def read_message(content, at, most_text):
         return None
     if number != 2:
         raise Fault("P3 NotMessage at %d" % at)
-    for place in range(at + 2, at + 14, 2):
-        fixed(content, place, 2)
+    fixed(content, at + 2, 12)
     date, place, strings = fixed(content, at + 14, 20), at + 34, []
     for most, fault in ((35, "P4 FieldTooLong"), (35, "P4 FieldTooLong"), (71, "P4 FieldTooLong"),
                         (most_text, "P5 TextTooLong")):
