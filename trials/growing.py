@@ -13,14 +13,10 @@ def filled(piece, size, front=b""):
     return front + piece * ((size - len(front)) // len(piece))
 
 
-def one_text(text):
-    """A packet of one message."""
-    return making.packet(UPLINK, OWN, [making.packed(UPLINK, OWN, text)])
-
-
 def four_texts(make, size):
-    """A packet of four messages, whose texts have a quarter of the size each."""
-    return making.packet(UPLINK, OWN, [making.packed(UPLINK, OWN, make(size // 4 - 200))] * 4)
+    """A packet of four messages of other subjects, whose texts have a quarter of the size each."""
+    text = make(size // 4 - 200)
+    return making.packet(UPLINK, OWN, [making.packed(UPLINK, OWN, text, subject=subject) for subject in (b"1", b"2", b"3", b"4")])
 
 
 def descending(lead, size):
@@ -81,7 +77,7 @@ PACKETS = {
     "one message again": lambda size: filled(making.packed(UPLINK, OWN, ID, b"", b"", b""), size,
                                              making.header(UPLINK, OWN)) + b"\0\0",
     "an area each": lambda size: tiny_packet(lambda number: b"AREA:T%d\r" % number, size),
-    "a text without an end": lambda size: filled(b"x", size, one_text(AREA)[:-3]),
+    "a text without an end": lambda size: filled(b"x", size, making.packet(UPLINK, OWN, [making.packed(UPLINK, OWN, AREA)])[:-3]),
     "a name without an end": lambda size: filled(b"x", size, making.header(UPLINK, OWN) + b"\2\0" + bytes(12) + making.DATE),
     "all zeros": lambda size: filled(b"\0", size, making.header(UPLINK, OWN) + b"\2\0" + bytes(12) + making.DATE),
 }

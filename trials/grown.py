@@ -18,12 +18,12 @@ TOP = os.path.dirname(os.path.dirname(os.path.abspath(__file__)))
 PROGRAM = os.environ.get("ECHONET", os.path.join(TOP, "bin", "echonet"))
 MOST_RATIO = 2.5
 # Below these seconds a ratio says nothing.
-LEAST_SECONDS = 0.2
+LEAST_SECONDS = 0.5
 # What the program may take beside what it takes for each byte of its input.
 LEAST_KILOBYTES = 16_384
 # So many bytes of memory for each byte of the input.
-MOST_BYTES = {"show": 4, "hex": 4, "toss": 40, "base": 40, "nodelist": 40, "check": 100, "picture": 100,
-              "replay": 100, "post": 100}
+MOST_BYTES = {"show": 16, "hex": 4, "toss": 80, "base": 100, "nodelist": 64, "check": 32, "picture": 32,
+              "replay": 64, "post": 64}
 SMALL_LIMIT = 1_048_000
 
 
@@ -40,7 +40,8 @@ def rows(size):
     stamp = ("--at", making.STAMP)
     for name, make in growing.TEXTS.items():
         yield Row("show", name, lambda size, make=make: growing.four_texts(make, size), size, ("show", "input"))
-        yield Row("toss", name, lambda size, make=make: growing.one_text(make(size)), size, ("toss", "1.links", "base", "input"))
+        yield Row("toss", name, lambda size, make=make: growing.four_texts(make, size), size,
+                  ("toss", "1.links", "base", "input"))
     for name, make in growing.PACKETS.items():
         yield Row("show", name, make, size, ("show", "input"))
         yield Row("toss", name, make, size, ("toss", "1.links", "base", "input"))
@@ -94,17 +95,19 @@ def is_orderly(status, fault):
     return status in (0, 1) and count == "0" or status in (2, 3) and count == "1" and line.startswith("echonet: ")
 
 
+def steady_ratio(row, folder):
+    """The ratio for twice the size, from the best of three runs at the size and at a quarter of it."""
+    best = [min(measure(row, size, folder)[1] for _ in range(3)) for size in (row.size, row.size // 4)]
+    return (best[0] / best[1]) ** 0.5
+
+
 def try_row(row, folder):
     """Tries a row, prints its line, and answers whether all held."""
     whole = measure(row, row.size, folder)
     status, seconds, kilobytes, fault = whole
-    ratio = 0.0
-    if seconds > LEAST_SECONDS:
-        ratio = seconds / measure(row, row.size // 2, folder)[1]
-        for _ in range(2):
-            if ratio <= MOST_RATIO:
-                break
-            ratio = min(ratio, measure(row, row.size, folder)[1] / measure(row, row.size // 2, folder)[1])
+    ratio = seconds / measure(row, row.size // 2, folder)[1] if seconds > LEAST_SECONDS else 0.0
+    if ratio > MOST_RATIO:
+        ratio = steady_ratio(row, folder)
     most = LEAST_KILOBYTES + MOST_BYTES[row.command] * row.size / 1024
     wrong = [what for what, it in (("not in order", not is_orderly(status, fault)), ("not linear", ratio > MOST_RATIO),
                                    ("too much memory", kilobytes > most)) if it]

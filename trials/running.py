@@ -12,7 +12,7 @@ import time
 from typing import NamedTuple
 
 LONGEST = 20  # seconds for a small input
-MOST_MEMORY = 12 << 30  # so that a grown input harms nobody else
+MOST_MEMORY = 8 << 30  # so that a grown input harms nobody else
 
 
 class Ended(NamedTuple):
