@@ -13,6 +13,7 @@ import tempfile
 import time
 
 import laws
+import reading
 import running
 import small
 
@@ -56,7 +57,7 @@ def try_one(kind, number, runner):
     laws.set_up(trial)
     try:
         KINDS[kind][2](trial, made(kind, number))
-    except (ValueError, IndexError, StopIteration, TypeError, AttributeError, OSError) as wrong:
+    except (reading.Fault, ValueError, IndexError, StopIteration, TypeError, AttributeError, OSError) as wrong:
         trial.failures.append("the trial stopped: %r" % wrong)
     return trial.failures
 

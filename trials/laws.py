@@ -284,18 +284,68 @@ def try_hex(trial, content):
         trial.holds("other digits are refused", shown.status == 2 and shown.fault == b"echonet: bad hex\n" and shown.out == b"")
 
 
+IS_ID = re.compile(rb'(?:"(?:[^"\0\r]|"")*"|[^" \t\n\r\0][^ \t\n\r\0]*) +[0-9a-fA-F]{8}')
+MONTHS = "Jan Feb Mar Apr May Jun Jul Aug Sep Oct Nov Dec".split()
+
+
+def refusal_of(given, body):
+    """Why a posting at 1:10/1 is refused, or None."""
+    stamp = re.fullmatch(r"(\d{4})-(\d\d)-(\d\d)T(\d\d):(\d\d):(\d\d)", given["at"])
+    names = [given[word].encode() for word in ("to", "from", "subject")]
+    if not re.fullmatch("[0-9a-fA-F]{8}", given["serial"]):
+        return "bad serial"
+    if not stamp:
+        return "bad stamp"
+    if given["area"].upper() not in ("TEST", "OTHER"):
+        return "B1 NoArea"
+    if b"\0" in body:
+        return "B2 ByteZero"
+    if any(len(name) > most for name, most in zip(names, (35, 35, 71))):
+        return "B3 FieldTooLong"
+    year, month, day, hour, minute, second = (int(part) for part in stamp.groups())
+    if not (1980 <= year <= 2079 and 1 <= month <= 12 and 1 <= day <= 31 and hour < 24 and minute < 60 and second < 60):
+        return "B5 BadStamp"
+    reply = given.get("reply", "").encode()
+    return "B6 BadReply" if reply and not IS_ID.fullmatch(reply.strip(reading.BLANKS)) else None
+
+
+def body_lines(body):
+    """The lines of a posting's body."""
+    lines = body.split(b"\n")
+    lines = lines[:-1] if lines[-1] == b"" else lines
+    return reading.lines_of(b"".join((line[:-1] if line.endswith(b"\r") else line) + b"\r" for line in lines)) if lines else []
+
+
+def posted_base(given, body):
+    """The base with that posting alone."""
+    reply = given.get("reply", "").encode().strip(reading.BLANKS)
+    kept = [b"\x01MSGID: 1:10/1 " + given["serial"].lower().encode()] + [b"\x01REPLY: " + reply] * bool(reply)
+    kept += body_lines(body) + [b"--- echonet", b" * Origin: echonet (1:10/1)"]
+    date = "%s %s %s  %s\0" % (given["at"][8:10], MONTHS[int(given["at"][5:7]) - 1], given["at"][2:4], given["at"][11:])
+    message = making.stored(
+        0, (0, 0, 0), making.whole_body(making.text(given["area"].upper().encode(), kept, [], [])),
+        given["to"].encode(), given["from"].encode(), given["subject"].encode(), date.encode())
+    return making.base(0, [message])
+
+
 def try_posting(trial, posting):
     """A posting, twice, and its way to a link."""
     words, body = posting
     trial.drop("base")
+    told = dict(word[2:].split("=", 1) for word in words)
+    refusal = refusal_of(told, body)
     links, base, given = trial.path("1.links"), trial.path("base"), trial.put("body", body)
     posted = trial.run("post", *words, links, base, given=given, most=4)
-    if posted.status != 0:
+    if not trial.holds("post: the fault is %s, not %r" % (refusal, posted.fault), trial.is_fault(posted, refusal)):
+        return
+    if refusal is not None:
         trial.holds("refused: no base", trial.get("base") is None and posted.out == b"")
         return
+    want = b"posted %s 1:10/1 %s\n" % (told["area"].upper().encode(), told["serial"].lower().encode())
+    trial.holds("the line", posted.out == want)
+    trial.holds("the base", trial.get("base") == posted_base(told, body))
     again = trial.run("post", *words, links, base, given=given)
     trial.holds("a known serial", again.fault == b"echonet: B4 KnownSerial\n")
-    trial.holds("one message", len(reading.read_base(trial.get("base"))[1]) == 1)
     passed_on(trial, 1)
 
 
