@@ -3,9 +3,10 @@
 # it is to print. `make story` runs three systems on real files, `make net-test` the scripts of
 # examples/net; `make manual-test` compares the manual page with the program's help; `make follow` does
 # what docs/OPERATORS.md says (it needs binkd); `make interop` runs a net with another tosser (it needs
-# binkd and crashmail). `make install` puts the program and its manual page under PREFIX, or under DESTDIR
-# and PREFIX, and `make uninstall` takes them away.
-.PHONY: all test demo show-examples story net-test manual-test follow interop install uninstall toolchain clean
+# binkd and crashmail); `make trials` tries the program from outside (docs/TRIALS.md). `make install` puts
+# the program and its manual page under PREFIX, or under DESTDIR and PREFIX, and `make uninstall` takes
+# them away.
+.PHONY: all test demo show-examples story net-test manual-test follow interop trials install uninstall toolchain clean
 MAKEFLAGS += --jobs=$(shell nproc)
 PREFIX = /usr/local
 
@@ -48,14 +49,14 @@ show-examples: $(program)
 	  echo "$$packet: as expected"; \
 	done
 
-story: bin/echonet
-	examples/story.sh bin/echonet
+story: $(program)
+	examples/story.sh $(program)
 
-net-test: bin/echonet
-	scripts/net-test.sh bin/echonet
+net-test: $(program)
+	scripts/net-test.sh $(program)
 
-manual-test: bin/echonet
-	scripts/manual.sh docs/echonet.1 bin/echonet
+manual-test: $(program)
+	scripts/manual.sh docs/echonet.1 $(program)
 
 follow: bin/echonet
 	scripts/follow.sh docs/OPERATORS.md bin/echonet
@@ -70,6 +71,9 @@ install: bin/echonet
 
 uninstall:
 	rm -f $(DESTDIR)$(PREFIX)/bin/echonet $(DESTDIR)$(PREFIX)/share/man/man1/echonet.1
+
+trials: bin/echonet
+	trials/all.sh
 
 clean:
 	rm -rf bin crates/*/out

@@ -1,0 +1,140 @@
+#!/usr/bin/env bash
+# Every command where a file may not grow, where the disk is full, and where standard output is: one
+# fault line, status 3, the old base whole or the new one, no packet in part, nothing left beside. The
+# small disk is a tmpfs, for which one has to be root. Word: how many limits of a file's size are tried.
+set -eu
+cd "$(dirname "$0")/.."
+. trials/setting.sh
+limits=${1:-20}
+cd "$work"
+
+# A story in the current folder: the base before and after each command, and the packets of its scan.
+make_story() {
+  local old=$1 new=$2 size=$3
+  make_file links 1:10/1 TEST 1:10/2 1:10/3 1:10/4 > one.links
+  make_file packet "$old" "$new" "$size" > new.pkt
+  make_file base 0 "$old" "$size" "$old" > toss.before
+  make_file base 0 $((old + new)) "$size" "$old" > toss.after
+  cp toss.before post.before
+  cp toss.before purge.before
+  cp toss.after scan.before
+  make_file base 0 $((old + new)) "$size" $((old + new)) > scan.after
+  for link in 3 4; do make_file scanned 1:10/$link "$old" "$new" "$size" > 1.10.$link.$old.pkt; done
+  make_file purged 0 "$old" > purge.after
+  make_file posted 0 "$old" "$size" "$old" > post.after
+}
+
+run_command() {
+  case $1 in
+    toss) "$program" toss one.links base new.pkt ;;
+    scan) "$program" scan --at $stamp one.links base out ;;
+    purge) "$program" purge one.links base ;;
+    post) echo Hello | "$program" post --area TEST --to All --from Ann --subject Hi --serial 00000001 \
+      --at $stamp one.links base ;;
+  esac
+}
+
+# The files as they are before a command.
+start() { rm -rf out base base.new; mkdir out; cp "$1.before" base; }
+
+# What holds of the files after a command, whatever its status. Words: the command, the status.
+look_at_files() {
+  local packet
+  case $2 in
+    0) expect "$1 done: the new base" cmp -s base "$1.after" ;;
+    *) expect "$1 failed: the old base" cmp -s base "$1.before" ;;
+  esac
+  for packet in out/*.pkt; do
+    [ -e "$packet" ] || continue
+    expect "$1: a whole packet" cmp -s "$packet" "$(basename "$packet")"
+  done
+}
+
+# A command where no file may have more than so many blocks of 1,024 bytes.
+limit() {
+  local status=0 most
+  start "$1"
+  ( trap '' XFSZ; ulimit -f "$2"; run_command "$1" 2>&1 > /dev/null ) | cat > fault
+  status=${PIPESTATUS[0]}
+  most=$(cat "$1.after" | wc -c)
+  look_at_files "$1" "$status"
+  if [ "$most" -gt $(($2 * 1024)) ]; then
+    expect "$1 at $2 blocks: one line and 3" ended_with_fault "$status" 3 fault "echonet: cannot use "
+    expect "$1: nothing left beside" is_none base.new out/*.new
+  fi
+  # Where the signal of a file that grows too large is not ignored, it may end the program.
+  start "$1"
+  status=0
+  { ( ulimit -f "$2"; run_command "$1" > /dev/null 2>&1 ) || status=$?; } 2> /dev/null
+  look_at_files "$1" "$status"
+  case $status in 0 | 3) ;; *) killed=$((killed + 1)) ;; esac
+  start_again "$1"
+}
+
+# What a stopped run left is in nobody's way: the command run again does all.
+start_again() {
+  if [ -e base.new ] || [ -n "$(ls out)" ]; then
+    rm -f out/*.pkt
+    cp "$1.before" base
+    expect "$1 again" eval "run_command $1 > /dev/null 2> fault"
+    look_at_files "$1" 0
+    expect "$1 again: nothing left beside" is_none base.new out/*.new
+  fi
+}
+
+# A command on a disk on which so many kilobytes are left.
+fill() {
+  local status=0 left
+  rm -rf "$work"/disk/*
+  cp one.links new.pkt disk
+  mkdir disk/out
+  cp "$1.before" disk/base
+  left=$(df --output=avail disk | tail -1)
+  head -c $(((left - $2) * 1024)) /dev/zero > disk/other
+  ( cd disk; run_command "$1" 2>&1 > /dev/null ) | cat > fault
+  status=${PIPESTATUS[0]}
+  expect "$1 with $2 kB left on the disk: one line and 3" ended_with_fault "$status" 3 fault "echonet: cannot use "
+  expect "$1: the old base" cmp -s disk/base "$1.before"
+  expect "$1: nothing left beside" is_none disk/base.new disk/out/*.new
+  for packet in disk/out/*.pkt; do
+    [ -e "$packet" ] || continue
+    expect "$1: a whole packet" cmp -s "$packet" "$(basename "$packet")"
+  done
+}
+
+# Every command with a standard output that takes nothing.
+no_output() {
+  local status=0
+  eval "$2" > /dev/full 2> fault || status=$?
+  expect "$1 with no room for its lines" ended_with_fault "$status" 3 fault "echonet: cannot use -"
+}
+
+killed=0
+make_story 400 200 1000
+for command in post toss scan purge; do
+  for step in $(seq 0 $((limits - 1))); do limit $command $((step * 900 / limits)); done
+done
+echo "$((4 * limits)) runs with a limit, $killed of as many ended by its signal where it is not ignored"
+
+for command in post toss scan purge; do
+  start $command
+  no_output $command "run_command $command"
+  expect "$command: a whole base" is_one_of base $command.before $command.after
+done
+nets=$top/examples/nets
+no_output show "'$program' show $top/examples/packets/02-short.pkt"
+no_output nodelist "'$program' nodelist $top/examples/nodelists/nested.lst"
+no_output check "'$program' check TEST $nets/chain/*.links"
+no_output picture "'$program' picture TEST $nets/chain/*.links"
+no_output replay "'$program' replay $top/examples/scripts/chain.script $nets/chain/*.links"
+
+mkdir disk
+if mount -t tmpfs -o size=4m tmpfs disk 2> /dev/null; then
+  trap 'umount "$work/disk"; rm -rf "$work"' EXIT
+  for left in 0 8 16; do
+    for command in post toss scan purge; do fill $command $left; done
+  done
+else
+  echo "no tmpfs could be mounted: no run on a full disk"
+fi
+finish full_disk

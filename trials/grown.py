@@ -1,0 +1,139 @@
+"""Tries grown inputs: each at two sizes, of which one is twice the other. Each run ends by itself in
+order, takes at most so much memory for each byte of its input, and at most 2.5 times the processor time
+at twice the size. Words: the greater size of the inputs that have no smaller limit, in bytes
+(64,000,000), and a piece of a row's name, where only some rows are to be tried.
+"""
+import os
+import shutil
+import subprocess
+import sys
+import tempfile
+import time
+
+import growing
+import making
+import running
+
+TOP = os.path.dirname(os.path.dirname(os.path.abspath(__file__)))
+PROGRAM = os.environ.get("ECHONET", os.path.join(TOP, "bin", "echonet"))
+MOST_RATIO = 2.5
+# Below these seconds a ratio says nothing.
+LEAST_SECONDS = 0.5
+# What the program may take beside what it takes for each byte of its input.
+LEAST_KILOBYTES = 16_384
+# So many bytes of memory for each byte of the input.
+MOST_BYTES = {"show": 16, "hex": 4, "toss": 80, "base": 100, "nodelist": 64, "check": 32, "picture": 32,
+              "replay": 64, "post": 64}
+SMALL_LIMIT = 1_048_000
+
+
+class Row:
+    """A kind of input, what is run on it, and what came of it."""
+
+    def __init__(self, command, name, make, size, words, given=False):
+        self.command, self.name, self.make, self.size = command, name, make, size
+        self.words, self.given = words, given
+
+
+def rows(size):
+    """All rows."""
+    stamp = ("--at", making.STAMP)
+    for name, make in growing.TEXTS.items():
+        yield Row("show", name, lambda size, make=make: growing.four_texts(make, size), size, ("show", "input"))
+        yield Row("toss", name, lambda size, make=make: growing.four_texts(make, size), size,
+                  ("toss", "1.links", "base", "input"))
+    for name, make in growing.PACKETS.items():
+        yield Row("show", name, make, size, ("show", "input"))
+        yield Row("toss", name, make, size, ("toss", "1.links", "base", "input"))
+    yield Row("hex", "tiny messages", lambda size: growing.PACKETS["tiny messages"](size // 2).hex().encode(), size,
+              ("show", "--hex", "input"))
+    for name, make in growing.BASES.items():
+        yield Row("base", name + ", purged", make, size, ("purge", "1.links", "input"))
+        yield Row("base", name + ", scanned", make, size, ("scan", *stamp, "1.links", "input", "out"))
+        yield Row("base", name + ", posted to", make, size, (*POSTING, "1.links", "input"))
+    for name, make in growing.NODELISTS.items():
+        yield Row("nodelist", name, make, size, ("nodelist", "input"))
+        yield Row("nodelist", name + ", looked through", make, size, ("nodelist", "--find", "1:1/2", "input"))
+    small = min(size, SMALL_LIMIT)
+    for name, make in growing.LINKS.items():
+        yield Row("check", name, make, small, ("check", "TEST", "input"))
+        yield Row("picture", name, make, small, ("picture", "TEST", "input"))
+        yield Row("post", name + " in a link file", make, small, (*POSTING, "input", "base"))
+    for name, make in growing.SCRIPTS.items():
+        yield Row("replay", name, make, small, ("replay", "input", *CHAIN))
+    for name, make in growing.BODIES.items():
+        yield Row("post", name, make, small, (*POSTING, "1.links", "base"), True)
+
+
+POSTING = ("post", "--area", "TEST", "--to", "All", "--from", "Ann", "--subject", "Hi", "--serial", "00000001",
+           "--at", making.STAMP)
+CHAIN = [os.path.join(TOP, "examples", "nets", "chain", "%d.links" % number) for number in (1, 2, 3)]
+
+
+def make_input(row, size, folder):
+    """Leaves the input of a row in the folder, with what else its command needs."""
+    shutil.rmtree(folder, ignore_errors=True)
+    os.makedirs(os.path.join(folder, "out"))
+    links = making.link_file(making.OWN, [("TEST", (making.UPLINK, *making.DOWNLINKS))])
+    for name, content in (("1.links", links), ("input", row.make(size))):
+        with open(os.path.join(folder, name), "wb") as file:
+            file.write(content)
+
+
+def measure(row, size, folder):
+    """Runs a row's command on an input of a size, made by a process of its own, and tells how it ended."""
+    subprocess.run([sys.executable, __file__, "--make", row.command, row.name, str(size), folder], check=True)
+    files = ("input", "base", "out", "1.links")
+    words = [os.path.join(folder, word) if word in files else word for word in row.words]
+    with open(os.path.join(folder, "input") if row.given else os.devnull, "rb") as given:
+        return running.measured([PROGRAM, *words], given)
+
+
+def is_orderly(status, fault):
+    """Whether a run ended by itself, with one fault line where the status tells of a fault."""
+    count, line = fault.split(" lines, ", 1)
+    return status in (0, 1) and count == "0" or status in (2, 3) and count == "1" and line.startswith("echonet: ")
+
+
+def steady_ratio(row, folder):
+    """The ratio for twice the size, from the best of three runs at the size and at a quarter of it."""
+    best = [min(measure(row, size, folder)[1] for _ in range(3)) for size in (row.size, row.size // 4)]
+    return (best[0] / best[1]) ** 0.5
+
+
+def try_row(row, folder):
+    """Tries a row, prints its line, and answers whether all held."""
+    whole = measure(row, row.size, folder)
+    status, seconds, kilobytes, fault = whole
+    ratio = seconds / measure(row, row.size // 2, folder)[1] if seconds > LEAST_SECONDS else 0.0
+    if ratio > MOST_RATIO:
+        ratio = steady_ratio(row, folder)
+    most = LEAST_KILOBYTES + MOST_BYTES[row.command] * row.size / 1024
+    wrong = [what for what, it in (("not in order", not is_orderly(status, fault)), ("not linear", ratio > MOST_RATIO),
+                                   ("too much memory", kilobytes > most)) if it]
+    print("%-9s %-42s %10d bytes  status %d  %7.2f s  ratio %4.2f  %8d kB %6.1f each  %s" % (
+        row.command, row.name, row.size, status, seconds, ratio, kilobytes, kilobytes * 1024 / row.size,
+        ", ".join(wrong) or fault.split(" lines, ", 1)[1].strip()), flush=True)
+    return not wrong
+
+
+def main(words):
+    """Makes one input, or tries the rows."""
+    if words[:1] == ["--make"]:
+        command, name, size, folder = words[1:]
+        make_input(next(row for row in rows(10**9) if (row.command, row.name) == (command, name)), int(size), folder)
+        return 0
+    size, piece = (words + ["64000000", ""][len(words):])[:2]
+    folder = tempfile.mkdtemp(prefix="echonet-trials.", dir="/dev/shm" if os.path.isdir("/dev/shm") else None)
+    started = time.time()
+    try:
+        held = [try_row(row, folder) for row in rows(int(size)) if piece in row.command + " " + row.name]
+    finally:
+        shutil.rmtree(folder)
+    print("%.0f s" % (time.time() - started))
+    print("grown: %d passed, %d failed" % (held.count(True), held.count(False)))
+    return 0 if all(held) else 1
+
+
+if __name__ == "__main__":
+    sys.exit(main(sys.argv[1:]))
