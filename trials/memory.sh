@@ -1,8 +1,9 @@
 #!/bin/bash
-# Refuses each growth of each test of a crate in turn, and looks for answers that change in its place: a
-# test whose growth was refused passes, or ends in a fault that tells of memory. Anything else, as an
-# assertion that fails, a signal or no end, is told and makes the status 1. How many growths a test has
-# is found by a run that is refused none.
+# Refuses each growth of each test of a crate in turn. A test then passes, ends in a fault that tells of
+# memory, or stops where it compares an answer, which may be that fault. The tests of a module `refused` look
+# for answers that change in place of the fault, and are to pass whichever growth is refused: where one does
+# not, or any test does not end, that is told and the status is 1. How many growths a test has is found by
+# a run that is refused none.
 # Needs a C compiler and crates/CRATE/out/CRATE_tests, which `rt test` in crates/CRATE builds. Words:
 # CRATE, and tests of it where not all are to be tried.
 # `rt try --test --fail-alloc N` does the same for one N, and builds the tests anew for each.
@@ -18,23 +19,27 @@ cc -O2 -shared -fPIC -o "$work/refuse.so" "$here/refuse.c" || exit 1
 
 # Runs a test with the growth of this number refused; what it prints goes to a file.
 run() {
-  REFUSED=$2 GROWTHS=$work/growths LD_PRELOAD=$work/refuse.so \
-    timeout 60 "$program" "$1" > "$work/told" 2>&1
-}
+  timeout 60 env REFUSED="$2" GROWTHS="$work/growths" LD_PRELOAD="$work/refuse.so" \
+    "$program" "$1" > "$work/told" 2>&1
+} 2> /dev/null
 
 tests=("$@")
-[ $# -gt 0 ] || mapfile -t tests < <("$program" --list | sed 's/: test$//' | grep .)
+[ $# -gt 0 ] || mapfile -t tests < <("$program" --list | sed -n 's/: test$//p')
 wrong=0 all=0
 for test in "${tests[@]}"; do
   if ! run "$test" 0; then
     echo "$test: fails with all its growths" >&2; cat "$work/told" >&2; wrong=$((wrong + 1)); continue
   fi
-  last=$(cat "$work/growths") passed=0 memory=0
+  last=$(cat "$work/growths") passed=0 memory=0 stopped=0
   for ((n = 1; n <= last; n++)); do
-    if run "$test" "$n"; then
+    run "$test" "$n"
+    status=$?
+    if [ $status = 0 ]; then
       passed=$((passed + 1))
-    elif grep -qE 'error: .*(Memory|AllocError|AllocFailed|out of memory)' "$work/told"; then
+    elif [[ $test != *::refused::* ]] && grep -qE 'error: .*(Memory|AllocError|AllocFailed|out of memory)' "$work/told"; then
       memory=$((memory + 1))
+    elif [[ $test != *::refused::* ]] && [ $status != 124 ] && grep -qE '^assertion' "$work/told"; then
+      stopped=$((stopped + 1))
     else
       wrong=$((wrong + 1))
       echo "$test: growth $n of $last refused:" >&2
@@ -42,7 +47,7 @@ for test in "${tests[@]}"; do
     fi
   done
   all=$((all + last))
-  printf '%-50s %6d growths: %6d passed, %6d told memory\n' "$test" "$last" "$passed" "$memory"
+  printf '%-52s %5d growths: %5d passed, %5d told of memory, %5d stopped\n' "$test" "$last" "$passed" "$memory" "$stopped"
 done
 echo "$crate: $all growths refused, $wrong wrong answers"
 [ "$wrong" = 0 ]
