@@ -1,6 +1,6 @@
 #!/bin/sh
-# How long bases take to be loaded and saved, and link files to be read, beside a plain sum over the same
-# bytes. Needs the built crates/bench/out/bench. Words: INPUT KIND COUNT ROUNDS; with none, the sizes
+# How long bases take to be loaded and saved, and link files to be read, the latter in two sizes, beside a
+# plain sum over the same bytes. Needs the built crates/bench/out/bench. Words: INPUT KIND COUNT ROUNDS; with none, the sizes
 # that a large system has.
 set -e
 program=$(dirname "$0")/../crates/bench/out/bench
@@ -20,8 +20,11 @@ else
     measure purged $kind 1000000 3
     measure whole $kind 100000 3
   done
-  for kind in load sum; do
-    measure areas $kind 100000 10
-    measure links $kind 100000 10
+  # Ten times as many areas or links are to take about ten times as long.
+  for count in 10000 100000; do
+    for kind in load sum; do
+      measure areas $kind $count 10
+      measure links $kind $count 10
+    done
   done
 fi

@@ -2,14 +2,16 @@
 //!
 //! Words: `INPUT KIND COUNT ROUNDS`. INPUT is `purged` (a base of COUNT messages of 62 bytes with nothing
 //! but their ids), `whole` (one of COUNT messages of about 1.2 kB), `areas` (a link file of COUNT areas
-//! of one link) or `links` (one of an area of COUNT links). ROUNDS times `load` reads the bytes, `save`
-//! reads a base once and writes it, and `sum` adds the bytes as a yardstick.
+//! of one link) or `links` (one of an area of COUNT links). ROUNDS times `load` reads the bytes and leaves
+//! what it made in memory, so that its end is not timed; `save` reads a base once and writes it, and `sum`
+//! adds the bytes as a yardstick.
 use crate::shared::{number, sum};
 use anyhow::{Result, bail};
 use echo_base::{Base, LinkFile};
 use echo_device::Watched;
 use std::alloc::{AllocError, Global};
 use std::hash::RandomState;
+use std::mem;
 
 /// DateTime, names and subject, each name and the subject after its length.
 const STRINGS: &[u8] = b"03 Jul 26  12:34:56\0\x03All\x03Ann\x02Hi";
@@ -103,12 +105,18 @@ fn load(rt: &HostRuntime, bytes: &[u8]) -> Result<Base<RandomState>> {
     Ok(Base::load(rt.alloc(), &mut reader, RandomState::new(rt)?)?)
 }
 
-/// How many messages are read, or links of the last area.
+/// How many messages or areas are read. These stay in memory.
 fn read(rt: &HostRuntime, input: &str, bytes: &[u8]) -> Result<u64> {
     if matches!(input, "areas" | "links") {
-        return Ok(LinkFile::read(rt.alloc(), bytes)?.areas() as u64);
+        let file = LinkFile::read(rt.alloc(), bytes)?;
+        let areas = file.areas() as u64;
+        mem::forget(file);
+        return Ok(areas);
     }
-    Ok(load(rt, bytes)?.len() as u64)
+    let base = load(rt, bytes)?;
+    let messages = base.len() as u64;
+    mem::forget(base);
+    Ok(messages)
 }
 
 /// How many bytes are written.

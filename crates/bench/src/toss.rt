@@ -1,9 +1,9 @@
 //! How fast packets are tossed, and a base is scanned, posted to and purged.
 //!
 //! Words: `KIND COUNT ROUNDS LINKS`. A packet of COUNT messages of about 1.2 kB is made, for a system
-//! whose area has LINKS links beside the sender. ROUNDS times, `new` tosses it at a fresh system, `known`
-//! at one that has all its messages, `post` posts one more message there, and `sum` adds the bytes of the
-//! packet as a yardstick. `scan` and `purge` toss it once and then scan once, and `purge` purges ROUNDS
+//! whose area has LINKS links beside the sender. ROUNDS times, `new` tosses it at a fresh system, which
+//! stays in memory, so that its end is not timed, `known` at one that has all its messages, `post` posts
+//! one more message there, and `sum` adds the bytes of the packet as a yardstick. `scan` and `purge` toss it once and then scan once, and `purge` purges ROUNDS
 //! times.
 use crate::shared::{number, sum};
 use anyhow::{Context, Result, bail};
@@ -15,6 +15,7 @@ use echo_steps::{Draft, Stamp};
 use echo_toss::{Tally, Tosser};
 use std::alloc::{AllocError, Global};
 use std::hash::{BuildHasherDefault, FoldHasher};
+use std::mem;
 
 /// How many lines the body of a message has.
 const LINES: usize = 14;
@@ -131,6 +132,7 @@ fn toss_new(alloc: Global, links: usize, packet: &[u8], rounds: usize) -> Result
     for _ in 0..rounds {
         let mut system = fresh(alloc, links)?;
         all = all.wrapping_add(toss(&mut system, packet)?.filed);
+        mem::forget(system);
     }
     Ok(all)
 }

@@ -61,21 +61,35 @@ fn a_refused_scan(rt: HostRuntime) -> Result<(), Fail> {
     Ok(())
 }
 
-// Whether a packet that is refused memory files what it counts, which a second toss knows.
-fn tosses_again(beta: &mut System, packet: &[u8]) -> bool {
-    let before = match tossed(beta, packet, Limits::NONE) {
+// What a toss counts, where it filed just what it counts and stopped, if at all, for want of memory.
+fn counted(beta: &mut System, packet: &[u8]) -> Option<Tally> {
+    let before = beta.filed() as u64;
+    let tally = match tossed(beta, packet, Limits::NONE) {
         Ok(tally) => tally,
-        Err(fault) => {
-            if fault.cause != TossCause::Memory || beta.filed() as u64 != fault.tally.filed {
-                return false;
-            }
-            fault.tally
-        }
+        Err(fault) if fault.cause == TossCause::Memory => fault.tally,
+        Err(_) => return None,
     };
-    match tossed(beta, packet, Limits::NONE) {
-        Ok(after) => after.known == before.filed && beta.filed() == 2,
-        Err(_) => false,
+    if beta.filed() as u64 == before.wrapping_add(tally.filed) {
+        Some(tally)
+    } else {
+        None
     }
+}
+
+// Whether a packet of two messages, tossed three times, of which one may be refused memory, is filed
+// once, and what was filed is known to a later toss.
+fn tosses_again(beta: &mut System, packet: &[u8]) -> bool {
+    let Some(first) = counted(beta, packet) else {
+        return false;
+    };
+    let Some(second) = counted(beta, packet) else {
+        return false;
+    };
+    let Some(third) = counted(beta, packet) else {
+        return false;
+    };
+    let whole = beta.filed() == 2 && first.filed.wrapping_add(second.filed) == 2;
+    whole && (second.known == first.filed || third.known == 2)
 }
 
 #[test]
