@@ -17,7 +17,7 @@ use Rattle.echo_nodelist.specs.Nodelist.{Answers, NodelistOf}
 use Rattle.echo_commands.specs.declared.fault.Fault.TheVariants.{Nodelist}
 use Rattle.echo_commands.specs.declared.status.Status.{Status}
 use Rattle.echo_commands.specs.Ended.{IsWantOfMemory}
-use Rattle.echo_commands.specs.Listed.{ListAnswers, Listed, RestListed, addressed_text, crc_status, crc_text, entries_text, line_at}
+use Rattle.echo_commands.specs.Listed.{NodelistAnswers, Listed, RestListed, addressed_text, crc_status, crc_text, entries_text, line_at}
 use Rattle.echo_commands.specs.Shown.{Writes}
 use Rattle.echo_commands.proofs.Pushed.{all_written}
 
@@ -25,7 +25,7 @@ same_map : (xs : List ℕ) → map (λ x. x) xs ≡ xs
 same_map [] = refl
 same_map (x ∷ xs) = ap (λ t. x ∷ t) (same_map xs)
 
-range_more : (n : ℕ) → range_with_len 0 (n + 1) ≡ range_with_len 0 n ++ n ∷ []
+pub range_more : (n : ℕ) → range_with_len 0 (n + 1) ≡ range_with_len 0 n ++ n ∷ []
 range_more n =
     sym (same_map (range_with_len 0 (n + 1))) ∙ map-range_with_len_more (λ x. x) 0 n n (omega arith)
     ∙ ap (λ t. t ++ n ∷ []) (same_map (range_with_len 0 n))
@@ -48,14 +48,14 @@ listed_lines find lines stated a b c first rest = record {
 
 -- the input is no nodelist
 pub read_refused : (find : Option Address) (input : List ℕ) (old : Option (List ℕ)) (n : ℕ) (f : NodeFault) → Answers input (Err f)
-    → ListAnswers find input old old n n (Err (Nodelist f))
+    → NodelistAnswers find input old old n n (Err (Nodelist f))
 read_refused find input old n f (inl wrong) = inr (record { why = f; is = refl; of_lines = wrong; nothing = refl }, refl)
 read_refused find input old n f (inr memory) = inl (inr (subst (λ x. IsWantOfMemory (Nodelist x)) (sym memory) tt, refl))
 
 -- all lines of a nodelist went out
 pub list_printed : (find : Option Address) (input none rest : List ℕ) (lines : List Line) (stated : CrcLine) (status : Status) (a b c : Option (List ℕ)) (x y z : ℕ)
     → NodelistOf input lines → stated ≡ crc_line_of input → none ≡ [] → Writes (Listed find lines stated) (append_known a none) (append_known b rest)
-    → Appends b c rest → status ≡ crc_status stated → y ≡ x → z ≡ y → ListAnswers find input a c x z (Ok status)
+    → Appends b c rest → status ≡ crc_status stated → y ≡ x → z ≡ y → NodelistAnswers find input a c x z (Ok status)
 list_printed find input none rest lines stated status a b c x y z is agreed nothing printed went ended first second = (
   record {
     lines = lines;

@@ -13,4 +13,5 @@ pub mod Numerals
 pub mod Systems
 pub mod Stationed
 pub mod Tossings
+pub mod Listings
 pub mod Replays

@@ -17,4 +17,5 @@ pub mod Posted
 pub mod Unpacked
 pub mod Coming
 pub mod Tossed
+pub mod BaseListed
 pub mod Replayed

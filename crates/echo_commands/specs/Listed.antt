@@ -109,6 +109,6 @@ pub record IsFaulty (input : List ℕ) (old new : Option (List ℕ)) (fault : Fa
   pub nothing : new ≡ old
 
 -- what is answered where a nodelist is to be printed
-abbrev pub ListAnswers : Option Address → List ℕ → Option (List ℕ) → Option (List ℕ) → ℕ → ℕ → Result Status Fault → Type 0
-ListAnswers find input old new before after answer =
+abbrev pub NodelistAnswers : Option Address → List ℕ → Option (List ℕ) → Option (List ℕ) → ℕ → ℕ → Result Status Fault → Type 0
+NodelistAnswers find input old new before after answer =
     Answers (IsListed find input old new) (IsFaulty input old new) before after answer

@@ -11,11 +11,13 @@
 //! of what a text says), `listing` with `nodelist_text` (what is printed of a nodelist), `checking` with
 //! `verdict_text` (is an area in order), `picturing` with `picture_text` (an area as a graph), `leaving`
 //! (the files that a command leaves to be written), `system` (a link file and a base are read, and the
-//! base is written), `posting`, `scanning`, `purging`, `coming` (packet files) and `unpacking` (they are tossed),
-//! `replaying` with `replay_text` (what becomes of a net), and `laws`
-//! (what holds of the definitions).
+//! base is written), `posting`, `scanning`, `purging`, `coming` (packet files) and `unpacking` (they are
+//! tossed), `base_listing` with `base_text` (the messages of a base), `replaying` with `replay_text` (what
+//! becomes of a net), and `laws` (what holds of the definitions).
 #![tactic(auto)]
 
+mod base_listing;
+mod base_text;
 mod checking;
 mod coming;
 mod escape;
@@ -42,6 +44,7 @@ mod system;
 mod unpacking;
 mod verdict_text;
 
+pub use base_listing::list;
 pub use checking::check;
 pub use coming::PacketFiles;
 pub use fault::Fault;

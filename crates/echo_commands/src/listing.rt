@@ -3,7 +3,7 @@ ghost use Rattle.std.specs.Io.KnownBytes.{Appends, append_known};
 ghost use Rattle.echo_addr.specs.Address.{AddressOf, refusal};
 ghost use Rattle.echo_commands.specs.declared.fault.Fault.TheVariants.{BadAddress};
 ghost use Rattle.echo_commands.specs.Ended.{Ends, Stops};
-ghost use Rattle.echo_commands.specs.Listed.{ListAnswers, Listed, RestListed, addressed_text, crc_status};
+ghost use Rattle.echo_commands.specs.Listed.{NodelistAnswers, Listed, RestListed, addressed_text, crc_status};
 ghost use Rattle.echo_commands.specs.Shown.{Writes};
 
 use crate::fault::Fault;
@@ -35,7 +35,7 @@ pub fn nodelist<W: Sink, E: Sink>(
     out: &mut W,
     errors: &mut E,
 ) -> Status
-    ensures { Ends (ListAnswers find input.now (W.contents out.old) (W.contents out.new) (W.failures out.old) (W.failures out.new)) result }
+    ensures { Ends (NodelistAnswers find input.now (W.contents out.old) (W.contents out.new) (W.failures out.old) (W.failures out.new)) result }
 {
     ended(list_input(alloc, find, input, out), errors)
 }
@@ -46,7 +46,7 @@ fn list_input<'a, W: Sink>(
     input: &[u8],
     out: &mut W,
 ) -> Result<Status, Fault<'a>>
-    ensures { ListAnswers find input.now (W.contents out.old) (W.contents out.new) (W.failures out.old) (W.failures out.new) result }
+    ensures { NodelistAnswers find input.now (W.contents out.old) (W.contents out.new) (W.failures out.old) (W.failures out.new) result }
 {
     let list = Nodelist::read(alloc, input)?;
     let stated = crc_line(input);

@@ -1,4 +1,5 @@
 mod checks;
+mod listings;
 mod messages;
 mod nodelists;
 mod pictures;

@@ -10,10 +10,16 @@ mod words;
 
 use clap::error::ErrorKind;
 use echo_addr::Address;
-use echo_commands::{Fault, Status, check, nodelist, picture, replay, show, wanted};
+use echo_base::BaseFault;
+use echo_commands::{
+    Fault, Status, check, list, nodelist, number_of, picture, replay, show, wanted,
+};
 use echo_device::{Sink, Watched};
-use inputs::{MOST_INPUT, read_file, read_given, read_if_given, read_links, read_script};
+use inputs::{
+    MOST_INPUT, read_base, read_file, read_given, read_if_given, read_links, read_script,
+};
 use station::{run_post, run_purge, run_scan, run_toss};
+use std::collections::hash_map::RandomState;
 use std::process::ExitCode;
 use std::{env, io};
 use words::{Words, parse};
@@ -97,6 +103,40 @@ fn run_picture<W: Sink, E: Sink>(
     picture(rt.alloc(), tag.as_bytes(), &files, stopped, out, errors)
 }
 
+// `list [--area TAG] [--from I] BASE`
+fn run_list<W: Sink, E: Sink>(
+    rt: &HostRuntime,
+    area: Option<&str>,
+    from: Option<&str>,
+    base: &str,
+    out: &mut W,
+    errors: &mut E,
+) -> Status {
+    match list_input(rt, from, base) {
+        Ok((first, bytes, hasher)) => {
+            let area = area.map(|tag| tag.as_bytes());
+            let bytes = bytes.as_ref().map(|bytes| bytes.as_slice());
+            list(rt.alloc(), area, first, bytes, hasher, out, errors)
+        }
+        Err(fault) => fault.report(errors),
+    }
+}
+
+// What `list` is asked for: the number first, then the base. A seed for the hasher that cannot be had is
+// a failed read.
+fn list_input<'a>(
+    rt: &HostRuntime,
+    from: Option<&'a str>,
+    base: &'a str,
+) -> Result<(u64, Option<Vec<u8>>, RandomState), Fault<'a>> {
+    let first = match from {
+        Some(word) => number_of(word)?,
+        None => 0,
+    };
+    let hasher = RandomState::new(rt).map_err(|_| Fault::Base(BaseFault::Read))?;
+    Ok((first, read_base(rt, base)?, hasher))
+}
+
 // `replay SCRIPT LINKS...`
 fn run_replay<W: Sink, E: Sink>(
     rt: &HostRuntime,
@@ -141,6 +181,7 @@ fn run_words<W: Sink, E: Sink>(
             folder,
         } => run_scan(rt, at, links, base, folder, out, errors),
         Words::Purge { links, base } => run_purge(rt, links, base, out, errors),
+        Words::List { area, from, base } => run_list(rt, area, from, base, out, errors),
         Words::Replay { script, links } => run_replay(rt, script, &links, out, errors),
     }
 }

@@ -4,7 +4,7 @@
 ghost use Rattle.std.specs.Prelude.{map};
 ghost use Rattle.echo_commands.specs.Coming.{Unknown};
 
-use crate::inputs::{MOST_LINKS, input_fault, read_standard_input};
+use crate::inputs::{MOST_LINKS, input_fault, read_base, read_standard_input};
 use crate::words::PostWords;
 use echo_base::BaseFault;
 use echo_commands::{
@@ -12,7 +12,7 @@ use echo_commands::{
     stamp_of, toss,
 };
 use echo_device::{Buffered, Sink, Watched};
-use echo_files::{OutputFault, create_file, read_file_if_there, read_whole, replace_file};
+use echo_files::{OutputFault, create_file, read_whole, replace_file};
 use std::alloc::AllocError;
 use std::collections::hash_map::RandomState;
 use std::fs::File;
@@ -59,9 +59,9 @@ fn read_station<'a>(
 ) -> Result<Station<'a>, Fault<'a>> {
     let (locked, links) = locked_links(rt, links)?;
     let hasher = RandomState::new(rt).map_err(|_| Fault::Base(BaseFault::Read))?;
-    let (base, stopped) = match read_file_if_there(rt.alloc(), rt, base, usize::MAX) {
+    let (base, stopped) = match read_base(rt, base) {
         Ok(found) => (found, None),
-        Err(fault) => (None, Some(input_fault(fault, base))),
+        Err(fault) => (None, Some(fault)),
     };
     Ok(Station {
         locked,

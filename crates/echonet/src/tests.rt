@@ -58,6 +58,34 @@ fn reads_words_of_nets(rt: HostRuntime) -> Result<(), Fail> {
 }
 
 #[test]
+fn reads_words_of_bases(rt: HostRuntime) -> Result<(), Fail> {
+    let alloc = rt.alloc();
+    let base = "b";
+    let all = Words::List {
+        area: None,
+        from: None,
+        base,
+    };
+    assert!(rt; asks(alloc, "echonet list b", Some(all))?);
+    let some = Words::List {
+        area: Some("test"),
+        from: Some("7"),
+        base,
+    };
+    assert!(rt; asks(alloc, "echonet list --from 7 --area test b", Some(some))?);
+    let links = "l";
+    let purge = Words::Purge { links, base };
+    assert!(rt; asks(alloc, "echonet purge l b", Some(purge))?);
+    let toss = Words::Toss {
+        links,
+        base,
+        packets: Vec::from_slice(alloc, &["p", "-"])?,
+    };
+    assert!(rt; asks(alloc, "echonet toss l b p -", Some(toss))?);
+    Ok(())
+}
+
+#[test]
 fn refuses_words(rt: HostRuntime) -> Result<(), Fail> {
     let alloc = rt.alloc();
     for line in [
@@ -65,6 +93,8 @@ fn refuses_words(rt: HostRuntime) -> Result<(), Fail> {
         "echonet show",
         "echonet show a b",
         "echonet toss x",
+        "echonet list",
+        "echonet list a b",
         "echonet check",
         "echonet check TEST",
         "echonet picture TEST",

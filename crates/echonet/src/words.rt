@@ -34,6 +34,11 @@ pub enum Words<'a> {
         script: &'a str,
         links: Vec<&'a str>,
     },
+    List {
+        area: Option<&'a str>,
+        from: Option<&'a str>,
+        base: &'a str,
+    },
     Post(PostWords<'a>),
     Toss {
         links: &'a str,
@@ -206,6 +211,24 @@ fn purge_command<'a>(alloc: Global) -> Result<Command<'a>, AllocError> {
     with_system(alloc, purge)
 }
 
+fn list_command<'a>(alloc: Global) -> Result<Command<'a>, AllocError> {
+    let area = Arg::new(alloc, "area").long("area").value_name("TAG").help(
+        "Prints the messages of this area alone, in letters of either case",
+    );
+    let from = Arg::new(alloc, "from").long("from").value_name("I").help(
+        "Prints from the message of this number on, counted from 0",
+    );
+    let base = Arg::new(alloc, "BASE")
+        .required(true)
+        .help("The base, which need not exist yet");
+    Command::new(alloc, "list")
+        .about("Prints the messages of a base, and which of them wait")
+        .after_help(ending!("echonet list --area TEST base"))
+        .arg(area)?
+        .arg(from)?
+        .arg(base)
+}
+
 fn replay_command<'a>(alloc: Global) -> Result<Command<'a>, AllocError> {
     let script = Arg::new(alloc, "SCRIPT").required(true).help(
         "What happens: a line each of POST, SCAN, DELIVER or PURGE",
@@ -231,6 +254,7 @@ fn command<'a>(alloc: Global) -> Result<Command<'a>, AllocError> {
         .subcommand(toss_command(alloc)?)?
         .subcommand(scan_command(alloc)?)?
         .subcommand(purge_command(alloc)?)?
+        .subcommand(list_command(alloc)?)?
         .subcommand(replay_command(alloc)?)
 }
 
@@ -310,6 +334,14 @@ fn purge_words<'a>(matches: &ArgMatches<'a>) -> Option<Words<'a>> {
     })
 }
 
+fn list_words<'a>(matches: &ArgMatches<'a>) -> Option<Words<'a>> {
+    Some(Words::List {
+        area: matches.get_str("area"),
+        from: matches.get_str("from"),
+        base: matches.get_str("BASE")?,
+    })
+}
+
 fn replay_words<'a>(matches: &ArgMatches<'a>, links: Vec<&'a str>) -> Option<Words<'a>> {
     Some(Words::Replay {
         script: matches.get_str("SCRIPT")?,
@@ -327,6 +359,7 @@ fn words_of<'a>(alloc: Global, matches: &ArgMatches<'a>) -> Result<Option<Words<
         Some(("toss", given)) => toss_words(given, values(alloc, given, "PACKET")?),
         Some(("scan", given)) => scan_words(given),
         Some(("purge", given)) => purge_words(given),
+        Some(("list", given)) => list_words(given),
         Some(("replay", given)) => replay_words(given, values(alloc, given, "LINKS")?),
         _ => None,
     })

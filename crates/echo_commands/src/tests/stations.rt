@@ -4,7 +4,7 @@ use std::hash::{BuildHasherDefault, FoldHasher};
 
 const ALPHA: &[u8] = b"SYSTEM 1:10/1\nNAME Alpha\nAREA TEST 1:10/2\n";
 
-const BETA: &[u8] = b"SYSTEM 1:10/2\nAREA TEST 1:10/1 1:10/3\n";
+pub const BETA: &[u8] = b"SYSTEM 1:10/2\nAREA TEST 1:10/1 1:10/3\n";
 
 const NOON: Stamp = Stamp {
     year: 2026,
@@ -16,15 +16,15 @@ const NOON: Stamp = Stamp {
 };
 
 /// The base of the first posting before its scan.
-const BASE: &str =
+pub const BASE: &str =
     "4543484f42415332 00000000 01000000 00 000000000000 3033204a756c203236202031323a33343a353600 03416c6c 03416e6e 024869 4e000000 415245413a544553540d 014d534749443a20313a31302f312030303030303030310d 48656c6c6f0d 2d2d2d206563686f6e65740d 202a204f726967696e3a20416c7068612028313a31302f31290d";
 
 /// The packet of its scan.
-const PACKET: &str =
+pub const PACKET: &str =
     "0100 0200 ea07 0600 0300 0c00 2200 3800 0000 0200 0a00 0a00 00 00 0000000000000000 0100 0100 0000000000000000000000000000000000000000 0200 0100 0200 0a00 0a00 0000 0000 3033204a756c203236202031323a33343a353600 416c6c00 416e6e00 486900 415245413a544553540d 014d534749443a20313a31302f312030303030303030310d 48656c6c6f0d 2d2d2d206563686f6e65740d 202a204f726967696e3a20416c7068612028313a31302f31290d 5345454e2d42593a2031302f3120320d 01504154483a2031302f310d 00 0000";
 
 /// The base after the scan and a purge.
-const PURGED: &str =
+pub const PURGED: &str =
     "4543484f42415332 01000000 01000000 02 000000000000 3033204a756c203236202031323a33343a353600 03416c6c 03416e6e 024869 0454455354 0f000000 313a31302f31203030303030303031";
 
 /// The lines of a packet whose one message is filed, or known, and of one without messages.
@@ -34,7 +34,7 @@ const KNOWN: &str = "filed 0 known 1 notecho 0 badtag 0 noarea 0 notlinked 0\n";
 
 const ZEROS: &str = "filed 0 known 0 notecho 0 badtag 0 noarea 0 notlinked 0\n";
 
-type Hasher = BuildHasherDefault<FoldHasher>;
+pub type Hasher = BuildHasherDefault<FoldHasher>;
 
 const WORDS: NewMessage<'static> = NewMessage {
     tag: b"test",
@@ -48,14 +48,14 @@ const WORDS: NewMessage<'static> = NewMessage {
 
 /// What a command left: status, lines, the fault's line, the packets and the base.
 #[derive(Drop)]
-struct Left {
+pub struct Left {
     done: Done,
     out: Vec<u8>,
     errors: Vec<u8>,
 }
 
 impl Left {
-    fn base(&self) -> Option<&[u8]> {
+    pub fn base(&self) -> Option<&[u8]> {
         self.done.files.base.as_ref().map(|bytes| bytes.as_slice())
     }
 
@@ -125,7 +125,12 @@ fn purged(alloc: Global, links: &[u8], base: Option<&[u8]>, stopped: Option<Faul
 }
 
 /// What `toss` leaves of these packets, and how many it did not come to.
-fn tossed(alloc: Global, links: &[u8], base: Option<&[u8]>, packets: &[&[u8]]) -> (Left, usize) {
+pub fn tossed(
+    alloc: Global,
+    links: &[u8],
+    base: Option<&[u8]>,
+    packets: &[&[u8]],
+) -> (Left, usize) {
     let mut out = Watched::new(Vec::new(alloc));
     let mut errors = Watched::new(Vec::new(alloc));
     let mut coming: &[&[u8]] = packets;
@@ -147,7 +152,7 @@ fn tossed(alloc: Global, links: &[u8], base: Option<&[u8]>, packets: &[&[u8]]) -
     (left, coming.len())
 }
 
-fn bytes_of(alloc: Global, digits: &str) -> Result<Vec<u8>, Fail> {
+pub fn bytes_of(alloc: Global, digits: &str) -> Result<Vec<u8>, Fail> {
     let joined = digits.replace(alloc, " ", "")?;
     Ok(hex::decode(alloc, joined.as_str())?)
 }
