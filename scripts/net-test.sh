@@ -33,7 +33,9 @@ counts() { od -An -v -tu4 -j8 -N8 "$1/base" | tr -s ' ' | sed 's/^ //'; }
 # Does what the mailer does with a flow file. Words: from which station, the flow file, to which station.
 carry() {
   local path
-  while IFS= read -r path; do mv "${path#^}" "$3/inbound/"; done < "$1/outbound/$2.flo"
+  while IFS= read -r path; do
+    if [ -e "${path#^}" ]; then mv "${path#^}" "$3/inbound/"; fi
+  done < "$1/outbound/$2.flo"
   rm "$1/outbound/$2.flo"
 }
 to_two=000a0002
@@ -125,17 +127,24 @@ post two Bob Fourth > /dev/null
 scan two
 same "its packets are handed over" "4 2 2" "$(ls two/packets | wc -l) $(cat two/outbound/$to_three.flo | wc -l) $(cat two/outbound/000a0001.flo | wc -l)"
 
+# The name that was given last is lost: no packet takes the place of another.
+rm two/last-name
+post two Bob 'Fourth and a half' > /dev/null
+scan two > /dev/null
+same "no packet takes the place of another" 6 "$(ls two/packets | wc -l)"
+same "each has its line" 6 "$(cat two/outbound/*.flo | sort -u | wc -l)"
+
 # The mailer holds a link.
 touch two/outbound/$to_three.bsy
 post two Bob Fifth > /dev/null
 scan two > /dev/null
-same "the held link waits" "1 2" "$(ls two/scanned | wc -l) $(cat two/outbound/$to_three.flo | wc -l)"
+same "the held link waits" "1 3" "$(ls two/scanned | wc -l) $(cat two/outbound/$to_three.flo | wc -l)"
 rm two/outbound/$to_three.bsy
 scan two > /dev/null
-same "and goes with the next run" "0 3" "$(ls two/scanned | wc -l) $(cat two/outbound/$to_three.flo | wc -l)"
+same "and goes with the next run" "0 4" "$(ls two/scanned | wc -l) $(cat two/outbound/$to_three.flo | wc -l)"
 carry two $to_three three
 toss three > /dev/null
-same "what Gamma has" "0 5" "$(counts three)"
+same "what Gamma has" "0 6" "$(counts three)"
 
 # A link of another zone.
 sed 's/^AREA.*/& 2:5020\/999/' two.links > two/links
@@ -157,7 +166,24 @@ for number in $(seq 1 5); do toss two > "tossed.$number" & done
 wait
 same "twenty were filed, once" 20 "$(cat tossed.* | awk '{ filed += $2 } END { print filed }')"
 same "and no packet is left" "" "$(ls two/inbound two/bad | grep pkt || true)"
-same "what Beta has" "6 26" "$(counts two)"
+same "what Beta has" "7 27" "$(counts two)"
+
+# Scans and tosses that are killed at any moment.
+for number in $(seq 1 15); do
+  post one Ann "Killed $number" > /dev/null
+  for run in "scan-outbound.sh one" "toss-inbound.sh two"; do
+    setsid $scripts/$run > killed.txt 2>&1 &
+    sleep "0.0$((RANDOM % 90 + 10))"
+    kill -9 -- -$! 2> /dev/null || true
+    wait $! 2> /dev/null || true
+    rm -f one/outbound/*.bsy
+    if [ $((number % 3)) = 0 ] && [ -e one/outbound/$to_two.flo ]; then carry one $to_two two; fi
+  done
+done
+scan one > /dev/null
+if [ -e one/outbound/$to_two.flo ]; then carry one $to_two two; fi
+toss two > /dev/null
+same "all has come, once" "7 42" "$(counts two)"
 
 # A reply and a refused posting.
 status=0

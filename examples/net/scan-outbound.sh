@@ -44,14 +44,21 @@ own=$(awk '$1 == "SYSTEM" { sub(/\r$/, "", $2); print $2 }' "$station/links")
 
 # A name that no packet of this station had before, in eight hexadecimal digits: the second, or the next
 # one, and a number of the own address added. Without that number two systems would give packets of one
-# second one name, and a mailer takes a packet of the same name, size and second for one that it has.
+# second one name, and a mailer takes a packet of the same name, size and second for one that it has. The
+# last second stands in a file that is replaced at once, so that it is not forgotten whatever stops this.
 new_name() {
   last=$(cat "$station/last-name" 2> /dev/null || true)
   number=$(date +%s)
   if [ "$number" -le "${last:-0}" ]; then number=$((last + 1)); fi
-  echo "$number" > "$station/last-name"
   address=$(printf '%s' "$own" | cksum | cut -d ' ' -f 1)
-  printf '%08x.pkt\n' $(((number + address) % 4294967296))
+  name=$(printf '%08x.pkt' $(((number + address) % 4294967296)))
+  while [ -e "$station/packets/$name" ]; do
+    number=$((number + 1))
+    name=$(printf '%08x.pkt' $(((number + address) % 4294967296)))
+  done
+  echo "$number" > "$station/last-name.new"
+  mv "$station/last-name.new" "$station/last-name"
+  echo "$name"
 }
 
 # The flow file of a packet's link, without its ending. Words: zone, net, node.
