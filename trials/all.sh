@@ -17,12 +17,14 @@ each() {
   echo "$(tail -1 bin/last-trial.txt) ($((SECONDS - begin)) s)" >> "$told"
 }
 
+each trials/kept.sh
 each trials/kills.sh
 each trials/crowds.sh
 each trials/full_disk.sh
 each trials/devices.sh
 each trials/valgrind.sh
 each python3 trials/hostile.py "$inputs" "$(nproc)"
+each python3 trials/nets.py
 each python3 trials/grown.py "$size"
 echo "== in all"
 cat "$told"
