@@ -1,0 +1,262 @@
+-- The toss of packet files is some deliveries of the run.
+use Rattle.std.proofs.Common.{◌≡◌, ◌≢◌, inl, inr, refl, sym, subst, ap, ◌∙◌, ℕ, arith, true, append-nil, List, [], ◌∷◌, ◌++◌, length, map, take, Option, Some, None, Result, Ok, Err}
+use Rattle.std.specs.Prelude.{is_some}
+use Rattle.std.proofs.lemmas.List.{take_all}
+use Rattle.echo_graph.specs.Walk.{Among, Different}
+use Rattle.echo_base.specs.Base.{Filed, IsBase, IsFile, LinkFile}
+use Rattle.echo_base.specs.LinkLines.{LinksOf}
+use Rattle.echo_base.specs.BaseFile.{is_countable, saved_bytes}
+use Rattle.echo_steps.specs.declared.packet.Packet.{Packet}
+use Rattle.echo_steps.specs.SystemState.{SystemState}
+use Rattle.echo_toss.specs.declared.fault.TossFault.{TossFault}
+use Rattle.echo_toss.specs.declared.tally.Tally.{Tally}
+use Rattle.echo_toss.specs.Unpacked.{IsForUs}
+use Rattle.echo_run.specs.Event.{Delivery, PartDelivery, RunEvent}
+use Rattle.echo_run.specs.Run.{Run, System, after_events, change, coming, delivery, destination, nth, part_delivery, receiver, taking, with_index}
+use Rattle.echo_run.proofs.LaterSystems.{after-append}
+use Rattle.echo_run.proofs.Lists.{none_some, some_same}
+use Rattle.echo_commands.specs.declared.fault.Fault.{Fault}
+use Rattle.echo_commands.specs.declared.leaving.Done.{Done}
+use Rattle.echo_commands.specs.declared.leaving.Files.{Files}
+use Rattle.echo_commands.specs.Unpacked.{EndsRun, RunEnds, TossRun, run_done}
+use Rattle.echo_stations.specs.Agreement.{Agrees, AreTossesOf, HasFiles, IsPacketFile, IsTossOf, Paired, own_address}
+use Rattle.echo_stations.specs.Commands.{Tosses, TossesFile, TossesFiles, if_whole}
+use Rattle.echo_stations.specs.Nets.{Net, with_base, with_indexes, with_tossed}
+use Rattle.echo_stations.proofs.BaseFiles.{file-fits, kept-base, saved-file, state_of}
+use Rattle.echo_stations.proofs.Leavings.{called-on}
+use Rattle.echo_stations.proofs.Pairs.{change-again, change-found, change-here, change-map, change-same, paired-nth, paired-put}
+use Rattle.echo_stations.proofs.Places.{place-of}
+use Rattle.echo_stations.proofs.Postings.{still-posted}
+use Rattle.echo_stations.proofs.Readings.{TossedFront, TossedSo, TossedThese, after_messages, tossed-so}
+use Rattle.echo_stations.proofs.Tossed.{named-by, taking-base, taking-longer, taking-state}
+
+-- the run with this system at the index, and these packets delivered
+abbrev put : Run → ℕ → System → List ℕ → Run
+put run i z whole = record {
+  systems = change i (λ _. z) run.systems;
+  packets = run.packets;
+  delivered = with_indexes whole run.delivered;
+}
+
+-- what became of the system by some events
+record Tossing (Kind : List RunEvent → Type 0) (run : Run) (i : ℕ) (s : System) (whole : List ℕ) (system : SystemState) : Type 0 where
+  events : List RunEvent
+  kind : Kind events
+  now : System
+  state : state_of now ≡ system
+  file : now.file ≡ s.file
+  longer : (m : Filed) → Among m s.history → Among m now.history
+  base : IsBase now.base now.cursor
+  becomes : after_events run events ≡ put run i now whole
+
+-- what is known before
+record Before (run : Run) (i : ℕ) (s : System) : Type 0 where
+  there : nth i run.systems ≡ Some s
+  apart : Different (map own_address run.systems)
+  file : IsFile s.file
+  base : IsBase s.base s.cursor
+
+-- nothing happened
+nothing : (Kind : List RunEvent → Type 0) → Kind [] → (run : Run) (i : ℕ) (s : System) → Before run i s → Tossing Kind run i s [] (state_of s)
+nothing Kind none run i s before = record {
+  events = [];
+  kind = none;
+  now = s;
+  state = refl;
+  file = refl;
+  longer = λ m h. h;
+  base = before.base;
+  becomes = (let e = sym (change-same i s run.systems before.there) in λ j. record { systems = e j; packets = run.packets; delivered = run.delivered });
+}
+
+-- the system that a packet is for has the index
+received-at : (run : Run) (i : ℕ) (s : System) (p : Packet) → Before run i s → p.header.dest_zone ≢ 0 → IsForUs (state_of s) p.header → receiver run p ≡ i
+received-at run i s p before some for_us =
+    let named : own_address s ≡ destination p = sym for_us ∙ named-by s.file p some in
+    place-of i s (destination p) run.systems before.apart before.there named
+
+-- the system that takes messages is put in its place
+taken : (run : Run) (i : ℕ) (s : System) (p : Packet) (n : ℕ) → Before run i s → receiver run p ≡ i
+    → change (receiver run p) (taking p n) run.systems ≡ change i (λ _. taking p n s) run.systems
+taken run i s p n before at =
+    ap (λ (j : ℕ). change j (taking p n) run.systems) at ∙ change-here i (taking p n) s run.systems before.there
+
+-- a packet was tossed whole
+delivered : (run : Run) (i : ℕ) (s : System) (k : ℕ) (p : Packet) (bytes : List ℕ) (new : SystemState) → Before run i s → nth k run.packets ≡ Some p → IsPacketFile bytes p
+    → TossedThese p p.messages (state_of s) new → Tossing (IsTossOf k) run i s (k ∷ []) new
+delivered run i s k p bytes new before there is these =
+    let n = length p.messages in
+    let at = received-at run i s p before is.zone these.for_us in
+    let systems = taken run i s p n before at in
+    let all : take n p.messages ≡ p.messages = take_all n p.messages (omega arith) in
+    let state = taking-state p n s in
+    record {
+      events = Delivery k ∷ [];
+      kind = inr (inl refl);
+      now = taking p n s;
+      state = state ∙ ap (after_messages (state_of s) p) all ∙ sym these.state;
+      file = ap (λ (x : SystemState). x.file) state;
+      longer = taking-longer p n s;
+      base = taking-base p bytes n s is before.file before.base;
+      becomes = ap (delivery run k) there ∙ ap (coming run k p) (ap (λ (j : ℕ). nth j run.systems) at ∙ before.there)
+          ∙ (λ j. record { systems = systems j; packets = run.packets; delivered = with_index k run.delivered });
+    }
+
+-- first messages of a packet were tossed
+part-delivered : (run : Run) (i : ℕ) (s : System) (k : ℕ) (p : Packet) (bytes : List ℕ) (new : SystemState) → Before run i s → nth k run.packets ≡ Some p → IsPacketFile bytes p
+    → TossedFront p (state_of s) new → Tossing (IsTossOf k) run i s [] new
+part-delivered run i s k p bytes new before there is front =
+    let n = front.number in
+    let at = received-at run i s p before is.zone front.these.for_us in
+    let systems = taken run i s p n before at in
+    let state = taking-state p n s in
+    record {
+      events = PartDelivery k n ∷ [];
+      kind = inr (inr (n, refl));
+      now = taking p n s;
+      state = state ∙ sym front.these.state;
+      file = ap (λ (x : SystemState). x.file) state;
+      longer = taking-longer p n s;
+      base = taking-base p bytes n s is before.file before.base;
+      becomes = ap (part_delivery run n) there ∙ (λ j. record { systems = systems j; packets = run.packets; delivered = run.delivered });
+    }
+
+-- one packet file, by its answer
+by-answer : (run : Run) (i : ℕ) (s : System) (k : ℕ) (p : Packet) (bytes : List ℕ) (new : SystemState) (answer : Result Tally TossFault) → Before run i s
+    → nth k run.packets ≡ Some p → IsPacketFile bytes p → TossedSo p (state_of s) new answer → Tossing (IsTossOf k) run i s (if_whole k answer) new
+by-answer run i s k p bytes new (Ok tally) before there is these = delivered run i s k p bytes new before there is these
+by-answer run i s k p bytes new (Err fault) before there is (inl same) = subst (Tossing (IsTossOf k) run i s []) (sym same) (nothing (IsTossOf k) (inl refl) run i s before)
+by-answer run i s k p bytes new (Err fault) before there is (inr front) = part-delivered run i s k p bytes new before there is front
+
+one-toss : (packets : List (List ℕ)) (run : Run) (i : ℕ) (s : System) (k : ℕ) (old : TossRun) → Before run i s → Paired IsPacketFile packets run.packets → old.system ≡ state_of s
+    → (one : TossesFile packets k old) → Tossing (IsTossOf k) run i s (if_whole k one.step.answer) one.run.system
+one-toss packets run i s k old before paired same one =
+    let (p, there, is) = paired-nth IsPacketFile k one.bytes packets run.packets paired one.there in
+    let so = tossed-so p one.bytes one.rest old.system one.run.system one.step.answer is one.step.step in
+    by-answer run i s k p one.bytes one.run.system one.step.answer before there is (subst (λ (x : SystemState). TossedSo p x one.run.system one.step.answer) same so)
+
+-- one toss after another
+with_indexes-append : (xs ys ds : List ℕ) → with_indexes (xs ++ ys) ds ≡ with_indexes ys (with_indexes xs ds)
+with_indexes-append [] ys ds = refl
+with_indexes-append (x ∷ xs) ys ds = with_indexes-append xs ys (with_index x ds)
+
+put-again : (run : Run) (i : ℕ) (y z : System) (xs ys : List ℕ) → put (put run i y xs) i z ys ≡ put run i z (xs ++ ys)
+put-again run i y z xs ys =
+    let systems = change-again i y z run.systems in
+    let indexes = sym (with_indexes-append xs ys run.delivered) in
+    λ j. record { systems = systems j; packets = run.packets; delivered = indexes j }
+
+before-next : (Kind : List RunEvent → Type 0) (run : Run) (i : ℕ) (s : System) (whole : List ℕ) (system : SystemState) → Before run i s → (t : Tossing Kind run i s whole system) → Before (put run i t.now whole) i t.now
+before-next Kind run i s whole system before t = record {
+  there = change-found i s t.now run.systems before.there;
+  apart = subst Different (sym (change-map own_address i s t.now run.systems before.there (ap (λ f. f.system) t.file))) before.apart;
+  file = subst IsFile (sym t.file) before.file;
+  base = t.base;
+}
+
+joined : (k : ℕ) (later : List ℕ) (run : Run) (i : ℕ) (s : System) (xs ys : List ℕ) (mid new : SystemState) → (t : Tossing (IsTossOf k) run i s xs mid)
+    → Tossing (AreTossesOf later) (put run i t.now xs) i t.now ys new → Tossing (AreTossesOf (k ∷ later)) run i s (xs ++ ys) new
+joined k later run i s xs ys mid new t u = record {
+  events = t.events ++ u.events;
+  kind = (t.events, u.events, refl, t.kind, u.kind);
+  now = u.now;
+  state = u.state;
+  file = u.file ∙ t.file;
+  longer = λ m h. u.longer m (t.longer m h);
+  base = u.base;
+  becomes = after-append t.events u.events run ∙ ap (λ (r : Run). after_events r u.events) t.becomes ∙ u.becomes ∙ put-again run i t.now u.now xs ys;
+}
+
+-- those that are not opened
+none-tossed : (indexes : List ℕ) → AreTossesOf indexes []
+none-tossed [] = refl
+none-tossed (k ∷ later) = ([], [], refl, inl refl, none-tossed later)
+
+-- the last that is tossed
+last-toss : (k : ℕ) (later : List ℕ) (run : Run) (i : ℕ) (s : System) (whole : List ℕ) (new : SystemState) → Tossing (IsTossOf k) run i s whole new
+    → Tossing (AreTossesOf (k ∷ later)) run i s whole new
+last-toss k later run i s whole new t = record {
+  events = t.events;
+  kind = (t.events, [], sym (append-nil t.events), t.kind, none-tossed later);
+  now = t.now;
+  state = t.state;
+  file = t.file;
+  longer = t.longer;
+  base = t.base;
+  becomes = t.becomes;
+}
+
+-- all packet files of a toss
+each-toss : (packets : List (List ℕ)) (i : ℕ) (indexes : List ℕ) (run : Run) (s : System) (old : TossRun) (stopped : Option Fault) (whole : List ℕ) (new : TossRun)
+    → Before run i s → Paired IsPacketFile packets run.packets → old.system ≡ state_of s → TossesFiles packets indexes old stopped whole new
+    → Tossing (AreTossesOf indexes) run i s whole new.system
+each-toss packets i [] run s old stopped whole new before paired same (ended, none, stays) =
+    let Kind : List RunEvent → Type 0 = AreTossesOf [] in
+    let system : new.system ≡ state_of s = ap (λ (r : TossRun). r.system) stays ∙ same in
+    subst (λ (w : List ℕ). Tossing Kind run i s w new.system) (sym none) (subst (Tossing Kind run i s []) (sym system) (nothing Kind refl run i s before))
+each-toss packets i (k ∷ later) run s old stopped whole new before paired same (inl (fault, is, none, stays)) =
+    let Kind : List RunEvent → Type 0 = AreTossesOf (k ∷ later) in
+    let system : new.system ≡ state_of s = ap (λ (r : TossRun). r.system) stays ∙ same in
+    subst (λ (w : List ℕ). Tossing Kind run i s w new.system) (sym none)
+    (subst (Tossing Kind run i s []) (sym system) (nothing Kind (none-tossed (k ∷ later)) run i s before))
+each-toss packets i (k ∷ later) run s old stopped whole new before paired same (inr (inl (one, fault, result, is, told, ends))) =
+    let Kind : List RunEvent → Type 0 = AreTossesOf (k ∷ later) in
+    let system : new.system ≡ one.run.system = ap (λ (r : TossRun). r.system) ends in
+    let last = last-toss k later run i s (if_whole k one.step.answer) one.run.system (one-toss packets run i s k old before paired same one) in
+    subst (λ (w : List ℕ). Tossing Kind run i s w new.system) (sym told) (subst (Tossing Kind run i s (if_whole k one.step.answer)) (sym system) last)
+each-toss packets i (k ∷ later) run s old stopped whole new before paired same (inr (inr (one, rest, result, told, goes_on))) =
+    let Kind : List RunEvent → Type 0 = AreTossesOf (k ∷ later) in
+    let first = one-toss packets run i s k old before paired same one in
+    let next = before-next (IsTossOf k) run i s (if_whole k one.step.answer) one.run.system before first in
+    let more = each-toss packets i later (put run i first.now (if_whole k one.step.answer)) first.now one.run stopped rest new next paired (sym first.state) goes_on in
+    subst (λ (w : List ℕ). Tossing Kind run i s w new.system) (sym told)
+    (joined k later run i s (if_whole k one.step.answer) rest one.run.system new.system first more)
+
+-- the base that a toss leaves
+left-base : (run : TossRun) (stopped : Option Fault) (old new : Option (List ℕ)) (before after : ℕ) (done : Done) (base : List ℕ) → EndsRun run stopped old new before after done
+    → done.files.base ≡ Some base → base ≡ saved_bytes run.system.base run.system.cursor
+left-base run None old new before after done base ends there = by ends.answer ends.so ends.is
+  where
+    by : (r : Result Files Fault) → RunEnds run (is_some (let none : Option Fault = None in none)) old new before after r → done ≡ run_done None r → base ≡ saved_bytes run.system.base run.system.cursor
+    by (Ok files) so e = some_same (sym there ∙ ap (λ (d : Done). d.files.base) e ∙ ap (λ (f : Files). f.base) so.0)
+    by (Err fault) so e = absurd (none_some (sym (ap (λ (d : Done). d.files.base) e) ∙ there))
+left-base run (Some why) old new before after done base ends there = by ends.answer ends.so ends.is
+  where
+    by : (r : Result Files Fault) → RunEnds run (is_some (Some why)) old new before after r → done ≡ run_done (Some why) r → base ≡ saved_bytes run.system.base run.system.cursor
+    by (Ok files) so e = some_same (sym there ∙ ap (λ (d : Done). d.files.base) e ∙ ap (λ (f : Files). f.base) so.0)
+    by (Err fault) so e = absurd (none_some (sym (ap (λ (d : Done). d.files.base) e) ∙ there))
+
+linked : (links : List ℕ) (s z : System) → LinksOf links (Ok s.file) → z.file ≡ s.file → LinksOf links (Ok z.file)
+linked links s z is same = subst (λ (f : LinkFile). LinksOf links (Ok f)) (sym same) is
+
+pub toss-agrees : (indexes : List ℕ) (net new : Net) (i : ℕ) (run : Run) → Different (map own_address run.systems) → Agrees net run → Tosses indexes net i new
+    → (events : List RunEvent) × AreTossesOf indexes events × Agrees new (after_events run events)
+toss-agrees indexes net new i run apart agrees tosses =
+    let base = tosses.base in
+    let (s, there, has) = paired-nth HasFiles i tosses.station net.stations run.systems agrees.stations tosses.there in
+    let same : tosses.begun.system ≡ state_of s = called-on tosses.station s tosses.call tosses.begun.system has tosses.went_on tosses.given in
+    let before : Before run i s = record {
+      there = there;
+      apart = apart;
+      file = file-fits tosses.station.links s.file has.links;
+      base = kept-base tosses.station.base s.base s.cursor has.base;
+    } in
+    let t = each-toss net.packets i indexes run s tosses.begun tosses.stopped tosses.whole tosses.run before agrees.packets same tosses.each in
+    let z = t.now in
+    let written = left-base tosses.run tosses.stopped tosses.call.old tosses.call.new tosses.call.before tosses.call.after tosses.done base tosses.answer tosses.leaves.base in
+    let saved : base ≡ saved_bytes z.base z.cursor = subst (λ (x : SystemState). base ≡ saved_bytes x.base x.cursor) (sym t.state) written in
+    let counted : is_countable z.base z.cursor ≡ true = subst (λ (x : SystemState). is_countable x.base x.cursor ≡ true) (sym t.state) tosses.counts in
+    let now : HasFiles (with_base base tosses.station) z =
+    record { links = linked tosses.station.links s z has.links t.file; base = saved-file base z.base z.cursor saved tosses.leaves.base_bytes t.base counted } in
+    let later : Agrees (with_tossed net i base tosses.whole) (put run i z tosses.whole) = record {
+      stations = paired-put HasFiles i (with_base base) (λ _. z) tosses.station s net.stations run.systems agrees.stations tosses.there there now;
+      packets = agrees.packets;
+      delivered = ap (with_indexes tosses.whole) agrees.delivered;
+      postings = λ x h. still-posted i (λ _. z) run.systems (λ y e m k.
+          let P : System → Type 0 = λ w. Among m w.history in
+          t.longer m (subst P (some_same (sym e ∙ there)) k)) x (agrees.postings x h);
+    } in (
+      t.events,
+      t.kind,
+      subst (λ (n : Net). Agrees n (after_events run t.events)) (sym tosses.becomes) (subst (Agrees (with_tossed net i base tosses.whole)) (sym t.becomes) later),
+    )

@@ -1,0 +1,162 @@
+-- What a command may do to a net of files: it is called on the files of one station, and what it leaves is put in place.
+use Rattle.std.specs.Prelude.{◌≡◌, ℕ, ◌⊎◌, true, List, [], ◌∷◌, ◌++◌, length, Option, Some, None, Result, Ok, Err}
+use Rattle.std.specs.List.{AllByRecursion}
+use Rattle.echo_packet.specs.Header.{AreBytes}
+use Rattle.echo_base.specs.Base.{LinkFile}
+use Rattle.echo_base.specs.BaseFile.{is_countable}
+use Rattle.echo_base.specs.LinkLines.{LinksOf}
+use Rattle.echo_steps.specs.declared.stamp.Stamp.{Stamp}
+use Rattle.echo_steps.specs.Posting.{posted}
+use Rattle.echo_steps.specs.Purging.{purged}
+use Rattle.echo_steps.specs.SystemState.{SystemState}
+use Rattle.echo_toss.specs.declared.fault.TossFault.{TossFault}
+use Rattle.echo_toss.specs.declared.tally.Tally.{Tally}
+use Rattle.echo_run.specs.Run.{nth}
+use Rattle.echo_commands.specs.declared.fault.Fault.{Fault}
+use Rattle.echo_commands.specs.declared.leaving.Done.{Done}
+use Rattle.echo_commands.specs.declared.leaving.Files.{Files}
+use Rattle.echo_commands.specs.declared.posting.NewMessage.{NewMessage}
+use Rattle.echo_commands.specs.Files.{Leaves}
+use Rattle.echo_commands.specs.Posted.{PostAnswers, base_after, draft_of}
+use Rattle.echo_commands.specs.Purged.{PurgeAnswers}
+use Rattle.echo_commands.specs.Scanned.{ScanAnswers}
+use Rattle.echo_commands.specs.System.{IsSystemGiven}
+use Rattle.echo_commands.specs.Unpacked.{EndsRun, TossRun, TossesPacket}
+use Rattle.echo_stations.specs.Nets.{Net, Station, with_files, with_posting, with_tossed}
+
+-- A call of a command on the files of a station: what it was handed, which is these files unless the reading of
+-- files stopped, and standard output before and after it, with how often that failed.
+pub record Call (station : Station) : Type 0 where
+  pub links : List ℕ
+  pub base : Option (List ℕ)
+  pub stopped : Option Fault
+  pub handed : stopped ≡ None → (links ≡ station.links) × (base ≡ station.base)
+  pub old : Option (List ℕ)
+  pub new : Option (List ℕ)
+  pub before : ℕ
+  pub after : ℕ
+
+-- a base file is among the files to write, and what is to be written is bytes
+pub record LeavesBase (files : Files) (bytes : List ℕ) : Type 0 where
+  pub base : files.base ≡ Some bytes
+  pub base_bytes : AreBytes bytes
+  pub packet_bytes : AllByRecursion (λ file. AreBytes file.bytes) files.packets
+
+-- four bytes count what is saved of the system that the files make, as the command leaves it
+abbrev pub Counts : List ℕ → Option (List ℕ) → (SystemState → SystemState) → Type 0
+Counts links base leaves =
+    (system : SystemState) → IsSystemGiven links base system → is_countable (leaves system).base (leaves system).cursor ≡ true
+
+-- `post` leaves a base file, and this is put in place
+pub record Posts (words : NewMessage) (body : List ℕ) (net : Net) (i : ℕ) (new : Net) : Type 0 where
+  pub station : Station
+  pub there : nth i net.stations ≡ Some station
+  pub call : Call station
+  pub done : Done
+  pub answer : Leaves (PostAnswers words call.links call.base call.stopped body call.old call.new call.before call.after) done
+  pub base : List ℕ
+  pub leaves : LeavesBase done.files base
+  pub counts : Counts call.links call.base (λ s. record { file = s.file; base = base_after s words body; cursor = s.cursor })
+  pub file : LinkFile
+  pub of_links : LinksOf station.links (Ok file)
+  pub becomes : new ≡ with_posting net i base (posted file words.tag.now (draft_of words body) words.serial words.stamp)
+
+-- `scan` leaves packet files and a base file, and these are put in place
+pub record Scans (stamp : Stamp) (net : Net) (i : ℕ) (new : Net) : Type 0 where
+  pub station : Station
+  pub there : nth i net.stations ≡ Some station
+  pub call : Call station
+  pub done : Done
+  pub answer : Leaves (ScanAnswers stamp call.links call.base call.stopped call.old call.new call.before call.after) done
+  pub base : List ℕ
+  pub leaves : LeavesBase done.files base
+  pub counts : Counts call.links call.base (λ s. record { file = s.file; base = s.base; cursor = length s.base })
+  pub becomes : new ≡ with_files net i done.files.packets base
+
+-- `purge` leaves a base file, and this is put in place
+pub record Purges (net : Net) (i : ℕ) (new : Net) : Type 0 where
+  pub station : Station
+  pub there : nth i net.stations ≡ Some station
+  pub call : Call station
+  pub done : Done
+  pub answer : Leaves (PurgeAnswers call.links call.base call.stopped call.old call.new call.before call.after) done
+  pub base : List ℕ
+  pub leaves : LeavesBase done.files base
+  pub counts : Counts call.links call.base (λ s. record { file = s.file; base = purged s.base s.cursor; cursor = s.cursor })
+  pub becomes : new ≡ with_files net i [] base
+
+-- the packet file of an index is tossed, as `toss` takes one file
+pub record TossesFile (packets : List (List ℕ)) (k : ℕ) (old : TossRun) : Type 0 where
+  pub bytes : List ℕ
+  pub there : nth k packets ≡ Some bytes
+  pub rest : Option (List ℕ)
+  pub before : ℕ
+  pub after : ℕ
+  pub result : Result (Unit {0}) Fault
+  pub run : TossRun
+  pub step : TossesPacket old (Some bytes) rest before after result run
+
+-- the index of a packet that was tossed whole
+abbrev pub if_whole : ℕ → Result Tally TossFault → List ℕ
+if_whole k (Ok tally) = k ∷ []
+if_whole k (Err fault) = []
+
+-- One packet file after the other is tossed. The first fault, of a packet or of its file, ends the run. `whole` are
+-- the indexes of those that were tossed whole, in order.
+abbrev pub TossesFiles : List (List ℕ) → List ℕ → TossRun → Option Fault → List ℕ → TossRun → Type 0
+TossesFiles packets [] old stopped whole new = (stopped ≡ None) × (whole ≡ []) × (new ≡ old)
+TossesFiles packets (k ∷ later) old stopped whole new =
+    ((fault : Fault) × (stopped ≡ Some fault) × (whole ≡ []) × (new ≡ old))
+    ⊎ (((one : TossesFile packets k old) × (fault : Fault) × (one.result ≡ Err fault) × (stopped ≡ Some fault)
+    × (whole ≡ if_whole k one.step.answer) × (new ≡ one.run))
+    ⊎ ((one : TossesFile packets k old) × (rest : List ℕ) × (one.result ≡ Ok tt) × (whole ≡ if_whole k one.step.answer ++ rest)
+    × TossesFiles packets later one.run stopped rest new))
+
+-- `toss` leaves a base file, also where a fault ended its run, and this is put in place
+pub record Tosses (indexes : List ℕ) (net : Net) (i : ℕ) (new : Net) : Type 0 where
+  pub station : Station
+  pub there : nth i net.stations ≡ Some station
+  pub call : Call station
+  pub went_on : call.stopped ≡ None
+  pub begun : TossRun
+  pub given : IsSystemGiven call.links call.base begun.system
+  pub no_lines : begun.lines ≡ []
+  pub stopped : Option Fault
+  pub whole : List ℕ
+  pub run : TossRun
+  pub each : TossesFiles net.packets indexes begun stopped whole run
+  pub done : Done
+  pub answer : EndsRun run stopped call.old call.new call.before call.after done
+  pub base : List ℕ
+  pub leaves : LeavesBase done.files base
+  pub counts : is_countable run.system.base run.system.cursor ≡ true
+  pub becomes : new ≡ with_tossed net i base whole
+
+-- A command and what it was given on its command line; packets go by their index in the list of all packet files.
+pub data Command : Type 0 where
+  Post : (words : NewMessage) (body : List ℕ) → Command
+  Scan : (stamp : Stamp) → Command
+  Purge : Command
+  Toss : (indexes : List ℕ) → Command
+
+-- a command is called at the station of an index
+pub record CommandEvent : Type 0 where
+  pub station : ℕ
+  pub command : Command
+
+-- the command leaves files, and they are put in place
+abbrev pub Leads : Command → Net → ℕ → Net → Type 0
+Leads (Post words body) net i new = Posts words body net i new
+Leads (Scan stamp) net i new = Scans stamp net i new
+Leads Purge net i new = Purges net i new
+Leads (Toss indexes) net i new = Tosses indexes net i new
+
+-- What a command event may do. Where the command is refused, or a device fails before all that it left is in place,
+-- all is as before.
+abbrev pub Happens : CommandEvent → Net → Net → Type 0
+Happens event net new = (new ≡ net) ⊎ Leads event.command net event.station new
+
+-- what command events may do, one after another
+abbrev pub Happen : List CommandEvent → Net → Net → Type 0
+Happen [] net new = new ≡ net
+Happen (event ∷ later) net new = (next : Net) × Happens event net next × Happen later next new

@@ -1,0 +1,27 @@
+//! What holds of the definitions. Each law is the contract of a function that does nothing.
+
+ghost use Rattle.echo_stations.specs.Agreement.{EventIsEvents, EventsAreARun};
+ghost use Rattle.echo_stations.specs.InOrder.{HeadlineOnFiles};
+
+/// A command that is called on the files of one station of a net, and whose files are put in place, is some
+/// events of the run that the net agrees with: none, a posting, a scan, a purge, or for each packet that was
+/// tossed a delivery, which may have stopped inside.
+pub fn command_is_events()
+    ensures { EventIsEvents }
+{}
+
+/// Whatever commands are run on stations that begin without base files, refused ones, faulty packets, want
+/// of memory and failing devices among them, the files agree with some run: each base file is what is saved
+/// of a system's base, the packet files are the bytes of the packets, and the same packets were delivered.
+pub fn commands_are_a_run()
+    ensures { EventsAreARun }
+{}
+
+/// The headline on files: where `check` ended with 0 for the link files of the stations and an area, then
+/// whatever commands are run on their files, each base file of the area has each message at most once; over
+/// all packet files each station was sent each message at most once, and none of its own; and where nothing
+/// waits and every packet that holds a message of the area was tossed whole, each has each posting exactly
+/// once, unchanged where it was not purged.
+pub fn files_are_in_order()
+    ensures { HeadlineOnFiles }
+{}
