@@ -1,10 +1,10 @@
 -- Command events are events of a run.
 use Rattle.std.proofs.Common.{◌≡◌, inl, inr, refl, sym, subst, ap, ℕ, List, [], ◌∷◌, ◌++◌, map}
 use Rattle.echo_addr.specs.declared.address.Address.{Address}
-use Rattle.echo_graph.specs.Walk.{Different}
-use Rattle.echo_base.specs.Base.{LinkFile}
+use Rattle.echo_graph.specs.Walk.{Among, Different}
+use Rattle.echo_base.specs.Base.{Filed, LinkFile}
 use Rattle.echo_run.specs.Event.{Posting, Purging, RunEvent, Scanning}
-use Rattle.echo_run.specs.Run.{Run, after_events, fresh, start}
+use Rattle.echo_run.specs.Run.{Run, System, after_events, fresh, start}
 use Rattle.echo_run.proofs.LaterSystems.{after-append}
 use Rattle.echo_commands.specs.Given.{AreLinkFiles}
 use Rattle.echo_commands.specs.Posted.{draft_of}
@@ -48,12 +48,20 @@ first-stations [] (file ∷ files) are = absurd are
 first-stations (bytes ∷ links) [] are = absurd are
 first-stations (bytes ∷ links) (file ∷ files) are = (record { links = are.0; base = (refl, refl) }, first-stations links files are.1)
 
+none-filed : (files : List LinkFile) (s : System) → Among s (map fresh files) → (m : Filed) → Among m s.history → ⊥
+none-filed [] s there m h = there
+none-filed (file ∷ files) s there m h = elim there [
+  | inl e ↦ (let P : System → Type 0 = λ x. Among m x.history in subst P e h)
+  | inr t ↦ none-filed files s t m h
+]
+
 pub first-agrees : (links : List (List ℕ)) (files : List LinkFile) → AreLinkFiles links files → Agrees (first_net links) (start files)
 first-agrees links files are = record {
   stations = first-stations links files are;
   packets = tt;
   delivered = refl;
   postings = λ m h. absurd h;
+  only_postings = λ s there m has. absurd (none-filed files s there m has.filed);
 }
 
 fresh-files : (files : List LinkFile) → map own_address (map fresh files) ≡ map file_address files

@@ -11,4 +11,5 @@ pub mod OfScan
 pub mod Tossed
 pub mod OfToss
 pub mod EachEvent
+pub mod Sound
 pub mod Headline

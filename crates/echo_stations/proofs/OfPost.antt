@@ -13,7 +13,7 @@ use Rattle.echo_steps.specs.SystemState.{SystemState}
 use Rattle.echo_steps.proofs.Kept.{posting_keeps}
 use Rattle.echo_run.specs.Event.{Posting}
 use Rattle.echo_run.specs.Run.{Run, System, after_event, filing, posting_at}
-use Rattle.echo_run.proofs.Lists.{some_same}
+use Rattle.echo_run.proofs.Lists.{nth-among, some_same}
 use Rattle.echo_commands.specs.declared.leaving.Files.{Files}
 use Rattle.echo_commands.specs.declared.posting.NewMessage.{NewMessage}
 use Rattle.echo_commands.specs.Posted.{base_after, draft_of, refusal_of}
@@ -23,7 +23,7 @@ use Rattle.echo_stations.specs.Nets.{Net, with_base}
 use Rattle.echo_stations.proofs.BaseFiles.{file-fits, kept-base, one-file, saved-file, state_of}
 use Rattle.echo_stations.proofs.Leavings.{called-on, left}
 use Rattle.echo_stations.proofs.Pairs.{paired-nth, paired-put}
-use Rattle.echo_stations.proofs.Postings.{Lengthens, changed-among, still-posted}
+use Rattle.echo_stations.proofs.Postings.{Lengthens, changed-among, still-only, still-posted}
 
 -- where nothing refuses it the message is filed
 is-filed : (file : LinkFile) (base : List Filed) (tag : List ℕ) (draft : Draft) (serial : ℕ) (stamp : Stamp) → post_refusal file base tag draft serial stamp ≡ None
@@ -90,4 +90,18 @@ module _ (words : NewMessage) (body : List ℕ) (net new : Net) (i : ℕ) (run :
             | inr none ↦ absurd none
           ]
         ];
+        only_postings = still-only (λ x. Among x (net.postings ++ told ∷ [])) i f run.systems
+            (λ z at x owned. Among-append_left x net.postings (told ∷ []) (agrees.only_postings z at x owned))
+            (λ z at x owned.
+            let F : System → Type 0 = λ y. HasPosting x (f y) in
+            let O : Option Filed → Type 0 = λ o. HasPosting x (filing s o) in
+            let owns : HasPosting x (filing s (Some m)) = subst O filed (subst F (some_same (sym at ∙ there)) owned) in
+            elim (Among-append_cases x s.history (m ∷ []) owns.filed) [
+              | inl old ↦ Among-append_left x net.postings (told ∷ [])
+                  (agrees.only_postings s (nth-among i s run.systems there) x (record { filed = old; own = owns.own }))
+              | inr last ↦ elim last [
+                | inl e ↦ Among-append_right x net.postings (told ∷ []) (inl (e ∙ sym same_message))
+                | inr none ↦ absurd none
+              ]
+            ]);
       })

@@ -1,12 +1,13 @@
 -- A purge on files is one of the run.
 use Rattle.std.proofs.Common.{◌≡◌, sym, subst, ap, ◌∙◌, ℕ, true, append-nil, List}
+use Rattle.echo_graph.specs.Walk.{Among}
 use Rattle.echo_base.specs.BaseFile.{is_countable, saved_bytes}
 use Rattle.echo_steps.specs.Purging.{purged}
 use Rattle.echo_steps.specs.SystemState.{SystemState}
 use Rattle.echo_steps.proofs.Purged.{purge_keeps}
 use Rattle.echo_run.specs.Event.{Purging}
 use Rattle.echo_run.specs.Run.{Run, after_event, purging_at}
-use Rattle.echo_run.proofs.Lists.{some_same}
+use Rattle.echo_run.proofs.Lists.{nth-among, some_same}
 use Rattle.echo_commands.specs.declared.leaving.Files.{Files}
 use Rattle.echo_stations.specs.Agreement.{Agrees, HasFiles, IsPacketFile, Paired}
 use Rattle.echo_stations.specs.Commands.{Purges}
@@ -14,7 +15,7 @@ use Rattle.echo_stations.specs.Nets.{Net, with_base}
 use Rattle.echo_stations.proofs.BaseFiles.{kept-base, saved-file, state_of}
 use Rattle.echo_stations.proofs.Leavings.{called-on, left}
 use Rattle.echo_stations.proofs.Pairs.{paired-nth, paired-put}
-use Rattle.echo_stations.proofs.Postings.{still-posted}
+use Rattle.echo_stations.proofs.Postings.{still-only, still-posted}
 
 pub purge-agrees : (net new : Net) (i : ℕ) (run : Run) → Agrees net run → Purges net i new → Agrees new (after_event run (Purging i))
 purge-agrees net new i run agrees purges =
@@ -38,4 +39,6 @@ purge-agrees net new i run agrees purges =
       packets = subst P (sym (append-nil net.packets)) agrees.packets;
       delivered = agrees.delivered;
       postings = λ x h. still-posted i purging_at run.systems (λ z _ m k. k) x (agrees.postings x h);
+      only_postings = still-only (λ x. Among x net.postings) i purging_at run.systems agrees.only_postings
+          (λ z at x owned. agrees.only_postings z (nth-among i z run.systems at) x (record { filed = owned.filed; own = owned.own }));
     })

@@ -3,6 +3,7 @@ use Rattle.std.proofs.Common.{◌≡◌, sym, subst, ap, ◌∙◌, ℕ, arith, 
 use Rattle.std.specs.List.{AllByRecursion}
 use Rattle.std.proofs.lemmas.Bool.{cond-true}
 use Rattle.echo_packet.specs.Header.{AreBytes}
+use Rattle.echo_graph.specs.Walk.{Among}
 use Rattle.echo_base.specs.Base.{Filed, IsBase}
 use Rattle.echo_base.specs.BaseFile.{is_countable, saved_bytes}
 use Rattle.echo_steps.specs.declared.stamp.Stamp.{Stamp}
@@ -11,7 +12,7 @@ use Rattle.echo_steps.specs.Stamps.{is_stamp}
 use Rattle.echo_steps.specs.SystemState.{SystemState}
 use Rattle.echo_run.specs.Event.{Scanning}
 use Rattle.echo_run.specs.Run.{Run, System, after_event, change, nth, scanning, scanning_at}
-use Rattle.echo_run.proofs.Lists.{some_same}
+use Rattle.echo_run.proofs.Lists.{nth-among, some_same}
 use Rattle.echo_commands.specs.declared.leaving.Files.{Files}
 use Rattle.echo_commands.specs.declared.leaving.PacketFile.{PacketFile}
 use Rattle.echo_commands.specs.Scanned.{file_of}
@@ -22,7 +23,7 @@ use Rattle.echo_stations.proofs.BaseFiles.{file-fits, kept-base, saved-file, sta
 use Rattle.echo_stations.proofs.Leavings.{called-on, left}
 use Rattle.echo_stations.proofs.Packets.{scanned-fit}
 use Rattle.echo_stations.proofs.Pairs.{paired-append, paired-nth, paired-put}
-use Rattle.echo_stations.proofs.Postings.{still-posted}
+use Rattle.echo_stations.proofs.Postings.{still-only, still-posted}
 
 -- all messages of a base are scanned
 all-scanned : (base : List Filed) (cursor : ℕ) → IsBase base cursor → IsBase base (length base)
@@ -73,6 +74,8 @@ scan-agrees stamp net new i run agrees scans =
       packets = paired-append IsPacketFile net.packets (map bytes_of scans.done.files.packets) run.packets ps agrees.packets (subst Q (sym made) fit);
       delivered = agrees.delivered;
       postings = λ x h. still-posted i scanning_at run.systems (λ z _ m k. k) x (agrees.postings x h);
+      only_postings = still-only (λ x. Among x net.postings) i scanning_at run.systems agrees.only_postings
+          (λ z at x owned. agrees.only_postings z (nth-among i z run.systems at) x (record { filed = owned.filed; own = owned.own }));
     } in
     subst (λ (n : Net). Agrees n (after_event run (Scanning i stamp))) (sym scans.becomes)
     (subst (Agrees (with_files net i scans.done.files.packets base)) (sym (is-scanned run i stamp s there right.moment)) later)

@@ -14,21 +14,21 @@ use Rattle.echo_toss.specs.Unpacked.{IsForUs}
 use Rattle.echo_run.specs.Event.{Delivery, PartDelivery, RunEvent}
 use Rattle.echo_run.specs.Run.{Run, System, after_events, change, coming, delivery, destination, nth, part_delivery, receiver, taking, with_index}
 use Rattle.echo_run.proofs.LaterSystems.{after-append}
-use Rattle.echo_run.proofs.Lists.{none_some, some_same}
+use Rattle.echo_run.proofs.Lists.{none_some, nth-among, some_same}
 use Rattle.echo_commands.specs.declared.fault.Fault.{Fault}
 use Rattle.echo_commands.specs.declared.leaving.Done.{Done}
 use Rattle.echo_commands.specs.declared.leaving.Files.{Files}
 use Rattle.echo_commands.specs.Unpacked.{EndsRun, RunEnds, TossRun, run_done}
-use Rattle.echo_stations.specs.Agreement.{Agrees, AreTossesOf, HasFiles, IsPacketFile, IsTossOf, Paired, own_address}
+use Rattle.echo_stations.specs.Agreement.{Agrees, AreTossesOf, HasFiles, HasPosting, IsPacketFile, IsTossOf, Paired, own_address}
 use Rattle.echo_stations.specs.Commands.{Tosses, TossesFile, TossesFiles, if_whole}
 use Rattle.echo_stations.specs.Nets.{Net, with_base, with_indexes, with_tossed}
 use Rattle.echo_stations.proofs.BaseFiles.{file-fits, kept-base, saved-file, state_of}
 use Rattle.echo_stations.proofs.Leavings.{called-on}
 use Rattle.echo_stations.proofs.Pairs.{change-again, change-found, change-here, change-map, change-same, paired-nth, paired-put}
 use Rattle.echo_stations.proofs.Places.{place-of}
-use Rattle.echo_stations.proofs.Postings.{still-posted}
+use Rattle.echo_stations.proofs.Postings.{still-only, still-posted}
 use Rattle.echo_stations.proofs.Readings.{TossedFront, TossedSo, TossedThese, after_messages, tossed-so}
-use Rattle.echo_stations.proofs.Tossed.{named-by, taking-base, taking-longer, taking-state}
+use Rattle.echo_stations.proofs.Tossed.{named-by, taking-base, taking-longer, taking-posted, taking-state}
 
 -- the run with this system at the index, and these packets delivered
 abbrev put : Run → ℕ → System → List ℕ → Run
@@ -46,6 +46,7 @@ record Tossing (Kind : List RunEvent → Type 0) (run : Run) (i : ℕ) (s : Syst
   state : state_of now ≡ system
   file : now.file ≡ s.file
   longer : (m : Filed) → Among m s.history → Among m now.history
+  posted : (m : Filed) → HasPosting m now → HasPosting m s
   base : IsBase now.base now.cursor
   becomes : after_events run events ≡ put run i now whole
 
@@ -65,6 +66,7 @@ nothing Kind none run i s before = record {
   state = refl;
   file = refl;
   longer = λ m h. h;
+  posted = λ m h. h;
   base = before.base;
   becomes = (let e = sym (change-same i s run.systems before.there) in λ j. record { systems = e j; packets = run.packets; delivered = run.delivered });
 }
@@ -97,6 +99,7 @@ delivered run i s k p bytes new before there is these =
       state = state ∙ ap (after_messages (state_of s) p) all ∙ sym these.state;
       file = ap (λ (x : SystemState). x.file) state;
       longer = taking-longer p n s;
+      posted = taking-posted p n s;
       base = taking-base p bytes n s is before.file before.base;
       becomes = ap (delivery run k) there ∙ ap (coming run k p) (ap (λ (j : ℕ). nth j run.systems) at ∙ before.there)
           ∙ (λ j. record { systems = systems j; packets = run.packets; delivered = with_index k run.delivered });
@@ -117,6 +120,7 @@ part-delivered run i s k p bytes new before there is front =
       state = state ∙ sym front.these.state;
       file = ap (λ (x : SystemState). x.file) state;
       longer = taking-longer p n s;
+      posted = taking-posted p n s;
       base = taking-base p bytes n s is before.file before.base;
       becomes = ap (part_delivery run n) there ∙ (λ j. record { systems = systems j; packets = run.packets; delivered = run.delivered });
     }
@@ -163,6 +167,7 @@ joined k later run i s xs ys mid new t u = record {
   state = u.state;
   file = u.file ∙ t.file;
   longer = λ m h. u.longer m (t.longer m h);
+  posted = λ m h. t.posted m (u.posted m h);
   base = u.base;
   becomes = after-append t.events u.events run ∙ ap (λ (r : Run). after_events r u.events) t.becomes ∙ u.becomes ∙ put-again run i t.now u.now xs ys;
 }
@@ -182,6 +187,7 @@ last-toss k later run i s whole new t = record {
   state = t.state;
   file = t.file;
   longer = t.longer;
+  posted = t.posted;
   base = t.base;
   becomes = t.becomes;
 }
@@ -255,6 +261,8 @@ toss-agrees indexes net new i run apart agrees tosses =
       postings = λ x h. still-posted i (λ _. z) run.systems (λ y e m k.
           let P : System → Type 0 = λ w. Among m w.history in
           t.longer m (subst P (some_same (sym e ∙ there)) k)) x (agrees.postings x h);
+      only_postings = still-only (λ x. Among x net.postings) i (λ _. z) run.systems agrees.only_postings
+          (λ y at x owned. agrees.only_postings s (nth-among i s run.systems there) x (t.posted x owned));
     } in (
       t.events,
       t.kind,

@@ -34,3 +34,16 @@ pub changed-among : (i : ℕ) (f : System → System) (s : System) (all : List S
 changed-among i f s [] there = absurd (none_some there)
 changed-among zero f s (z ∷ all) there = inl (ap f (sym (some_same there)))
 changed-among (suc i) f s (z ∷ all) there = inr (changed-among i f s all there)
+
+-- where all that the systems posted is so, and all that the one that changes has posted, all that they have posted is so
+pub still-only : (P : Filed → Type 0) (i : ℕ) (f : System → System) (all : List System) → ((s : System) → Among s all → (m : Filed) → HasPosting m s → P m)
+    → ((s : System) → nth i all ≡ Some s → (m : Filed) → HasPosting m (f s) → P m) → (s : System) → Among s (change i f all) → (m : Filed) → HasPosting m s → P m
+still-only P i f [] each one s there m has = absurd there
+still-only P zero f (z ∷ all) each one s there m has = elim there [
+  | inl e ↦ (let Q : System → Type 0 = λ x. HasPosting m x in one z refl m (subst Q e has))
+  | inr t ↦ each s (inr t) m has
+]
+still-only P (suc i) f (z ∷ all) each one s there m has = elim there [
+  | inl e ↦ each s (inl e) m has
+  | inr t ↦ still-only P i f all (λ x j. each x (inr j)) one s t m has
+]

@@ -1,18 +1,21 @@
 -- A system after the toss of some messages of a packet.
-use Rattle.std.proofs.Common.{◌≡◌, ◌≢◌, inl, inr, refl, sym, subst, ◌∙◌, ℕ, ◌^◌, ◌<◌, ◌==◌, arith, append-nil, List, [], ◌∷◌, ◌++◌, length, take, Option, Some, None}
+use Rattle.std.proofs.Common.{◌≡◌, ap, ◌≢◌, inl, inr, refl, sym, subst, ◌∙◌, ℕ, ◌^◌, ◌<◌, ◌==◌, arith, append-nil, List, [], ◌∷◌, ◌++◌, length, take, Option, Some, None}
 use Rattle.std.specs.Prelude.{option_to_list}
 use Rattle.std.specs.List.{AllByRecursion}
 use Rattle.std.proofs.lemmas.Bool.{cases_Bool, cond-false, cond-true, ne_eqb}
 use Rattle.echo_addr.specs.declared.address.Address.{Address}
 use Rattle.echo_graph.specs.Walk.{Among}
+use Rattle.echo_graph.proofs.Members.{Among-append_cases}
 use Rattle.echo_packet.specs.Message.{IsMessage, Message}
 use Rattle.echo_base.specs.Base.{Filed, HasSmallSender, IsBase, IsFile, LinkFile}
 use Rattle.echo_steps.specs.declared.packet.Packet.{Packet}
 use Rattle.echo_steps.specs.SystemState.{SystemState}
-use Rattle.echo_steps.specs.Tossing.{destination_of, origin_of, tossed, tossing, zone_of}
+use Rattle.echo_steps.specs.Tossing.{destination_of, origin_of, received, tossed, tossing, zone_of}
+use Rattle.echo_steps.proofs.Received.{tossing_received}
 use Rattle.echo_steps.proofs.Kept.{tossing_keeps}
 use Rattle.echo_run.specs.Run.{System, destination, filing, taking, tossing_at}
-use Rattle.echo_stations.specs.Agreement.{IsPacketFile}
+use Rattle.echo_run.proofs.Lists.{none_some}
+use Rattle.echo_stations.specs.Agreement.{HasPosting, IsPacketFile}
 use Rattle.echo_stations.proofs.BaseFiles.{state_of}
 use Rattle.echo_stations.proofs.OfPost.{filing-lengthens}
 use Rattle.echo_stations.proofs.Packets.{all-take}
@@ -44,6 +47,31 @@ tossing-longer sender (q ∷ ms) s m h =
 
 pub taking-longer : (p : Packet) (n : ℕ) (s : System) → Lengthens (taking p n) s
 taking-longer p n s m h = tossing-longer (origin_of s.file p.header) (take n p.messages) s m h
+
+-- what it posted it had posted before
+filing-posted : (s : System) (o : Option Filed) (m : Filed) → ((x : Filed) → o ≡ Some x → x.sender ≡ None → ⊥) → HasPosting m (filing s o) → HasPosting m s
+filing-posted s None m other has = has
+filing-posted s (Some x) m other has = elim (Among-append_cases m s.history (x ∷ []) has.filed) [
+  | inl old ↦ record { filed = old; own = has.own }
+  | inr last ↦ elim last [
+    | inl e ↦ absurd (other x refl (ap (λ (y : Filed). y.sender) (sym e) ∙ has.own))
+    | inr none ↦ absurd none
+  ]
+]
+
+no-posting : (sender : Address) (q : Message) → (received sender q).sender ≡ None → ⊥
+unfolding received
+no-posting sender q e = none_some (sym e)
+
+tossing-posted : (sender : Address) (ms : List Message) (s : System) (m : Filed) → HasPosting m (tossing_at sender ms s) → HasPosting m s
+tossing-posted sender [] s m has = has
+tossing-posted sender (q ∷ ms) s m has =
+    filing-posted s (tossing s.file s.base sender q) m (λ x e own.
+    no-posting sender q (ap (λ (y : Filed). y.sender) (sym (tossing_received s.file s.base sender q x e).1) ∙ own))
+    (tossing-posted sender ms (filing s (tossing s.file s.base sender q)) m has)
+
+pub taking-posted : (p : Packet) (n : ℕ) (s : System) (m : Filed) → HasPosting m (taking p n s) → HasPosting m s
+taking-posted p n s m has = tossing-posted (origin_of s.file p.header) (take n p.messages) s m has
 
 -- a base stays a base
 tossed-base : (most : ℕ) (file : LinkFile) (sender : Address) → HasSmallSender (Some sender) → (ms : List Message) → AllByRecursion (IsMessage most) ms

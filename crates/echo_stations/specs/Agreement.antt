@@ -53,12 +53,13 @@ pub record HasPosting (m : Filed) (s : System) : Type 0 where
   pub own : m.sender ≡ None
 
 -- The stations have the files of the systems, the packet files are the bytes of the packets, in order, the same
--- packets were delivered, and what was posted was filed.
+-- packets were delivered, and just what was posted was filed by its system.
 pub record Agrees (net : Net) (run : Run) : Type 0 where
   pub stations : Paired HasFiles net.stations run.systems
   pub packets : Paired IsPacketFile net.packets run.packets
   pub delivered : net.delivered ≡ run.delivered
   pub postings : (m : Filed) → Among m net.postings → (s : System) × Among s run.systems × HasPosting m s
+  pub only_postings : (s : System) → Among s run.systems → (m : Filed) → HasPosting m s → Among m net.postings
 
 -- the own address of a system
 abbrev pub own_address : System → Address

@@ -1,7 +1,7 @@
 //! What holds of the definitions. Each law is the contract of a function that does nothing.
 
 ghost use Rattle.echo_stations.specs.Agreement.{EventIsEvents, EventsAreARun};
-ghost use Rattle.echo_stations.specs.InOrder.{HeadlineOnFiles};
+ghost use Rattle.echo_stations.specs.InOrder.{FilesAreSound, HeadlineOnFiles};
 
 /// A command that is called on the files of one station of a net, and whose files are put in place, is some
 /// events of the run that the net agrees with: none, a posting, a scan, a purge, or for each packet that was
@@ -17,11 +17,18 @@ pub fn commands_are_a_run()
     ensures { EventsAreARun }
 {}
 
+/// Whatever commands are run on stations of different addresses, checked or not: each packet file is a packet,
+/// each base file is read, has each message at most once, and has only messages that were posted, unchanged
+/// where they were not purged.
+pub fn files_are_sound()
+    ensures { FilesAreSound }
+{}
+
 /// The headline on files: where `check` ended with 0 for the link files of the stations and an area, then
-/// whatever commands are run on their files, each base file of the area has each message at most once; over
-/// all packet files each station was sent each message at most once, and none of its own; and where nothing
-/// waits and every packet that holds a message of the area was tossed whole, each has each posting exactly
-/// once, unchanged where it was not purged.
+/// whatever commands are run on their files, these are sound; over all packet files each station of the area
+/// was sent each message of it at most once, and none of its own; and where nothing waits and every packet
+/// that holds a message of the area was tossed whole, its base file has each posting exactly once, unchanged
+/// where it was not purged.
 pub fn files_are_in_order()
     ensures { HeadlineOnFiles }
 {}
