@@ -12,4 +12,5 @@ pub mod Pictures
 pub mod Numerals
 pub mod Systems
 pub mod Stationed
+pub mod Tossings
 pub mod Replays

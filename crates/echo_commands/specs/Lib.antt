@@ -15,4 +15,6 @@ pub mod Scanned
 pub mod Purged
 pub mod Posted
 pub mod Unpacked
+pub mod Coming
+pub mod Tossed
 pub mod Replayed

@@ -11,12 +11,13 @@
 //! of what a text says), `listing` with `nodelist_text` (what is printed of a nodelist), `checking` with
 //! `verdict_text` (is an area in order), `picturing` with `picture_text` (an area as a graph), `leaving`
 //! (the files that a command leaves to be written), `system` (a link file and a base are read, and the
-//! base is written), `posting`, `scanning`, `purging` and `unpacking` (packets are tossed),
+//! base is written), `posting`, `scanning`, `purging`, `coming` (packet files) and `unpacking` (they are tossed),
 //! `replaying` with `replay_text` (what becomes of a net), and `laws`
 //! (what holds of the definitions).
 #![tactic(auto)]
 
 mod checking;
+mod coming;
 mod escape;
 mod fault;
 mod given;
@@ -42,6 +43,7 @@ mod unpacking;
 mod verdict_text;
 
 pub use checking::check;
+pub use coming::PacketFiles;
 pub use fault::Fault;
 pub use laws::one_printing;
 pub use leaving::{Done, Files, PacketFile};
@@ -54,7 +56,7 @@ pub use replaying::replay;
 pub use scanning::scan;
 pub use showing::show;
 pub use status::Status;
-pub use unpacking::Tossing;
+pub use unpacking::toss;
 
 #[cfg(test)]
 mod tests;

@@ -1,10 +1,11 @@
-//! The command `toss`: a run over packet files, of which one is open at a time.
-ghost use Rattle.std.specs.Prelude.{◌≡◌, ◌⊎◌, ◌++◌, [], None, IfErr, IfOk, OnOk, option_copied};
+//! The command `toss`: packet files one after the other, of which one is open at a time.
+ghost use Rattle.std.specs.Prelude.{◌≡◌, ◌+◌, ◌≤◌, ◌⊎◌, ◌++◌, [], None, IfErr, IfOk, decimal, length, option_copied, vec_capacity, vec_len};
 ghost use Rattle.echo_commands.specs.Ended.{IsWantOfMemory};
 ghost use Rattle.echo_commands.specs.System.{IsFirstFaultOf, IsSystemGiven};
-ghost use Rattle.echo_commands.specs.Unpacked.{EndsRun, RunEnds, TossesPacket, fault_of, tally_line};
+ghost use Rattle.echo_commands.specs.Tossed.{EndsRun, RunEnds, TossAnswers, TossesEach};
+ghost use Rattle.echo_commands.specs.Unpacked.{TossesPacket, fault_of, tally_line};
 
-use crate::escape::written;
+use crate::coming::PacketFiles;
 use crate::fault::Fault;
 use crate::leaving::{Done, Files, leave};
 use crate::printing::print_rest;
@@ -12,21 +13,49 @@ use crate::showing::LIMITS;
 use crate::system::{saved, system_given};
 use echo_device::{Sink, Source};
 use echo_toss::{Tally, TossCause, Tosser};
-use std::alloc::{AllocError, Global};
+use itoa::Buffer;
+use std::alloc::Global;
 use std::hash::BuildHasher;
-use std::io::Write;
 use std::marker::Model;
 
-/// `toss LINKS BASE PACKET...`, a run over packet files: `begin` reads link file and base, `packet`
-/// tosses the packet of one file, and `end` prints a line for each and leaves the base to be written.
+/// How many bytes the line of a packet has at most.
+const MOST_LINE: usize = 170;
+
+/// `toss LINKS BASE PACKET...`: tosses the packet at the front of each file, in order, and prints a line
+/// for each, also for one whose fault ends the run; the files behind it are not opened. The base is to
+/// be written then, too. Where the link file or the base is faulty no packet file is opened, nothing is
+/// printed and nothing is to be written. The first fault goes to `errors`. `base` is none where the file
+/// does not exist; `stopped` is why it was not read, and comes after the faults of the link file.
+pub fn toss<'a, S: BuildHasher + Drop, P: PacketFiles<'a>, W: Sink, E: Sink>(
+    alloc: Global,
+    links: &[u8],
+    base: Option<&[u8]>,
+    stopped: Option<Fault<'_>>,
+    hasher: S,
+    packets: &mut P,
+    out: &mut W,
+    errors: &mut E,
+) -> Done
+    ensures { TossAnswers P.Reader.remaining P.Reader.failures links.now (option_copied base.entry) stopped.entry (P.coming packets.old) (P.coming packets.new) (W.contents out.old) (W.contents out.new) (W.failures out.old) (W.failures out.new) result }
+{
+    match Run::begin(alloc, links, base, stopped, hasher) {
+        Ok(mut run) => {
+            let stopped = run.each(packets);
+            run.end(stopped, out, errors)
+        }
+        Err(fault) => leave(alloc, Err(fault), errors),
+    }
+}
+
+// A run over packet files: the system as it is now, and the lines so far.
 #[derive(Drop)]
-pub struct Tossing<S: BuildHasher> {
+struct Run<S: BuildHasher> {
     alloc: Global,
     system: Tosser<S>,
     lines: Vec<u8>,
 }
 
-impl<S: BuildHasher> Model for Tossing<S> {
+impl<S: BuildHasher> Model for Run<S> {
     ghost use Rattle.echo_commands.specs.Unpacked.{TossRun};
 
     ghost Value = { TossRun };
@@ -34,16 +63,15 @@ impl<S: BuildHasher> Model for Tossing<S> {
     ghost view = { λ t. record { system = t.system; lines = t.lines.items } };
 }
 
-impl<S: BuildHasher> Tossing<S> {
-    /// Before the first packet. `base` is none where the file does not exist; `stopped` is why it was
-    /// not read, and comes after the faults of the link file.
-    pub fn begin<'a>(
+impl<S: BuildHasher> Run<S> {
+    // Before the first packet.
+    fn begin<'a>(
         alloc: Global,
         links: &[u8],
         base: Option<&[u8]>,
         stopped: Option<Fault<'a>>,
         hasher: S,
-    ) -> Result<Tossing<S>, Fault<'a>>
+    ) -> Result<Run<S>, Fault<'a>>
     where
         S: Drop,
         ensures ok { IfOk result (λ run. IsSystemGiven links.now (option_copied base.entry) run.system) }
@@ -52,34 +80,53 @@ impl<S: BuildHasher> Tossing<S> {
         ensures err { IfErr result (λ fault. IsWantOfMemory fault ⊎ IsFirstFaultOf links.now (option_copied base.entry) stopped.entry fault) }
     {
         let system = system_given(alloc, links, base, stopped, hasher)?;
-        Ok(Tossing {
+        Ok(Run {
             alloc,
             system,
             lines: Vec::new(alloc),
         })
     }
 
-    /// Tosses the packet at the front of what the reader has. A fault is to end the run.
-    pub fn packet<'a, R: Source>(&mut self, reader: &mut R) -> Result<(), Fault<'a>>
+    // Tosses the packets of the files, up to the first fault, which is answered.
+    fn each<'a, P: PacketFiles<'a>>(&mut self, packets: &mut P) -> Option<Fault<'a>>
+        ensures { TossesEach P.Reader.remaining P.Reader.failures (P.coming packets.old) self.old result (P.coming packets.new) self.new }
+    {
+        'files: while let Some(opened) = packets.open_next() {
+            match opened {
+                Ok(mut reader) => {
+                    if let Some(fault) = self.packet(&mut reader) {
+                        return Some(fault);
+                    }
+                }
+                Err(fault) => return Some(fault),
+            }
+        }
+        None
+    }
+
+    // Tosses the packet at the front of what the reader has, and answers why it was not tossed whole. A
+    // packet for whose line there is no memory is not read.
+    fn packet<'a, R: Source>(&mut self, reader: &mut R) -> Option<Fault<'a>>
         ensures { TossesPacket self.old (R.remaining reader.old) (R.remaining reader.new) (R.failures reader.old) (R.failures reader.new) result self.new }
     {
+        if self.lines.reserve(MOST_LINE).is_err() {
+            return Some(Fault::OutOfMemory);
+        }
         match self.system.toss(reader, LIMITS) {
-            Ok(tally) => Ok(push_tally(&mut self.lines, tally)?),
+            Ok(tally) => {
+                push_tally(&mut self.lines, tally);
+                None
+            }
             Err(fault) => {
-                push_tally(&mut self.lines, fault.tally)?;
-                Err(fault_of(fault.cause))
+                push_tally(&mut self.lines, fault.tally);
+                Some(fault_of(fault.cause))
             }
         }
     }
 
-    /// Prints what became of the packets and leaves the base to be written, also where `stopped`, the
-    /// fault of a packet or of its file, ended the run.
-    pub fn end<W: Sink, E: Sink>(
-        self,
-        stopped: Option<Fault<'_>>,
-        out: &mut W,
-        errors: &mut E,
-    ) -> Done
+    // Prints what became of the packets and leaves the base to be written, also where `stopped`, the
+    // fault of a packet or of its file, ended the run.
+    fn end<W: Sink, E: Sink>(self, stopped: Option<Fault<'_>>, out: &mut W, errors: &mut E) -> Done
     where
         S: Drop,
         ensures { EndsRun self stopped.entry (W.contents out.old) (W.contents out.new) (W.failures out.old) (W.failures out.new) result }
@@ -127,17 +174,29 @@ fn fault_of<'a>(cause: TossCause) -> Fault<'a>
 }
 
 // Adds what became of the messages of a packet.
-fn push_tally(lines: &mut Vec<u8>, tally: Tally) -> Result<(), AllocError>
-    ensures { OnOk result (lines.new.items ≡ lines.old.items ++ tally_line tally) }
+fn push_tally(lines: &mut Vec<u8>, tally: Tally)
+    requires { vec_len lines.old + 170 ≤ vec_capacity lines.old }
+    ensures { lines.new.items ≡ lines.old.items ++ tally_line tally }
 {
-    let filed = tally.filed;
-    let known = tally.known;
-    let not_echo = tally.not_echo;
-    let bad_tag = tally.bad_tag;
-    let no_area = tally.no_area;
-    let not_linked = tally.not_linked;
-    written(writeln!(
-        lines,
-        "filed {filed} known {known} notecho {not_echo} badtag {bad_tag} noarea {no_area} notlinked {not_linked}"
-    ))
+    push_count(lines, b"filed ", tally.filed);
+    push_count(lines, b" known ", tally.known);
+    push_count(lines, b" notecho ", tally.not_echo);
+    push_count(lines, b" badtag ", tally.bad_tag);
+    push_count(lines, b" noarea ", tally.no_area);
+    push_count(lines, b" notlinked ", tally.not_linked);
+    lines.extend_from_slice(b"\n").unwrap();
+}
+
+// Adds a word and a number of at most 20 digits.
+fn push_count(lines: &mut Vec<u8>, word: &[u8], count: u64)
+    requires { vec_len lines.old + (length word.now + 20) ≤ vec_capacity lines.old }
+    ensures added { lines.new.items ≡ lines.old.items ++ (word.now ++ decimal count) }
+    ensures short { vec_len lines.new ≤ vec_len lines.old + (length word.now + 20) }
+    ensures room { vec_capacity lines.old ≤ vec_capacity lines.new }
+{
+    let mut digits = Buffer::new();
+    lines.extend_from_slice(word).unwrap();
+    lines
+        .extend_from_slice(digits.format(count).as_bytes())
+        .unwrap();
 }

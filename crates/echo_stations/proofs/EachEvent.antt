@@ -8,9 +8,9 @@ use Rattle.echo_run.specs.Run.{Run, System, after_events, fresh, start}
 use Rattle.echo_run.proofs.LaterSystems.{after-append}
 use Rattle.echo_commands.specs.Given.{AreLinkFiles}
 use Rattle.echo_commands.specs.Posted.{draft_of}
-use Rattle.echo_stations.specs.Agreement.{Agrees, AreEventsOf, EventIsEvents, EventsAreARun, HasFiles, Paired, file_address, own_address}
+use Rattle.echo_stations.specs.Agreement.{Agrees, AreEventsOf, EventIsEvents, EventsAreARun, HasFiles, file_address, own_address}
 use Rattle.echo_stations.specs.Commands.{Command, CommandEvent, Happen, Leads, Post, Purge, Scan, Toss}
-use Rattle.echo_stations.specs.Nets.{Net, first_net, new_station}
+use Rattle.echo_stations.specs.Nets.{Net, Paired, first_net, new_station}
 use Rattle.echo_stations.proofs.OfPost.{post-agrees}
 use Rattle.echo_stations.proofs.OfPurge.{purge-agrees}
 use Rattle.echo_stations.proofs.OfScan.{scan-agrees}

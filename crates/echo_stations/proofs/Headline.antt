@@ -20,9 +20,9 @@ use Rattle.echo_commands.specs.Checked.{CheckAnswers, RunsAreOrderly}
 use Rattle.echo_commands.specs.Ended.{Ends, status_at}
 use Rattle.echo_commands.specs.Given.{AreLinkFiles}
 use Rattle.echo_commands.proofs.Checks.{not_good}
-use Rattle.echo_stations.specs.Agreement.{Agrees, HasFiles, IsPacketFile, Paired, limits_of}
+use Rattle.echo_stations.specs.Agreement.{Agrees, HasFiles, IsPacketFile, limits_of}
 use Rattle.echo_stations.specs.InOrder.{HasUnchanged, HeadlineOnFiles, InOrder, IsSettled, ReadsAs}
-use Rattle.echo_stations.specs.Nets.{Net}
+use Rattle.echo_stations.specs.Nets.{Net, Paired}
 use Rattle.echo_stations.proofs.EachEvent.{events-are-a-run}
 use Rattle.echo_stations.proofs.Pairs.{among-paired, paired-back}
 use Rattle.echo_stations.proofs.Readings.{one-packet}

@@ -9,9 +9,9 @@ use Rattle.echo_run.specs.Event.{Purging}
 use Rattle.echo_run.specs.Run.{Run, after_event, purging_at}
 use Rattle.echo_run.proofs.Lists.{nth-among, some_same}
 use Rattle.echo_commands.specs.declared.leaving.Files.{Files}
-use Rattle.echo_stations.specs.Agreement.{Agrees, HasFiles, IsPacketFile, Paired}
+use Rattle.echo_stations.specs.Agreement.{Agrees, HasFiles, IsPacketFile}
 use Rattle.echo_stations.specs.Commands.{Purges}
-use Rattle.echo_stations.specs.Nets.{Net, with_base}
+use Rattle.echo_stations.specs.Nets.{Net, Paired, with_base}
 use Rattle.echo_stations.proofs.BaseFiles.{kept-base, saved-file, state_of}
 use Rattle.echo_stations.proofs.Leavings.{called-on, left}
 use Rattle.echo_stations.proofs.Pairs.{paired-nth, paired-put}

@@ -16,9 +16,9 @@ use Rattle.echo_run.proofs.Lists.{nth-among, some_same}
 use Rattle.echo_commands.specs.declared.leaving.Files.{Files}
 use Rattle.echo_commands.specs.declared.leaving.PacketFile.{PacketFile}
 use Rattle.echo_commands.specs.Scanned.{file_of}
-use Rattle.echo_stations.specs.Agreement.{Agrees, HasFiles, IsPacketFile, Paired}
+use Rattle.echo_stations.specs.Agreement.{Agrees, HasFiles, IsPacketFile}
 use Rattle.echo_stations.specs.Commands.{Scans}
-use Rattle.echo_stations.specs.Nets.{Net, bytes_of, with_base, with_files}
+use Rattle.echo_stations.specs.Nets.{Net, Paired, bytes_of, with_base, with_files}
 use Rattle.echo_stations.proofs.BaseFiles.{file-fits, kept-base, saved-file, state_of}
 use Rattle.echo_stations.proofs.Leavings.{called-on, left}
 use Rattle.echo_stations.proofs.Packets.{scanned-fit}

@@ -25,8 +25,8 @@ use Rattle.echo_steps.proofs.Copies.{exported_is_echo, links_are_addresses}
 use Rattle.echo_steps.proofs.Encoding.{IsWhole, written_packet}
 use Rattle.echo_commands.specs.declared.leaving.PacketFile.{PacketFile}
 use Rattle.echo_commands.specs.Scanned.{file_of}
-use Rattle.echo_stations.specs.Agreement.{IsPacketFile, Paired}
-use Rattle.echo_stations.specs.Nets.{bytes_of}
+use Rattle.echo_stations.specs.Agreement.{IsPacketFile}
+use Rattle.echo_stations.specs.Nets.{Paired, bytes_of}
 
 -- parts of bytes are bytes
 pub bytes-front : (xs ys : List ℕ) → AreBytes (xs ++ ys) → AreBytes xs

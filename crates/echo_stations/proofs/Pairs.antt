@@ -3,7 +3,7 @@ use Rattle.std.proofs.Common.{◌≡◌, inl, inr, refl, sym, subst, ap, ◌∙�
 use Rattle.echo_graph.specs.Walk.{Among}
 use Rattle.echo_run.specs.Run.{change, nth}
 use Rattle.echo_run.proofs.Lists.{none_some, some_same}
-use Rattle.echo_stations.specs.Agreement.{Paired}
+use Rattle.echo_stations.specs.Nets.{Paired}
 
 pub paired-change : {X Y : Type 0} (R : X → Y → Type 0) (i : ℕ) (f : X → X) (g : Y → Y) (xs : List X) (ys : List Y) → Paired R xs ys
     → ((x : X) (y : Y) → nth i xs ≡ Some x → nth i ys ≡ Some y → R x y → R (f x) (g y)) → Paired R (change i f xs) (change i g ys)

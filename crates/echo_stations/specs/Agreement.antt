@@ -14,13 +14,7 @@ use Rattle.echo_run.specs.Run.{Run, System, after_events, run_of}
 use Rattle.echo_commands.specs.Given.{AreLinkFiles}
 use Rattle.echo_commands.specs.Posted.{draft_of}
 use Rattle.echo_stations.specs.Commands.{Command, CommandEvent, Happen, Happens, Post, Purge, Scan, Toss}
-use Rattle.echo_stations.specs.Nets.{Net, Station, first_net}
-
--- the items of two lists are so, pair by pair
-abbrev pub Paired : {X Y : Type 0} → (X → Y → Type 0) → List X → List Y → Type 0
-Paired IsSo [] [] = Unit {0}
-Paired IsSo (x ∷ xs) (y ∷ ys) = IsSo x y × Paired IsSo xs ys
-Paired IsSo _ _ = ⊥
+use Rattle.echo_stations.specs.Nets.{Net, Paired, Station, first_net}
 
 -- the bytes are just what is saved of the messages and the cursor, and are a base file of these
 pub record IsBaseFile (bytes : List ℕ) (base : List Filed) (cursor : ℕ) : Type 0 where

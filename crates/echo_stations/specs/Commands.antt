@@ -1,5 +1,5 @@
 -- What a command may do to a net of files: it is called on the files of one station, and what it leaves is put in place.
-use Rattle.std.specs.Prelude.{◌≡◌, ℕ, ◌⊎◌, true, List, [], ◌∷◌, ◌++◌, length, Option, Some, None, Result, Ok, Err}
+use Rattle.std.specs.Prelude.{◌≡◌, ℕ, ◌⊎◌, ◌+◌, ◌-◌, true, List, [], ◌∷◌, length, take, Option, Some, None, Ok}
 use Rattle.std.specs.List.{AllByRecursion}
 use Rattle.echo_packet.specs.Header.{AreBytes}
 use Rattle.echo_base.specs.Base.{LinkFile}
@@ -9,8 +9,6 @@ use Rattle.echo_steps.specs.declared.stamp.Stamp.{Stamp}
 use Rattle.echo_steps.specs.Posting.{posted}
 use Rattle.echo_steps.specs.Purging.{purged}
 use Rattle.echo_steps.specs.SystemState.{SystemState}
-use Rattle.echo_toss.specs.declared.fault.TossFault.{TossFault}
-use Rattle.echo_toss.specs.declared.tally.Tally.{Tally}
 use Rattle.echo_run.specs.Run.{nth}
 use Rattle.echo_commands.specs.declared.fault.Fault.{Fault}
 use Rattle.echo_commands.specs.declared.leaving.Done.{Done}
@@ -21,8 +19,9 @@ use Rattle.echo_commands.specs.Posted.{PostAnswers, base_after, draft_of}
 use Rattle.echo_commands.specs.Purged.{PurgeAnswers}
 use Rattle.echo_commands.specs.Scanned.{ScanAnswers}
 use Rattle.echo_commands.specs.System.{IsSystemGiven}
-use Rattle.echo_commands.specs.Unpacked.{EndsRun, TossRun, TossesPacket}
-use Rattle.echo_stations.specs.Nets.{Net, Station, with_files, with_posting, with_tossed}
+use Rattle.echo_commands.specs.Coming.{Coming, Fails, Holds, Unknown}
+use Rattle.echo_commands.specs.Tossed.{IsTossed}
+use Rattle.echo_stations.specs.Nets.{Net, Paired, Station, with_files, with_posting, with_tossed}
 
 -- A call of a command on the files of a station: what it was handed, which is these files unless the reading of
 -- files stopped, and standard output before and after it, with how often that failed.
@@ -85,32 +84,28 @@ pub record Purges (net : Net) (i : ℕ) (new : Net) : Type 0 where
   pub counts : Counts call.links call.base (λ s. record { file = s.file; base = purged s.base s.cursor; cursor = s.cursor })
   pub becomes : new ≡ with_files net i [] base
 
--- the packet file of an index is tossed, as `toss` takes one file
-pub record TossesFile (packets : List (List ℕ)) (k : ℕ) (old : TossRun) : Type 0 where
-  pub bytes : List ℕ
-  pub there : nth k packets ≡ Some bytes
-  pub rest : Option (List ℕ)
-  pub before : ℕ
-  pub after : ℕ
-  pub result : Result (Unit {0}) Fault
-  pub run : TossRun
-  pub step : TossesPacket old (Some bytes) rest before after result run
+-- what is known of a reader: the bytes that are still to come, and how often its device failed
+pub record Reader : Type 0 where
+  pub remaining : Option (List ℕ)
+  pub failures : ℕ
 
--- the index of a packet that was tossed whole
-abbrev pub if_whole : ℕ → Result Tally TossFault → List ℕ
-if_whole k (Ok tally) = k ∷ []
-if_whole k (Err fault) = []
+abbrev pub remaining_of : Reader → Option (List ℕ)
+remaining_of reader = reader.remaining
 
--- One packet file after the other is tossed. The first fault, of a packet or of its file, ends the run. `whole` are
--- the indexes of those that were tossed whole, in order.
-abbrev pub TossesFiles : List (List ℕ) → List ℕ → TossRun → Option Fault → List ℕ → TossRun → Type 0
-TossesFiles packets [] old stopped whole new = (stopped ≡ None) × (whole ≡ []) × (new ≡ old)
-TossesFiles packets (k ∷ later) old stopped whole new =
-    ((fault : Fault) × (stopped ≡ Some fault) × (whole ≡ []) × (new ≡ old))
-    ⊎ (((one : TossesFile packets k old) × (fault : Fault) × (one.result ≡ Err fault) × (stopped ≡ Some fault)
-    × (whole ≡ if_whole k one.step.answer) × (new ≡ one.run))
-    ⊎ ((one : TossesFile packets k old) × (rest : List ℕ) × (one.result ≡ Ok tt) × (whole ≡ if_whole k one.step.answer ++ rest)
-    × TossesFiles packets later one.run stopped rest new))
+abbrev pub failures_of : Reader → ℕ
+failures_of reader = reader.failures
+
+-- a file that `toss` is given is the packet file of the index, or it cannot be used
+abbrev pub IsPacketAt : List (List ℕ) → ℕ → Coming → Type 0
+IsPacketAt packets k (Holds bytes) = nth k packets ≡ Some bytes
+IsPacketAt packets k (Fails why) = Unit {0}
+IsPacketAt packets k Unknown = ⊥
+
+-- The indexes of the packets that were tossed whole: all where nothing stopped the run, else those before the one that
+-- did; behind that one are those that are left.
+abbrev pub whole_of : List ℕ → Option Fault → List Coming → List ℕ
+whole_of indexes None left = indexes
+whole_of indexes (Some fault) left = take (length indexes - (length left + 1)) indexes
 
 -- `toss` leaves a base file, also where a fault ended its run, and this is put in place
 pub record Tosses (indexes : List ℕ) (net : Net) (i : ℕ) (new : Net) : Type 0 where
@@ -118,19 +113,15 @@ pub record Tosses (indexes : List ℕ) (net : Net) (i : ℕ) (new : Net) : Type 
   pub there : nth i net.stations ≡ Some station
   pub call : Call station
   pub went_on : call.stopped ≡ None
-  pub begun : TossRun
-  pub given : IsSystemGiven call.links call.base begun.system
-  pub no_lines : begun.lines ≡ []
-  pub stopped : Option Fault
-  pub whole : List ℕ
-  pub run : TossRun
-  pub each : TossesFiles net.packets indexes begun stopped whole run
+  pub files : List Coming
+  pub are : Paired (IsPacketAt net.packets) indexes files
+  pub left : List Coming
   pub done : Done
-  pub answer : EndsRun run stopped call.old call.new call.before call.after done
+  pub answer : IsTossed remaining_of failures_of call.links call.base files left call.old call.new call.before call.after done
   pub base : List ℕ
   pub leaves : LeavesBase done.files base
-  pub counts : is_countable run.system.base run.system.cursor ≡ true
-  pub becomes : new ≡ with_tossed net i base whole
+  pub counts : is_countable answer.run.system.base answer.run.system.cursor ≡ true
+  pub becomes : new ≡ with_tossed net i base (whole_of indexes answer.stopped left)
 
 -- A command and what it was given on its command line; packets go by their index in the list of all packet files.
 pub data Command : Type 0 where

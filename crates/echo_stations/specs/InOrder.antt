@@ -16,9 +16,9 @@ use Rattle.echo_commands.specs.Checked.{CheckAnswers}
 use Rattle.echo_commands.specs.Ended.{Ends}
 use Rattle.echo_commands.specs.System.{IsBaseGiven}
 use Rattle.echo_commands.specs.Given.{AreLinkFiles}
-use Rattle.echo_stations.specs.Agreement.{Paired, file_address}
+use Rattle.echo_stations.specs.Agreement.{file_address}
 use Rattle.echo_stations.specs.Commands.{CommandEvent, Happen}
-use Rattle.echo_stations.specs.Nets.{Net, Station, first_net}
+use Rattle.echo_stations.specs.Nets.{Net, Paired, Station, first_net}
 
 -- what a station's files say: its link file, and the messages and the cursor of its base file
 pub record Says (station : Station) (file : LinkFile) (messages : List Filed) (cursor : ℕ) : Type 0 where

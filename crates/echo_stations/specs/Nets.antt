@@ -4,6 +4,12 @@ use Rattle.echo_base.specs.Base.{Filed}
 use Rattle.echo_run.specs.Run.{change, with_index}
 use Rattle.echo_commands.specs.declared.leaving.PacketFile.{PacketFile}
 
+-- the items of two lists are so, pair by pair
+abbrev pub Paired : {X Y : Type 0} → (X → Y → Type 0) → List X → List Y → Type 0
+Paired IsSo [] [] = Unit {0}
+Paired IsSo (x ∷ xs) (y ∷ ys) = IsSo x y × Paired IsSo xs ys
+Paired IsSo _ _ = ⊥
+
 -- a station: the bytes of its link file, and those of its base file, none where that does not exist
 pub record Station : Type 0 where
   pub links : List ℕ

@@ -1,11 +1,15 @@
 //! The commands that change the base of a system. They hold the lock of its link file from before it is
 //! read until their last file stands, and wait where another run holds it.
 
+ghost use Rattle.std.specs.Prelude.{map};
+ghost use Rattle.echo_commands.specs.Coming.{Unknown};
+
 use crate::inputs::{MOST_LINKS, input_fault, read_standard_input};
 use crate::words::PostWords;
 use echo_base::BaseFault;
 use echo_commands::{
-    Done, Fault, NewMessage, PacketFile, Status, Tossing, post, purge, scan, serial_of, stamp_of,
+    Done, Fault, NewMessage, PacketFile, PacketFiles, Status, post, purge, scan, serial_of,
+    stamp_of, toss,
 };
 use echo_device::{Buffered, Sink, Watched};
 use echo_files::{OutputFault, create_file, read_file_if_there, read_whole, replace_file};
@@ -195,29 +199,49 @@ pub fn run_toss<W: Sink, E: Sink>(
         Err(fault) => return fault.report(errors),
     };
     let base = given.base.as_ref().map(|bytes| bytes.as_slice());
-    let begun = Tossing::begin(rt.alloc(), &given.links, base, given.stopped, given.hasher);
-    let mut run = match begun {
-        Ok(run) => run,
-        Err(fault) => return fault.report(errors),
-    };
-    let stopped = toss_each(rt, &mut run, packets).err();
-    let done = run.end(stopped, out, errors);
+    let done = toss(
+        rt.alloc(),
+        &given.links,
+        base,
+        given.stopped,
+        given.hasher,
+        &mut PacketPaths { rt, paths: packets },
+        out,
+        errors,
+    );
     let status = write_base(rt, done, base_path, errors);
     let_go(given.locked, status)
 }
 
-// Tosses the packet of each file, up to the first fault.
-fn toss_each<'a>(
-    rt: &HostRuntime,
-    run: &mut Tossing<RandomState>,
-    paths: &[&'a str],
-) -> Result<(), Fault<'a>> {
-    for path in paths {
-        let file = packet_file(rt, *path)?;
-        let mut reader = Buffered::new(rt.alloc(), Watched::new(file), BUFFER)?;
-        run.packet(&mut reader)?;
+// The packet files with these paths.
+#[derive(Drop)]
+struct PacketPaths<'a, 'r> {
+    rt: &'r HostRuntime,
+    paths: &'r [&'a str],
+}
+
+impl<'a, 'r> PacketFiles<'a> for PacketPaths<'a, 'r> {
+    type Reader = Buffered<Watched<File>>;
+
+    ghost coming = { λ packets. map (λ _. Unknown) packets.paths.now };
+
+    fn open_next(&mut self) -> Option<Result<Buffered<Watched<File>>, Fault<'a>>> {
+        let paths: &'r [&'a str] = self.paths;
+        if paths.is_empty() {
+            return None;
+        }
+        self.paths = &paths[1..];
+        Some(packet_reader(self.rt, paths[0]))
     }
-    Ok(())
+}
+
+// What reads the packet file with this path.
+fn packet_reader<'a>(
+    rt: &HostRuntime,
+    path: &'a str,
+) -> Result<Buffered<Watched<File>>, Fault<'a>> {
+    let file = packet_file(rt, path)?;
+    Ok(Buffered::new(rt.alloc(), Watched::new(file), BUFFER)?)
 }
 
 // The packet file with this path. A folder is none.

@@ -27,6 +27,13 @@ const PACKET: &str =
 const PURGED: &str =
     "4543484f42415332 01000000 01000000 02 000000000000 3033204a756c203236202031323a33343a353600 03416c6c 03416e6e 024869 0454455354 0f000000 313a31302f31203030303030303031";
 
+/// The lines of a packet whose one message is filed, or known, and of one without messages.
+const FILED: &str = "filed 1 known 0 notecho 0 badtag 0 noarea 0 notlinked 0\n";
+
+const KNOWN: &str = "filed 0 known 1 notecho 0 badtag 0 noarea 0 notlinked 0\n";
+
+const ZEROS: &str = "filed 0 known 0 notecho 0 badtag 0 noarea 0 notlinked 0\n";
+
 type Hasher = BuildHasherDefault<FoldHasher>;
 
 const WORDS: NewMessage<'static> = NewMessage {
@@ -117,29 +124,27 @@ fn purged(alloc: Global, links: &[u8], base: Option<&[u8]>, stopped: Option<Faul
     }
 }
 
-/// A run of `toss` over these packets, up to the first fault.
-fn tossed(
-    alloc: Global,
-    links: &[u8],
-    base: Option<&[u8]>,
-    packets: &[&[u8]],
-) -> Result<Left, Fail> {
+/// What `toss` leaves of these packets, and how many it did not come to.
+fn tossed(alloc: Global, links: &[u8], base: Option<&[u8]>, packets: &[&[u8]]) -> (Left, usize) {
     let mut out = Watched::new(Vec::new(alloc));
     let mut errors = Watched::new(Vec::new(alloc));
-    let mut run = Tossing::begin(alloc, links, base, None, Hasher::default())?;
-    let mut stopped = None;
-    for packet in packets {
-        let mut bytes: &[u8] = *packet;
-        if stopped.is_none() {
-            stopped = run.packet(&mut bytes).err();
-        }
-    }
-    let done = run.end(stopped, &mut out, &mut errors);
-    Ok(Left {
+    let mut coming: &[&[u8]] = packets;
+    let done = toss(
+        alloc,
+        links,
+        base,
+        None,
+        Hasher::default(),
+        &mut coming,
+        &mut out,
+        &mut errors,
+    );
+    let left = Left {
         done,
         out: out.into_inner(),
         errors: errors.into_inner(),
-    })
+    };
+    (left, coming.len())
 }
 
 fn bytes_of(alloc: Global, digits: &str) -> Result<Vec<u8>, Fail> {
@@ -179,18 +184,60 @@ fn first_posting(rt: HostRuntime) -> Result<(), Fail> {
 fn on_to_the_third_system(rt: HostRuntime) -> Result<(), Fail> {
     let alloc = rt.alloc();
     let packet = bytes_of(alloc, PACKET)?;
-    let filed = "filed 1 known 0 notecho 0 badtag 0 noarea 0 notlinked 0\n";
-    let known = "filed 0 known 1 notecho 0 badtag 0 noarea 0 notlinked 0\n";
-    let left = tossed(alloc, BETA, None, &[packet.as_slice()])?;
-    assert!(rt; left.printed(Status::Good, filed, ""));
-    let again = tossed(alloc, BETA, left.base(), &[packet.as_slice()])?;
-    assert!(rt; again.printed(Status::Good, known, "") && again.base() == left.base());
+    let (left, _) = tossed(alloc, BETA, None, &[packet.as_slice()]);
+    assert!(rt; left.printed(Status::Good, FILED, ""));
+    let (again, _) = tossed(alloc, BETA, left.base(), &[packet.as_slice()]);
+    assert!(rt; again.printed(Status::Good, KNOWN, "") && again.base() == left.base());
     let sent = scanned(alloc, NOON, BETA, left.base());
     assert!(rt; sent.printed(Status::Good, "packet 1:10/3 1 messages 216 bytes\n", ""));
-    let empty = tossed(alloc, ALPHA, None, &[packet.as_slice(), packet.as_slice()])?;
-    let zeros = "filed 0 known 0 notecho 0 badtag 0 noarea 0 notlinked 0\n";
-    assert!(rt; empty.printed(Status::Refused, zeros, "echonet: C1 NotForUs 1:10/2\n"));
-    assert!(rt; empty.base().map(|bytes| bytes.len()) == Some(16));
+    Ok(())
+}
+
+/// Whether a toss of these packets at Beta, whose base has nothing yet, prints these lines and this fault,
+/// and leaves so many packets and a base of so many messages.
+fn tosses(
+    alloc: Global,
+    packets: &[&[u8]],
+    lines: &str,
+    line: &str,
+    left: usize,
+    messages: u8,
+) -> bool {
+    let (done, unopened) = tossed(alloc, BETA, None, packets);
+    let status = if line.is_empty() {
+        Status::Good
+    } else {
+        Status::Refused
+    };
+    let count = done.base().and_then(|base| base.get(12).copied());
+    done.printed(status, lines, line) && unopened == left && count == Some(messages)
+}
+
+#[test]
+fn packets_in_order(rt: HostRuntime) -> Result<(), Fail> {
+    let alloc = rt.alloc();
+    let packet = bytes_of(alloc, PACKET)?;
+    let all = packet.as_slice();
+    assert_eq!(rt; all.len(), 212);
+    let two = format!(in alloc; "{FILED}{KNOWN}")?;
+    assert!(rt; tosses(alloc, &[all, all], two.as_str(), "", 0, 1));
+    let second = format!(in alloc; "{FILED}{ZEROS}")?;
+    let cut = "echonet: P1 Truncated at 60\n";
+    assert!(rt; tosses(alloc, &[all, &all[..60], all], second.as_str(), cut, 1, 1));
+    let ended = "echonet: P1 Truncated at 210\n";
+    assert!(rt; tosses(alloc, &[&all[..210], all, all], FILED, ended, 2, 1));
+    let nothing = "echonet: P1 Truncated at 0\n";
+    assert!(rt; tosses(alloc, &[&all[..0], all], ZEROS, nothing, 1, 0));
+    Ok(())
+}
+
+#[test]
+fn packet_for_another(rt: HostRuntime) -> Result<(), Fail> {
+    let alloc = rt.alloc();
+    let packet = bytes_of(alloc, PACKET)?;
+    let (other, left) = tossed(alloc, ALPHA, None, &[packet.as_slice(), packet.as_slice()]);
+    assert!(rt; other.printed(Status::Refused, ZEROS, "echonet: C1 NotForUs 1:10/2\n"));
+    assert!(rt; other.base().map(|bytes| bytes.len()) == Some(16) && left == 1);
     Ok(())
 }
 
