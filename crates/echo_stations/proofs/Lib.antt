@@ -13,3 +13,4 @@ pub mod OfToss
 pub mod EachEvent
 pub mod Sound
 pub mod Headline
+pub mod AnyReader

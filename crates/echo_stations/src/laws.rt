@@ -1,7 +1,20 @@
 //! What holds of the definitions. Each law is the contract of a function that does nothing.
 
+ghost use Rattle.std.specs.Prelude.{ℕ, List, Option};
+ghost use Rattle.echo_commands.specs.declared.leaving.Done.{Done};
+ghost use Rattle.echo_commands.specs.Coming.{Coming};
+ghost use Rattle.echo_commands.specs.Tossed.{IsTossed};
+ghost use Rattle.echo_stations.specs.Commands.{failures_of, remaining_of};
 ghost use Rattle.echo_stations.specs.Agreement.{EventIsEvents, EventsAreARun};
 ghost use Rattle.echo_stations.specs.InOrder.{FilesAreSound, HeadlineOnFiles};
+
+use echo_device::Source;
+
+/// What `toss` does over readers of any type it does over what is known of them.
+pub fn readers_are_what_they_tell<R: Source>()
+    ensures { (links : List ℕ) (base : Option (List ℕ)) (files left : List Coming) (old new : Option (List ℕ)) (before after : ℕ) (done : Done) →
+        IsTossed R.remaining R.failures links base files left old new before after done → IsTossed remaining_of failures_of links base files left old new before after done }
+{}
 
 /// A command that is called on the files of one station of a net, and whose files are put in place, is some
 /// events of the run that the net agrees with: none, a posting, a scan, a purge, or for each packet that was
