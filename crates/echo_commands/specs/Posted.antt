@@ -1,8 +1,8 @@
 -- What `post` prints and leaves.
-use Rattle.std.specs.Prelude.{◌≡◌, ℕ, ◌⊎◌, ◌==◌, List, [], ◌∷◌, ◌++◌, codes, if◌then◌else◌, Option, Some, None, Result}
+use Rattle.std.specs.Prelude.{◌≡◌, ℕ, ◌⊎◌, ◌==◌, true, List, [], ◌∷◌, ◌++◌, codes, if◌then◌else◌, Option, Some, None, Result}
 use Rattle.std.specs.Io.KnownBytes.{Appends}
 use Rattle.echo_base.specs.Base.{Filed, LinkFile, upper}
-use Rattle.echo_base.specs.BaseFile.{saved_bytes}
+use Rattle.echo_base.specs.BaseFile.{is_countable, saved_bytes}
 use Rattle.echo_steps.specs.declared.draft.Draft.{Draft}
 use Rattle.echo_steps.specs.declared.fault.PostFault.{PostFault}
 use Rattle.echo_steps.specs.declared.stamp.Stamp.{Stamp}
@@ -52,13 +52,14 @@ base_after system words body = system.base ++ posted system.file words.tag.now (
 abbrev pub refusal_of : SystemState → NewMessage → List ℕ → Option PostFault
 refusal_of system words body = post_refusal system.file system.base words.tag.now (draft_of words body) words.serial words.stamp
 
--- the posting at the system that the files make: its tag and id are printed, and the base with it is to be written
+-- the posting at the system that the files make: its tag and id are printed, and the base with it, which four bytes count, is to be written
 pub record IsPosted (words : NewMessage) (links : List ℕ) (base : Option (List ℕ)) (body : List ℕ) (old new : Option (List ℕ)) (files : Files) : Type 0 where
   pub system : SystemState
   pub given : IsSystemGiven links base system
   pub allowed : refusal_of system words body ≡ None
   pub printed : Appends old new (posted_line words.tag.now (id_of system.file.system words.serial))
   pub left : files ≡ only_base (saved_bytes (base_after system words body) system.cursor)
+  pub countable : is_countable (base_after system words body) system.cursor ≡ true
 
 -- a posting is refused at a system: the first refusal that applies, or a base that is too great
 abbrev pub IsUnposted : SystemState → NewMessage → List ℕ → Fault → Type 0

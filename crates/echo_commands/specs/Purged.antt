@@ -1,7 +1,7 @@
 -- What `purge` prints and leaves.
-use Rattle.std.specs.Prelude.{◌≡◌, ℕ, ◌⊎◌, List, ◌++◌, codes, decimal, Option, None, Result}
+use Rattle.std.specs.Prelude.{◌≡◌, ℕ, ◌⊎◌, true, List, ◌++◌, codes, decimal, Option, None, Result}
 use Rattle.std.specs.Io.KnownBytes.{Appends}
-use Rattle.echo_base.specs.BaseFile.{saved_bytes}
+use Rattle.echo_base.specs.BaseFile.{is_countable, saved_bytes}
 use Rattle.echo_steps.specs.Purging.{changed, purged}
 use Rattle.echo_steps.specs.SystemState.{SystemState}
 use Rattle.echo_commands.specs.declared.fault.Fault.{Fault}
@@ -14,12 +14,13 @@ use Rattle.echo_commands.specs.System.{IsFirstFaultOf, IsSystemGiven, IsTooMany}
 abbrev pub purged_line : ℕ → List ℕ
 purged_line count = codes "purged " ++ (decimal count ++ codes "\n")
 
--- the purge of the system that the files make: how many messages it changes is printed, and the base that it leaves is to be written
+-- the purge of the system that the files make: how many messages it changes is printed, and the base that it leaves, which four bytes count, is to be written
 pub record IsPurged (links : List ℕ) (base : Option (List ℕ)) (old new : Option (List ℕ)) (files : Files) : Type 0 where
   pub system : SystemState
   pub given : IsSystemGiven links base system
   pub printed : Appends old new (purged_line (changed system.base system.cursor))
   pub left : files ≡ only_base (saved_bytes (purged system.base system.cursor) system.cursor)
+  pub countable : is_countable (purged system.base system.cursor) system.cursor ≡ true
 
 -- the files have the fault, or the base that the purge leaves is too great
 abbrev pub PurgeRefuses : List ℕ → Option (List ℕ) → Option Fault → Fault → Type 0

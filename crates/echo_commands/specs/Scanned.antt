@@ -4,7 +4,7 @@ use Rattle.std.specs.Io.KnownBytes.{Appends}
 use Rattle.std.specs.List.{flat_map}
 use Rattle.echo_addr.specs.declared.address.Address.{Address}
 use Rattle.echo_addr.specs.Address.{address_text}
-use Rattle.echo_base.specs.BaseFile.{saved_bytes}
+use Rattle.echo_base.specs.BaseFile.{is_countable, saved_bytes}
 use Rattle.echo_packet.specs.Packet.{packet_bytes}
 use Rattle.echo_steps.specs.declared.fault.ScanFault.TheVariants.{BadStamp}
 use Rattle.echo_steps.specs.declared.packet.Packet.{Packet}
@@ -44,13 +44,14 @@ files_of system packets = record {
   base = Some (saved_bytes system.base (length system.base));
 }
 
--- the scan of the system that the files make: a line for each of its packets is printed, and these and the base are to be written
+-- the scan of the system that the files make: a line for each of its packets is printed, and these and the base, which four bytes count, are to be written
 pub record IsScanned (stamp : Stamp) (links : List ℕ) (base : Option (List ℕ)) (old new : Option (List ℕ)) (files : Files) : Type 0 where
   pub system : SystemState
   pub given : IsSystemGiven links base system
   pub moment : is_stamp stamp ≡ true
   pub printed : Appends old new (flat_map line_of (scanned system.file system.base system.cursor stamp))
   pub left : files ≡ files_of system (scanned system.file system.base system.cursor stamp)
+  pub countable : is_countable system.base (length system.base) ≡ true
 
 -- a system is not scanned: a part of the stamp is out of its range, or the base is too great
 abbrev pub IsUnscanned : Stamp → SystemState → Fault → Type 0

@@ -1,6 +1,6 @@
 //! The system that a link file and a base file make, and its base as a file.
-ghost use Rattle.std.specs.Prelude.{◌≡◌, ◌⊎◌, None, IfErr, IfOk, option_copied};
-ghost use Rattle.echo_base.specs.BaseFile.{saved_bytes};
+ghost use Rattle.std.specs.Prelude.{◌≡◌, ◌⊎◌, None, true, IfErr, IfOk, option_copied};
+ghost use Rattle.echo_base.specs.BaseFile.{is_countable, saved_bytes};
 ghost use Rattle.echo_commands.specs.Ended.{IsWantOfMemory};
 ghost use Rattle.echo_commands.specs.System.{IsBaseFault, IsFirstFaultOf, IsSystemFault, IsSystemGiven, IsTooMany};
 
@@ -55,6 +55,7 @@ pub(crate) fn saved<'a, S: BuildHasher>(
     system: &Tosser<S>,
 ) -> Result<Items<u8>, Fault<'a>>
     ensures ok { IfOk result (λ bytes. bytes ≡ saved_bytes system.now.base system.now.cursor) }
+    ensures counts { IfOk result (λ _. is_countable system.now.base system.now.cursor ≡ true) }
     ensures err { IfErr result (λ fault. IsWantOfMemory fault ⊎ IsTooMany system.now.base system.now.cursor fault) }
 {
     let mut file = Watched::new(Vec::new(alloc));

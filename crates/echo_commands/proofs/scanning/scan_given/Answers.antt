@@ -38,7 +38,7 @@ returns g c =
       (
         was_scanned c.args.stamp c.args.links.now _ c.in_ok-system.system c.scan.new.self c.in_ok-packets.packets.items c.in_ok-files.files.items c.filed.result c.waiting.result
             before c.in_ok-base.base _ _ _ _ _ c.in_ok-system.ensures.ok c.filed.ensures.base c.filed.ensures.count c.waiting.ensures refl c.in_ok-packets.ensures
-            c.in_ok-base.ensures.ok sent c.new-lines.ensures.items told c.in_ok-print_rest.ensures.bytes
+            c.in_ok-base.ensures.ok c.in_ok-base.ensures.counts sent c.new-lines.ensures.items told c.in_ok-print_rest.ensures.bytes
             (ap (λ (fs : List PacketFile). record { packets = fs; base = Some c.in_ok-base.base }) c.new.ensures),
         c.in_ok-system.ensures.whole,
       ),
