@@ -62,7 +62,7 @@ module _ (words : NewMessage) (body : List ℕ) (net new : Net) (i : ℕ) (run :
       some_same (sym posts.leaves.base ∙ ap (λ (f : Files). f.base) (answered.are ∙ right.left)) in
       let saved : base ≡ saved_bytes (s.base ++ m ∷ []) s.cursor = subst (λ (x : SystemState). base ≡ saved_bytes (base_after x words body) x.cursor) same written in
       let counted : is_countable (s.base ++ m ∷ []) s.cursor ≡ true =
-      subst (λ (x : SystemState). is_countable (base_after x words body) x.cursor ≡ true) same (posts.counts right.system right.given) in
+      subst (λ (x : SystemState). is_countable (base_after x words body) x.cursor ≡ true) same right.countable in
       let filed = is-filed s.file s.base tag draft serial stamp allowed in
       let file = file-fits posts.station.links s.file has.links in
       let is = posting_keeps s.file s.base s.cursor tag draft serial stamp m file (kept-base posts.station.base s.base s.cursor has.base) filed in

@@ -28,7 +28,7 @@ purge-agrees net new i run agrees purges =
     some_same (sym purges.leaves.base ∙ ap (λ (f : Files). f.base) (answered.are ∙ right.left)) in
     let saved : base ≡ saved_bytes (purged s.base s.cursor) s.cursor = subst (λ (x : SystemState). base ≡ saved_bytes (purged x.base x.cursor) x.cursor) same written in
     let counted : is_countable (purged s.base s.cursor) s.cursor ≡ true =
-    subst (λ (x : SystemState). is_countable (purged x.base x.cursor) x.cursor ≡ true) same (purges.counts right.system right.given) in
+    subst (λ (x : SystemState). is_countable (purged x.base x.cursor) x.cursor ≡ true) same right.countable in
     let is = purge_keeps s.base s.cursor (kept-base purges.station.base s.base s.cursor has.base) in
     let now : HasFiles (with_base base purges.station) (purging_at s) =
     record { links = has.links; base = saved-file base (purged s.base s.cursor) s.cursor saved purges.leaves.base_bytes is counted } in

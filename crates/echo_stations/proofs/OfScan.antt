@@ -60,7 +60,7 @@ scan-agrees stamp net new i run agrees scans =
     some_same (sym scans.leaves.base ∙ ap (λ (f : Files). f.base) (answered.are ∙ right.left)) in
     let saved : base ≡ saved_bytes s.base (length s.base) = subst (λ (x : SystemState). base ≡ saved_bytes x.base (length x.base)) same written in
     let counted : is_countable s.base (length s.base) ≡ true =
-    subst (λ (x : SystemState). is_countable x.base (length x.base) ≡ true) same (scans.counts right.system right.given) in
+    subst (λ (x : SystemState). is_countable x.base (length x.base) ≡ true) same right.countable in
     let made : scans.done.files.packets ≡ map (file_of s.cursor) ps =
     ap (λ (f : Files). f.packets) (answered.are ∙ right.left) ∙ ap (λ (x : SystemState). map (file_of x.cursor) (scanned x.file x.base x.cursor stamp)) same in
     let B : List PacketFile → Type 0 = λ files. AllByRecursion (λ (f : PacketFile). AreBytes f.bytes) files in

@@ -299,17 +299,21 @@ each-toss packets i (k ∷ later) (file ∷ files) run s old stopped left new be
     (subst (λ (n : ℕ). Tossing Kind run i s (take n (k ∷ later)) new.system) (sym none) (last-toss k later run i s [] new.system at_last))
 
 -- the base that a toss leaves
+record LeftBase (run : TossRun) (base : List ℕ) : Type 0 where
+  saved : base ≡ saved_bytes run.system.base run.system.cursor
+  countable : is_countable run.system.base run.system.cursor ≡ true
+
 left-base : (run : TossRun) (stopped : Option Fault) (old new : Option (List ℕ)) (before after : ℕ) (done : Done) (base : List ℕ) → EndsRun run stopped old new before after done
-    → done.files.base ≡ Some base → base ≡ saved_bytes run.system.base run.system.cursor
+    → done.files.base ≡ Some base → LeftBase run base
 left-base run None old new before after done base ends there = by ends.answer ends.so ends.is
   where
-    by : (r : Result Files Fault) → RunEnds run (is_some (let none : Option Fault = None in none)) old new before after r → done ≡ run_done None r → base ≡ saved_bytes run.system.base run.system.cursor
-    by (Ok files) so e = some_same (sym there ∙ ap (λ (d : Done). d.files.base) e ∙ ap (λ (f : Files). f.base) so.0)
+    by : (r : Result Files Fault) → RunEnds run (is_some (let none : Option Fault = None in none)) old new before after r → done ≡ run_done None r → LeftBase run base
+    by (Ok files) so e = record { saved = some_same (sym there ∙ ap (λ (d : Done). d.files.base) e ∙ ap (λ (f : Files). f.base) so.0); countable = so.1 }
     by (Err fault) so e = absurd (none_some (sym (ap (λ (d : Done). d.files.base) e) ∙ there))
 left-base run (Some why) old new before after done base ends there = by ends.answer ends.so ends.is
   where
-    by : (r : Result Files Fault) → RunEnds run (is_some (Some why)) old new before after r → done ≡ run_done (Some why) r → base ≡ saved_bytes run.system.base run.system.cursor
-    by (Ok files) so e = some_same (sym there ∙ ap (λ (d : Done). d.files.base) e ∙ ap (λ (f : Files). f.base) so.0)
+    by : (r : Result Files Fault) → RunEnds run (is_some (Some why)) old new before after r → done ≡ run_done (Some why) r → LeftBase run base
+    by (Ok files) so e = record { saved = some_same (sym there ∙ ap (λ (d : Done). d.files.base) e ∙ ap (λ (f : Files). f.base) so.0); countable = so.1 }
     by (Err fault) so e = absurd (none_some (sym (ap (λ (d : Done). d.files.base) e) ∙ there))
 
 linked : (links : List ℕ) (s z : System) → LinksOf links (Ok s.file) → z.file ≡ s.file → LinksOf links (Ok z.file)
@@ -332,8 +336,8 @@ toss-agrees indexes net new i run apart agrees tosses =
     let t = each-toss net.packets i indexes tosses.files run s (run_begun tossed.system) tossed.stopped tosses.left tossed.run before agrees.packets same tosses.are tossed.each in
     let z = t.now in
     let written = left-base tossed.run tossed.stopped tosses.call.old tosses.call.new tosses.call.before tosses.call.after tosses.done base tossed.ends tosses.leaves.base in
-    let saved : base ≡ saved_bytes z.base z.cursor = subst (λ (x : SystemState). base ≡ saved_bytes x.base x.cursor) (sym t.state) written in
-    let counted : is_countable z.base z.cursor ≡ true = subst (λ (x : SystemState). is_countable x.base x.cursor ≡ true) (sym t.state) tosses.counts in
+    let saved : base ≡ saved_bytes z.base z.cursor = subst (λ (x : SystemState). base ≡ saved_bytes x.base x.cursor) (sym t.state) written.saved in
+    let counted : is_countable z.base z.cursor ≡ true = subst (λ (x : SystemState). is_countable x.base x.cursor ≡ true) (sym t.state) written.countable in
     let now : HasFiles (with_base base tosses.station) z =
     record { links = linked tosses.station.links s z has.links t.file; base = saved-file base z.base z.cursor saved tosses.leaves.base_bytes t.base counted } in
     let later : Agrees (with_tossed net i base whole) (put run i z whole) = record {

@@ -1,24 +1,20 @@
 -- What a command may do to a net of files: it is called on the files of one station, and what it leaves is put in place.
-use Rattle.std.specs.Prelude.{◌≡◌, ℕ, ◌⊎◌, ◌+◌, ◌-◌, true, List, [], ◌∷◌, length, take, Option, Some, None, Ok}
+use Rattle.std.specs.Prelude.{◌≡◌, ℕ, ◌⊎◌, ◌+◌, ◌-◌, List, [], ◌∷◌, length, take, Option, Some, None, Ok}
 use Rattle.std.specs.List.{AllByRecursion}
 use Rattle.echo_packet.specs.Header.{AreBytes}
 use Rattle.echo_base.specs.Base.{LinkFile}
-use Rattle.echo_base.specs.BaseFile.{is_countable}
 use Rattle.echo_base.specs.LinkLines.{LinksOf}
 use Rattle.echo_steps.specs.declared.stamp.Stamp.{Stamp}
 use Rattle.echo_steps.specs.Posting.{posted}
-use Rattle.echo_steps.specs.Purging.{purged}
-use Rattle.echo_steps.specs.SystemState.{SystemState}
 use Rattle.echo_run.specs.Run.{nth}
 use Rattle.echo_commands.specs.declared.fault.Fault.{Fault}
 use Rattle.echo_commands.specs.declared.leaving.Done.{Done}
 use Rattle.echo_commands.specs.declared.leaving.Files.{Files}
 use Rattle.echo_commands.specs.declared.posting.NewMessage.{NewMessage}
 use Rattle.echo_commands.specs.Files.{Leaves}
-use Rattle.echo_commands.specs.Posted.{PostAnswers, base_after, draft_of}
+use Rattle.echo_commands.specs.Posted.{PostAnswers, draft_of}
 use Rattle.echo_commands.specs.Purged.{PurgeAnswers}
 use Rattle.echo_commands.specs.Scanned.{ScanAnswers}
-use Rattle.echo_commands.specs.System.{IsSystemGiven}
 use Rattle.echo_commands.specs.Coming.{Coming, Fails, Holds, Unknown}
 use Rattle.echo_commands.specs.Tossed.{IsTossed}
 use Rattle.echo_stations.specs.Nets.{Net, Paired, Station, with_files, with_posting, with_tossed}
@@ -41,11 +37,6 @@ pub record LeavesBase (files : Files) (bytes : List ℕ) : Type 0 where
   pub base_bytes : AreBytes bytes
   pub packet_bytes : AllByRecursion (λ file. AreBytes file.bytes) files.packets
 
--- four bytes count what is saved of the system that the files make, as the command leaves it
-abbrev pub Counts : List ℕ → Option (List ℕ) → (SystemState → SystemState) → Type 0
-Counts links base leaves =
-    (system : SystemState) → IsSystemGiven links base system → is_countable (leaves system).base (leaves system).cursor ≡ true
-
 -- `post` leaves a base file, and this is put in place
 pub record Posts (words : NewMessage) (body : List ℕ) (net : Net) (i : ℕ) (new : Net) : Type 0 where
   pub station : Station
@@ -55,7 +46,6 @@ pub record Posts (words : NewMessage) (body : List ℕ) (net : Net) (i : ℕ) (n
   pub answer : Leaves (PostAnswers words call.links call.base call.stopped body call.old call.new call.before call.after) done
   pub base : List ℕ
   pub leaves : LeavesBase done.files base
-  pub counts : Counts call.links call.base (λ s. record { file = s.file; base = base_after s words body; cursor = s.cursor })
   pub file : LinkFile
   pub of_links : LinksOf station.links (Ok file)
   pub becomes : new ≡ with_posting net i base (posted file words.tag.now (draft_of words body) words.serial words.stamp)
@@ -69,7 +59,6 @@ pub record Scans (stamp : Stamp) (net : Net) (i : ℕ) (new : Net) : Type 0 wher
   pub answer : Leaves (ScanAnswers stamp call.links call.base call.stopped call.old call.new call.before call.after) done
   pub base : List ℕ
   pub leaves : LeavesBase done.files base
-  pub counts : Counts call.links call.base (λ s. record { file = s.file; base = s.base; cursor = length s.base })
   pub becomes : new ≡ with_files net i done.files.packets base
 
 -- `purge` leaves a base file, and this is put in place
@@ -81,7 +70,6 @@ pub record Purges (net : Net) (i : ℕ) (new : Net) : Type 0 where
   pub answer : Leaves (PurgeAnswers call.links call.base call.stopped call.old call.new call.before call.after) done
   pub base : List ℕ
   pub leaves : LeavesBase done.files base
-  pub counts : Counts call.links call.base (λ s. record { file = s.file; base = purged s.base s.cursor; cursor = s.cursor })
   pub becomes : new ≡ with_files net i [] base
 
 -- what is known of a reader: the bytes that are still to come, and how often its device failed
@@ -120,7 +108,6 @@ pub record Tosses (indexes : List ℕ) (net : Net) (i : ℕ) (new : Net) : Type 
   pub answer : IsTossed remaining_of failures_of call.links call.base files left call.old call.new call.before call.after done
   pub base : List ℕ
   pub leaves : LeavesBase done.files base
-  pub counts : is_countable answer.run.system.base answer.run.system.cursor ≡ true
   pub becomes : new ≡ with_tossed net i base (whole_of indexes answer.stopped left)
 
 -- A command and what it was given on its command line; packets go by their index in the list of all packet files.
