@@ -34,7 +34,7 @@ pub was_scanned : (stamp : Stamp) (links : List ℕ) (base : Option (List ℕ)) 
     → waiting ≡ length system.base - system.cursor → before ≡ all - waiting → ScanStep system stamp (Ok packets) left → bytes ≡ saved_bytes left.base left.cursor
     → is_countable left.base left.cursor ≡ true → sent ≡ map (file_of before) packets → none ≡ [] → lines ≡ none ++ flat_map line_of packets → Appends a b lines → files ≡ record { packets = sent; base = Some bytes }
     → IsScanned stamp links base a b files
-was_scanned stamp links base system left packets sent all waiting before bytes none lines files a b given is_base counted waits rest step saved countable made nothing whole out are =
+was_scanned stamp links base system left packets sent all waiting before bytes none lines files a b given is_base counted waits rest step saved few made nothing whole out are =
     let scanned_first : before ≡ system.cursor =
     scanned_before (length system.base) waiting system.cursor before waits is_base.within (rest ∙ ap (λ (n : ℕ). n - waiting) counted) in
     record {
@@ -44,7 +44,7 @@ was_scanned stamp links base system left packets sent all waiting before bytes n
       printed = subst (λ (ps : List Packet). Appends a b (flat_map line_of ps)) step.1 (went none lines (flat_map line_of packets) a b nothing whole out);
       left = are ∙ ap (λ (fs : List PacketFile). record { packets = fs; base = Some bytes }) (made ∙ ap (λ (n : ℕ). map (file_of n) packets) scanned_first ∙ ap (map (file_of system.cursor)) step.1)
           ∙ ap (λ (bs : List ℕ). record { packets = map (file_of system.cursor) (scanned system.file system.base system.cursor stamp); base = Some bs }) (saved ∙ ap (λ (s : SystemState). saved_bytes s.base s.cursor) step.2);
-      countable = subst (λ (s : SystemState). is_countable s.base s.cursor ≡ true) step.2 countable;
+      countable = subst (λ (s : SystemState). is_countable s.base s.cursor ≡ true) step.2 few;
     }
 
 -- the refusal is that of the draft of the words

@@ -52,7 +52,7 @@ base_after system words body = system.base ++ posted system.file words.tag.now (
 abbrev pub refusal_of : SystemState → NewMessage → List ℕ → Option PostFault
 refusal_of system words body = post_refusal system.file system.base words.tag.now (draft_of words body) words.serial words.stamp
 
--- the posting at the system that the files make: its tag and id are printed, and the base with it is to be written
+-- the posting at the system that the files make: its tag and id are printed, and the base with it, which four bytes count, is to be written
 pub record IsPosted (words : NewMessage) (links : List ℕ) (base : Option (List ℕ)) (body : List ℕ) (old new : Option (List ℕ)) (files : Files) : Type 0 where
   pub system : SystemState
   pub given : IsSystemGiven links base system

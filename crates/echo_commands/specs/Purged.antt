@@ -14,7 +14,7 @@ use Rattle.echo_commands.specs.System.{IsFirstFaultOf, IsSystemGiven, IsTooMany}
 abbrev pub purged_line : ℕ → List ℕ
 purged_line count = codes "purged " ++ (decimal count ++ codes "\n")
 
--- the purge of the system that the files make: how many messages it changes is printed, and the base that it leaves is to be written
+-- the purge of the system that the files make: how many messages it changes is printed, and the base that it leaves, which four bytes count, is to be written
 pub record IsPurged (links : List ℕ) (base : Option (List ℕ)) (old new : Option (List ℕ)) (files : Files) : Type 0 where
   pub system : SystemState
   pub given : IsSystemGiven links base system

@@ -44,7 +44,7 @@ files_of system packets = record {
   base = Some (saved_bytes system.base (length system.base));
 }
 
--- the scan of the system that the files make: a line for each of its packets is printed, and these and the base are to be written
+-- the scan of the system that the files make: a line for each of its packets is printed, and these and the base, which four bytes count, are to be written
 pub record IsScanned (stamp : Stamp) (links : List ℕ) (base : Option (List ℕ)) (old new : Option (List ℕ)) (files : Files) : Type 0 where
   pub system : SystemState
   pub given : IsSystemGiven links base system

@@ -1,7 +1,7 @@
 -- What `toss` does with its packet files, prints and leaves.
 use Rattle.std.specs.Prelude.{◌≡◌, ℕ, ◌⊎◌, Bool, true, false, List, [], ◌∷◌, Option, Some, None, is_some, Result, Ok, Err}
 use Rattle.std.specs.Io.KnownBytes.{Appends}
-use Rattle.echo_base.specs.BaseFile.{saved_bytes}
+use Rattle.echo_base.specs.BaseFile.{is_countable, saved_bytes}
 use Rattle.echo_device.specs.Device.{Failed}
 use Rattle.echo_steps.specs.SystemState.{SystemState}
 use Rattle.echo_commands.specs.declared.fault.Fault.{Fault}
@@ -44,12 +44,12 @@ TossesEach remaining failures (file ∷ later) old stopped left new =
 abbrev pub IsRunPrinted : TossRun → Option (List ℕ) → Option (List ℕ) → ℕ → ℕ → Type 0
 IsRunPrinted run old new before after = (Appends old new run.lines × (after ≡ before)) ⊎ Failed before after
 
--- The base is to be written, also after a fault of a packet; that a standard output failed is then not told. Without a fault all lines are printed.
+-- The base, which four bytes count, is to be written, also after a fault of a packet; that a standard output failed is then not told. Without a fault all lines are printed.
 abbrev pub RunEnds : TossRun → Bool → Option (List ℕ) → Option (List ℕ) → ℕ → ℕ → Result Files Fault → Type 0
 RunEnds run true old new before after (Ok files) =
-    (files ≡ only_base (saved_bytes run.system.base run.system.cursor)) × IsRunPrinted run old new before after
+    (files ≡ only_base (saved_bytes run.system.base run.system.cursor)) × (is_countable run.system.base run.system.cursor ≡ true) × IsRunPrinted run old new before after
 RunEnds run false old new before after (Ok files) =
-    (files ≡ only_base (saved_bytes run.system.base run.system.cursor)) × Appends old new run.lines × (after ≡ before)
+    (files ≡ only_base (saved_bytes run.system.base run.system.cursor)) × (is_countable run.system.base run.system.cursor ≡ true) × Appends old new run.lines × (after ≡ before)
 RunEnds run stopped old new before after (Err fault) =
     ((stopped ≡ false) × CannotPrint before after fault)
     ⊎ ((IsWantOfMemory fault ⊎ IsTooMany run.system.base run.system.cursor fault) × IsRunPrinted run old new before after)

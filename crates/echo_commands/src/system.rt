@@ -1,5 +1,5 @@
 //! The system that a link file and a base file make, and its base as a file.
-ghost use Rattle.std.specs.Prelude.{◌≡◌, ◌⊎◌, true, None, IfErr, IfOk, option_copied};
+ghost use Rattle.std.specs.Prelude.{◌≡◌, ◌⊎◌, None, true, IfErr, IfOk, option_copied};
 ghost use Rattle.echo_base.specs.BaseFile.{is_countable, saved_bytes};
 ghost use Rattle.echo_commands.specs.Ended.{IsWantOfMemory};
 ghost use Rattle.echo_commands.specs.System.{IsBaseFault, IsFirstFaultOf, IsSystemFault, IsSystemGiven, IsTooMany};

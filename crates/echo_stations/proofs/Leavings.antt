@@ -1,0 +1,36 @@
+-- What a command left, and on which files it was called.
+use Rattle.std.proofs.Common.{◌≡◌, sym, subst, ap, ◌∙◌, ℕ, List, Option, Some, None, Result, Ok, Err}
+use Rattle.echo_commands.specs.declared.fault.Fault.{Fault}
+use Rattle.echo_commands.specs.declared.leaving.Done.{Done}
+use Rattle.echo_commands.specs.declared.leaving.Files.{Files}
+use Rattle.echo_commands.specs.Files.{Leaves, done_of}
+use Rattle.echo_commands.specs.System.{IsSystemGiven}
+use Rattle.echo_steps.specs.SystemState.{SystemState}
+use Rattle.echo_run.specs.Run.{System}
+use Rattle.echo_run.proofs.Lists.{none_some}
+use Rattle.echo_stations.specs.Agreement.{HasFiles}
+use Rattle.echo_stations.specs.Commands.{Call}
+use Rattle.echo_stations.specs.Nets.{Station}
+use Rattle.echo_stations.proofs.BaseFiles.{given-once, state_of}
+
+-- the command answered these files
+pub record Left (IsSo : Result Files Fault → Type 0) (done : Done) : Type 0 where
+  pub files : Files
+  pub so : IsSo (Ok files)
+  pub are : done.files ≡ files
+
+-- where a base is left the command answered files
+pub left : (IsSo : Result Files Fault → Type 0) (done : Done) (base : List ℕ) → Leaves IsSo done → done.files.base ≡ Some base → Left IsSo done
+left IsSo done base leaves there = by leaves.answer leaves.so leaves.is
+  where
+    by : (r : Result Files Fault) → IsSo r → done ≡ done_of r → Left IsSo done
+    by (Ok files) so e = record { files = files; so = so; are = ap (λ (d : Done). d.files) e }
+    by (Err fault) so e = absurd (none_some (sym (ap (λ (d : Done). d.files.base) e) ∙ there))
+
+-- the call went on, so the system that it was given is that of the station's files
+pub called-on : (station : Station) (s : System) (call : Call station) (system : SystemState) → HasFiles station s → call.stopped ≡ None
+    → IsSystemGiven call.links call.base system → system ≡ state_of s
+called-on station s call system has went_on given =
+    let (a, b) = call.handed went_on in
+    given-once station s has system
+    (subst (λ (o : Option (List ℕ)). IsSystemGiven station.links o system) b (subst (λ (ls : List ℕ). IsSystemGiven ls call.base system) a given))

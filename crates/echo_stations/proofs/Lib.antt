@@ -1,0 +1,16 @@
+pub mod Pairs
+pub mod BaseFiles
+pub mod Packets
+pub mod Readings
+pub mod Places
+pub mod Postings
+pub mod Leavings
+pub mod OfPost
+pub mod OfPurge
+pub mod OfScan
+pub mod Tossed
+pub mod OfToss
+pub mod EachEvent
+pub mod Sound
+pub mod Headline
+pub mod AnyReader

@@ -1,0 +1,87 @@
+-- What the files of a net are to show, whatever commands were run.
+use Rattle.std.specs.Prelude.{◌≡◌, ◌≢◌, ℕ, ◌⊎◌, ◌≤◌, IsTrue, List, drop, map, Option, Some, Ok}
+use Rattle.echo_graph.specs.Walk.{Among, Different}
+use Rattle.echo_packet.specs.Packet.{PacketOf}
+use Rattle.echo_packet.specs.declared.limits.Limits.{Limits}
+use Rattle.echo_base.specs.declared.key.Key.{Key}
+use Rattle.echo_base.specs.Base.{Filed, LinkFile, has_area, key_of, upper}
+use Rattle.echo_base.specs.LinkLines.{LinksOf}
+use Rattle.echo_base.specs.Stubs.{stub_of}
+use Rattle.echo_steps.specs.declared.packet.Packet.{Packet}
+use Rattle.echo_run.specs.Orderly.{IsPosting, SameContent, copies, count, sent_count, tag_of}
+use Rattle.echo_run.specs.Run.{nth}
+use Rattle.echo_commands.specs.declared.fault.Fault.{Fault}
+use Rattle.echo_commands.specs.declared.status.Status.TheVariants.{Good}
+use Rattle.echo_commands.specs.Checked.{CheckAnswers}
+use Rattle.echo_commands.specs.Ended.{Ends}
+use Rattle.echo_commands.specs.System.{IsBaseGiven}
+use Rattle.echo_commands.specs.Given.{AreLinkFiles}
+use Rattle.echo_stations.specs.Agreement.{file_address}
+use Rattle.echo_stations.specs.Commands.{CommandEvent, Happen}
+use Rattle.echo_stations.specs.Nets.{Net, Paired, Station, first_net}
+
+-- what a station's files say: its link file, and the messages and the cursor of its base file
+pub record Says (station : Station) (file : LinkFile) (messages : List Filed) (cursor : ℕ) : Type 0 where
+  pub links : LinksOf station.links (Ok file)
+  pub base : IsBaseGiven station.base messages cursor
+
+-- a station of the net says this
+pub record Holds (net : Net) (file : LinkFile) (messages : List Filed) (cursor : ℕ) : Type 0 where
+  pub station : Station
+  pub there : Among station net.stations
+  pub says : Says station file messages cursor
+
+-- the bytes are a packet
+abbrev pub ReadsAs : List ℕ → Packet → Type 0
+ReadsAs bytes p = (limits : Limits) × PacketOf limits p.header p.messages bytes
+
+-- a message that has the DateTime, names, subject and kept lines of a posting, or is what a purge leaves of such a one
+abbrev pub IsUnchanged : Filed → Filed → Type 0
+IsUnchanged m posting = SameContent m posting ⊎ ((filed : Filed) × (m ≡ stub_of filed) × SameContent filed posting)
+
+-- what the files of a net show of all areas
+pub record IsSound (net : Net) : Type 0 where
+  -- each packet file is a packet, and each base file is read
+  pub packets : (bytes : List ℕ) → Among bytes net.packets → (p : Packet) × ReadsAs bytes p
+  pub bases : (station : Station) → Among station net.stations → (file : LinkFile) × (messages : List Filed) × (cursor : ℕ) × Says station file messages cursor
+  -- it has each message at most once
+  pub filed_once : (file : LinkFile) (messages : List Filed) (cursor : ℕ) → Holds net file messages cursor → (key : Key) → count key messages ≤ 1
+  -- and only messages that were posted, unchanged
+  pub only_posted : (file : LinkFile) (messages : List Filed) (cursor : ℕ) → Holds net file messages cursor → (m : Filed) → Among m messages →
+      (posting : Filed) × Among posting net.postings × (posting.echo.tag ≡ m.echo.tag) × IsUnchanged m posting
+
+-- no message of the area waits for a scan, and each packet file that holds one was tossed whole
+pub record IsSettled (net : Net) (tag : List ℕ) : Type 0 where
+  pub scanned : (file : LinkFile) (messages : List Filed) (cursor : ℕ) → Holds net file messages cursor → (m : Filed) → Among m (drop cursor messages) → m.echo.tag ≢ tag
+  pub tossed : (k : ℕ) (bytes : List ℕ) (p : Packet) → nth k net.packets ≡ Some bytes → ReadsAs bytes p →
+      (m : Filed) → Among m (copies p) → m.echo.tag ≡ tag → Among k net.delivered
+
+-- the messages have the posting exactly once, unchanged
+pub record HasUnchanged (messages : List Filed) (posting : Filed) : Type 0 where
+  pub once : count (key_of posting) messages ≡ 1
+  pub same : (m : Filed) → Among m messages → key_of m ≡ key_of posting → IsUnchanged m posting
+
+-- what the files of a net show of an area that was checked
+pub record InOrder (net : Net) (tag : List ℕ) : Type 0 where
+  pub sound : IsSound net
+  -- over all packet files each station that has the area was sent each message at most once, and none of its own
+  pub sent_once : (packets : List Packet) → Paired ReadsAs net.packets packets →
+      (file : LinkFile) (messages : List Filed) (cursor : ℕ) → Holds net file messages cursor → IsTrue (has_area file tag) →
+      (key : Key) → tag_of key ≡ tag → sent_count file.system key packets ≤ 1
+  pub never_own : (packets : List Packet) → Paired ReadsAs net.packets packets →
+      (file : LinkFile) (messages : List Filed) (cursor : ℕ) → Holds net file messages cursor → IsTrue (has_area file tag) →
+      (m : Filed) → Among m messages → IsPosting tag m → sent_count file.system (key_of m) packets ≡ 0
+  -- and where nothing waits its base file has each posting once, unchanged
+  pub all_came : IsSettled net tag → (posting : Filed) → Among posting net.postings → posting.echo.tag ≡ tag →
+      (file : LinkFile) (messages : List Filed) (cursor : ℕ) → Holds net file messages cursor → IsTrue (has_area file tag) → HasUnchanged messages posting
+
+-- any commands on stations of different addresses leave files that are sound
+abbrev pub FilesAreSound : Type 0
+FilesAreSound = (links : List (List ℕ)) (files : List LinkFile) → AreLinkFiles links files → Different (map file_address files)
+    → (commands : List CommandEvent) (net : Net) → Happen commands (first_net links) net → IsSound net
+
+-- where `check` ended with 0 for these link files and the area, any commands on them leave files that are in order
+abbrev pub HeadlineOnFiles : Type 0
+HeadlineOnFiles = (nodelist : Option (List ℕ)) (tag : List ℕ) (links : List (List ℕ)) (stopped : Option Fault) (old new : Option (List ℕ)) (before after : ℕ)
+    → Ends (CheckAnswers nodelist tag links stopped old new before after) Good
+    → (commands : List CommandEvent) (net : Net) → Happen commands (first_net links) net → InOrder net (upper tag)

@@ -1,0 +1,4 @@
+pub mod Nets
+pub mod Commands
+pub mod Agreement
+pub mod InOrder
