@@ -1,6 +1,5 @@
 use super::*;
 use echo_addr::Items;
-use echo_base::LinkFault;
 
 /// The bytes of the link files of 1:10/1, 1:10/2 and so on with the area TEST and these links, each named
 /// once.
@@ -54,55 +53,99 @@ fn answers(alloc: Global, tag: &[u8], files: &[Items<u8>], status: Status, print
     ended == status && is_text(&out, printed) && errors.is_empty()
 }
 
+/// Systems, their links, and what is printed.
+const IN_ORDER: &[(u16, &[(u16, u16)], &str)] = &[
+    (1, &[], "yes TEST 1 systems 0 links\n"),
+    (3, &[(1, 2), (2, 3)], "yes TEST 3 systems 2 links\n"),
+    (3, &[(1, 2), (2, 3), (3, 1)], "yes TEST 3 systems 3 links\n"),
+    (
+        4,
+        &[(1, 2), (1, 3), (1, 4), (2, 3), (2, 4), (3, 4)],
+        "yes TEST 4 systems 6 links\n",
+    ),
+    (
+        5,
+        &[(1, 2), (2, 3), (3, 1), (3, 4), (4, 5), (5, 3)],
+        "yes TEST 5 systems 6 links\n",
+    ),
+    (
+        4,
+        &[(1, 2), (2, 3), (3, 4), (4, 2)],
+        "yes TEST 4 systems 4 links\n",
+    ),
+    (
+        7,
+        &[
+            (1, 2),
+            (1, 5),
+            (2, 3),
+            (3, 4),
+            (4, 2),
+            (5, 6),
+            (6, 7),
+            (7, 5),
+        ],
+        "yes TEST 7 systems 8 links\n",
+    ),
+];
+
+const APART_OR_LOOP: &[(u16, &[(u16, u16)], &str)] = &[
+    (
+        4,
+        &[(1, 2), (2, 3), (3, 1)],
+        "no TEST V7 Apart 1:10/1 1:10/4\n",
+    ),
+    (
+        4,
+        &[(1, 3), (3, 2), (2, 4), (4, 1)],
+        "no TEST V8 Loop 1:10/1 1:10/3 1:10/2 1:10/4\n",
+    ),
+    (
+        4,
+        &[(1, 2), (2, 3), (3, 4), (4, 1), (1, 3)],
+        "no TEST V8 Loop 1:10/1 1:10/2 1:10/3 1:10/4\n",
+    ),
+];
+
+/// Link files, and what is printed.
+const FAULTY: &[(&[&[u8]], &str)] = &[
+    (
+        &[
+            b"SYSTEM 1:10/1\nAREA TEST 1:10/5",
+            b"SYSTEM 1:10/5\nAREA TEST 1:10/1 2:10/1",
+            b"SYSTEM 2:10/1\nAREA TEST 1:10/5",
+        ],
+        "no TEST V6 SameNetNode 1:10/1 2:10/1\n",
+    ),
+    (
+        &[b"SYSTEM 1:10/1\nAREA TEST", b"SYSTEM 1:10/1"],
+        "no TEST V2 TwoFiles 1:10/1\n",
+    ),
+    (
+        &[b"SYSTEM 1:10/1\nAREA TEST 1:10/1 1:10/9"],
+        "no TEST V3 SelfLink 1:10/1\n",
+    ),
+    (
+        &[b"SYSTEM 1:10/1\nAREA TEST 1:10/9"],
+        "no TEST V4 Unknown 1:10/1 1:10/9\n",
+    ),
+    (
+        &[
+            b"SYSTEM 1:10/1\nAREA TEST 1:10/2",
+            b"SYSTEM 1:10/2\nAREA TEST",
+        ],
+        "no TEST V5 OneSided 1:10/1 1:10/2\n",
+    ),
+    (&[b"SYSTEM 1:10/1\nAREA OTHER"], "no TEST V1 NoSuchArea\n"),
+];
+
 #[test]
 fn checks_areas_in_order(rt: HostRuntime) -> Result<(), Fail> {
     let alloc = rt.alloc();
-    for (systems, links, printed) in [
-        (1, [].as_slice(), "yes TEST 1 systems 0 links\n"),
-        (
-            3,
-            [(1, 2), (2, 3)].as_slice(),
-            "yes TEST 3 systems 2 links\n",
-        ),
-        (
-            3,
-            [(1, 2), (2, 3), (3, 1)].as_slice(),
-            "yes TEST 3 systems 3 links\n",
-        ),
-        (
-            4,
-            [(1, 2), (1, 3), (1, 4), (2, 3), (2, 4), (3, 4)].as_slice(),
-            "yes TEST 4 systems 6 links\n",
-        ),
-        (
-            5,
-            [(1, 2), (2, 3), (3, 1), (3, 4), (4, 5), (5, 3)].as_slice(),
-            "yes TEST 5 systems 6 links\n",
-        ),
-        (
-            4,
-            [(1, 2), (2, 3), (3, 4), (4, 2)].as_slice(),
-            "yes TEST 4 systems 4 links\n",
-        ),
-        (
-            7,
-            [
-                (1, 2),
-                (1, 5),
-                (2, 3),
-                (3, 4),
-                (4, 2),
-                (5, 6),
-                (6, 7),
-                (7, 5),
-            ]
-            .as_slice(),
-            "yes TEST 7 systems 8 links\n",
-        ),
-    ] {
-        let files = net(alloc, systems, links)?;
+    for (systems, links, printed) in IN_ORDER {
+        let files = net(alloc, *systems, *links)?;
         assert!(rt;
-            answers(alloc, b"test", &files, Status::Good, printed),
+            answers(alloc, b"test", &files, Status::Good, *printed),
             "{printed}"
         );
     }
@@ -112,26 +155,10 @@ fn checks_areas_in_order(rt: HostRuntime) -> Result<(), Fail> {
 #[test]
 fn checks_areas_that_are_apart_or_loop(rt: HostRuntime) -> Result<(), Fail> {
     let alloc = rt.alloc();
-    for (systems, links, printed) in [
-        (
-            4,
-            [(1, 2), (2, 3), (3, 1)].as_slice(),
-            "no TEST V7 Apart 1:10/1 1:10/4\n",
-        ),
-        (
-            4,
-            [(1, 3), (3, 2), (2, 4), (4, 1)].as_slice(),
-            "no TEST V8 Loop 1:10/1 1:10/3 1:10/2 1:10/4\n",
-        ),
-        (
-            4,
-            [(1, 2), (2, 3), (3, 4), (4, 1), (1, 3)].as_slice(),
-            "no TEST V8 Loop 1:10/1 1:10/2 1:10/3 1:10/4\n",
-        ),
-    ] {
-        let files = net(alloc, systems, links)?;
+    for (systems, links, printed) in APART_OR_LOOP {
+        let files = net(alloc, *systems, *links)?;
         assert!(rt;
-            answers(alloc, b"TEST", &files, Status::Differs, printed),
+            answers(alloc, b"TEST", &files, Status::Differs, *printed),
             "{printed}"
         );
     }
@@ -141,44 +168,10 @@ fn checks_areas_that_are_apart_or_loop(rt: HostRuntime) -> Result<(), Fail> {
 #[test]
 fn checks_faulty_nets(rt: HostRuntime) -> Result<(), Fail> {
     let alloc = rt.alloc();
-    for (files, printed) in [
-        (
-            [
-                b"SYSTEM 1:10/1\nAREA TEST 1:10/5".as_slice(),
-                b"SYSTEM 1:10/5\nAREA TEST 1:10/1 2:10/1",
-                b"SYSTEM 2:10/1\nAREA TEST 1:10/5",
-            ]
-            .as_slice(),
-            "no TEST V6 SameNetNode 1:10/1 2:10/1\n",
-        ),
-        (
-            [b"SYSTEM 1:10/1\nAREA TEST".as_slice(), b"SYSTEM 1:10/1"].as_slice(),
-            "no TEST V2 TwoFiles 1:10/1\n",
-        ),
-        (
-            [b"SYSTEM 1:10/1\nAREA TEST 1:10/1 1:10/9".as_slice()].as_slice(),
-            "no TEST V3 SelfLink 1:10/1\n",
-        ),
-        (
-            [b"SYSTEM 1:10/1\nAREA TEST 1:10/9".as_slice()].as_slice(),
-            "no TEST V4 Unknown 1:10/1 1:10/9\n",
-        ),
-        (
-            [
-                b"SYSTEM 1:10/1\nAREA TEST 1:10/2".as_slice(),
-                b"SYSTEM 1:10/2\nAREA TEST",
-            ]
-            .as_slice(),
-            "no TEST V5 OneSided 1:10/1 1:10/2\n",
-        ),
-        (
-            [b"SYSTEM 1:10/1\nAREA OTHER".as_slice()].as_slice(),
-            "no TEST V1 NoSuchArea\n",
-        ),
-    ] {
-        let inputs = texts(alloc, files)?;
+    for (files, printed) in FAULTY {
+        let inputs = texts(alloc, *files)?;
         assert!(rt;
-            answers(alloc, b"Test", &inputs, Status::Differs, printed),
+            answers(alloc, b"Test", &inputs, Status::Differs, *printed),
             "{printed}"
         );
     }
@@ -189,61 +182,80 @@ fn checks_faulty_nets(rt: HostRuntime) -> Result<(), Fail> {
 const NODELIST: &[u8] =
     b"Zone,1,a,b,c,d,9600\nHost,10,a,b,c,d,9600\nHub,100,a,b,c,d,9600\n,101,a,b,c,d,9600\nPvt,102,a,b,c,d,9600\nDown,200,a,b,c,d,9600\nRegion,13,a,b,c,d,9600\n,5,a,b,c,d,9600\nHost,20,a,b,c,d,9600\n,1,a,b,c,d,9600\n";
 
+/// A chain of which the nodelist has the first system, has the second one Down, and lacks the third.
+const CHAIN: &[&[u8]] = &[
+    b"SYSTEM 1:10/101\nAREA TEST 1:10/200",
+    b"SYSTEM 1:10/200\nAREA TEST 1:10/101 1:10/300",
+    b"SYSTEM 1:10/300\nAREA TEST 1:10/200",
+];
+
+const CHAIN_LINES: &str = "yes TEST 3 systems 2 links\ndown 1:10/200\nunlisted 1:10/300\n";
+
+const SECOND_LINES: &str = "no TEST V4 Unknown 1:10/200 1:10/101\ndown 1:10/200\n";
+
+/// Whether the area TEST of the files is answered so beside the nodelist.
+fn answers_beside(alloc: Global, files: &[Items<u8>], status: Status, printed: &str) -> bool {
+    let (ended, out, errors) = checked(alloc, Some(NODELIST), b"TEST", files, None);
+    ended == status && is_text(&out, printed) && errors.is_empty()
+}
+
 #[test]
 fn checks_beside_a_nodelist(rt: HostRuntime) -> Result<(), Fail> {
     let alloc = rt.alloc();
-    let chain = texts(
-        alloc,
-        &[
-            b"SYSTEM 1:10/101\nAREA TEST 1:10/200",
-            b"SYSTEM 1:10/200\nAREA TEST 1:10/101 1:10/300",
-            b"SYSTEM 1:10/300\nAREA TEST 1:10/200",
-        ],
-    )?;
-    let (status, out, errors) = checked(alloc, Some(NODELIST), b"TEST", &chain, None);
-    assert_eq!(rt; status, Status::Good);
-    assert!(rt;
-        is_text(
-            &out,
-            "yes TEST 3 systems 2 links\ndown 1:10/200\nunlisted 1:10/300\n"
-        ) && errors.is_empty()
-    );
-    let second = chain.as_slice().get(1..2).unwrap_or(&[]);
-    let (status, out, _) = checked(alloc, Some(NODELIST), b"TEST", second, None);
-    assert_eq!(rt; status, Status::Differs);
-    assert!(rt;
-        is_text(
-            &out,
-            "no TEST V4 Unknown 1:10/200 1:10/101\ndown 1:10/200\n"
-        )
-    );
+    let chain = texts(alloc, CHAIN)?;
+    assert!(rt; answers_beside(alloc, &chain, Status::Good, CHAIN_LINES));
+    let second = texts(alloc, CHAIN.get(1..2).unwrap_or(&[]))?;
+    assert!(rt; answers_beside(alloc, &second, Status::Differs, SECOND_LINES));
     Ok(())
+}
+
+/// A link file without fault and two faulty ones.
+const GOOD_AND_FAULTY: &[&[u8]] = &[
+    b"SYSTEM 1:10/1\nAREA TEST",
+    b"SYSTEM 1:10/2\n\nAREA TEST x",
+    b"FOO",
+];
+
+const NO_ZONE: &[u8] = b",1,a,b,c,d,9600\n";
+
+/// A nodelist, how many of these link files, the status and the fault's line.
+const FIRST_FAULTS: &[(Option<&[u8]>, usize, Status, &str)] = &[
+    (
+        Some(NO_ZONE),
+        3,
+        Status::Refused,
+        "echonet: N4 NoZone line 1\n",
+    ),
+    (
+        Some(NODELIST),
+        3,
+        Status::Refused,
+        "echonet: L2 BadAddress line 3\n",
+    ),
+    (None, 2, Status::Refused, "echonet: L2 BadAddress line 3\n"),
+    (None, 1, Status::Device, "echonet: cannot use x\n"),
+];
+
+/// Whether the check of these files, which were not all read, is refused so.
+fn refuses(
+    alloc: Global,
+    nodelist: Option<&[u8]>,
+    files: &[Items<u8>],
+    status: Status,
+    line: &str,
+) -> bool {
+    let stopped = Some(Fault::CannotUse("x"));
+    let (ended, out, errors) = checked(alloc, nodelist, b"TEST", files, stopped);
+    ended == status && out.is_empty() && is_text(&errors, line)
 }
 
 /// The nodelist is judged before the link files, these in order, and what stopped their reading last.
 #[test]
 fn refuses_the_first_faulty_file(rt: HostRuntime) -> Result<(), Fail> {
     let alloc = rt.alloc();
-    let faulty = texts(
-        alloc,
-        &[
-            b"SYSTEM 1:10/1\nAREA TEST",
-            b"SYSTEM 1:10/2\n\nAREA TEST x",
-            b"FOO",
-        ],
-    )?;
-    let no_zone = b",1,a,b,c,d,9600\n".as_slice();
-    let stopped = Fault::CannotUse("x");
-    for (nodelist, count, line) in [
-        (Some(no_zone), 3, "echonet: N4 NoZone line 1\n"),
-        (Some(NODELIST), 3, "echonet: L2 BadAddress line 3\n"),
-        (None, 2, "echonet: L2 BadAddress line 3\n"),
-        (None, 1, "echonet: cannot use x\n"),
-    ] {
-        let files = faulty.as_slice().get(..count).unwrap_or(&[]);
-        let (status, out, errors) = checked(alloc, nodelist, b"TEST", files, Some(stopped));
-        assert!(rt; is_text(&errors, line) && out.is_empty(), "{line}");
-        assert!(rt; (status == Status::Device) == (count == 1), "{line}");
+    for (nodelist, count, status, line) in FIRST_FAULTS {
+        let files = texts(alloc, GOOD_AND_FAULTY.get(..*count).unwrap_or(&[]))?;
+        assert!(rt; refuses(alloc, *nodelist, &files, *status, *line), "{line}");
     }
     Ok(())
 }

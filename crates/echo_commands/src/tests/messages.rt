@@ -26,15 +26,19 @@ fn bytes_of(alloc: Global, text: &str) -> Result<Vec<u8>, Fail> {
     Ok(hex::decode(alloc, digits.as_str())?)
 }
 
+const PLAIN_LINES: &str =
+    "message 1 at 58: 10/1 to 10/2 attribute 1 cost 0\ndate 01 Jan 86  02:34:56\\x00\nto A\nfrom B\nsubject \ntext 2 bytes\nnot echomail\nend 1 messages, 102 bytes\n";
+
+const BAD_TAG_LINES: &str =
+    "message 1 at 58: 10/1 to 10/2 attribute 1 cost 0\ndate 01 Jan 86  02:34:56\\x00\nto A\nfrom B\nsubject \ntext 9 bytes\nbad tag\nend 1 messages, 109 bytes\n";
+
 #[test]
 fn shows_a_plain_message(rt: HostRuntime) -> Result<(), Fail> {
     let alloc = rt.alloc();
     let header = SIXTY.strip_suffix("0000\n").ok_or("a terminator")?;
     let input = format!(in alloc; "{header}{PLAIN}")?;
     let (status, out, errors) = shown(alloc, true, input.as_bytes());
-    let text = format!(in alloc;
-        "{HEADER}message 1 at 58: 10/1 to 10/2 attribute 1 cost 0\ndate 01 Jan 86  02:34:56\\x00\nto A\nfrom B\nsubject \ntext 2 bytes\nnot echomail\nend 1 messages, 102 bytes\n"
-    )?;
+    let text = format!(in alloc; "{HEADER}{PLAIN_LINES}")?;
     assert_eq!(rt; status, Status::Good);
     assert!(rt; is_text(&out, text.as_str()) && errors.is_empty());
     Ok(())
@@ -47,9 +51,7 @@ fn shows_a_bad_tag(rt: HostRuntime) -> Result<(), Fail> {
     let message = PLAIN.replace(alloc, "485c", "415245413a6120620d")?;
     let input = format!(in alloc; "{header}{message}")?;
     let (status, out, errors) = shown(alloc, true, input.as_bytes());
-    let text = format!(in alloc;
-        "{HEADER}message 1 at 58: 10/1 to 10/2 attribute 1 cost 0\ndate 01 Jan 86  02:34:56\\x00\nto A\nfrom B\nsubject \ntext 9 bytes\nbad tag\nend 1 messages, 109 bytes\n"
-    )?;
+    let text = format!(in alloc; "{HEADER}{BAD_TAG_LINES}")?;
     assert_eq!(rt; status, Status::Good);
     assert!(rt; is_text(&out, text.as_str()) && errors.is_empty());
     Ok(())
@@ -61,27 +63,21 @@ fn shows_messages_before_a_fault(rt: HostRuntime) -> Result<(), Fail> {
     let bytes = bytes_of(alloc, FIRST)?;
     let posting = format!(in alloc; "{HEADER}{POSTING}")?;
     let whole = format!(in alloc; "{HEADER}{POSTING}end 1 messages, 212 bytes\n")?;
-    for (count, status, printed, line) in [
-        (212, Status::Good, whole.as_str(), ""),
-        (
-            211,
-            Status::Refused,
-            posting.as_str(),
-            "echonet: P1 Truncated at 210\n",
-        ),
-        (
-            209,
-            Status::Refused,
+    let (status, out, errors) = shown(alloc, false, &bytes);
+    assert!(rt; status == Status::Good && is_text(&out, whole.as_str()) && errors.is_empty());
+    let front = bytes.get(..211).ok_or("the packet has 212 bytes")?;
+    let ended = "echonet: P1 Truncated at 210\n";
+    assert!(rt; refuses(alloc, false, front, posting.as_str(), ended));
+    let front = bytes.get(..209).ok_or("the packet has 212 bytes")?;
+    assert!(rt;
+        refuses(
+            alloc,
+            false,
+            front,
             HEADER,
-            "echonet: P1 Truncated at 103\n",
-        ),
-    ] {
-        let front = bytes.get(..count).ok_or("the packet has 212 bytes")?;
-        let (ended, out, errors) = shown(alloc, false, front);
-        assert_eq!(rt; ended, status);
-        assert!(rt; is_text(&out, printed), "printed at {count}");
-        assert!(rt; is_text(&errors, line), "fault at {count}");
-    }
+            "echonet: P1 Truncated at 103\n"
+        )
+    );
     Ok(())
 }
 
@@ -99,22 +95,24 @@ fn refuses_a_long_name(rt: HostRuntime) -> Result<(), Fail> {
     Ok(())
 }
 
+/// Packets of CrashMail II, and what is printed of them.
+const OF_ANOTHER: &[(&str, &str)] = &[
+    (
+        SHORT,
+        "packet 1:10/1 to 1:10/2 at 2026-11-22 06:27:24 product 254 serial 1\npassword 0000000000000000\nfill 0000000100070100010001000000000000000000\nmessage 1 at 58: 10/1 to 10/2 attribute 0 cost 0\ndate 22 Nov 26  06:27:24\\x00\nto All\nfrom Ann\nsubject Hi\ntext 142 bytes\narea TEST\nmsgid 1:10/1.0 028b4c00\ntear --- CrashWrite II/Linux 1.7\norigin  * Origin: CrashMail peer (1:10/1.0)\nseen 2 path 1 dropped 0\nend 1 messages, 248 bytes\n",
+    ),
+    (
+        EIGHT_BIT,
+        "packet 1:10/1 to 1:10/2 at 2026-11-22 06:27:24 product 254 serial 1\npassword 0000000000000000\nfill 0000000100070100010001000000000000000000\nmessage 1 at 58: 10/1 to 10/2 attribute 0 cost 0\ndate 03 Jul 26  12:34:56\\x00\nto \\xc5sa\nfrom J\\xfcrgen\nsubject \\xa1Se\\xf1or!\ntext 301 bytes\narea TEST\nmsgid 1:10/1 00000700\ntear --- \\xd6\\xe4\\xfc\norigin  * Origin: K\\xf6ln (1:10/1)\nseen 2 path 1 dropped 0\nend 1 messages, 415 bytes\n",
+    ),
+];
+
 #[test]
 fn shows_packets_of_another_tosser(rt: HostRuntime) -> Result<(), Fail> {
     let alloc = rt.alloc();
-    for (packet, text) in [
-        (
-            SHORT,
-            "packet 1:10/1 to 1:10/2 at 2026-11-22 06:27:24 product 254 serial 1\npassword 0000000000000000\nfill 0000000100070100010001000000000000000000\nmessage 1 at 58: 10/1 to 10/2 attribute 0 cost 0\ndate 22 Nov 26  06:27:24\\x00\nto All\nfrom Ann\nsubject Hi\ntext 142 bytes\narea TEST\nmsgid 1:10/1.0 028b4c00\ntear --- CrashWrite II/Linux 1.7\norigin  * Origin: CrashMail peer (1:10/1.0)\nseen 2 path 1 dropped 0\nend 1 messages, 248 bytes\n",
-        ),
-        (
-            EIGHT_BIT,
-            "packet 1:10/1 to 1:10/2 at 2026-11-22 06:27:24 product 254 serial 1\npassword 0000000000000000\nfill 0000000100070100010001000000000000000000\nmessage 1 at 58: 10/1 to 10/2 attribute 0 cost 0\ndate 03 Jul 26  12:34:56\\x00\nto \\xc5sa\nfrom J\\xfcrgen\nsubject \\xa1Se\\xf1or!\ntext 301 bytes\narea TEST\nmsgid 1:10/1 00000700\ntear --- \\xd6\\xe4\\xfc\norigin  * Origin: K\\xf6ln (1:10/1)\nseen 2 path 1 dropped 0\nend 1 messages, 415 bytes\n",
-        ),
-    ] {
+    for (packet, text) in OF_ANOTHER {
         let (status, out, _) = shown(alloc, true, packet.as_bytes());
-        assert_eq!(rt; status, Status::Good);
-        assert!(rt; is_text(&out, text), "{text}");
+        assert!(rt; status == Status::Good && is_text(&out, *text), "{text}");
     }
     Ok(())
 }

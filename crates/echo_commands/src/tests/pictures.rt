@@ -26,45 +26,46 @@ fn draws_an_area_in_order(rt: HostRuntime) -> Result<(), Fail> {
     Ok(())
 }
 
+/// Link files, and the label and the lines of their drawing.
+const FAULTY: &[(&[&[u8]], &str)] = &[
+    (
+        &[b"SYSTEM 1:10/1\nAREA OTHER 1:10/2"],
+        "label=\"no TEST V1 NoSuchArea\";\n",
+    ),
+    (
+        &[b"SYSTEM 1:10/1\nAREA TEST", b"SYSTEM 1:10/1"],
+        "label=\"no TEST V2 TwoFiles 1:10/1\";\n\"1:10/1\" [color=red];\n",
+    ),
+    (
+        &[b"SYSTEM 1:10/1\nAREA TEST 1:10/1 1:10/9"],
+        "label=\"no TEST V3 SelfLink 1:10/1\";\n\"1:10/1\" [color=red];\n\"1:10/9\" [style=dotted];\n\"1:10/1\" -- \"1:10/1\";\n\"1:10/1\" -- \"1:10/9\" [color=red, style=dashed, dir=forward];\n",
+    ),
+    (
+        &[b"SYSTEM 1:10/5\nAREA TEST 1:10/2"],
+        "label=\"no TEST V4 Unknown 1:10/5 1:10/2\";\n\"1:10/2\" [style=dotted];\n\"1:10/5\";\n\"1:10/2\" -- \"1:10/5\" [color=red, style=dashed, dir=back];\n",
+    ),
+    (
+        &[
+            b"SYSTEM 1:10/1\nAREA TEST 1:10/2",
+            b"SYSTEM 1:10/2\nAREA TEST",
+        ],
+        "label=\"no TEST V5 OneSided 1:10/1 1:10/2\";\n\"1:10/1\";\n\"1:10/2\";\n\"1:10/1\" -- \"1:10/2\" [color=red, style=dashed, dir=forward];\n",
+    ),
+    (
+        &[
+            b"SYSTEM 1:10/1\nAREA TEST 1:10/5",
+            b"SYSTEM 1:10/5\nAREA TEST 1:10/1 2:10/1",
+            b"SYSTEM 2:10/1\nAREA TEST 1:10/5",
+        ],
+        "label=\"no TEST V6 SameNetNode 1:10/1 2:10/1\";\n\"1:10/1\" [color=red];\n\"1:10/5\";\n\"2:10/1\" [color=red];\n\"1:10/1\" -- \"1:10/5\";\n\"1:10/5\" -- \"2:10/1\";\n",
+    ),
+];
+
 #[test]
 fn draws_faulty_nets(rt: HostRuntime) -> Result<(), Fail> {
     let alloc = rt.alloc();
-    for (files, printed) in [
-        (
-            [b"SYSTEM 1:10/1\nAREA OTHER 1:10/2".as_slice()].as_slice(),
-            "label=\"no TEST V1 NoSuchArea\";\n",
-        ),
-        (
-            [b"SYSTEM 1:10/1\nAREA TEST".as_slice(), b"SYSTEM 1:10/1"].as_slice(),
-            "label=\"no TEST V2 TwoFiles 1:10/1\";\n\"1:10/1\" [color=red];\n",
-        ),
-        (
-            [b"SYSTEM 1:10/1\nAREA TEST 1:10/1 1:10/9".as_slice()].as_slice(),
-            "label=\"no TEST V3 SelfLink 1:10/1\";\n\"1:10/1\" [color=red];\n\"1:10/9\" [style=dotted];\n\"1:10/1\" -- \"1:10/1\";\n\"1:10/1\" -- \"1:10/9\" [color=red, style=dashed, dir=forward];\n",
-        ),
-        (
-            [b"SYSTEM 1:10/5\nAREA TEST 1:10/2".as_slice()].as_slice(),
-            "label=\"no TEST V4 Unknown 1:10/5 1:10/2\";\n\"1:10/2\" [style=dotted];\n\"1:10/5\";\n\"1:10/2\" -- \"1:10/5\" [color=red, style=dashed, dir=back];\n",
-        ),
-        (
-            [
-                b"SYSTEM 1:10/1\nAREA TEST 1:10/2".as_slice(),
-                b"SYSTEM 1:10/2\nAREA TEST",
-            ]
-            .as_slice(),
-            "label=\"no TEST V5 OneSided 1:10/1 1:10/2\";\n\"1:10/1\";\n\"1:10/2\";\n\"1:10/1\" -- \"1:10/2\" [color=red, style=dashed, dir=forward];\n",
-        ),
-        (
-            [
-                b"SYSTEM 1:10/1\nAREA TEST 1:10/5".as_slice(),
-                b"SYSTEM 1:10/5\nAREA TEST 1:10/1 2:10/1",
-                b"SYSTEM 2:10/1\nAREA TEST 1:10/5",
-            ]
-            .as_slice(),
-            "label=\"no TEST V6 SameNetNode 1:10/1 2:10/1\";\n\"1:10/1\" [color=red];\n\"1:10/5\";\n\"2:10/1\" [color=red];\n\"1:10/1\" -- \"1:10/5\";\n\"1:10/5\" -- \"2:10/1\";\n",
-        ),
-    ] {
-        let inputs = texts(alloc, files)?;
+    for (files, printed) in FAULTY {
+        let inputs = texts(alloc, *files)?;
         let whole = format!(in alloc; "graph \"TEST\" {{\n{printed}}}\n")?;
         assert!(rt;
             draws(alloc, b"TEST", &inputs, Status::Differs, whole.as_str()),
@@ -74,20 +75,23 @@ fn draws_faulty_nets(rt: HostRuntime) -> Result<(), Fail> {
     Ok(())
 }
 
+/// Links of four systems, and the label and the lines of their drawing.
+const APART_OR_LOOP: &[(&[(u16, u16)], &str)] = &[
+    (
+        &[(1, 2), (2, 3), (3, 1)],
+        "label=\"no TEST V7 Apart 1:10/1 1:10/4\";\n\"1:10/1\" [color=red];\n\"1:10/2\";\n\"1:10/3\";\n\"1:10/4\" [color=red];\n\"1:10/1\" -- \"1:10/2\";\n\"1:10/1\" -- \"1:10/3\";\n\"1:10/2\" -- \"1:10/3\";\n",
+    ),
+    (
+        &[(1, 2), (2, 3), (3, 4), (4, 1), (1, 3)],
+        "label=\"no TEST V8 Loop 1:10/1 1:10/2 1:10/3 1:10/4\";\n\"1:10/1\" [color=red, penwidth=3];\n\"1:10/2\" [color=red, penwidth=3];\n\"1:10/3\" [color=red, penwidth=3];\n\"1:10/4\" [color=red, penwidth=3];\n\"1:10/1\" -- \"1:10/2\" [color=red, penwidth=3];\n\"1:10/1\" -- \"1:10/3\";\n\"1:10/1\" -- \"1:10/4\" [color=red, penwidth=3];\n\"1:10/2\" -- \"1:10/3\" [color=red, penwidth=3];\n\"1:10/3\" -- \"1:10/4\" [color=red, penwidth=3];\n",
+    ),
+];
+
 #[test]
 fn draws_areas_that_are_apart_or_loop(rt: HostRuntime) -> Result<(), Fail> {
     let alloc = rt.alloc();
-    for (links, printed) in [
-        (
-            [(1, 2), (2, 3), (3, 1)].as_slice(),
-            "label=\"no TEST V7 Apart 1:10/1 1:10/4\";\n\"1:10/1\" [color=red];\n\"1:10/2\";\n\"1:10/3\";\n\"1:10/4\" [color=red];\n\"1:10/1\" -- \"1:10/2\";\n\"1:10/1\" -- \"1:10/3\";\n\"1:10/2\" -- \"1:10/3\";\n",
-        ),
-        (
-            [(1, 2), (2, 3), (3, 4), (4, 1), (1, 3)].as_slice(),
-            "label=\"no TEST V8 Loop 1:10/1 1:10/2 1:10/3 1:10/4\";\n\"1:10/1\" [color=red, penwidth=3];\n\"1:10/2\" [color=red, penwidth=3];\n\"1:10/3\" [color=red, penwidth=3];\n\"1:10/4\" [color=red, penwidth=3];\n\"1:10/1\" -- \"1:10/2\" [color=red, penwidth=3];\n\"1:10/1\" -- \"1:10/3\";\n\"1:10/1\" -- \"1:10/4\" [color=red, penwidth=3];\n\"1:10/2\" -- \"1:10/3\" [color=red, penwidth=3];\n\"1:10/3\" -- \"1:10/4\" [color=red, penwidth=3];\n",
-        ),
-    ] {
-        let files = net(alloc, 4, links)?;
+    for (links, printed) in APART_OR_LOOP {
+        let files = net(alloc, 4, *links)?;
         let whole = format!(in alloc; "graph \"TEST\" {{\n{printed}}}\n")?;
         assert!(rt;
             draws(alloc, b"TEST", &files, Status::Differs, whole.as_str()),

@@ -88,19 +88,22 @@ fn prints_each_area_in_order(rt: HostRuntime) -> Result<(), Fail> {
     Ok(())
 }
 
+/// Scripts on a faulty link file, and the fault's line.
+const REFUSED: &[(&[u8], &str)] = &[
+    (
+        b"SCAN 0\nSCAN 0\nSCAN x\nSCAN y\n",
+        "echonet: script line 3\n",
+    ),
+    (b"SCAN 0\n", "echonet: L1 UnknownWord line 1\n"),
+];
+
 #[test]
 fn refuses_scripts_first(rt: HostRuntime) -> Result<(), Fail> {
     let alloc = rt.alloc();
     let faulty = texts(alloc, &[b"SYSTEM 1:10/1", b"FOO"])?;
-    for (script, fault) in [
-        (
-            b"SCAN 0\nSCAN 0\nSCAN x\nSCAN y\n".as_slice(),
-            "echonet: script line 3\n",
-        ),
-        (b"SCAN 0\n", "echonet: L1 UnknownWord line 1\n"),
-    ] {
+    for (script, fault) in REFUSED {
         assert!(rt;
-            replays(alloc, script, &faulty, Status::Refused, "", fault),
+            replays(alloc, *script, &faulty, Status::Refused, "", *fault),
             "{fault}"
         );
     }

@@ -246,52 +246,75 @@ fn packet_for_another(rt: HostRuntime) -> Result<(), Fail> {
     Ok(())
 }
 
+const SECOND: NewMessage<'static> = NewMessage { serial: 2, ..WORDS };
+
+/// Words of a posting to the base of the first one, and the fault's line.
+const UNPOSTED: &[(NewMessage<'static>, &str)] = &[
+    (WORDS, "echonet: B4 KnownSerial\n"),
+    (
+        NewMessage {
+            tag: b"TEST2",
+            ..SECOND
+        },
+        "echonet: B1 NoArea\n",
+    ),
+    (
+        NewMessage {
+            subject: b"a\0",
+            ..SECOND
+        },
+        "echonet: B2 ByteZero\n",
+    ),
+    (
+        NewMessage {
+            reply: b" ",
+            ..SECOND
+        },
+        "echonet: B6 BadReply\n",
+    ),
+    (
+        NewMessage {
+            stamp: Stamp { month: 13, ..NOON },
+            ..SECOND
+        },
+        "echonet: B5 BadStamp\n",
+    ),
+];
+
+/// Whether the posting is refused so.
+fn unposted(alloc: Global, words: NewMessage<'_>, base: &[u8], line: &str) -> bool {
+    let left = posted(alloc, words, Some(base), b"Hello\n");
+    left.printed(Status::Refused, "", line) && left.base().is_none()
+}
+
 #[test]
 fn postings_accepted_and_refused(rt: HostRuntime) -> Result<(), Fail> {
     let alloc = rt.alloc();
     let base = bytes_of(alloc, BASE)?;
-    let other = NewMessage { serial: 2, ..WORDS };
-    for (words, line) in [
-        (WORDS, "echonet: B4 KnownSerial\n"),
-        (
-            NewMessage {
-                tag: b"TEST2",
-                ..other
-            },
-            "echonet: B1 NoArea\n",
-        ),
-        (
-            NewMessage {
-                subject: b"a\0",
-                ..other
-            },
-            "echonet: B2 ByteZero\n",
-        ),
-        (
-            NewMessage {
-                reply: b" ",
-                ..other
-            },
-            "echonet: B6 BadReply\n",
-        ),
-        (
-            NewMessage {
-                stamp: Stamp { month: 13, ..NOON },
-                ..other
-            },
-            "echonet: B5 BadStamp\n",
-        ),
-    ] {
-        let left = posted(alloc, words, Some(base.as_slice()), b"Hello\n");
-        assert!(rt;
-            left.printed(Status::Refused, "", line) && left.base().is_none(),
-            "{line}"
-        );
+    for (words, line) in UNPOSTED {
+        assert!(rt; unposted(alloc, *words, base.as_slice(), *line), "{line}");
     }
-    let left = posted(alloc, other, Some(base.as_slice()), b"Hello\r\n\n");
+    let left = posted(alloc, SECOND, Some(base.as_slice()), b"Hello\r\n\n");
     assert!(rt; left.printed(Status::Good, "posted TEST 1:10/1 00000002\n", ""));
     assert!(rt; left.base().map(|bytes| bytes.len()) == Some(257));
     Ok(())
+}
+
+const OTHER: &[u8] = b"x";
+
+/// A link file, a base, and the fault's line.
+const FAULTY: &[(&[u8], Option<&[u8]>, &str)] = &[
+    (b"AREA X", None, "echonet: L3 NoSystem line 0\n"),
+    (OTHER, Some(OTHER), "echonet: L1 UnknownWord line 1\n"),
+    (ALPHA, Some(b"ECHOBAS"), "echonet: F2 Truncated record 0\n"),
+    (ALPHA, Some(b""), "echonet: F2 Truncated record 0\n"),
+    (ALPHA, Some(OTHER), "echonet: F1 NotBase\n"),
+];
+
+/// Whether the purge of the files, where the reading stopped after them, is refused so.
+fn unpurged(alloc: Global, links: &[u8], base: Option<&[u8]>, status: Status, line: &str) -> bool {
+    let left = purged(alloc, links, base, Some(Fault::CannotUse("base")));
+    left.printed(status, "", line) && left.base().is_none()
 }
 
 #[test]
@@ -300,32 +323,20 @@ fn faults_of_files(rt: HostRuntime) -> Result<(), Fail> {
     let far = Stamp { year: 1979, ..NOON };
     let left = scanned(alloc, far, ALPHA, None);
     assert!(rt; left.printed(Status::Refused, "", "echonet: S1 BadStamp\n"));
-    for (links, base, line) in [
-        (b"AREA X".as_slice(), None, "echonet: L3 NoSystem line 0\n"),
-        (
-            b"x".as_slice(),
-            Some(b"x".as_slice()),
-            "echonet: L1 UnknownWord line 1\n",
-        ),
-        (
-            ALPHA,
-            Some(b"ECHOBAS".as_slice()),
-            "echonet: F2 Truncated record 0\n",
-        ),
-        (
-            ALPHA,
-            Some(b"".as_slice()),
-            "echonet: F2 Truncated record 0\n",
-        ),
-        (ALPHA, Some(b"x".as_slice()), "echonet: F1 NotBase\n"),
-    ] {
-        let left = purged(alloc, links, base, Some(Fault::CannotUse("base")));
+    for (links, base, line) in FAULTY {
         assert!(rt;
-            left.printed(Status::Refused, "", line) && left.base().is_none(),
+            unpurged(alloc, *links, *base, Status::Refused, *line),
             "{line}"
         );
     }
-    let left = purged(alloc, ALPHA, None, Some(Fault::CannotUse("base")));
-    assert!(rt; left.printed(Status::Device, "", "echonet: cannot use base\n"));
+    assert!(rt;
+        unpurged(
+            alloc,
+            ALPHA,
+            None,
+            Status::Device,
+            "echonet: cannot use base\n"
+        )
+    );
     Ok(())
 }
