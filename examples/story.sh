@@ -54,6 +54,13 @@ purging() { # what happens, how many, system
   run "$1" 0 "purged $2" "" purge "$3.links" "$3.base"
 }
 
+# Lists a base. Words: what happens, the lines, the words of `list`. A program without `list` is spared.
+has_list=yes
+"$program" list --help > /dev/null 2>&1 || has_list=no
+listing() {
+  if [ $has_list = yes ]; then run "$1" 0 "$2" "" list "${@:3}"; fi
+}
+
 # The bytes of a file in hexadecimal digits, of at most so many after an offset.
 digits() { od -An -v -tx1 -j"${2:-0}" -N"${3:-100000}" "$1" | tr -d ' \n'; }
 hexadecimal() { tr -d ' \n' <<< "$1"; }
@@ -81,6 +88,19 @@ base=$(hexadecimal '4543484f42415332 00000000 01000000
   2d2d2d206563686f6e65740d
   202a204f726967696e3a20416c7068612028313a31302f31290d')
 same "the base after the posting" "$base" "$(digits one.base)"
+
+listing "what Alpha has" "message 0 area TEST posted waiting
+date 03 Jul 26  12:34:56\\x00
+to All
+from Ann
+subject Hi
+line \\x01MSGID: 1:10/1 00000001
+line Hello
+line --- echonet
+line  * Origin: Alpha (1:10/1)
+seen 0 path 0
+end 1 messages, 1 waiting" one.base
+listing "a base that is not there" "end 0 messages, 0 waiting" two.base
 
 posting "the same serial again" 2 "" "echonet: B4 KnownSerial" Hello one All Ann Hi 00000001
 same "the base stayed" "$base" "$(digits one.base)"
@@ -191,6 +211,43 @@ $(tally 0 1)
 $(tally 0 1)" two $first three/1.10.2.0.pkt one/1.10.2.1.pkt
 scanning "Beta has nothing to send" "" two
 scanning "Gamma has nothing to send" "" three
+
+# The last message of each: posted and scanned, and purged; and the second of Gamma, which came with the
+# first scan of Beta.
+listing "the reply where it was posted" "message 2 area TEST posted
+date 03 Jul 26  12:34:56\\x00
+to Ann
+from Cid
+subject Re: Hi
+line \\x01MSGID: 1:10/3 00000001
+line \\x01REPLY: 1:10/1 00000001
+line Hi Ann
+line --- echonet
+line  * Origin: Gamma (1:10/3)
+seen 0 path 0
+end 3 messages, 0 waiting" --area test --from 2 three.base
+listing "the reply at Beta" "message 2 area TEST from 1:10/3 purged
+date 03 Jul 26  12:34:56\\x00
+to Ann
+from Cid
+subject Re: Hi
+line \\x01MSGID: 1:10/3 00000001
+seen 0 path 0
+end 3 messages, 0 waiting" --from 2 two.base
+listing "no message of another area" "end 3 messages, 0 waiting" --area OTHER three.base
+listing "no message from there on" "end 3 messages, 0 waiting" --from 3 three.base
+if [ $has_list = yes ]; then
+  same "the messages of Gamma" "message 0 area TEST from 1:10/2
+line \\x01MSGID: 1:10/1 00000002
+seen 3 path 2
+message 1 area TEST from 1:10/2
+line \\x01MSGID: 1:10/1 00000001
+seen 3 path 2
+message 2 area TEST posted
+line \\x01MSGID: 1:10/3 00000001
+seen 0 path 0" "$("$program" list three.base | grep -e '^message' -e MSGID -e '^seen')"
+  run "a number that is none" 2 "" "echonet: bad number" list --from x three.base
+fi
 
 # Each base has three messages, and all were scanned.
 for system in one two three; do

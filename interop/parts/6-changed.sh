@@ -49,3 +49,26 @@ while [ $SECONDS -lt $until ] && [ "$(body_at one Nameless)$(body_at three Namel
 sleep 3
 same "a message without an id comes to Alpha once" 1 "$(body_at one Nameless | wc -l)"
 same "and to Gamma once" 1 "$(body_at three Nameless | wc -l)"
+
+# One without an id that comes twice.
+known=$(known_at three)
+for name in 0000000a 0000000b; do
+  perl "$here/mail.pl" make 1 2 AREA:MIDDLE 'No id either' '--- x' ' * Origin: x (1:10/1)' 'SEEN-BY: 10/1 2' \
+    '^APATH: 10/1' > "one/packets/$name.pkt"
+  printf '^%s\n' "$work/one/packets/$name.pkt" >> one/outbound/000a0002.flo
+done
+until=$((SECONDS + 30))
+while [ $SECONDS -lt $until ] && [ "$(known_at three)" = "$known" ]; do sleep 0.5; done
+same "Beta takes it twice" 2 "$(body_at two Made | grep -c 'No id either')"
+same "Gamma files it once" 1 "$(body_at three Made | grep -c 'No id either')"
+same "and is sent it twice" $((known + 1)) "$(known_at three)"
+
+# A packet of Alpha's session that names 1:10/2 as its sender.
+perl "$here/mail.pl" make 2 3 AREA:ALL '^AMSGID: 1:10/2 00000999' 'In the name of Beta' '--- x' \
+  ' * Origin: x (1:10/2)' 'SEEN-BY: 10/1 2 3' '^APATH: 10/2' > one/packets/0000000c.pkt
+printf '^%s\n' "$work/one/packets/0000000c.pkt" >> one/outbound/000a0003.flo
+until=$((SECONDS + 30))
+while [ $SECONDS -lt $until ] && [ -e one/packets/0000000c.pkt ]; do sleep 0.5; done
+sleep 3
+same "binkd gives it another ending" 0000000c.bad "$(ls three/inbound)"
+same "so it is not tossed" 0 "$(messages_of three | grep -c 'In the name of Beta' || true)"

@@ -18,7 +18,7 @@ done
 "$program" toss moved/links moved/base moved/rescanned/*.pkt > moved/tossed.txt
 same "a scan of it sends nothing" "" "$("$program" scan --at 2026-07-07T00:00:00 moved/links moved/base moved/packets)"
 cp two/links moved/links
-messages_of two | cut -d '|' -f 1-8 | sort > crashmail.txt
+messages_of two | cut -d '|' -f 1-8 | sort -u > crashmail.txt
 messages_of moved | cut -d '|' -f 1-8 | sort > moved.txt
 same "Beta has what it had" "" "$(diff crashmail.txt moved.txt)"
 
