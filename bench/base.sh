@@ -1,7 +1,7 @@
 #!/bin/sh
 # How long bases take to be loaded and saved, and link files to be read, the latter in two sizes, beside a
-# plain sum over the same bytes. Needs the built crates/bench/out/bench. Words: INPUT KIND COUNT ROUNDS; with none, the sizes
-# that a large system has.
+# plain sum over the same bytes. Needs the built crates/bench/out/bench. Words: INPUT KIND COUNT ROUNDS;
+# with none, the sizes that a large system has.
 set -e
 program=$(dirname "$0")/../crates/bench/out/bench
 

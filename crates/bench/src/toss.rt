@@ -2,9 +2,9 @@
 //!
 //! Words: `KIND COUNT ROUNDS LINKS`. A packet of COUNT messages of about 1.2 kB is made, for a system
 //! whose area has LINKS links beside the sender. ROUNDS times, `new` tosses it at a fresh system, which
-//! stays in memory, so that its end is not timed, `known` at one that has all its messages, `post` posts
-//! one more message there, and `sum` adds the bytes of the packet as a yardstick. `scan` and `purge` toss it once and then scan once, and `purge` purges ROUNDS
-//! times.
+//! stays in memory, so that its end is not timed, `known` tosses it at one that has all its messages,
+//! `post` posts one more message there, and `sum` adds the bytes of the packet as a yardstick. `scan` and
+//! `purge` toss it once and then scan once, and `purge` purges ROUNDS times.
 use crate::shared::{number, sum};
 use anyhow::{Context, Result, bail};
 use echo_addr::Items;
