@@ -218,6 +218,11 @@ fn tosses(
     done.printed(status, lines, line) && unopened == left && count == Some(messages)
 }
 
+/// The first bytes, as many as these where they are there.
+fn front(bytes: &[u8], count: usize) -> &[u8] {
+    bytes.get(..count).unwrap_or(bytes)
+}
+
 #[test]
 fn packets_in_order(rt: HostRuntime) -> Result<(), Fail> {
     let alloc = rt.alloc();
@@ -228,11 +233,20 @@ fn packets_in_order(rt: HostRuntime) -> Result<(), Fail> {
     assert!(rt; tosses(alloc, &[all, all], two.as_str(), "", 0, 1));
     let second = format!(in alloc; "{FILED}{ZEROS}")?;
     let cut = "echonet: P1 Truncated at 60\n";
-    assert!(rt; tosses(alloc, &[all, &all[..60], all], second.as_str(), cut, 1, 1));
+    assert!(rt;
+        tosses(
+            alloc,
+            &[all, front(all, 60), all],
+            second.as_str(),
+            cut,
+            1,
+            1
+        )
+    );
     let ended = "echonet: P1 Truncated at 210\n";
-    assert!(rt; tosses(alloc, &[&all[..210], all, all], FILED, ended, 2, 1));
+    assert!(rt; tosses(alloc, &[front(all, 210), all, all], FILED, ended, 2, 1));
     let nothing = "echonet: P1 Truncated at 0\n";
-    assert!(rt; tosses(alloc, &[&all[..0], all], ZEROS, nothing, 1, 0));
+    assert!(rt; tosses(alloc, &[front(all, 0), all], ZEROS, nothing, 1, 0));
     Ok(())
 }
 
