@@ -41,6 +41,15 @@ help_options() {
     grep -v -e '^--help$' | sort
 }
 
+# Those of the options that the usage line leaves out. Words: the help, the options.
+left_out() {
+  local usage option
+  usage=$(grep '^Usage' <<< "$1")
+  while read -r option _; do
+    if [[ -n $option && $usage != *"$option "* ]]; then echo "$option"; fi
+  done <<< "$2"
+}
+
 help=$("$program" --help)
 commands=$(part_of_help "$help" Commands | awk '$1 != "help" { print $1 }' | sort)
 same "the commands" "$commands" "$(sed -nE 's/^\.SS ([a-z]+).*/\1/p' "$place/page" | sort)"
@@ -53,8 +62,7 @@ for command in $commands; do
   same "$command: options in the heading" "$options" "$(heading_options "$heading" || true)"
   same "$command: options told" "$options" "$(page_options "$part")"
   # An option stands in brackets in the heading where the usage line leaves it out.
-  same "$command: options that may be left out" \
-    "$(while read -r option _; do [ -z "$option" ] || grep '^Usage' <<< "$help" | grep -q -e "$option" || echo "$option"; done <<< "$options")" \
+  same "$command: options that may be left out" "$(left_out "$help" "$options")" \
     "$(grep -oE '\[--[a-z]+' <<< "$heading" | tr -d '[' | sort || true)"
   same "$command: words" "$(sed -n 's/^Usage: echonet [a-z]* //p' <<< "$help" |
     sed -E 's/\[OPTIONS\] ?//; s/--[a-z-]+ <[A-Z0-9]+> ?//g' | tr -d '<>')" \

@@ -72,7 +72,8 @@ toss three > /dev/null
 same "a packet for another system lies apart" "echonet: C1 NotForUs 1:10/2" "$(cat three/bad/wrong.pkt.why)"
 head -c 98 kept.pkt > two/inbound/cut.pkt
 toss two > /dev/null
-same "two of one name lie apart" "cut.pkt cut.pkt.1 cut.pkt.1.why cut.pkt.why" "$(ls two/bad | tr '\n' ' ' | sed 's/ $//')"
+same "two of one name lie apart" \
+  "cut.pkt cut.pkt.1 cut.pkt.1.why cut.pkt.why" "$(ls two/bad | tr '\n' ' ' | sed 's/ $//')"
 rm two/bad/* three/bad/*
 
 # Messages that are not filed: the link is missing, then mended.
@@ -82,7 +83,8 @@ carry one $to_two two
 cp two/links two.links
 sed -i 's, 1:10/1,,' two/links
 toss two > /dev/null
-same "a packet of no link lies apart" "filed 0 known 0 notecho 0 badtag 0 noarea 0 notlinked 1" "$(cat two/bad/*.why)"
+same "a packet of no link lies apart" "filed 0 known 0 notecho 0 badtag 0 noarea 0 notlinked 1" \
+  "$(cat two/bad/*.why)"
 cp two.links two/links
 mv two/bad/*.pkt two/inbound/
 rm two/bad/*
@@ -125,7 +127,8 @@ same "nothing of the stopped one is left" "" "$(ls two/scanned)"
 post two Bob Fourth > /dev/null
 "$program" scan --at 2026-07-03T12:34:56 two/links two/base two/scanned > /dev/null
 scan two
-same "its packets are handed over" "4 2 2" "$(ls two/packets | wc -l) $(cat two/outbound/$to_three.flo | wc -l) $(cat two/outbound/000a0001.flo | wc -l)"
+same "its packets are handed over" "4 2 2" \
+  "$(ls two/packets | wc -l) $(cat two/outbound/$to_three.flo | wc -l) $(cat two/outbound/000a0001.flo | wc -l)"
 
 # The name that was given last is lost: no packet takes the place of another.
 rm two/last-name

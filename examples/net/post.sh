@@ -16,6 +16,7 @@ program=${ECHONET:-echonet}
 body=$(mktemp)
 fault=$(mktemp)
 trap 'rm -f "$body" "$fault"' EXIT
+trap 'exit 3' HUP INT TERM
 cat > "$body"
 
 set -- "$station/links" "$station/base"

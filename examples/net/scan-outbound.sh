@@ -17,6 +17,7 @@ program=${ECHONET:-echonet}
 mkdir -p "$station/scanned" "$station/packets" "$station/outbound"
 exec 9> "$station/scan.lock"
 flock 9
+trap 'exit 3' HUP INT TERM
 
 # How many messages of the base were scanned: its bytes 8 to 11, the low byte first.
 cursor() {

@@ -19,6 +19,7 @@ exec 9> "$station/toss.lock"
 flock 9
 told=$(mktemp)
 trap 'rm -f "$told"' EXIT
+trap 'exit 3' HUP INT TERM
 
 # What `toss` prints, and its fault line, go to the file `told`.
 toss() {

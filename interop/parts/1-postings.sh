@@ -54,7 +54,8 @@ for number in $(seq 1 20); do
   line=$(messages_of three | awk -F '|' -v subject="At once $number" '$6 == subject')
   same "posting $number of twenty" "MIDDLE|$(sed 's/^posted MIDDLE //' "posted/$number")||Cid|All|At once $number" \
     "$(cut -d '|' -f 1-6 <<< "$line")"
-  same "body $number of twenty" "Body $number\r--- echonet\r * Origin: Gamma (1:10/3)\r" "$(cut -d '|' -f 8 <<< "$line")"
+  same "body $number of twenty" "Body $number\r--- echonet\r * Origin: Gamma (1:10/3)\r" \
+    "$(cut -d '|' -f 8 <<< "$line")"
   cut -d '|' -f 1-8 <<< "$line" >> expected/three
 done
 same_everywhere

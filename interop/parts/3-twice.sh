@@ -18,7 +18,9 @@ kept_from() {
 }
 
 # How many messages a station was told it had before.
-known_at() { awk '/known/ { for (i = 1; i < NF; i++) if ($i == "known") n += $(i + 1) } END { print n + 0 }' "$1/toss.log"; }
+known_at() {
+  awk '/known/ { for (i = 1; i < NF; i++) if ($i == "known") n += $(i + 1) } END { print n + 0 }' "$1/toss.log"
+}
 
 to_beta=$(kept_from two 1)
 to_gamma=$(kept_from three 2)

@@ -4,7 +4,8 @@
 body_at() { messages_of "$1" | awk -F '|' -v subject="$2" '$6 == subject { print $8 }'; }
 
 # SEEN-BY lines of a body. The area LEAF goes from Alpha to both others; MIDDLE goes by Beta to Gamma.
-printf 'before\nSEEN-BY: 10/9\n> SEEN-BY: 10/8\nafter\n' | post_echonet one MIDDLE All Ann Quoted 00000301 2026-07-06T00:00:00
+printf 'before\nSEEN-BY: 10/9\n> SEEN-BY: 10/8\nafter\n' |
+  post_echonet one MIDDLE All Ann Quoted 00000301 2026-07-06T00:00:00
 printf 'before\nSEEN-BY: 10/3\nafter\n' | post_echonet one MIDDLE All Ann Unsent 00000302 2026-07-06T00:00:01
 printf 'before\nSEEN-BY: 10/3\nafter\n' | post_echonet one LEAF All Ann Kept 00000303 2026-07-06T00:00:02
 scan one

@@ -27,9 +27,11 @@ same "an old packet of Alpha" "filed 0 known $(perl "$here/mail.pl" packet "$to_
   "$("$program" toss moved/links moved/base "$to_beta" | cut -d ' ' -f 1-4)"
 echo 'New.' | post_echonet one MIDDLE All Ann 'After the move' 00000401 2026-07-07T00:00:00
 "$program" scan --at 2026-07-07T00:00:00 one/links one/base moved/inbound > /dev/null
-same "new mail of Alpha" "filed 1 known 0" "$("$program" toss moved/links moved/base moved/inbound/1.10.2.*.pkt | cut -d ' ' -f 1-4)"
+same "new mail of Alpha" "filed 1 known 0" \
+  "$("$program" toss moved/links moved/base moved/inbound/1.10.2.*.pkt | cut -d ' ' -f 1-4)"
 "$program" scan --at 2026-07-07T00:00:00 moved/links moved/base moved/packets > scanned.txt
 same "goes to Gamma and to nobody else" "packet 1:10/3 1 messages" "$(cut -d ' ' -f 1-4 scanned.txt)"
-same "who files it" "filed 1 known 0" "$("$program" toss three/links three/base moved/packets/1.10.3.*.pkt | cut -d ' ' -f 1-4)"
+same "who files it" "filed 1 known 0" \
+  "$("$program" toss three/links three/base moved/packets/1.10.3.*.pkt | cut -d ' ' -f 1-4)"
 same "unchanged" "$(grep '|1:10/1 00000401|' expected/one)" \
   "$(messages_of three | awk -F '|' '$2 == "1:10/1 00000401"' | cut -d '|' -f 1-8)"
