@@ -4,22 +4,11 @@
 # compared with what the formats and rules in docs give, worked out by hand. Word: the program.
 set -eu
 cd "$(dirname "$0")/.."
+. scripts/checks.sh
 program=$(realpath "${1:-bin/echonet}")
 place=$(mktemp -d)
 trap 'rm -rf "$place"' EXIT
 cd "$place"
-passed=0
-failed=0
-
-# Counts one comparison. Words: what is compared, what it is to be, what it is.
-same() {
-  if [ "$2" = "$3" ]; then
-    passed=$((passed + 1))
-  else
-    failed=$((failed + 1))
-    printf 'FAILED %s\n  expected: %s\n  found:    %s\n' "$1" "$2" "$3"
-  fi
-}
 
 # Runs the program. Words: what happens, the status, what is printed on standard output, and on standard
 # error, and the words of the program.

@@ -1,17 +1,6 @@
 # What `make interop` counts.
 
-passed=0
-failed=0
-
-# Words: what is compared, what it is to be, what it is.
-same() {
-  if [ "$2" = "$3" ]; then
-    passed=$((passed + 1))
-  else
-    failed=$((failed + 1))
-    printf 'FAILED %s\n  expected: %s\n  found:    %s\n' "$1" "$2" "$3"
-  fi
-}
+. "$(dirname "${BASH_SOURCE[0]}")/../scripts/checks.sh"
 
 # Each message that was posted anywhere is at each station once, unchanged, and nothing else is there.
 same_everywhere() {

@@ -4,22 +4,11 @@
 # the program.
 set -eu
 cd "$(dirname "$0")/.."
+. scripts/checks.sh
 page=$(realpath "${1:-docs/echonet.1}")
 program=$(realpath "${2:-bin/echonet}")
 place=$(mktemp -d)
 trap 'rm -rf "$place"' EXIT
-passed=0
-failed=0
-
-# Words: what is compared, the help's words, the page's words.
-same() {
-  if [ "$2" = "$3" ]; then
-    passed=$((passed + 1))
-  else
-    failed=$((failed + 1))
-    printf 'DIFFERS %s\n  help: %s\n  page: %s\n' "$1" "$2" "$3"
-  fi
-}
 
 # The page without its font changes.
 sed -E 's/\\-/-/g; s/\\f[A-Z]//g' "$page" > "$place/page"

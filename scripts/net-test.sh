@@ -3,6 +3,7 @@
 # cut or for others or not filed, flow files that are held, runs at the same moment. Word: the program.
 set -eu
 cd "$(dirname "$0")/.."
+. scripts/checks.sh
 program=$(realpath "${1:-bin/echonet}")
 scripts=$PWD/examples/net
 export ECHONET=$program
@@ -10,18 +11,6 @@ place=$(mktemp -d)
 trap 'rm -rf "$place"' EXIT
 cp -r "$scripts"/{one,two,three} "$place"
 cd "$place"
-passed=0
-failed=0
-
-# Words: what is compared, what it is to be, what it is.
-same() {
-  if [ "$2" = "$3" ]; then
-    passed=$((passed + 1))
-  else
-    failed=$((failed + 1))
-    printf 'FAILED %s\n  expected: %s\n  found:    %s\n' "$1" "$2" "$3"
-  fi
-}
 
 post() { echo "Body of $3" | "$scripts/post.sh" "$1" TEST All "$2" "$3" "${@:4}"; }
 scan() { "$scripts/scan-outbound.sh" "$1"; }
