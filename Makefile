@@ -19,6 +19,8 @@ lower = $(shell sed -n 's/^$(1):\(.*\)/\1/p' crates.txt)
 ours := $(shell sed -n 's/^\([a-z_]*\):.*/\1/p' crates.txt)
 closure = $(sort $(1) $(foreach name,$(filter $(ours),$(call lower,$(1))),$(call closure,$(name))))
 needed := $(call closure,echonet)
+# And with the program by which a trial replays events.
+tried := $(sort $(needed) $(call closure,bench))
 
 all: bin/echonet
 
@@ -28,9 +30,12 @@ toolchain:
 # One rule for each crate: it is proved after those that it stands on.
 define crate_rule
 bin/proved/$(1): crates.txt $$(shell find crates/$(1) -name out -prune -o \( -name '*.rt' -o -name '*.antt' \) -print) $$(patsubst %,bin/proved/%,$$(filter $$(ours),$$(call lower,$(1)))) | toolchain
-	@scripts/prove.sh $(1) $$(words $$(needed)) $$(if $$(filter echonet,$(1)),run,lib)
+	@scripts/prove.sh $(1) $$(words $$(if $$(filter bench,$(1)),$$(tried),$$(needed))) $$(or $$(run_$(1)),lib)
 endef
-$(foreach name,$(needed),$(eval $(call crate_rule,$(name))))
+# How a program is run once it is built.
+run_echonet = run --help
+run_bench = run
+$(foreach name,$(tried),$(eval $(call crate_rule,$(name))))
 
 bin/echonet: bin/proved/echonet
 	@cp crates/echonet/out/echonet bin/echonet
@@ -72,7 +77,7 @@ install: bin/echonet
 uninstall:
 	rm -f $(DESTDIR)$(PREFIX)/bin/echonet $(DESTDIR)$(PREFIX)/share/man/man1/echonet.1
 
-trials: bin/echonet
+trials: bin/echonet bin/proved/bench
 	trials/all.sh
 
 clean:

@@ -1,13 +1,13 @@
 #!/usr/bin/env bash
 # Proves one crate and says so in one line; what the prover prints goes to bin/NAME.log. Words: the
-# crate, its number and the number of all. The last word `run` builds a program.
+# crate, the number of all, and `lib`, or `run` for a program, which is built, and the words to run it with.
 set -u
 cd "$(dirname "$0")/.."
 name=$1 total=$2 kind=${3:-lib}
 log=bin/$name.log
 mkdir -p bin/proved
 if [ "$kind" = run ]; then
-  (cd "crates/$name" && rt run -- --help) > "$log" 2>&1
+  (cd "crates/$name" && rt run -- "${@:4}") > "$log" 2>&1
 else
   (cd "crates/$name" && rt lib) > "$log" 2>&1
 fi

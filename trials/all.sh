@@ -23,6 +23,7 @@ each trials/crowds.sh
 each trials/full_disk.sh
 each trials/devices.sh
 each trials/valgrind.sh
+each python3 trials/stations.py 300 "$(nproc)"
 each python3 trials/hostile.py "$inputs" "$(nproc)"
 each python3 trials/nets.py
 each python3 trials/grown.py "$size"

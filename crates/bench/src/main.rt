@@ -1,8 +1,8 @@
 //! The benchmarks: a word for each, and the words that its module names after it. Without words each runs
 //! once on a small input. The scripts in bench/ run them and print rates.
 //!
-//! Modules: `strings`, `packets`, `texts`, `nodelist`, `graph`, `nets`, `base`, `toss`, `replay`, and `shared`
-//! (what several of them use).
+//! Modules: `strings`, `packets`, `texts`, `nodelist`, `graph`, `nets`, `base`, `toss`, `replay`, `shared` (what
+//! several of them use), and `world`, which is no benchmark: it leaves what a replay leaves, for trials/.
 #![tactic(auto)]
 
 mod base;
@@ -15,6 +15,7 @@ mod shared;
 mod strings;
 mod texts;
 mod toss;
+mod world;
 
 use anyhow::{Result, bail};
 use std::env;
@@ -31,7 +32,8 @@ fn run_named(rt: &HostRuntime, name: &str, words: &[String]) -> Result<()> {
         "strings" => strings::run(rt, words),
         "texts" => texts::run(rt, words),
         "toss" => toss::run(rt, words),
-        _ => bail!("base, check, graph, nodelist, packets, replay, strings, texts or toss"),
+        "world" => world::run(rt, words),
+        _ => bail!("base, check, graph, nodelist, packets, replay, strings, texts, toss or world"),
     }
 }
 
@@ -44,7 +46,7 @@ fn main(rt: HostRuntime) -> Result<()> {
         [] => {
             for name in [
                 "base", "check", "graph", "nodelist", "packets", "replay", "strings", "texts",
-                "toss",
+                "toss", "world",
             ] {
                 run_named(&rt, name, &[])?;
             }

@@ -58,20 +58,19 @@ fn texts(alloc: Global, count: usize) -> Result<Vec<Text>> {
     Ok(texts)
 }
 
-/// What was done: texts, their bytes, and the lines and entries that they were taken apart into.
+/// What was done: texts, their bytes, the entries that they were taken apart into, and the sum of bytes.
 #[derive(Clone, Copy, Debug, Default)]
 struct Totals {
     texts: u64,
     bytes: u64,
-    lines: u64,
     entries: u64,
+    sum: u64,
 }
 
 impl Totals {
-    fn add(&mut self, bytes: usize, lines: usize, entries: usize) {
+    fn add(&mut self, bytes: usize, entries: usize) {
         self.texts = self.texts.wrapping_add(1);
         self.bytes = self.bytes.wrapping_add(bytes as u64);
-        self.lines = self.lines.wrapping_add(lines as u64);
         self.entries = self.entries.wrapping_add(entries as u64);
     }
 }
@@ -80,11 +79,7 @@ fn view_all(alloc: Global, texts: &[Text], totals: &mut Totals) -> Result<()> {
     for text in texts {
         let (echo, dropped) = view_text(alloc, &text.bytes)?;
         let entries = echo.seen.len().wrapping_add(echo.path.len());
-        totals.add(
-            text.bytes.len(),
-            echo.kept.len(),
-            entries.wrapping_add(dropped),
-        );
+        totals.add(text.bytes.len(), entries.wrapping_add(dropped));
     }
     Ok(())
 }
@@ -93,7 +88,7 @@ fn echoes(alloc: Global, texts: &[Text]) -> Result<Vec<Echo>> {
     let mut echoes = Vec::new(alloc);
     for text in texts {
         let (echo, _) = view_text(alloc, &text.bytes)?;
-        echoes.push(echo.to_echo(alloc)?)?;
+        echoes.push(echo.into_echo(alloc)?)?;
     }
     Ok(echoes)
 }
@@ -101,15 +96,15 @@ fn echoes(alloc: Global, texts: &[Text]) -> Result<Vec<Echo>> {
 fn write_all(alloc: Global, echoes: &[Echo], totals: &mut Totals) -> Result<()> {
     for echo in echoes {
         let text = write_text(alloc, echo)?;
-        totals.add(text.len(), echo.kept.len(), echo.seen.len());
+        totals.add(text.len(), echo.seen.len());
     }
     Ok(())
 }
 
 fn sum_all(texts: &[Text], totals: &mut Totals) {
     for text in texts {
-        totals.add(text.bytes.len(), 0, 0);
-        totals.lines = totals.lines.wrapping_add(sum(&text.bytes));
+        totals.add(text.bytes.len(), 0);
+        totals.sum = totals.sum.wrapping_add(sum(&text.bytes));
     }
 }
 
@@ -140,8 +135,8 @@ pub(crate) fn run(rt: &HostRuntime, words: &[String]) -> Result<()> {
         _ => bail!("view, write or sum"),
     }
     println!(rt;
-        "texts {} bytes {} lines {} entries {}",
-        totals.texts, totals.bytes, totals.lines, totals.entries
+        "texts {} bytes {} entries {} sum {}",
+        totals.texts, totals.bytes, totals.entries, totals.sum
     )?;
     Ok(())
 }

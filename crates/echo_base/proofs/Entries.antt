@@ -1,5 +1,5 @@
 -- What a base that looks up keys keeps, and what its look-ups say of the messages.
-use Rattle.std.proofs.Common.{◌≡◌, ℕ, ◌||◌, Bool, true, false, cond, List, [], ◌∷◌, ◌++◌, map, refl, sym, ap, subst, ◌∙◌, Option, Some, None, is_some, arith, inl, inr}
+use Rattle.std.proofs.Common.{◌≡◌, ℕ, zero, suc, ◌≤◌, length, take, ◌||◌, Bool, true, false, cond, List, [], ◌∷◌, ◌++◌, map, refl, sym, ap, subst, ◌∙◌, Option, Some, None, is_some, arith, inl, inr}
 use Rattle.std.specs.Prelude.{bytes_eq, option_map, unwrap_or}
 use Rattle.std.specs.Cmp.Lexicographic.{bytes_decides}
 use Rattle.std.specs.List.{AllByRecursion, list_any}
@@ -10,7 +10,8 @@ use Rattle.echo_text.specs.Echo.{msgid_of}
 use Rattle.echo_base.specs.declared.key.Key.{Key}
 use Rattle.echo_base.specs.declared.key.Key.TheVariants.{ById}
 use Rattle.echo_base.specs.Base.{AreNew, Filed, IsBase, IsFiled, has_id, is_known, key_of, key_with, same_key}
-use Rattle.echo_base.specs.Entries.{AreEntries, HasTagIn}
+use Rattle.echo_base.specs.Entries.{AreEntries, ArePurged, HasTagIn}
+use Rattle.echo_base.specs.Stubs.{is_stub}
 use Rattle.echo_base.proofs.DerivedKeys.{derived, derived_is_same}
 use Rattle.echo_base.proofs.Keys.{same_key_decides}
 use Rattle.echo_base.proofs.Plain.{all_append}
@@ -129,21 +130,31 @@ more_tags tags tags' more [] h = tt
 more_tags tags tags' more (m ∷ base) h = (more m.echo.tag h.0, more_tags tags tags' more base h.1)
 
 -- entries whose tags became more
-pub still_entries : (entries : List (Key × Filed)) (tags tags' : List (List ℕ)) (cursor : ℕ)
-    → ((t : List ℕ) → list_any (bytes_eq t) tags ≡ true → list_any (bytes_eq t) tags' ≡ true) → AreEntries entries tags cursor → AreEntries entries tags' cursor
-still_entries entries tags tags' cursor more h = record {
+pub still_entries : (entries : List (Key × Filed)) (tags tags' : List (List ℕ)) (cursor purged : ℕ)
+    → ((t : List ℕ) → list_any (bytes_eq t) tags ≡ true → list_any (bytes_eq t) tags' ≡ true) → AreEntries entries tags cursor purged → AreEntries entries tags' cursor purged
+still_entries entries tags tags' cursor purged more h = record {
   is_base = h.is_base;
   own_keys = h.own_keys;
   own_tags = more_tags tags tags' more (values_of entries) h.own_tags;
+  front = h.front;
 }
 
 pub values_more : (entries : List (Key × Filed)) (key : Key) (m : Filed) → values_of (entries ++ (key, m) ∷ []) ≡ values_of entries ++ m ∷ []
 values_more entries key m = map-append (λ (e : Key × Filed). e.1) entries ((key, m) ∷ [])
 
+still_stubs : (n : ℕ) (base : List Filed) (m : Filed) → n ≤ length base → AllByRecursion (λ x. is_stub x ≡ true) (take n base) → AllByRecursion (λ x. is_stub x ≡ true) (take n (base ++ m ∷ []))
+still_stubs zero base m within h = tt
+still_stubs (suc n) [] m within h = absurd (omega arith)
+still_stubs (suc n) (x ∷ base) m within h = (h.0, still_stubs n base m (omega arith) h.1)
+
+-- one more message after those that are purged
+still_purged : (base : List Filed) (cursor purged : ℕ) (m : Filed) → cursor ≤ length base → ArePurged base cursor purged → ArePurged (base ++ m ∷ []) cursor purged
+still_purged base cursor purged m within h = let before = h.within in record { within = before; stubs = still_stubs purged base m (omega arith) h.stubs }
+
 -- one more entry, of a new message and its key
-pub one_more_entry : (entries : List (Key × Filed)) (tags : List (List ℕ)) (cursor : ℕ) (key : Key) (m : Filed) → AreEntries entries tags cursor → IsFiled m
-    → key ≡ key_of m → is_known (values_of entries) key ≡ false → HasTagIn tags m → AreEntries (entries ++ (key, m) ∷ []) tags cursor
-one_more_entry entries tags cursor key m h filed own new tagged =
+pub one_more_entry : (entries : List (Key × Filed)) (tags : List (List ℕ)) (cursor purged : ℕ) (key : Key) (m : Filed) → AreEntries entries tags cursor purged → IsFiled m
+    → key ≡ key_of m → is_known (values_of entries) key ≡ false → HasTagIn tags m → AreEntries (entries ++ (key, m) ∷ []) tags cursor purged
+one_more_entry entries tags cursor purged key m h filed own new tagged =
     let values = values_more entries key m in
     let Q : List Filed → Type 0 = λ l. IsBase l cursor in
     let R : List Filed → Type 0 = λ l. AllByRecursion (HasTagIn tags) l in
@@ -156,4 +167,5 @@ one_more_entry entries tags cursor key m h filed own new tagged =
           ∙ sym (map-append key_of (values_of entries) (m ∷ []))
           ∙ ap (map key_of) (sym values);
       own_tags = subst R (sym values) (all_append (HasTagIn tags) (values_of entries) (m ∷ []) h.own_tags (tagged, tt));
+      front = let P : List Filed → Type 0 = λ l. ArePurged l cursor purged in subst P (sym values) (still_purged (values_of entries) cursor purged m h.is_base.within h.front);
     }

@@ -35,3 +35,4 @@ pub mod Purges
 pub mod StubBases
 pub mod AreaMaps
 pub mod SavedAgain
+pub mod LinesOfIds

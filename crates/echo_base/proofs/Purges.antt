@@ -2,7 +2,9 @@
 use Rattle.std.proofs.Common.{◌≡◌, ℕ, zero, suc, ◌+◌, ◌-◌, ◌<◌, ◌≤◌, not, Bool, true, false, cond, List, [], ◌∷◌, ◌++◌, length, map, take, drop, get_or, set, Some, refl, sym, ap, ◌∙◌, arith, add-one, count_by}
 use Rattle.std.specs.Prelude.{filter, slice_get}
 use Rattle.std.specs.Map.{values_of}
-use Rattle.std.proofs.lemmas.List.{append-nil, append_assoc, get_or-take, length-take, length-append, length-map, map-append, take_more}
+use Rattle.std.specs.List.{AllByRecursion}
+use Rattle.std.proofs.lemmas.Bool.{cond-false}
+use Rattle.std.proofs.lemmas.List.{append-nil, append_assoc, get_or-take, length-take, length-append, length-map, map-append, take-append-drop, take_more}
 use Rattle.std.proofs.lemmas.List.Elements.{filter-append}
 use Rattle.std.proofs.lemmas.Option.{get_or_from_slice_get, slice_get-get_or, slice_get_within}
 use Rattle.std.proofs.lemmas.List.Sums.{length-filter}
@@ -107,6 +109,33 @@ changed_step all i cursor m at before =
     ∙ ap (λ n. set (take i all ++ m ∷ rest) n (stub_of m)) (sym long)
     ∙ set-append_seam (take i all) m rest (stub_of m)
     ∙ sym (place_joined all i cursor m at before)
+
+-- no lines are left of stubs
+pub no_lines : (front : List Filed) → AllByRecursion (λ m. is_stub m ≡ true) front → lines_left front ≡ []
+no_lines [] h = refl
+no_lines (m ∷ front) h =
+    let changed : Filed → Bool = λ x. not (is_stub x) in
+    ap (map (λ (x : Filed). (stub_of x).echo.kept)) (cond-false (changed m) (m ∷ filter changed front) (filter changed front) (ap not h.0)) ∙ no_lines front h.1
+
+stubs_stay : (front : List Filed) → AllByRecursion (λ m. is_stub m ≡ true) front → map stub_of front ≡ front
+stubs_stay [] h = refl
+stubs_stay (m ∷ front) h = let one = stays m h.0 in let more = stubs_stay front h.1 in λ i. one i ∷ more i
+
+take_front : (n i : ℕ) (all : List Filed) → i ≤ n → take i (take n all) ≡ take i all
+take_front n zero all h = refl
+take_front zero (suc i) all h = absurd (omega arith)
+take_front (suc n) (suc i) [] h = refl
+take_front (suc n) (suc i) (m ∷ all) h = ap (λ l. m ∷ l) (take_front n i all (omega arith))
+
+-- a purge may begin behind messages that are stubs
+pub from_stubs : (all : List Filed) (start cursor : ℕ) → start ≤ cursor → AllByRecursion (λ m. is_stub m ≡ true) (take start all)
+    → from_place all start cursor ≡ map stub_of (take cursor all) ++ drop cursor all
+from_stubs all start cursor order h =
+    let scanned = take cursor all in
+    let front : take start all ≡ map stub_of (take start scanned) = sym (stubs_stay (take start all) h) ∙ ap (map stub_of) (sym (take_front cursor start all order)) in
+    ap (λ l. l ++ (map stub_of (drop start scanned) ++ drop cursor all)) front
+    ∙ sym (append_assoc (map stub_of (take start scanned)) (map stub_of (drop start scanned)) (drop cursor all))
+    ∙ ap (λ l. l ++ drop cursor all) (sym (map-append stub_of (take start scanned) (drop start scanned)) ∙ ap (map stub_of) (take-append-drop start scanned))
 
 -- how many lines are left
 pub count_left : (all : List Filed) → length (lines_left all) ≡ count_by (λ m. not (is_stub m)) all

@@ -8,10 +8,11 @@ use Rattle.echo_text.specs.Echo.{msgid_of}
 use Rattle.echo_base.specs.declared.key.Key.{Key}
 use Rattle.echo_base.specs.Base.{AreNew, Filed, IsBase, IsFiled, is_known, key_of, same_key}
 use Rattle.echo_base.specs.Entries.{AreEntries, HasTagIn}
-use Rattle.echo_base.specs.Stubs.{stub_of, stub_with}
-use Rattle.echo_base.proofs.Keys.{stub_keeps_key}
+use Rattle.echo_base.specs.Stubs.{is_stub, stub_of, stub_with}
+use Rattle.echo_base.proofs.Keys.{stub_keeps_key, stub_of_stub}
 use Rattle.echo_base.proofs.Plain.{all_append}
 use Rattle.echo_base.proofs.Stubs.{stub_filed}
+use Rattle.echo_base.proofs.StubTests.{stub_told}
 
 stubs_filed : (base : List Filed) → AllByRecursion IsFiled base → AllByRecursion IsFiled (map stub_of base)
 stubs_filed [] h = tt
@@ -96,14 +97,21 @@ stub_tags tags (suc n) (m ∷ base) h =
     let P : List ℕ → Type 0 = λ t. list_any (bytes_eq t) tags ≡ true in
     (subst P (sym (stub_tag m)) h.0, stub_tags tags n base h.1)
 
+stubs_front : (n : ℕ) (base : List Filed) → AllByRecursion (λ m. is_stub m ≡ true) (take n (map stub_of (take n base) ++ drop n base))
+stubs_front zero base = tt
+stubs_front (suc n) [] = tt
+stubs_front (suc n) (m ∷ base) = ((stub_told (stub_of m)).1 (stub_of_stub m), stubs_front n base)
+
 -- entries whose first messages became stubs
-pub stub_entries : (entries later : List (Key × Filed)) (tags : List (List ℕ)) (cursor : ℕ) → AreEntries entries tags cursor → keys_of later ≡ keys_of entries
-    → values_of later ≡ map stub_of (take cursor (values_of entries)) ++ drop cursor (values_of entries) → AreEntries later tags cursor
-stub_entries entries later tags cursor h keys values =
+pub stub_entries : (entries later : List (Key × Filed)) (tags : List (List ℕ)) (cursor purged : ℕ) → AreEntries entries tags cursor purged → keys_of later ≡ keys_of entries
+    → values_of later ≡ map stub_of (take cursor (values_of entries)) ++ drop cursor (values_of entries) → AreEntries later tags cursor cursor
+stub_entries entries later tags cursor purged h keys values =
     let Q : List Filed → Type 0 = λ l. IsBase l cursor in
     let R : List Filed → Type 0 = λ l. AllByRecursion (HasTagIn tags) l in
+    let P : List Filed → Type 0 = λ l. AllByRecursion (λ m. is_stub m ≡ true) (take cursor l) in
     record {
       is_base = subst Q (sym values) (stubs_keep (values_of entries) cursor h.is_base);
       own_keys = keys ∙ h.own_keys ∙ sym (purged_keys cursor (values_of entries)) ∙ ap (map key_of) (sym values);
       own_tags = subst R (sym values) (stub_tags tags cursor (values_of entries) h.own_tags);
+      front = record { within = omega arith; stubs = subst P (sym values) (stubs_front cursor (values_of entries)) };
     }

@@ -1,16 +1,23 @@
 -- What a base keeps: its messages by their keys, and their tags.
-use Rattle.std.specs.Prelude.{◌≡◌, ℕ, true, List, map, bytes_eq}
+use Rattle.std.specs.Prelude.{◌≡◌, ◌≤◌, ℕ, true, List, map, take, bytes_eq}
 use Rattle.std.specs.List.{AllByRecursion, list_any}
 use Rattle.std.specs.Map.{keys_of, values_of}
 use Rattle.echo_base.specs.declared.key.Key.{Key}
 use Rattle.echo_base.specs.Base.{Filed, IsBase, key_of}
+use Rattle.echo_base.specs.Stubs.{is_stub}
 
 -- the tag of the message is among these
 abbrev pub HasTagIn : List (List ℕ) → Filed → Type 0
 HasTagIn tags m = list_any (bytes_eq m.echo.tag) tags ≡ true
 
--- the messages are a base, each has its key, and its tag is among the tags
-pub record AreEntries (entries : List (Key × Filed)) (tags : List (List ℕ)) (cursor : ℕ) : Type 0 where
+-- so many messages from the front were scanned and are stubs
+pub record ArePurged (messages : List Filed) (cursor purged : ℕ) : Type 0 where
+  pub within : purged ≤ cursor
+  pub stubs : AllByRecursion (λ m. is_stub m ≡ true) (take purged messages)
+
+-- the messages are a base, each has its key, its tag is among the tags, and the first ones are purged
+pub record AreEntries (entries : List (Key × Filed)) (tags : List (List ℕ)) (cursor purged : ℕ) : Type 0 where
   pub is_base : IsBase (values_of entries) cursor
   pub own_keys : keys_of entries ≡ map key_of (values_of entries)
   pub own_tags : AllByRecursion (HasTagIn tags) (values_of entries)
+  pub front : ArePurged (values_of entries) cursor purged

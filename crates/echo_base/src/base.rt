@@ -8,7 +8,7 @@ mod saving;
 
 use crate::filed::Filed;
 use crate::key::{Key, by_id};
-use crate::stub::{lines_left, put_stubs};
+use crate::purging::{lines_left, put_stubs};
 use indexmap::{IndexMap, IndexSet};
 use std::alloc::{AllocError, Global};
 use std::hash::BuildHasher;
@@ -22,6 +22,8 @@ pub struct Base<S: BuildHasher> {
     // Each tag of a message. Few, and known from the link file, so that a fixed hasher serves.
     tags: IndexSet<Vec<u8>>,
     cursor: usize,
+    // So many messages from the front are known to be stubs.
+    purged: usize,
 }
 
 impl<S: BuildHasher> Model for Base<S> {
@@ -34,7 +36,7 @@ impl<S: BuildHasher> Model for Base<S> {
 
     ghost view = { λ b. record { messages = values_of b.entries.entries; cursor = b.cursor } };
 
-    ghost invariant = { λ b. AreEntries b.entries.entries (map (λ tag. tag.items) b.tags.keys) b.cursor };
+    ghost invariant = { λ b. AreEntries b.entries.entries (map (λ tag. tag.items) b.tags.keys) b.cursor b.purged };
 }
 
 impl<S: BuildHasher> Base<S> {
@@ -47,6 +49,7 @@ impl<S: BuildHasher> Base<S> {
             entries: IndexMap::with_hasher(alloc, hasher),
             tags: IndexSet::new(alloc),
             cursor: 0,
+            purged: 0,
         }
     }
 
@@ -119,7 +122,8 @@ impl<S: BuildHasher> Base<S> {
     }
 
     /// Leaves of each scanned message with an id nothing of its text but the id, and answers how many
-    /// messages changed. The base stays as it was where a growth is refused.
+    /// messages changed. The base stays as it was where a growth is refused. Messages that an earlier
+    /// purge went over are not looked at again.
     pub fn purge(&mut self) -> Result<u64, AllocError>
         ensures count { IfOk result (λ count. count ≡ count_by (λ m. not (is_stub m)) (take self.old.cursor self.old.messages)) }
         ensures messages { OnOk result (self.new.messages
@@ -128,9 +132,10 @@ impl<S: BuildHasher> Base<S> {
         ensures refused { OnErr result (self.new ≡ self.old) }
     {
         let alloc = *self.entries.allocator();
-        let lines = lines_left(alloc, &self.entries, self.cursor)?;
+        let lines = lines_left(alloc, &self.entries, self.purged, self.cursor)?;
         let count = lines.len() as u64;
-        put_stubs(alloc, &mut self.entries, self.cursor, lines);
+        put_stubs(alloc, &mut self.entries, self.purged, self.cursor, lines);
+        self.purged = self.cursor;
         Ok(count)
     }
 }

@@ -1,8 +1,10 @@
 ghost use Rattle.std.specs.Prelude.{◌≡◌, List, IfOk};
-ghost use Rattle.std.specs.Cmp.Lexicographic.{pointwise, lists_per, lists_equiv};
+ghost use Rattle.std.specs.Cmp.{nat_eq_equiv, partial_equiv_from_equiv};
+ghost use Rattle.std.specs.Cmp.Lexicographic.{bytes_decides, pointwise, pointwise_decides, lists_per, lists_equiv};
 ghost use Rattle.std.specs.Hash as fed;
-ghost use Rattle.std.specs.Hash.{items_Alike};
+ghost use Rattle.std.specs.Hash.{items_Alike, same_Alike};
 
+use echo_text::Lines;
 use std::alloc::{AllocError, Global};
 use std::fmt;
 use std::fmt::Debug;
@@ -68,5 +70,66 @@ impl<T: Hash> Hash for Boxed<T> {
 impl<T: Debug> Debug for Boxed<T> {
     fn fmt<W: fmt::Write>(&self, f: &mut fmt::Formatter<W>) -> fmt::Result {
         f.debug_list().entries(self.as_slice()).finish()
+    }
+}
+
+/// The lines of a text behind one pointer, seen by contracts as the list of the lines.
+#[derive(Drop)]
+pub struct BoxedLines {
+    lines: Box<Lines>,
+}
+
+impl Model for BoxedLines {
+    ghost use Rattle.std.specs.Prelude.{ℕ, List};
+
+    ghost Value = { List (List ℕ) };
+
+    ghost view = { λ s. s.lines.value };
+}
+
+impl BoxedLines {
+    /// The lines.
+    pub fn new(alloc: Global, lines: Lines) -> Result<BoxedLines, AllocError>
+        ensures { IfOk result (λ boxed. boxed ≡ lines) }
+    {
+        let lines = Box::new(alloc, lines)?;
+        Ok(BoxedLines { lines })
+    }
+
+    /// The lines one after another, as `Lines` has them.
+    pub fn lines(&self) -> &Lines
+        ensures { result.now ≡ self.now }
+    {
+        &self.lines
+    }
+}
+
+impl PartialEq for BoxedLines {
+    ghost eq = { ⟦<Lines as PartialEq>⟧.eq };
+
+    ghost laws = { lists_per (lists_per (partial_equiv_from_equiv nat_eq_equiv)) };
+
+    fn eq(&self, other: &Self) -> bool {
+        self.lines() == other.lines()
+    }
+}
+
+impl Eq for BoxedLines {
+    ghost laws = { lists_equiv (lists_equiv nat_eq_equiv) };
+}
+
+impl Hash for BoxedLines {
+    ghost hash_input = { ⟦<Lines as Hash>⟧.hash_input };
+
+    ghost respects_eq = { (same_Alike ⟦<Lines as Hash>⟧.hash_input (pointwise_decides bytes_decides)).fed };
+
+    fn hash<H: Hasher>(&self, state: &mut H) {
+        self.lines().hash(state);
+    }
+}
+
+impl Debug for BoxedLines {
+    fn fmt<W: fmt::Write>(&self, f: &mut fmt::Formatter<W>) -> fmt::Result {
+        self.lines().fmt(f)
     }
 }

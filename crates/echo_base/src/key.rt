@@ -1,12 +1,12 @@
-ghost use Rattle.std.specs.Prelude.{◌≡◌, ◌↔◌, Option, IfOk, IsTrue, map};
+ghost use Rattle.std.specs.Prelude.{◌≡◌, ◌↔◌, Option, IfOk, IsTrue};
 ghost use Rattle.echo_addr.specs.declared.address.Address.{Address as Sender};
 ghost use Rattle.echo_base.specs.declared.key.Key.TheVariants.{ByContent, ById};
 ghost use Rattle.echo_base.specs.Base.{key_of};
 
-use crate::boxed::Boxed;
+use crate::boxed::{Boxed, BoxedLines};
 use crate::filed::Filed;
 use echo_addr::Items;
-use echo_text::EchoView;
+use echo_text::{EchoView, Lines};
 use std::alloc::{AllocError, Global};
 
 /// What makes two messages of a base the same: the tag and the MSGID (FTS-0009), or, of a message
@@ -23,7 +23,7 @@ pub enum Key {
         to_name: Boxed<u8>,
         from_name: Boxed<u8>,
         subject: Boxed<u8>,
-        kept: Boxed<Items<u8>>,
+        kept: BoxedLines,
     },
 }
 
@@ -39,7 +39,7 @@ impl Key {
         if let Some(msgid) = message.echo.msgid() {
             return by_id(alloc, tag, msgid);
         }
-        let kept = lines_of(alloc, message.echo.kept.as_slice())?;
+        let kept = message.echo.kept.copy(alloc)?;
         let date = &message.date;
         by_content(alloc, tag, date, to_name, from_name, subject, kept)
     }
@@ -66,7 +66,7 @@ impl Key {
         if let Some(msgid) = view.msgid() {
             return by_id(alloc, tag, msgid);
         }
-        let kept = slices_of(alloc, view.kept.as_slice())?;
+        let kept = view.kept.to_lines(alloc)?;
         by_content(alloc, tag, date, to_name, from_name, subject, kept)
     }
 }
@@ -88,9 +88,9 @@ fn by_content(
     to_name: &[u8],
     from_name: &[u8],
     subject: &[u8],
-    kept: Vec<Items<u8>>,
+    kept: Lines,
 ) -> Result<Key, AllocError>
-    ensures { IfOk result (λ key. key ≡ ByContent tag.now date.now to_name.now from_name.now subject.now kept.items) }
+    ensures { IfOk result (λ key. key ≡ ByContent tag.now date.now to_name.now from_name.now subject.now kept) }
 {
     Ok(Key::ByContent {
         tag: boxed(alloc, tag)?,
@@ -98,7 +98,7 @@ fn by_content(
         to_name: boxed(alloc, to_name)?,
         from_name: boxed(alloc, from_name)?,
         subject: boxed(alloc, subject)?,
-        kept: Boxed::new(alloc, kept)?,
+        kept: BoxedLines::new(alloc, kept)?,
     })
 }
 
@@ -106,28 +106,6 @@ fn boxed(alloc: Global, bytes: &[u8]) -> Result<Boxed<u8>, AllocError>
     ensures { IfOk result (λ copy. copy ≡ bytes.now) }
 {
     Boxed::new(alloc, Vec::from_slice(alloc, bytes)?)
-}
-
-// The lines as bytes of their own.
-fn lines_of(alloc: Global, lines: &[Items<u8>]) -> Result<Vec<Items<u8>>, AllocError>
-    ensures { IfOk result (λ copies. copies.items ≡ lines.now) }
-{
-    let mut copies = Vec::new(alloc);
-    'lines: for line in lines {
-        copies.push(Items::new(Vec::from_slice(alloc, line.as_slice())?))?;
-    }
-    Ok(copies)
-}
-
-// The same of slices.
-fn slices_of(alloc: Global, lines: &[&[u8]]) -> Result<Vec<Items<u8>>, AllocError>
-    ensures { IfOk result (λ copies. copies.items ≡ map (λ line. line.now) lines.now) }
-{
-    let mut copies = Vec::new(alloc);
-    'lines: for line in lines {
-        copies.push(Items::new(Vec::from_slice(alloc, line)?))?;
-    }
-    Ok(copies)
 }
 
 #[cfg(test)]

@@ -5,7 +5,7 @@
 //!
 //! Modules in reading order: `link_file` (the system and its areas), `filed` (a message of a base),
 //! `key` (what makes two messages one), `base` (the messages by their keys; saved and loaded), `stub`
-//! (what a purge leaves), `numbers`, `sending` (a message to a sink), `field` and `stored` (a message
+//! (what a purge leaves), `purging`, `numbers`, `sending` (a message to a sink), `field` and `stored` (a message
 //! from a source), `judging` (whether it may stand there), `fault`, and `laws` (what holds of the
 //! definitions).
 #![tactic(auto)]
@@ -20,6 +20,7 @@ mod key;
 mod laws;
 mod link_file;
 mod numbers;
+mod purging;
 mod sending;
 mod stored;
 mod stub;

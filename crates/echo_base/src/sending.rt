@@ -11,7 +11,7 @@ ghost use Rattle.echo_base.specs.Saving.{CountsUnsent, front_bytes, strings_byte
 use crate::filed::Filed;
 use crate::numbers::{long_bytes, word_bytes};
 use crate::stub::is_stub;
-use echo_addr::{Address, Items};
+use echo_addr::Address;
 use echo_device::{Failure, Sink, send};
 use echo_text::{Echo, write_text};
 use std::alloc::{AllocError, AllocFailed, Global};
@@ -204,20 +204,6 @@ pub(crate) fn send_message<W: Sink>(
     }
 }
 
-// Whether the lines, each with its 0D, have at most so many bytes.
-fn have_at_most(most: usize, lines: &[Items<u8>]) -> bool
-    ensures { IsTrue result → length (flat_map ended lines.now) ≤ most }
-{
-    let mut left = most;
-    'lines: for line in lines {
-        if line.len() >= left {
-            return false;
-        }
-        left -= line.len() + 1;
-    }
-    true
-}
-
 // Whether so little is written for the echo that four bytes count it, told without writing it.
 fn is_little(echo: &Echo) -> bool
     ensures { IsTrue result → length (text_of echo.now) < 2 ^ 32 }
@@ -225,7 +211,7 @@ fn is_little(echo: &Echo) -> bool
     if echo.seen.len() > FEW || echo.path.len() > FEW {
         return false;
     }
-    have_at_most(LITTLE, echo.kept.as_slice())
+    echo.kept.as_text().len() <= LITTLE
 }
 
 /// Whether four bytes count the bytes of the text, or of the id where the message is stored in short.

@@ -8,6 +8,7 @@ use Rattle.echo_steps.specs.declared.draft.Draft.{Draft}
 use Rattle.echo_steps.specs.declared.packet.Packet.{Packet}
 use Rattle.echo_steps.specs.declared.stamp.Stamp.{Stamp}
 use Rattle.echo_steps.specs.Posting.{IsPostFault, post_refusal, posted}
+use Rattle.echo_steps.specs.Purging.{purged}
 use Rattle.echo_steps.specs.Scanning.{ScanStep, scanned}
 use Rattle.echo_steps.specs.SystemState.{SystemState, state_with}
 use Rattle.echo_commands.specs.declared.leaving.Files.{Files}
@@ -21,6 +22,7 @@ use Rattle.echo_commands.specs.declared.fault.Fault.{Fault}
 use Rattle.echo_commands.specs.declared.fault.Fault.TheVariants.{Post, Scan}
 use Rattle.echo_commands.specs.Ended.{IsWantOfMemory}
 use Rattle.echo_commands.specs.Posted.{PostAnswers, draft_of}
+use Rattle.echo_commands.specs.Purged.{PurgeAnswers}
 use Rattle.echo_commands.specs.Scanned.{IsScanned, ScanAnswers, file_of, line_of}
 use Rattle.echo_commands.specs.System.{IsSystemGiven, IsTooMany}
 use Rattle.echo_commands.proofs.Checks.{went}
@@ -98,3 +100,11 @@ pub scan_unsaved : (stamp : Stamp) (links : List ℕ) (base : Option (List ℕ))
 scan_unsaved stamp links base stopped system left packets fault old n given went_on step (inl want) = inl (inr (want, refl))
 scan_unsaved stamp links base stopped system left packets fault old n given went_on step (inr many) =
     inr ((inr (system, given, went_on, inr (step.0, subst (λ (s : SystemState). IsTooMany s.base s.cursor fault) step.2 many)), refl), refl)
+
+-- a base that is not saved after the purge
+pub purge_unsaved : (links : List ℕ) (base : Option (List ℕ)) (stopped : Option Fault) (system left : SystemState) (fault : Fault) (old : Option (List ℕ)) (n : ℕ)
+    → IsSystemGiven links base system → stopped ≡ None → left ≡ record { file = system.file; base = purged system.base system.cursor; cursor = system.cursor }
+    → IsWantOfMemory fault ⊎ IsTooMany left.base left.cursor fault → PurgeAnswers links base stopped old old n n (Err fault)
+purge_unsaved links base stopped system left fault old n given went_on is (inl want) = inl (inr (want, refl))
+purge_unsaved links base stopped system left fault old n given went_on is (inr many) =
+    inr ((inr (system, given, went_on, subst (λ (s : SystemState). IsTooMany s.base s.cursor fault) is many), refl), refl)

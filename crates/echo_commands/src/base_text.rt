@@ -10,9 +10,9 @@ ghost use Rattle.echo_commands.specs.BaseListed.{echo_text, fields_text, head_te
 ghost use Rattle.echo_commands.specs.Escaped.{escaped_line};
 
 use crate::escape::{push_escaped, written};
-use echo_addr::{Address, Items};
+use echo_addr::Address;
 use echo_base::Filed;
-use echo_text::Echo;
+use echo_text::{Echo, Lines, split_line};
 use std::alloc::AllocError;
 use std::io::Write;
 
@@ -106,17 +106,22 @@ fn is_id_alone(echo: &Echo, id: &[u8]) -> bool
     ensures { result ≡ (pointwise bytes_eq echo.now.kept (id_line msgid_word id.now ∷ [])
         && ((length echo.now.seen == 0) && (length echo.now.path == 0))) }
 {
-    is_line_of(echo.kept.as_slice(), id) && echo.seen.is_empty() && echo.path.is_empty()
+    is_line_of(&echo.kept, id) && echo.seen.is_empty() && echo.path.is_empty()
 }
 
 // Whether the lines are the one that carries the id.
-fn is_line_of(kept: &[Items<u8>], id: &[u8]) -> bool
+fn is_line_of(kept: &Lines, id: &[u8]) -> bool
     ensures { result ≡ pointwise bytes_eq kept.now (id_line msgid_word id.now ∷ []) }
 {
-    match kept {
-        [line] => is_id_line(line.as_slice(), id),
-        _ => false,
+    let text = kept.as_text();
+    if text.is_empty() {
+        return false;
     }
+    let (line, rest) = split_line(text);
+    if !rest.is_empty() {
+        return false;
+    }
+    is_id_line(line, id)
 }
 
 // Whether the line is the one that carries the id.
@@ -140,18 +145,21 @@ fn push_fields(lines: &mut Vec<u8>, message: &Filed) -> Result<(), AllocError>
 fn push_echo(lines: &mut Vec<u8>, echo: &Echo) -> Result<(), AllocError>
     ensures { OnOk result (lines.new.items ≡ lines.old.items ++ echo_text echo.now) }
 {
-    push_kept(lines, echo.kept.as_slice())?;
+    push_kept(lines, &echo.kept)?;
     let seen = echo.seen.len();
     let path = echo.path.len();
     written(writeln!(lines, "seen {seen} path {path}"))
 }
 
 // Adds a line for each kept line.
-fn push_kept(lines: &mut Vec<u8>, kept: &[Items<u8>]) -> Result<(), AllocError>
+fn push_kept(lines: &mut Vec<u8>, kept: &Lines) -> Result<(), AllocError>
     ensures { OnOk result (lines.new.items ≡ lines.old.items ++ flat_map (λ line. escaped_line (codes "line") line) kept.now) }
 {
-    'kept: for line in kept {
-        push_escaped(lines, b"line", line.as_slice())?;
+    let mut rest = kept.as_text();
+    'kept: while !rest.is_empty() {
+        let (line, after) = split_line(rest);
+        push_escaped(lines, b"line", line)?;
+        rest = after;
     }
     Ok(())
 }

@@ -152,8 +152,15 @@ impl<S: BuildHasher> Run<S> {
         S: Drop,
         ensures { RunEnds self stopped (W.contents out.old) (W.contents out.new) (W.failures out.old) (W.failures out.new) result }
     {
-        let mut lines = self.lines;
-        let printed = print_rest(&mut lines, out);
+        let mut run = self;
+        run.finish(stopped, out)
+    }
+
+    // The same of a run that is still there.
+    fn finish<'a, W: Sink>(&mut self, stopped: bool, out: &mut W) -> Result<Files, Fault<'a>>
+        ensures { RunEnds self.old stopped (W.contents out.old) (W.contents out.new) (W.failures out.old) (W.failures out.new) result }
+    {
+        let printed = print_rest(&mut self.lines, out);
         if !stopped {
             printed?;
         }

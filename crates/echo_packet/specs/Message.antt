@@ -21,6 +21,22 @@ pub record Message : Type 0 where
   pub subject : List ℕ
   pub text : List ℕ
 
+-- the same message for the system of another node and net
+abbrev pub readdressed : Message → ℕ → ℕ → Message
+readdressed m node net = record {
+  orig_node = m.orig_node;
+  dest_node = node;
+  orig_net = m.orig_net;
+  dest_net = net;
+  attribute = m.attribute;
+  cost = m.cost;
+  date = m.date;
+  to_name = m.to_name;
+  from_name = m.from_name;
+  subject = m.subject;
+  text = m.text;
+}
+
 -- how many bytes a name may have before its 00
 abbrev pub max_name : ℕ
 max_name = 35

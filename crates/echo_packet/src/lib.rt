@@ -4,7 +4,7 @@
 //! bytes theirs are; else it answers the one fault that the input has, with its place. A
 //! `PacketReader` does so over any source, message by message, and takes no byte beyond them.
 //!
-//! Modules in reading order: `header` (the 58 bytes in front), `packed` (one message), `limits`,
+//! Modules in reading order: `header` (the 58 bytes in front), `holding` and `packed` (one message), `limits`,
 //! `fault` (what may be wrong, and where), `field` (one field from a source), `message` (one
 //! message), `reader` (a packet, message by message), `reading` (a packet in a slice), `encoding`,
 //! `sending` and `writer` (a packet is written), and `laws` (what holds of the definitions).
@@ -14,6 +14,7 @@ mod encoding;
 mod fault;
 mod field;
 mod header;
+mod holding;
 mod laws;
 mod limits;
 mod message;

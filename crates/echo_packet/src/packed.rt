@@ -1,12 +1,15 @@
 ghost use Rattle.std.specs.Prelude.{◌≡◌, ◌↔◌, length, IsTrue, IfOk, IfErr, IfSome, IsNone, Err, Some};
 ghost use Rattle.echo_packet.specs.Header.{AreBytes};
-ghost use Rattle.echo_packet.specs.Message.{Message, IsMessage, IsString, AreStrings, IsFirstBad, max_name, max_subject};
+ghost use Rattle.echo_packet.specs.Message.{Message, IsMessage, IsString, AreStrings, IsFirstBad, max_name, max_subject, readdressed};
 ghost use Rattle.echo_packet.specs.declared.fault.Field.{Field};
 ghost use Rattle.echo_packet.specs.declared.fault.PacketFault.TheVariants.{BadField};
 
 use crate::fault::{Field, PacketFault};
+use crate::holding::{Holding, Strings};
 use crate::limits::{MAX_NAME, MAX_SUBJECT};
+use echo_addr::Items;
 use memchr::memchr;
+use std::alloc::{AllocError, Global};
 use std::marker::Model;
 
 /// A packed message: three strings and a text without 00, of which the names have at most `MAX_NAME`
@@ -20,10 +23,7 @@ pub struct Packed {
     attribute: u16,
     cost: u16,
     date: [u8; 20],
-    to_name: Vec<u8>,
-    from_name: Vec<u8>,
-    subject: Vec<u8>,
-    text: Vec<u8>,
+    strings: Holding,
 }
 
 impl Model for Packed {
@@ -36,7 +36,7 @@ impl Model for Packed {
 
     ghost view = { message_of };
 
-    ghost invariant = { λ p. IsMessage (length p.text.items) (message_of p) };
+    ghost invariant = { λ p. IsMessage (length (message_of p).text) (message_of p) };
 }
 
 /// The message of these parts.
@@ -69,10 +69,12 @@ pub(crate) fn from_parts(
         attribute,
         cost,
         date,
-        to_name,
-        from_name,
-        subject,
-        text,
+        strings: Holding::Own(Strings {
+            to_name: Items::new(to_name),
+            from_name: Items::new(from_name),
+            subject: Items::new(subject),
+            text: Items::new(text),
+        }),
     }
 }
 
@@ -186,21 +188,21 @@ impl Packed {
     pub fn to_name(&self) -> &[u8]
         ensures { result.now ≡ self.now.to_name }
     {
-        &self.to_name
+        self.strings.strings().to_name.as_slice()
     }
 
     /// fromUserName, without its 00.
     pub fn from_name(&self) -> &[u8]
         ensures { result.now ≡ self.now.from_name }
     {
-        &self.from_name
+        self.strings.strings().from_name.as_slice()
     }
 
     /// The subject, without its 00.
     pub fn subject(&self) -> &[u8]
         ensures { result.now ≡ self.now.subject }
     {
-        &self.subject
+        self.strings.strings().subject.as_slice()
     }
 
     /// The text, without its 00.
@@ -208,6 +210,43 @@ impl Packed {
         ensures text { result.now ≡ self.now.text }
         ensures message { IsMessage (length self.now.text) self.now }
     {
-        &self.text
+        self.strings.strings().text.as_slice()
+    }
+    /// The same message. The copies that `copy_for` makes of it share its strings.
+    pub fn shared(self, alloc: Global) -> Result<Packed, AllocError>
+        ensures { IfOk result (λ same. same ≡ self) }
+    {
+        Ok(Packed {
+            orig_node: self.orig_node,
+            dest_node: self.dest_node,
+            orig_net: self.orig_net,
+            dest_net: self.dest_net,
+            attribute: self.attribute,
+            cost: self.cost,
+            date: self.date,
+            strings: self.strings.shared(alloc)?,
+        })
+    }
+
+    /// The same message for the system of this node and net. Takes memory only where the message is
+    /// not shared.
+    pub fn copy_for(
+        &self,
+        alloc: Global,
+        dest_node: u16,
+        dest_net: u16,
+    ) -> Result<Packed, AllocError>
+        ensures { IfOk result (λ copy. copy ≡ readdressed self.now dest_node dest_net) }
+    {
+        Ok(Packed {
+            orig_node: self.orig_node,
+            dest_node,
+            orig_net: self.orig_net,
+            dest_net,
+            attribute: self.attribute,
+            cost: self.cost,
+            date: self.date,
+            strings: self.strings.again(alloc)?,
+        })
     }
 }

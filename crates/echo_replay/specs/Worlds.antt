@@ -70,6 +70,13 @@ pub record IsRun (world : WorldState) (run : Run) : Type 0 where
 abbrev pub message_at : Run → ℕ → ℕ → Option Filed
 message_at run i number = unwrap_or (option_map (λ s. slice_get s.base number) (nth i run.systems)) None
 
+-- the answer for the system of an index: there is one just where there is the system, and it is so of both
+abbrev pub OfSystem : {A : Type 0} → Option A → Option System → (A → System → Type 0) → Type 0
+OfSystem None None Holds = Unit {0}
+OfSystem None (Some s) Holds = ⊥
+OfSystem (Some answer) None Holds = ⊥
+OfSystem (Some answer) (Some s) Holds = Holds answer s
+
 -- the place that a look-up found is the first that passes, or none passes
 abbrev pub IsFirst : Option ℕ → (Address → Bool) → List Address → Type 0
 IsFirst found passes systems =

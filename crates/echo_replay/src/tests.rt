@@ -1,4 +1,5 @@
 mod refused;
+mod saved;
 mod scripts;
 
 use super::*;

@@ -1,13 +1,17 @@
 //! The systems and packets of a net, and what one reads off them.
 
-ghost use Rattle.std.specs.Prelude.{◌≡◌, length, drop, count_by, nat_le, not, false, bytes_eq, unwrap_or, slice_get, option_copied, option_map};
+ghost use Rattle.std.specs.Prelude.{◌≡◌, None, IfSome, length, drop, count_by, nat_le, not, false, bytes_eq, unwrap_or, slice_get, option_copied, option_map};
+ghost use Rattle.std.specs.Io.KnownBytes.{Keeps};
 ghost use Rattle.std.specs.List.{list_all};
+ghost use Rattle.echo_base.specs.BaseFile.{is_countable, saved_bytes};
+ghost use Rattle.echo_base.specs.Saving.{CountsSaved, Saves, TellsTooMany};
 ghost use Rattle.echo_run.specs.Run.{Run, nth};
 ghost use Rattle.echo_run.specs.World.{area_count, filed_at, waiting_at, is_settled, undelivered};
-ghost use Rattle.echo_replay.specs.Worlds.{IsRun, encoded, message_at};
+ghost use Rattle.echo_replay.specs.Worlds.{IsRun, OfSystem, encoded, message_at};
 
 use echo_addr::{Address, Items};
-use echo_base::{Filed, LinkFile};
+use echo_base::{BaseFault, Filed, LinkFile};
+use echo_device::Sink;
 use echo_toss::Tosser;
 use std::hash::{BuildHasher, BuildHasherDefault, FoldHasher};
 use std::marker::Model;
@@ -110,6 +114,19 @@ impl World {
         ensures { (run : Run) → IsRun self.now run → option_copied result ≡ option_map encoded (nth k run.packets) }
     {
         bytes_at(&self.packets, k)
+    }
+
+    /// Writes the base of the system as a base file of version 2, none where there is no such system.
+    /// What the writer holds back is left to its owner. It is `TooMany` where four bytes do not count the
+    /// messages, or the bytes of a text or an id, and `Write` with the number of bytes that went out.
+    pub fn save<W: Sink>(&self, system: usize, writer: &mut W) -> Option<Result<(), BaseFault>>
+        ensures bytes { (run : Run) → IsRun self.now run → OfSystem result (nth system run.systems) (λ saved s.
+            Saves (W.contents writer.old) (W.contents writer.new) saved (saved_bytes s.base s.cursor)) }
+        ensures device { IfSome result (λ saved. CountsSaved saved (W.failures writer.old) (W.failures writer.new)) }
+        ensures too_many { (run : Run) → IsRun self.now run → OfSystem result (nth system run.systems) (λ saved s. TellsTooMany (is_countable s.base s.cursor) saved) }
+        ensures none { result ≡ None → Keeps (W.contents writer.old) (W.contents writer.new) × (W.failures writer.new ≡ W.failures writer.old) }
+    {
+        Some(self.systems.get(system)?.save(writer))
     }
 }
 

@@ -1,13 +1,16 @@
 -- Which lines are kept wherever they stand.
-use Rattle.std.proofs.Common.{◌≡◌, ℕ, ◌==◌, ◌&&◌, ◌||◌, not, nat_eq, Bool, true, false, List, [], ◌∷◌, ◌++◌, codes, refl, sym, ap, subst, ◌∙◌, inl, inr}
-use Rattle.std.specs.List.{All, Contains, filter, list_all, starts_with}
+use Rattle.std.proofs.Common.{◌≡◌, ℕ, ◌==◌, ◌&&◌, ◌||◌, not, nat_eq, Bool, true, false, List, [], ◌∷◌, ◌++◌, codes, length, map, nat_lt, Some, None, refl, sym, ap, subst, ◌∙◌, inl, inr}
+use Rattle.std.specs.List.{All, Contains, filter, find, last_or, list_all, starts_with}
+use Rattle.std.specs.Option.{option_or}
+use Rattle.std.proofs.lemmas.List.{append-nil, map-append}
 use Rattle.std.proofs.lemmas.Bool.{and_parts, cases_Bool, cond-false, cond-true, eqb-true, or_cases}
 use Rattle.std.proofs.lemmas.List.Elements.{All-append, All-contains_itself, All-filter, All-weaker, Contains-append_left, Contains-append_right, filter-append}
 use Rattle.echo_addr.specs.Entries.{is_blank}
 use Rattle.echo_addr.specs.ShortLines.{path_prefix, seen_prefix}
-use Rattle.echo_text.specs.Lines.{after_feeds, begins, control_word, is_blank_line, is_origin, is_tear, msgid_word, reply_word}
+use Rattle.echo_text.specs.Lines.{after_feeds, after_word, begins, control_word, is_blank_line, is_origin, is_tear, msgid_word, reply_word, trimmed}
 use Rattle.echo_text.specs.Tail.{body, is_kept_control, is_tail_line, kept_of, tail}
-use Rattle.echo_text.proofs.LineKinds.{blanks_after_feeds}
+use Rattle.echo_text.specs.Echo.{first_after, msgid_of, origin_of, reply_of, tear_of}
+use Rattle.echo_text.proofs.LineKinds.{blanks_after_feeds, control_in_tail}
 use Rattle.echo_text.proofs.Tails.{all_tail, body_and_tail, tail_is_tail}
 
 -- bytes that begin with a word, taken apart behind its first byte
@@ -96,6 +99,87 @@ module _ (p : List ℕ → Bool) (stays : (line : List ℕ) → p line ≡ true 
       ∙ ap (λ ls. filter p (body later) ++ ls) (of_tail (tail later) (tail_is_tail later))
       ∙ sym (filter-append p (body later) (tail later))
       ∙ ap (filter p) (body_and_tail later)
+
+-- a kind of lines, among the lines of a tail that are kept
+only_kept : (p q : List ℕ → Bool) → ((line : List ℕ) → p line ≡ true → q line ≡ true) → (ls : List (List ℕ)) → filter p (filter q ls) ≡ filter p ls
+only_kept p q stays [] = refl
+only_kept p q stays (line ∷ more) =
+    let rest = only_kept p q stays more in
+    elim (cases_Bool (p line)) [
+      | inl y ↦
+          ap (filter p) (cond-true (q line) (line ∷ filter q more) (filter q more) (stays line y))
+          ∙ cond-true (p line) (line ∷ filter p (filter q more)) (filter p (filter q more)) y
+          ∙ ap (λ ls. line ∷ ls) rest
+          ∙ sym (cond-true (p line) (line ∷ filter p more) (filter p more) y)
+      | inr n ↦ elim (cases_Bool (q line)) [
+        | inl k ↦
+            ap (filter p) (cond-true (q line) (line ∷ filter q more) (filter q more) k)
+            ∙ cond-false (p line) (line ∷ filter p (filter q more)) (filter p (filter q more)) n
+            ∙ rest
+            ∙ sym (cond-false (p line) (line ∷ filter p more) (filter p more) n)
+        | inr d ↦
+            ap (filter p) (cond-false (q line) (line ∷ filter q more) (filter q more) d)
+            ∙ rest
+            ∙ sym (cond-false (p line) (line ∷ filter p more) (filter p more) n)
+      ]
+    ]
+
+none_kept : (p q : List ℕ → Bool) → ((line : List ℕ) → q line ≡ true → p line ≡ false) → (ls : List (List ℕ)) → filter p (filter q ls) ≡ []
+none_kept p q outside [] = refl
+none_kept p q outside (line ∷ more) = elim (cases_Bool (q line)) [
+  | inl k ↦
+      ap (filter p) (cond-true (q line) (line ∷ filter q more) (filter q more) k)
+      ∙ cond-false (p line) (line ∷ filter p (filter q more)) (filter p (filter q more)) (outside line k)
+      ∙ none_kept p q outside more
+  | inr d ↦ ap (filter p) (cond-false (q line) (line ∷ filter q more) (filter q more) d) ∙ none_kept p q outside more
+]
+
+outside_kept : (p : List ℕ → Bool) → ((line : List ℕ) → p line ≡ true → is_tail_line line ≡ false) → (line : List ℕ) → is_kept_control line ≡ true → p line ≡ false
+outside_kept p outside line kept = elim (cases_Bool (p line)) [
+  | inl y ↦ let isnt = outside line y in let is = control_in_tail line kept in absurd cc
+  | inr n ↦ n
+]
+
+-- ids of lines and of the lines of a tail that are kept
+first_of_parts : (word : List ℕ) → ((line : List ℕ) → begins word line ≡ true → is_kept_control line ≡ true) → (front ls : List (List ℕ))
+    → first_after word (front ++ filter is_kept_control ls) ≡ option_or (first_after word front) (first_after word ls)
+first_of_parts word stays front ls =
+    let id : List ℕ → List ℕ = λ line. trimmed (after_word word line) in
+    let some : List ℕ → Bool = λ found. nat_lt 0 (length found) in
+    ap (λ found. find some (map id found)) (filter-append (begins word) front (filter is_kept_control ls) ∙ ap (λ found. filter (begins word) front ++ found) (only_kept (begins word) is_kept_control stays ls))
+    ∙ ap (find some) (map-append id (filter (begins word) front) (filter (begins word) ls))
+    ∙ find_parts some (map id (filter (begins word) front)) (map id (filter (begins word) ls))
+  where
+    find_parts : (p : List ℕ → Bool) (xs ys : List (List ℕ)) → find p (xs ++ ys) ≡ option_or (find p xs) (find p ys)
+    find_parts p [] ys = refl
+    find_parts p (x ∷ xs) ys = elim (cases_Bool (p x)) [
+      | inl y ↦ cond-true (p x) (Some x) (find p (xs ++ ys)) y ∙ sym (ap (λ o. option_or o (find p ys)) (cond-true (p x) (Some x) (find p xs) y))
+      | inr n ↦ cond-false (p x) (Some x) (find p (xs ++ ys)) n ∙ find_parts p xs ys ∙ sym (ap (λ o. option_or o (find p ys)) (cond-false (p x) (Some x) (find p xs) n))
+    ]
+
+pub msgid_of_parts : (front ls : List (List ℕ)) → msgid_of (front ++ filter is_kept_control ls) ≡ option_or (msgid_of front) (msgid_of ls)
+unfolding msgid_of
+msgid_of_parts front ls = first_of_parts msgid_word (λ line h. id_kept 77 _ line refl h) front ls
+
+pub reply_of_parts : (front ls : List (List ℕ)) → reply_of (front ++ filter is_kept_control ls) ≡ option_or (reply_of front) (reply_of ls)
+unfolding reply_of
+reply_of_parts front ls = first_of_parts reply_word (λ line h. id_kept 82 _ line refl h) front ls
+
+-- tear and origin lines are none of the latter
+only_front : (p : List ℕ → Bool) → ((line : List ℕ) → p line ≡ true → is_tail_line line ≡ false) → (front ls : List (List ℕ))
+    → filter p (front ++ filter is_kept_control ls) ≡ filter p front
+only_front p outside front ls =
+    filter-append p front (filter is_kept_control ls)
+    ∙ ap (λ found. filter p front ++ found) (none_kept p is_kept_control (outside_kept p outside) ls)
+    ∙ append-nil (filter p front)
+
+pub tear_of_parts : (front ls : List (List ℕ)) → tear_of (front ++ filter is_kept_control ls) ≡ tear_of front
+unfolding tear_of
+tear_of_parts front ls = ap (λ found. last_or None (map after_feeds found)) (only_front is_tear tear_outside front ls)
+
+pub origin_of_parts : (front ls : List (List ℕ)) → origin_of (front ++ filter is_kept_control ls) ≡ origin_of front
+unfolding origin_of
+origin_of_parts front ls = ap (λ found. last_or None (map after_feeds found)) (only_front is_origin origin_outside front ls)
 
 pub msgids_kept : (later : List (List ℕ)) → filter (begins msgid_word) (kept_of later) ≡ filter (begins msgid_word) later
 msgids_kept later = stays_kept (begins msgid_word) (λ line h in_tail. id_kept 77 _ line refl h) later

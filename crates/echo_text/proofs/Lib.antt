@@ -1,7 +1,8 @@
 pub mod TextLines
+pub mod EndedLines
 pub mod Tails
+pub mod LastLines
 pub mod OneReading
-pub mod Seeking
 pub mod PutTogether
 pub mod SaidAfter
 pub mod Bounds

@@ -1,8 +1,7 @@
 -- The longest ending of lines that is made of control lines.
-use Rattle.std.proofs.Common.{◌≡◌, ℕ, ◌+◌, ◌-◌, ◌<◌, ◌≤◌, ◌&&◌, Bool, true, false, List, [], ◌∷◌, ◌++◌, length, map, take, drop, get_or, refl, sym, ap, subst, ◌∙◌, arith, inl, inr}
-use Rattle.std.proofs.lemmas.List.{drop-map, drop_more, get_or-map, length-map, take-map, take_more, take-append-drop}
+use Rattle.std.proofs.Common.{◌≡◌, ℕ, ◌&&◌, Bool, true, false, List, [], ◌∷◌, ◌++◌, refl, sym, ap, ◌∙◌, inl, inr}
 use Rattle.std.specs.List.{list_all}
-use Rattle.std.proofs.lemmas.Bool.{and_cases, and_from, and_left, and_right, cases_Bool, cond-true, cond-false}
+use Rattle.std.proofs.lemmas.Bool.{and_cases, and_left, and_right, cases_Bool, cond-true, cond-false}
 use Rattle.echo_text.specs.Tail.{body, is_tail_line, tail}
 
 -- the lines of which the tail is made
@@ -102,67 +101,11 @@ all_body [] line other = body_more line [] (not_all_before [] line other)
 all_body (first ∷ front) line other =
     body_more first (front ++ line ∷ []) (not_all_before (first ∷ front) line other) ∙ ap (λ ls. first ∷ ls) (all_body front line other)
 
--- body and tail, where it is known how long the body is
-pub record Cuts (lines : List (List ℕ)) (n : ℕ) : Type 0 where
-  pub body_is : take n lines ≡ body lines
-  pub tail_is : drop n lines ≡ tail lines
+-- tail lines behind a line that is none
+pub tail_behind : (front : List (List ℕ)) (line : List ℕ) (ending : List (List ℕ)) → all_tail ending ≡ true → is_tail_line line ≡ false
+    → tail ((front ++ line ∷ []) ++ ending) ≡ ending
+tail_behind front line ending all other = tail-append (front ++ line ∷ []) ending all ∙ ap (λ ls. ls ++ ending) (no_tail front line other)
 
-cuts_append : (front ending lines : List (List ℕ)) (n : ℕ) → take n lines ≡ front → drop n lines ≡ ending → lines ≡ front ++ ending
-    → all_tail ending ≡ true → tail front ≡ [] → body front ≡ front → Cuts lines n
-cuts_append front ending lines n before after whole all none body_all = record {
-  body_is = before ∙ sym (ap body whole ∙ body-append front ending all ∙ body_all);
-  tail_is = after ∙ sym (ap tail whole ∙ tail-append front ending all ∙ ap (λ ls. ls ++ ending) none);
-}
-
--- all lines are tail lines
-pub cuts_at_start : (lines : List (List ℕ)) → all_tail (drop 0 lines) ≡ true → Cuts lines 0
-cuts_at_start lines all = cuts_append [] lines lines 0 refl refl refl all refl refl
-
--- the line before the tail is none of its kind
-pub cuts_after : (lines : List (List ℕ)) (n : ℕ) → n < length lines → all_tail (drop (n + 1) lines) ≡ true
-    → is_tail_line (get_or lines n []) ≡ false → Cuts lines (n + 1)
-cuts_after lines n within all other =
-    let last = get_or lines n [] in
-    let front = take_more lines n [] within in
-    cuts_append (take n lines ++ last ∷ []) (drop (n + 1) lines) lines (n + 1) front refl
-    (sym (take-append-drop (n + 1) lines) ∙ ap (λ ls. ls ++ drop (n + 1) lines) front) all
-    (no_tail (take n lines) last other) (all_body (take n lines) last other)
-
--- one more tail line
-pub all_tail_more : (lines : List (List ℕ)) (n : ℕ) → n < length lines → all_tail (drop (n + 1) lines) ≡ true
-    → is_tail_line (get_or lines n []) ≡ true → all_tail (drop n lines) ≡ true
-all_tail_more lines n within all is =
-    ap all_tail (drop_more lines n [] within) ∙ and_from (is_tail_line (get_or lines n [])) (all_tail (drop (n + 1) lines)) is all
-
--- the same, where the lines are seen through f
-module _ {X : Type 0} (f : X → List ℕ) (xs : List X) where
-  pub seen_at : (i : ℕ) (d : X) → i < length xs → get_or (map f xs) i [] ≡ f (get_or xs i d)
-  seen_at i d within = get_or-map f xs i d [] within
-
-  pub ends_more : (n : ℕ) (d : X) → 0 < n → n ≤ length xs → all_tail (drop n (map f xs)) ≡ true → is_tail_line (f (get_or xs (n - 1) d)) ≡ true
-      → all_tail (drop (n - 1) (map f xs)) ≡ true
-  ends_more n d some within all is =
-      let back : n ≡ n - 1 + 1 = omega arith in
-      all_tail_more (map f xs) (n - 1) (omega (arith, length-map xs f))
-      (subst (λ k. all_tail (drop k (map f xs)) ≡ true) back all)
-      (ap is_tail_line (seen_at (n - 1) d (omega arith)) ∙ is)
-
-  pub ends_here : (n : ℕ) (d : X) → 0 < n → n ≤ length xs → all_tail (drop n (map f xs)) ≡ true → is_tail_line (f (get_or xs (n - 1) d)) ≡ false
-      → Cuts (map f xs) n
-  ends_here n d some within all isnt =
-      let back : n ≡ n - 1 + 1 = omega arith in
-      subst (Cuts (map f xs)) (sym back)
-      (cuts_after (map f xs) (n - 1) (omega (arith, length-map xs f))
-      (subst (λ k. all_tail (drop k (map f xs)) ≡ true) back all)
-      (ap is_tail_line (seen_at (n - 1) d (omega arith)) ∙ isnt))
-
-  pub ends_at_start : (n : ℕ) → n ≤ 0 → all_tail (drop n (map f xs)) ≡ true → Cuts (map f xs) n
-  ends_at_start n none all =
-      let is : n ≡ 0 = omega arith in
-      subst (Cuts (map f xs)) (sym is) (cuts_at_start (map f xs) (subst (λ k. all_tail (drop k (map f xs)) ≡ true) is all))
-
-  pub body_seen : (n : ℕ) → Cuts (map f xs) n → map f (take n xs) ≡ body (map f xs)
-  body_seen n cuts = sym (take-map f n xs) ∙ cuts.body_is
-
-  pub tail_seen : (n : ℕ) → Cuts (map f xs) n → map f (drop n xs) ≡ tail (map f xs)
-  tail_seen n cuts = sym (drop-map f n xs) ∙ cuts.tail_is
+pub body_before : (front : List (List ℕ)) (line : List ℕ) (ending : List (List ℕ)) → all_tail ending ≡ true → is_tail_line line ≡ false
+    → body ((front ++ line ∷ []) ++ ending) ≡ front ++ line ∷ []
+body_before front line ending all other = body-append (front ++ line ∷ []) ending all ∙ all_body front line other

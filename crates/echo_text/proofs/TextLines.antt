@@ -1,7 +1,7 @@
 -- Cutting a text into lines.
 use Rattle.std.proofs.Common.{◌≡◌, ℕ, ◌+◌, ◌<◌, ◌≤◌, true, false, List, [], ◌∷◌, ◌++◌, length, get_or, take, drop, Some, None, refl, sym, ap, ◌∙◌, arith}
 use Rattle.std.specs.List.{All, AllByRecursion, flat_map}
-use Rattle.std.proofs.lemmas.List.{append-nil, append_assoc, drop_more, get_or-take, length-take-le, nil_from_length, take-append-drop}
+use Rattle.std.proofs.lemmas.List.{append_assoc, drop_more, get_or-take, length-take-le, nil_from_length, take-append-drop}
 use Rattle.std.proofs.lemmas.List.Elements.{All-from_get_or}
 use Rattle.std.proofs.lemmas.List.Splits.{slice_split_none, slice_split_at}
 use Rattle.std.proofs.lemmas.Bool.{eqb-true, false_from_ne_true}
@@ -90,13 +90,6 @@ some_lines text some = some_pieces is_return text some
 pub lines_with_first : (text first rest : List ℕ) → 0 < length text → Splits text first rest → lines text ≡ first ∷ lines rest
 lines_with_first text first rest some h = first_and_later (lines text) first (lines rest) (some_lines text some) h.first_is h.later_is
 
--- one more line
-pub cut_more : (found : List (List ℕ)) (line after rest : List ℕ) (all : List (List ℕ)) → found ++ lines rest ≡ all → lines rest ≡ line ∷ lines after
-    → (found ++ line ∷ []) ++ lines after ≡ all
-cut_more found line after rest all so_far next =
-    append_assoc found (line ∷ []) (lines after) ∙ ap (λ ls. found ++ ls) (sym next) ∙ so_far
-
--- nothing left
-pub cut_all : (found : List (List ℕ)) (rest : List ℕ) (all : List (List ℕ)) → found ++ lines rest ≡ all → length rest ≡ 0 → found ≡ all
-cut_all found rest all so_far none =
-    sym (append-nil found) ∙ ap (λ ls. found ++ ls) (sym (ap lines (nil_from_length rest none) ∙ lines_nil)) ∙ so_far
+-- nothing is left
+pub no_lines : (rest : List ℕ) → length rest ≡ 0 → lines rest ≡ []
+no_lines rest none = ap lines (nil_from_length rest none) ∙ lines_nil

@@ -1,5 +1,5 @@
-use crate::copying::copies;
 use crate::found;
+use crate::kept::{KeptView, Lines};
 use echo_addr::{Items, NetNode};
 use std::alloc::{AllocError, Global};
 use std::marker::Model;
@@ -11,7 +11,7 @@ use std::marker::Model;
 #[derive(Debug, Drop, PartialEq, Eq, Hash)]
 pub struct Echo {
     pub tag: Items<u8>,
-    pub kept: Items<Items<u8>>,
+    pub kept: Lines,
     pub seen: Items<NetNode>,
     pub path: Items<NetNode>,
 }
@@ -32,20 +32,19 @@ impl Model for Echo {
 #[derive(Debug, Drop)]
 pub struct EchoView<'a> {
     pub tag: Items<u8>,
-    pub kept: Items<&'a [u8]>,
+    pub kept: KeptView<'a>,
     pub seen: Items<NetNode>,
     pub path: Items<NetNode>,
 }
 
 impl<'a> Model for EchoView<'a> {
-    ghost use Rattle.std.specs.Prelude.{map};
     ghost use Rattle.echo_text.specs.Echo.{EchoText, IsEcho};
 
     ghost Value = { EchoText };
 
-    ghost view = { λ e. record { tag = e.tag; kept = map (λ line. line.now) e.kept; seen = e.seen; path = e.path } };
+    ghost view = { λ e. record { tag = e.tag; kept = e.kept; seen = e.seen; path = e.path } };
 
-    ghost invariant = { λ e. IsEcho (record { tag = e.tag; kept = map (λ line. line.now) e.kept; seen = e.seen; path = e.path }) };
+    ghost invariant = { λ e. IsEcho (record { tag = e.tag; kept = e.kept; seen = e.seen; path = e.path }) };
 }
 
 impl Echo {
@@ -57,28 +56,28 @@ impl Echo {
     pub fn msgid(&self) -> Option<&[u8]>
         ensures { option_copied result ≡ msgid_of self.now.kept }
     {
-        found::msgid(self.kept.as_slice())
+        found::msgid(self.kept.as_text())
     }
 
     /// The id of the message replied to, read likewise from the REPLY lines (FTS-0009).
     pub fn reply(&self) -> Option<&[u8]>
         ensures { option_copied result ≡ reply_of self.now.kept }
     {
-        found::reply(self.kept.as_slice())
+        found::reply(self.kept.as_text())
     }
 
     /// The last tear line, without the line feeds at its front (FTS-0004).
     pub fn tear(&self) -> Option<&[u8]>
         ensures { option_copied result ≡ tear_of self.now.kept }
     {
-        found::tear(self.kept.as_slice())
+        found::tear(self.kept.as_text())
     }
 
     /// The last origin line, without the line feeds at its front (FTS-0004).
     pub fn origin(&self) -> Option<&[u8]>
         ensures { option_copied result ≡ origin_of self.now.kept }
     {
-        found::origin(self.kept.as_slice())
+        found::origin(self.kept.as_text())
     }
 }
 
@@ -90,28 +89,28 @@ impl<'a> EchoView<'a> {
     pub fn msgid(&self) -> Option<&[u8]>
         ensures { option_copied result ≡ msgid_of self.now.kept }
     {
-        found::msgid(self.kept.as_slice())
+        self.kept.msgid()
     }
 
     /// The id of the message replied to, as `Echo` has it.
     pub fn reply(&self) -> Option<&[u8]>
         ensures { option_copied result ≡ reply_of self.now.kept }
     {
-        found::reply(self.kept.as_slice())
+        self.kept.reply()
     }
 
     /// The last tear line, as `Echo` has it.
     pub fn tear(&self) -> Option<&[u8]>
         ensures { option_copied result ≡ tear_of self.now.kept }
     {
-        found::tear(self.kept.as_slice())
+        self.kept.tear()
     }
 
     /// The last origin line, as `Echo` has it.
     pub fn origin(&self) -> Option<&[u8]>
         ensures { option_copied result ≡ origin_of self.now.kept }
     {
-        found::origin(self.kept.as_slice())
+        self.kept.origin()
     }
 
     /// The same parts, with lines of their own.
@@ -119,14 +118,27 @@ impl<'a> EchoView<'a> {
         ensures { IfOk result (λ echo. echo ≡ self.now) }
     {
         let tag = Vec::from_slice(alloc, self.tag.as_slice())?;
-        let kept = copies(alloc, self.kept.as_slice())?;
+        let kept = self.kept.to_lines(alloc)?;
         let seen = Vec::from_slice(alloc, self.seen.as_slice())?;
         let path = Vec::from_slice(alloc, self.path.as_slice())?;
         Ok(Echo {
             tag: Items::new(tag),
-            kept: Items::new(kept),
+            kept,
             seen: Items::new(seen),
             path: Items::new(path),
+        })
+    }
+
+    /// The same parts, of which only the lines take memory of their own.
+    pub fn into_echo(self, alloc: Global) -> Result<Echo, AllocError>
+        ensures { IfOk result (λ echo. echo ≡ self.entry) }
+    {
+        let kept = self.kept.to_lines(alloc)?;
+        Ok(Echo {
+            tag: self.tag,
+            kept,
+            seen: self.seen,
+            path: self.path,
         })
     }
 }

@@ -1,39 +1,39 @@
 ghost use Rattle.std.specs.Prelude.{◌≡◌, None, map, option_copied, filter};
 ghost use Rattle.std.specs.List.{last_or};
-ghost use Rattle.echo_text.specs.Lines.{after_feeds, begins, is_tear};
+ghost use Rattle.echo_text.specs.Lines.{after_feeds, begins, is_tear, lines};
 ghost use Rattle.echo_text.specs.Echo.{first_after, id_in, msgid_of, origin_of, reply_of, tear_of};
 
+use crate::lines::split_line;
 use crate::words::{MSGID, ORIGIN, REPLY, after_feeds, after_word, begins, is_tear, trimmed};
-use std::convert::AsSlice;
 
-/// The id of the message, in its kept lines.
+/// The id of the message, in the text of its kept lines.
 #[tactic(auto, unfolding(crate::specs::Echo::msgid_of))]
-pub(crate) fn msgid<L: AsSlice<u8>>(kept: &[L]) -> Option<&[u8]>
-    ensures { option_copied result ≡ msgid_of (map L.items kept.now) }
+pub(crate) fn msgid(kept: &[u8]) -> Option<&[u8]>
+    ensures { option_copied result ≡ msgid_of (lines kept.now) }
 {
     first_id(MSGID, kept)
 }
 
 /// The id of the message replied to.
 #[tactic(auto, unfolding(crate::specs::Echo::reply_of))]
-pub(crate) fn reply<L: AsSlice<u8>>(kept: &[L]) -> Option<&[u8]>
-    ensures { option_copied result ≡ reply_of (map L.items kept.now) }
+pub(crate) fn reply(kept: &[u8]) -> Option<&[u8]>
+    ensures { option_copied result ≡ reply_of (lines kept.now) }
 {
     first_id(REPLY, kept)
 }
 
 /// The last tear line, without the line feeds at its front.
 #[tactic(auto, unfolding(crate::specs::Echo::tear_of))]
-pub(crate) fn tear<L: AsSlice<u8>>(kept: &[L]) -> Option<&[u8]>
-    ensures { option_copied result ≡ tear_of (map L.items kept.now) }
+pub(crate) fn tear(kept: &[u8]) -> Option<&[u8]>
+    ensures { option_copied result ≡ tear_of (lines kept.now) }
 {
     last_tear(kept)
 }
 
 /// The last origin line, without the line feeds at its front.
 #[tactic(auto, unfolding(crate::specs::Echo::origin_of))]
-pub(crate) fn origin<L: AsSlice<u8>>(kept: &[L]) -> Option<&[u8]>
-    ensures { option_copied result ≡ origin_of (map L.items kept.now) }
+pub(crate) fn origin(kept: &[u8]) -> Option<&[u8]>
+    ensures { option_copied result ≡ origin_of (lines kept.now) }
 {
     last_with(ORIGIN, kept)
 }
@@ -47,41 +47,48 @@ fn id_in<'a>(word: &[u8], line: &'a [u8]) -> Option<&'a [u8]>
 }
 
 /// What follows the word in the first of the lines where that is more than blanks.
-fn first_id<'a, L: AsSlice<u8>>(word: &[u8], kept: &'a [L]) -> Option<&'a [u8]>
-    ensures { option_copied result ≡ first_after word.now (map L.items kept.now) }
+fn first_id<'a>(word: &[u8], kept: &'a [u8]) -> Option<&'a [u8]>
+    ensures { option_copied result ≡ first_after word.now (lines kept.now) }
 {
-    'lines: for line in kept {
-        if let Some(id) = id_in(word, line.as_slice()) {
+    let mut rest = kept;
+    'lines: while !rest.is_empty() {
+        let (line, after) = split_line(rest);
+        if let Some(id) = id_in(word, line) {
             return Some(id);
         }
+        rest = after;
     }
     None
 }
 
 /// The last tear line, without the line feeds at its front.
-fn last_tear<L: AsSlice<u8>>(kept: &[L]) -> Option<&[u8]>
-    ensures { option_copied result ≡ last_or None (map after_feeds (filter is_tear (map L.items kept.now))) }
+fn last_tear(kept: &[u8]) -> Option<&[u8]>
+    ensures { option_copied result ≡ last_or None (map after_feeds (filter is_tear (lines kept.now))) }
 {
     let mut found = None;
-    'lines: for line in kept {
-        let line = line.as_slice();
+    let mut rest = kept;
+    'lines: while !rest.is_empty() {
+        let (line, after) = split_line(rest);
         if is_tear(line) {
             found = Some(after_feeds(line));
         }
+        rest = after;
     }
     found
 }
 
 /// The last line that begins with the word, without the line feeds at its front.
-fn last_with<'a, L: AsSlice<u8>>(word: &[u8], kept: &'a [L]) -> Option<&'a [u8]>
-    ensures { option_copied result ≡ last_or None (map after_feeds (filter (begins word.now) (map L.items kept.now))) }
+fn last_with<'a>(word: &[u8], kept: &'a [u8]) -> Option<&'a [u8]>
+    ensures { option_copied result ≡ last_or None (map after_feeds (filter (begins word.now) (lines kept.now))) }
 {
     let mut found = None;
-    'lines: for line in kept {
-        let line = line.as_slice();
+    let mut rest = kept;
+    'lines: while !rest.is_empty() {
+        let (line, after) = split_line(rest);
         if begins(word, line) {
             found = Some(after_feeds(line));
         }
+        rest = after;
     }
     found
 }

@@ -4,17 +4,18 @@
 //! that `Echo`, no token dropped (`written_text_read_back`).
 //!
 //! Modules in reading order: `fault` (why a text is refused), `words` (what lines begin with), `lines`
-//! (cutting a text), `area` (the tag), `tail` (the control tail), `listed` (its entries), `found` (ids,
-//! tear and origin lines), `echo` (a text taken apart), `copying`, `reading`, `writing`, `msgid`
-//! (message ids), and `laws` and `id_laws` (what holds of the definitions).
+//! (cutting a text, and putting one together), `area` (the tag), `tail` (the control tail), `listed`
+//! (its entries), `found` (ids, tear and origin lines), `kept` (the kept lines), `echo` (a text taken
+//! apart), `reading`, `writing`, `msgid` (message ids), and `laws` and `id_laws` (what holds of the
+//! definitions).
 #![tactic(auto)]
 
 mod area;
-mod copying;
 mod echo;
 mod fault;
 mod found;
 mod id_laws;
+mod kept;
 mod laws;
 mod lines;
 mod listed;
@@ -30,15 +31,16 @@ pub use fault::TextFault;
 pub use id_laws::{
     doubled_quotes_undone, ids_differ, one_id_is_spelled, test_of_ids, written_id_read_back,
 };
+pub use kept::{KeptView, Lines};
 pub use laws::{
     kept_as_they_stand, one_reading, one_writing, readers_agree, refusals_are_answered,
     written_text_is_read, written_text_read_back,
 };
-pub use lines::cut as lines_of;
+pub use lines::{push_line, push_lines, split_line};
 pub use msgid::{MsgId, serial_of};
 pub use reading::{read_text, view_text};
 pub use words::trimmed;
-pub use writing::write_text;
+pub use writing::{write_parts, write_text};
 
 #[cfg(test)]
 mod tests;

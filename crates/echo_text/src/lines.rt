@@ -1,23 +1,21 @@
-ghost use Rattle.std.specs.Prelude.{◌≡◌, ◌+◌, ◌<◌, ◌≤◌, length, map, IfOk};
+ghost use Rattle.std.specs.Prelude.{◌≡◌, ◌+◌, ◌<◌, ◌≤◌, [], ◌∷◌, ◌++◌, length, take, drop, if◌then◌else◌, OnOk};
+ghost use Rattle.std.specs.List.{flat_map};
 ghost use Rattle.echo_text.specs.Lines.{first_line, later_lines, lines};
+ghost use Rattle.echo_text.specs.Echo.{IsEnded, ended};
 
-use memchr::memchr;
-use std::alloc::{AllocError, Global};
+use memchr::{memchr, memrchr};
+use std::alloc::AllocError;
 
 /// What ends a line.
 const RETURN: u8 = b'\r';
 
-/// How many bytes most lines of a long text have at least, and how many lines there is room for beside.
-const LINE_LEN: usize = 48;
-
-const FEW: usize = 8;
-
-/// The first line, without its 0D, and the bytes after it.
-pub(crate) fn split_line(text: &[u8]) -> (&[u8], &[u8])
+/// The first line of a text, without its 0D, and the bytes after it (FTS-0001). Takes no memory.
+pub fn split_line(text: &[u8]) -> (&[u8], &[u8])
     ensures first { result.0.now ≡ first_line (lines text.now) }
     ensures later { lines result.1.now ≡ later_lines (lines text.now) }
-    ensures room { length result.0.now + length result.1.now ≤ length text.now }
+    ensures both { 0 < length text.now → lines text.now ≡ result.0.now ∷ lines result.1.now }
     ensures shorter { 0 < length text.now → length result.1.now < length text.now }
+    ensures room { length result.0.now + length result.1.now ≤ length text.now }
 {
     match memchr(RETURN, text) {
         Some(end) => (&text[..end], &text[end + 1..]),
@@ -25,16 +23,45 @@ pub(crate) fn split_line(text: &[u8]) -> (&[u8], &[u8])
     }
 }
 
-/// The lines, each a slice of the text without its 0D.
-pub fn cut(alloc: Global, text: &[u8]) -> Result<Vec<&[u8]>, AllocError>
-    ensures { IfOk result (λ found. map (λ line. line.now) found.items ≡ lines text.now) }
+/// Where the last line starts.
+pub(crate) fn last_line_start(text: &[u8]) -> usize
+    requires { 0 < length text.now }
+    ensures within { result < length text.now }
+    ensures before { IsEnded (take result text.now) }
+    ensures last { lines (drop result text.now) ≡ first_line (lines (drop result text.now)) ∷ [] }
 {
-    let mut found = Vec::with_capacity(alloc, text.len() / LINE_LEN + FEW)?;
-    let mut rest = text;
-    'lines: while !rest.is_empty() {
-        let (line, after) = split_line(rest);
-        found.push(line)?;
-        rest = after;
+    match memrchr(RETURN, &text[..text.len() - 1]) {
+        Some(at) => at + 1,
+        None => 0,
     }
-    Ok(found)
+}
+
+/// Adds the line and its 0D to a text (FTS-0001).
+pub fn push_line(text: &mut Vec<u8>, line: &[u8]) -> Result<(), AllocError>
+    ensures { OnOk result (text.new.items ≡ text.old.items ++ ended line.now) }
+{
+    text.extend_from_slice(line)?;
+    text.push(RETURN)?;
+    Ok(())
+}
+
+/// Adds the lines of the bytes to a text, each with its 0D, the last one too (FTS-0001).
+pub fn push_lines(text: &mut Vec<u8>, bytes: &[u8]) -> Result<(), AllocError>
+    ensures { OnOk result (text.new.items ≡ text.old.items ++ flat_map ended (lines bytes.now)) }
+{
+    text.extend_from_slice(bytes)?;
+    if !is_ended(bytes) {
+        text.push(RETURN)?;
+    }
+    Ok(())
+}
+
+/// Whether the last line, where there is one, has its 0D.
+fn is_ended(bytes: &[u8]) -> bool
+    ensures { flat_map ended (lines bytes.now) ≡ (if result then bytes.now else bytes.now ++ 13 ∷ []) }
+{
+    if bytes.is_empty() {
+        return true;
+    }
+    bytes[bytes.len() - 1] == RETURN
 }

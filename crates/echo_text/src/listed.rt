@@ -1,7 +1,9 @@
-ghost use Rattle.std.specs.Prelude.{◌≡◌, ◌<◌, ◌^◌, map, IfOk};
+ghost use Rattle.std.specs.Prelude.{◌≡◌, ◌<◌, ◌^◌, IfOk};
 ghost use Rattle.echo_text.specs.Echo.{IsSetOf};
+ghost use Rattle.echo_text.specs.Lines.{lines};
 ghost use Rattle.echo_text.specs.Tail.{all_dropped, all_entries, lists_of};
 
+use crate::lines::split_line;
 use crate::words::after_word;
 use echo_addr::{NetNode, add_list};
 use std::alloc::{AllocError, Global};
@@ -10,18 +12,21 @@ use std::alloc::{AllocError, Global};
 pub(crate) fn entries_of(
     alloc: Global,
     word: &[u8],
-    lines: &[&[u8]],
+    tail: &[u8],
 ) -> Result<(Vec<NetNode>, usize), AllocError>
-    requires { all_dropped (lists_of word.now (map (λ line. line.now) lines.now)) < 2 ^ 64 }
-    ensures entries { IfOk result (λ r. r.0.items ≡ all_entries (lists_of word.now (map (λ line. line.now) lines.now))) }
-    ensures dropped { IfOk result (λ r. r.1 ≡ all_dropped (lists_of word.now (map (λ line. line.now) lines.now))) }
+    requires { all_dropped (lists_of word.now (lines tail.now)) < 2 ^ 64 }
+    ensures entries { IfOk result (λ r. r.0.items ≡ all_entries (lists_of word.now (lines tail.now))) }
+    ensures dropped { IfOk result (λ r. r.1 ≡ all_dropped (lists_of word.now (lines tail.now))) }
 {
     let mut found = Vec::new(alloc);
     let mut dropped = 0;
-    'lines: for line in lines {
+    let mut rest = tail;
+    'lines: while !rest.is_empty() {
+        let (line, after) = split_line(rest);
         if let Some(list) = after_word(word, line) {
             dropped += add_list(&mut found, list)?;
         }
+        rest = after;
     }
     Ok((found, dropped))
 }

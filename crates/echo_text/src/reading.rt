@@ -1,4 +1,4 @@
-ghost use Rattle.std.specs.Prelude.{IfOk, map};
+ghost use Rattle.std.specs.Prelude.{IfOk};
 ghost use Rattle.echo_text.specs.Echo.{HasNoZero, Says};
 ghost use Rattle.echo_text.specs.Lines.{lines};
 ghost use Rattle.echo_text.specs.Refusal.{Answers};
@@ -6,9 +6,10 @@ ghost use Rattle.echo_text.specs.Refusal.{Answers};
 use crate::area::{in_upper_case, tag_of};
 use crate::echo::{Echo, EchoView};
 use crate::fault::TextFault;
-use crate::lines::{cut, split_line};
+use crate::kept::KeptView;
+use crate::lines::split_line;
 use crate::listed::{entries_of, set_of};
-use crate::tail::{push_kept, take_tail};
+use crate::tail::split_tail;
 use crate::words::{PATH, SEEN_BY};
 use echo_addr::{Items, NetNode};
 use std::alloc::{AllocError, Global};
@@ -25,7 +26,7 @@ pub fn view_text<'a>(alloc: Global, text: &'a [u8]) -> Result<(EchoView<'a>, usi
     let parts = parts_of(alloc, rest)?;
     let view = EchoView {
         tag: Items::new(tag),
-        kept: Items::new(parts.kept),
+        kept: parts.kept,
         seen: Items::new(parts.seen),
         path: Items::new(parts.path),
     };
@@ -38,14 +39,14 @@ pub fn read_text(alloc: Global, text: &[u8]) -> Result<(Echo, usize), TextFault>
     ensures { Answers text.now result }
 {
     let (view, dropped) = view_text(alloc, text)?;
-    let echo = view.to_echo(alloc)?;
+    let echo = view.into_echo(alloc)?;
     Ok((echo, dropped))
 }
 
 /// What the lines after the AREA line say.
 #[derive(Drop)]
 struct Parts<'a> {
-    kept: Vec<&'a [u8]>,
+    kept: KeptView<'a>,
     seen: Vec<NetNode>,
     path: Vec<NetNode>,
     dropped: usize,
@@ -53,16 +54,13 @@ struct Parts<'a> {
 
 /// What the lines say, of which `rest` is made.
 fn parts_of<'a>(alloc: Global, rest: &'a [u8]) -> Result<Parts<'a>, AllocError>
-    ensures { IfOk result (λ p. Says (lines rest.now) (map (λ line. line.now) p.kept.items) p.seen.items p.path.items p.dropped) }
+    ensures { IfOk result (λ p. Says (lines rest.now) p.kept p.seen.items p.path.items p.dropped) }
 {
-    let mut kept = cut(alloc, rest)?;
-    let ending = take_tail(&mut kept)?;
-    let tail = ending.as_slice();
-    push_kept(&mut kept, tail)?;
+    let (body, tail) = split_tail(rest);
     let (seen, seen_dropped) = entries_of(alloc, SEEN_BY, tail)?;
     let (path, path_dropped) = entries_of(alloc, PATH, tail)?;
     Ok(Parts {
-        kept,
+        kept: KeptView::new(body, tail),
         seen: set_of(seen),
         path,
         dropped: seen_dropped + path_dropped,

@@ -1,39 +1,66 @@
-ghost use Rattle.std.specs.Prelude.{◌≡◌, ◌≤◌, ◌++◌, length, map, take, drop, filter, IfOk, OnOk};
+ghost use Rattle.std.specs.Prelude.{◌≡◌, ◌≤◌, ◌++◌, length, take, drop, filter, OnOk};
+ghost use Rattle.std.specs.List.{flat_map};
+ghost use Rattle.echo_text.specs.Lines.{lines};
+ghost use Rattle.echo_text.specs.Echo.{ended};
 ghost use Rattle.echo_text.specs.Tail.{body, is_kept_control, tail};
 
+use crate::lines::{last_line_start, push_line, split_line};
 use crate::words::{is_kept_control, is_tail_line};
 use std::alloc::AllocError;
 
-/// Takes the control tail off the lines.
-pub(crate) fn take_tail<'a>(lines: &mut Vec<&'a [u8]>) -> Result<Vec<&'a [u8]>, AllocError>
-    ensures body { OnOk result (map (λ line. line.now) lines.new.items ≡ body (map (λ line. line.now) lines.old.items)) }
-    ensures tail { IfOk result (λ ending. map (λ line. line.now) ending.items ≡ tail (map (λ line. line.now) lines.old.items)) }
+/// The bytes before the control tail, and those of the tail.
+pub(crate) fn split_tail(text: &[u8]) -> (&[u8], &[u8])
+    ensures body { lines result.0.now ≡ body (lines text.now) }
+    ensures tail { lines result.1.now ≡ tail (lines text.now) }
 {
-    let at = body_len(lines);
-    lines.split_off(at)
+    let at = body_len(text);
+    (&text[..at], &text[at..])
 }
 
-/// How many of the lines stand before the control tail.
-fn body_len(lines: &[&[u8]]) -> usize
-    ensures within { result ≤ length lines.now }
-    ensures body { map (λ line. line.now) (take result lines.now) ≡ body (map (λ line. line.now) lines.now) }
-    ensures tail { map (λ line. line.now) (drop result lines.now) ≡ tail (map (λ line. line.now) lines.now) }
+/// How many bytes stand before the control tail.
+fn body_len(text: &[u8]) -> usize
+    ensures within { result ≤ length text.now }
+    ensures body { lines (take result text.now) ≡ body (lines text.now) }
+    ensures tail { lines (drop result text.now) ≡ tail (lines text.now) }
 {
-    let mut n = lines.len();
-    'ends: while n > 0 && is_tail_line(lines[n - 1]) {
-        n -= 1;
-    }
-    n
-}
-
-/// Adds the lines of the tail that are kept.
-pub(crate) fn push_kept<'a>(kept: &mut Vec<&'a [u8]>, tail: &[&'a [u8]]) -> Result<(), AllocError>
-    ensures { OnOk result (map (λ line. line.now) kept.new.items ≡ map (λ line. line.now) kept.old.items ++ filter is_kept_control (map (λ line. line.now) tail.now)) }
-{
-    'tail: for line in tail {
-        if is_kept_control(line) {
-            kept.push(*line)?;
+    let mut end = text.len();
+    'ends: while end > 0 {
+        let front = &text[..end];
+        let start = last_line_start(front);
+        let (line, _) = split_line(&front[start..]);
+        if !is_tail_line(line) {
+            return end;
         }
+        end = start;
+    }
+    end
+}
+
+/// How many bytes the lines of the tail that are kept have, each with its 0D.
+pub(crate) fn kept_len(tail: &[u8]) -> usize {
+    let mut kept: usize = 0;
+    let mut rest = tail;
+    'lines: while !rest.is_empty() {
+        let (line, after) = split_line(rest);
+        if is_kept_control(line) {
+            kept = kept.saturating_add(line.len()).saturating_add(1);
+        }
+        rest = after;
+    }
+    kept
+}
+
+/// Adds the lines of the tail that are kept, each with its 0D.
+pub(crate) fn push_kept(text: &mut Vec<u8>, tail: &[u8]) -> Result<(), AllocError>
+    ensures { OnOk result (text.new.items ≡ text.old.items ++ flat_map ended (filter is_kept_control (lines tail.now))) }
+{
+    let mut rest = tail;
+    'lines: while !rest.is_empty() {
+        let (line, after) = split_line(rest);
+        if is_kept_control(line) {
+            push_line(text, line)?;
+        }
+        rest = after;
     }
     Ok(())
 }

@@ -1,11 +1,12 @@
-ghost use Rattle.std.specs.Prelude.{◌≡◌, ◌++◌, OnOk, IfOk};
-ghost use Rattle.std.specs.List.{flat_map};
-ghost use Rattle.echo_text.specs.Echo.{TextOf, ended};
-ghost use Rattle.echo_text.specs.Lines.{area_word};
+ghost use Rattle.std.specs.Prelude.{AllPairs, IfOk};
+ghost use Rattle.echo_addr.specs.ShortLines.{ComesBefore};
+ghost use Rattle.echo_text.specs.Echo.{TextOf};
 
 use crate::echo::Echo;
+use crate::kept::Lines;
+use crate::lines::push_line;
 use crate::words::AREA;
-use echo_addr::{Items, write_path, write_seen};
+use echo_addr::{NetNode, write_path, write_seen};
 use std::alloc::{AllocError, Global};
 
 /// The text of an echo (FTS-0004): the AREA line, the kept lines, the SEEN-BY lines and the PATH
@@ -13,12 +14,32 @@ use std::alloc::{AllocError, Global};
 pub fn write_text(alloc: Global, echo: &Echo) -> Result<Vec<u8>, AllocError>
     ensures { IfOk result (λ text. TextOf echo.now text.items) }
 {
-    let mut text = Vec::with_capacity(alloc, room_of(echo))?;
+    let tag = echo.tag.as_slice();
+    let seen = echo.seen.as_slice();
+    let path = echo.path.as_slice();
+    write_parts(alloc, tag, &echo.kept, seen, path)
+}
+
+/// The text of an echo with these parts, as `write_text` has it. The entries of SEEN-BY ascend without
+/// repeats.
+pub fn write_parts(
+    alloc: Global,
+    tag: &[u8],
+    kept: &Lines,
+    seen: &[NetNode],
+    path: &[NetNode],
+) -> Result<Vec<u8>, AllocError>
+    requires { AllPairs ComesBefore seen.now }
+    ensures { IfOk result (λ text. TextOf (record { tag = tag.now; kept = kept.now; seen = seen.now; path = path.now }) text.items) }
+{
+    let kept = kept.as_text();
+    let entries = seen.len().saturating_add(path.len());
+    let mut text = Vec::with_capacity(alloc, room_of(kept, entries))?;
     text.extend_from_slice(AREA)?;
-    push_line(&mut text, echo.tag.as_slice())?;
-    push_lines(&mut text, echo.kept.as_slice())?;
-    text.extend_from_slice(&write_seen(alloc, echo.seen.as_slice())?)?;
-    text.extend_from_slice(&write_path(alloc, echo.path.as_slice())?)?;
+    push_line(&mut text, tag)?;
+    text.extend_from_slice(kept)?;
+    text.extend_from_slice(&write_seen(alloc, seen)?)?;
+    text.extend_from_slice(&write_path(alloc, path)?)?;
     Ok(text)
 }
 
@@ -28,31 +49,8 @@ const LINE_ROOM: usize = 80;
 const ENTRY_ROOM: usize = 6;
 
 /// How many bytes most such texts have at most.
-fn room_of(echo: &Echo) -> usize {
-    let entries = echo.seen.len().saturating_add(echo.path.len());
-    let mut room = entries.saturating_mul(ENTRY_ROOM);
-    room = room.saturating_add(3 * LINE_ROOM);
-    'lines: for line in echo.kept.as_slice() {
-        room = room.saturating_add(line.len()).saturating_add(1);
-    }
-    room
-}
-
-/// Writes the lines, each with its 0D.
-fn push_lines(text: &mut Vec<u8>, lines: &[Items<u8>]) -> Result<(), AllocError>
-    ensures { OnOk result (text.new.items ≡ text.old.items ++ flat_map ended lines.now) }
-{
-    'lines: for line in lines {
-        push_line(text, line.as_slice())?;
-    }
-    Ok(())
-}
-
-/// Writes the line and its 0D.
-fn push_line(text: &mut Vec<u8>, line: &[u8]) -> Result<(), AllocError>
-    ensures { OnOk result (text.new.items ≡ text.old.items ++ ended line.now) }
-{
-    text.extend_from_slice(line)?;
-    text.push(b'\r')?;
-    Ok(())
+fn room_of(kept: &[u8], entries: usize) -> usize {
+    let room = entries.saturating_mul(ENTRY_ROOM);
+    room.saturating_add(3 * LINE_ROOM)
+        .saturating_add(kept.len())
 }

@@ -29,12 +29,12 @@ later_parts a b = ordering_then (nat_cmp a.net b.net) (nat_cmp a.node b.node)
 abbrev pub address_cmp : Address → Address → Ordering
 address_cmp a b = ordering_then (nat_cmp a.zone b.zone) (later_parts a b)
 
-total : IsTotalOrder address_cmp
+pub total : IsTotalOrder address_cmp
 total =
     then_total (on_total (λ (a : Address). a.zone) nat_cmp_total)
     (then_total (on_total (λ (a : Address). a.net) nat_cmp_total) (on_total (λ (a : Address). a.node) nat_cmp_total))
 
-ties : (a b : Address) → same_address a b ≡ eq_by_cmp address_cmp a b
+pub ties : (a b : Address) → same_address a b ≡ eq_by_cmp address_cmp a b
 ties a b =
     both_tied (a.zone == b.zone) ((a.net == b.net) && (a.node == b.node)) (nat_cmp a.zone b.zone) (later_parts a b) (unsigned_ties a.zone b.zone)
     (both_tied (a.net == b.net) (a.node == b.node) (nat_cmp a.net b.net) (nat_cmp a.node b.node) (unsigned_ties a.net b.net) (unsigned_ties a.node b.node))
@@ -58,7 +58,7 @@ less_last m n less = lt-ltb m n (below (nat_cmp m n) m n (ranked m n (nat_cmp m 
     below Equal m n h less = absurd cc
     below Greater m n h less = absurd cc
 
-less_before : (a b : Address) → address_cmp a b ≡ Less → address_before a b ≡ true
+pub less_before : (a b : Address) → address_cmp a b ≡ Less → address_before a b ≡ true
 less_before a b less =
     less_then (nat_cmp a.zone b.zone) (later_parts a b) a.zone b.zone (nat_lt a.net b.net || ((a.net == b.net) && nat_lt a.node b.node))
     (ranked a.zone b.zone (nat_cmp a.zone b.zone) refl)
@@ -79,3 +79,10 @@ addresses_sorted all sorted moved is =
     (contained_in z all (Contains-permutation sorted all z (IsPermutation-sym all sorted moved) (Contains-from_dedup same_address sorted z (in_contained z (dedup same_address sorted) i)))))
     (λ z i. contained_in z (dedup same_address sorted)
     (Contains-dedup equivalence (λ x y. (same_address_decides x y).0) sorted z (Contains-permutation all sorted z moved (in_contained z all (set_only address_before z all i)))))
+
+-- a set is the set of its members
+pub set_again : (all : List Address) → address_set (address_set all) ≡ address_set all
+unfolding address_set
+set_again all =
+    same_set address_before address_order (address_set (address_set all)) (address_set all) (set_ascending address_before address_order (address_set all))
+    (set_ascending address_before address_order all) (λ z i. set_only address_before z (address_set all) i) (λ z i. set_keeps address_before address_order z (address_set all) i)

@@ -1,10 +1,19 @@
 -- The message of a draft, part by part.
-use Rattle.std.proofs.Common.{◌≡◌, ℕ, List, [], ◌∷◌, ◌++◌, refl, ap, ◌∙◌, append_assoc, None}
+use Rattle.std.proofs.Common.{◌≡◌, ℕ, List, [], ◌∷◌, ◌++◌, codes, sym, ap, ◌∙◌, append-nil, append_assoc, None}
+use Rattle.std.specs.List.{All, flat_map}
+use Rattle.std.proofs.lemmas.Grind.{flat_map-append}
+use Rattle.std.proofs.lemmas.List.Elements.{All-weaker, recursion_from_All}
 use Rattle.echo_addr.specs.declared.address.NetNode.{NetNode}
-use Rattle.echo_base.specs.Base.{LinkFile, upper}
+use Rattle.echo_text.specs.Echo.{IsLine, ended}
+use Rattle.echo_text.specs.Ids.{id_of}
+use Rattle.echo_text.specs.Lines.{lines, msgid_word}
+use Rattle.echo_text.proofs.EndedLines.{PutTogether, whole_text}
+use Rattle.echo_text.proofs.TextLines.{IsPiece}
+use Rattle.echo_base.specs.Base.{LinkFile, id_line, upper}
+use Rattle.echo_base.proofs.LinesOfIds.{line_piece}
 use Rattle.echo_steps.specs.declared.draft.Draft.{Draft}
 use Rattle.echo_steps.specs.declared.stamp.Stamp.{Stamp}
-use Rattle.echo_steps.specs.Posting.{posted, posted_lines}
+use Rattle.echo_steps.specs.Posting.{origin_line, posted, posted_lines, reply_lines}
 use Rattle.echo_steps.specs.Stamps.{date_of}
 
 pub posted_is : (file : LinkFile) (tag : List ℕ) (draft : Draft) (serial : ℕ) (stamp : Stamp) (date to_name from_name subject raised : List ℕ) (kept : List (List ℕ)) (seen path : List NetNode)
@@ -16,13 +25,35 @@ unfolding posted
 posted_is file tag draft serial stamp date to_name from_name subject raised kept seen path d t f j r k s p =
     λ i. record { sender = None; date = d i; to_name = t i; from_name = f i; subject = j i; echo = record { tag = r i; kept = k i; seen = s i; path = p i } }
 
-pub kept_are : (none first second third fourth all reply body : List (List ℕ)) (id tear origin : List ℕ) → none ≡ [] → first ≡ none ++ id ∷ [] → second ≡ first ++ reply
-    → third ≡ second ++ body → fourth ≡ third ++ tear ∷ [] → all ≡ fourth ++ origin ∷ [] → all ≡ id ∷ (reply ++ (body ++ tear ∷ (origin ∷ [])))
-kept_are none first second third fourth all reply body id tear origin e0 e1 e2 e3 e4 e5 =
-    let one : first ≡ id ∷ [] = e1 ∙ ap (λ l. l ++ id ∷ []) e0 in
-    let two : second ≡ id ∷ reply = e2 ∙ ap (λ l. l ++ reply) one in
-    let three : third ≡ id ∷ (reply ++ body) = e3 ∙ ap (λ l. l ++ body) two in
-    let end : (tear ∷ []) ++ origin ∷ [] ≡ tear ∷ (origin ∷ []) = refl in
-    e5 ∙ ap (λ l. l ++ origin ∷ []) (e4 ∙ ap (λ l. l ++ tear ∷ []) three)
-    ∙ append_assoc (id ∷ (reply ++ body)) (tear ∷ []) (origin ∷ [])
-    ∙ ap (λ l. id ∷ l) (append_assoc reply body (tear ∷ (origin ∷ [])))
+regrouped : (a r b t o : List ℕ) → (((a ++ r) ++ b) ++ t) ++ o ≡ a ++ (r ++ (b ++ (t ++ o)))
+regrouped a r b t o =
+    append_assoc ((a ++ r) ++ b) t o ∙ append_assoc (a ++ r) b (t ++ o) ∙ append_assoc a r (b ++ (t ++ o))
+
+-- the text of the lines, part by part
+text_is : (id tear origin : List ℕ) (reply body : List (List ℕ)) (none first second third fourth all : List ℕ) → none ≡ [] → first ≡ none ++ ended id
+    → second ≡ first ++ flat_map ended reply → third ≡ second ++ flat_map ended body → fourth ≡ third ++ ended tear → all ≡ fourth ++ ended origin
+    → all ≡ flat_map ended (id ∷ (reply ++ (body ++ tear ∷ (origin ∷ []))))
+text_is id tear origin reply body none first second third fourth all e0 e1 e2 e3 e4 e5 =
+    let r = flat_map ended reply in
+    let b = flat_map ended body in
+    e5
+    ∙ ap (λ s. s ++ ended origin) (e4 ∙ ap (λ s. s ++ ended tear) (e3 ∙ ap (λ s. s ++ b) (e2 ∙ ap (λ s. s ++ r) (e1 ∙ ap (λ s. s ++ ended id) e0))))
+    ∙ regrouped (ended id) r b (ended tear) (ended origin)
+    ∙ sym
+    (ap (λ s. ended id ++ s) (flat_map-append ended reply (body ++ tear ∷ (origin ∷ []))
+    ∙ ap (λ s. r ++ s) (flat_map-append ended body (tear ∷ (origin ∷ [])) ∙ ap (λ s. b ++ (ended tear ++ s)) (append-nil (ended origin)))))
+
+-- the text of the lines of a draft
+pub posted_text : (file : LinkFile) (draft : Draft) (serial : ℕ) (id reply body none first second third fourth all : List ℕ) → id ≡ id_of file.system serial
+    → reply ≡ draft.reply → body ≡ draft.body → none ≡ [] → first ≡ none ++ ended (id_line msgid_word id) → second ≡ first ++ flat_map ended (reply_lines reply)
+    → third ≡ second ++ flat_map ended (lines body) → fourth ≡ third ++ ended (codes "--- echonet") → all ≡ fourth ++ ended (origin_line file)
+    → All IsLine (posted_lines file draft serial) → PutTogether all (posted_lines file draft serial)
+unfolding posted_lines
+posted_text file draft serial id reply body none first second third fourth all i r b e0 e1 e2 e3 e4 e5 are =
+    let same : id_line msgid_word id ∷ (reply_lines reply ++ (lines body ++ codes "--- echonet" ∷ (origin_line file ∷ []))) ≡ posted_lines file draft serial =
+    λ k. id_line msgid_word (i k) ∷ (reply_lines (r k) ++ (lines (b k) ++ codes "--- echonet" ∷ (origin_line file ∷ [])))
+    in
+    whole_text all (posted_lines file draft serial)
+    (text_is (id_line msgid_word id) (codes "--- echonet") (origin_line file) (reply_lines reply) (lines body) none first second third fourth all e0 e1 e2 e3 e4 e5
+    ∙ ap (flat_map ended) same)
+    (recursion_from_All IsPiece (posted_lines file draft serial) (All-weaker IsLine IsPiece line_piece (posted_lines file draft serial) are))

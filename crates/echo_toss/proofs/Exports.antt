@@ -18,7 +18,8 @@ use Rattle.echo_base.specs.Base.{Filed, LinkFile, links_of}
 use Rattle.echo_base.specs.Sets.{address_set, entry_set}
 use Rattle.echo_steps.specs.declared.stamp.Stamp.{Stamp}
 use Rattle.echo_steps.specs.Scanning.{copy_to, exported, goes_to, header_to, packet_to, packets_of, recipients, scanned, targets}
-use Rattle.echo_toss.specs.Exports.{Outgoing, copy_out, goes_out, outgoing_of, packet_out, packets_out}
+use Rattle.echo_toss.specs.Exports.{Outgoing, Ready, copy_out, goes_out, goes_ready, outgoing_of, packet_out, packet_ready, packets_out, ready_copy, ready_of}
+use Rattle.echo_toss.proofs.Searches.{among_set}
 use Rattle.echo_steps.specs.declared.packet.Packet.{Packet}
 
 -- one more of what waits
@@ -101,6 +102,45 @@ pub exported_is : (file : LinkFile) (e : EchoText) (tag : List ℕ) (kept : List
 unfolding exported
 exported_is file e tag kept seen path t k s p = λ i. record { tag = t i; kept = k i; seen = s i; path = p i }
 
+-- the same with the entries, the own net/node and the links under other names
+pub exported_made : (file : LinkFile) (e : EchoText) (own : NetNode) (links : List Address) (tag : List ℕ) (kept : List (List ℕ)) (before seen passed path : List NetNode)
+    → own ≡ net_node_of file.system → links ≡ links_of file tag → tag ≡ e.tag → kept ≡ e.kept → before ≡ e.seen
+    → seen ≡ entry_set (before ++ own ∷ map net_node_of links) → passed ≡ e.path → path ≡ passed ++ own ∷ []
+    → record { tag = tag; kept = kept; seen = seen; path = path } ≡ exported file e
+exported_made file e own links tag kept before seen passed path o l t k b s q p =
+    exported_is file e tag kept seen path t k
+    (s ∙ (λ i. entry_set (b i ++ o i ∷ map net_node_of (l i))) ∙ ap (λ x. entry_set (e.seen ++ net_node_of file.system ∷ map net_node_of (links_of file x))) t)
+    (p ∙ (λ i. q i ++ o i ∷ []))
+
 -- a text that was written
 pub written_is : (e : EchoText) (bytes : List ℕ) → IsEcho e → TextOf e bytes → bytes ≡ text_of e
 written_is e bytes is text = one_text e bytes (text_of e) text (text_is_text e is)
+
+-- the packets of what is ready are those of what goes out
+same_ready : (file : LinkFile) (a : Address) (all : List Outgoing) → map (ready_copy a) (filter (goes_ready a) (map (ready_of file) all)) ≡ map (copy_out file a) (filter (goes_out a) all)
+same_ready file a [] = refl
+same_ready file a (o ∷ all) =
+    let rest = map (ready_of file) all in
+    let same = among_set a o.targets in
+    elim (cases_Bool (goes_out a o)) [
+      | inl goes ↦
+          ap (map (ready_copy a)) (cond-true (goes_ready a (ready_of file o)) (ready_of file o ∷ filter (goes_ready a) rest) (filter (goes_ready a) rest) (same ∙ goes))
+          ∙ ap (λ l. copy_out file a o ∷ l) (same_ready file a all)
+          ∙ ap (map (copy_out file a)) (sym (cond-true (goes_out a o) (o ∷ filter (goes_out a) all) (filter (goes_out a) all) goes))
+      | inr stays ↦
+          ap (map (ready_copy a)) (cond-false (goes_ready a (ready_of file o)) (ready_of file o ∷ filter (goes_ready a) rest) (filter (goes_ready a) rest) (same ∙ stays))
+          ∙ same_ready file a all
+          ∙ ap (map (copy_out file a)) (sym (cond-false (goes_out a o) (o ∷ filter (goes_out a) all) (filter (goes_out a) all) stays))
+    ]
+
+ready_packet : (file : LinkFile) (stamp : Stamp) (all : List Outgoing) (a : Address) → packet_ready file stamp (map (ready_of file) all) a ≡ packet_out file stamp all a
+ready_packet file stamp all a = let e = same_ready file a all in λ i. record { header = header_to file stamp a; messages = e i }
+
+pub ready_packets : {E : Type 0} (r : Result (Vec Packet Global) E) (file : LinkFile) (stamp : Stamp) (all : List Outgoing) (ready : List Ready) (recipients : List Address)
+    → ready ≡ map (ready_of file) all → recipients ≡ address_set (flat_map (λ o. o.targets) all)
+    → IfOk r (λ v. v.items ≡ map (packet_ready file stamp ready) recipients) → IfOk r (λ v. v.items ≡ packets_out file stamp all)
+ready_packets (Ok v) file stamp all ready recipients e f h =
+    h
+    ∙ (λ i. map (packet_ready file stamp (e i)) (f i))
+    ∙ each_same (packet_ready file stamp (map (ready_of file) all)) (packet_out file stamp all) (ready_packet file stamp all) (address_set (flat_map (λ o. o.targets) all))
+ready_packets (Err e') file stamp all ready recipients e f h = tt

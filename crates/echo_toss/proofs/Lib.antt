@@ -5,6 +5,7 @@ pub mod Raised
 pub mod Replies
 pub mod Drafted
 pub mod AscendingSets
+pub mod Searches
 pub mod Exports
 pub mod Counted
 pub mod Unpacked

@@ -1,6 +1,7 @@
 //! The message that is filed for a draft.
-ghost use Rattle.std.specs.Prelude.{◌≡◌, [], ◌∷◌, ◌++◌, None, IfOk, OnOk};
-ghost use Rattle.echo_text.specs.Lines.{lines};
+ghost use Rattle.std.specs.Prelude.{◌≡◌, ◌++◌, All, None, IfOk, OnOk};
+ghost use Rattle.std.specs.List.{flat_map};
+ghost use Rattle.echo_text.specs.Echo.{IsLine, ended};
 ghost use Rattle.echo_base.specs.Base.{id_line, upper};
 ghost use Rattle.echo_steps.specs.Posting.{origin_line, posted, posted_lines, reply_lines};
 ghost use Rattle.echo_toss.specs.Refusals.{draft_refusal};
@@ -9,7 +10,7 @@ use crate::moment::date_of;
 use echo_addr::Items;
 use echo_base::{Filed, LinkFile};
 use echo_steps::{Draft, Stamp};
-use echo_text::{Echo, MsgId, lines_of, trimmed};
+use echo_text::{Echo, Lines, MsgId, push_line, push_lines, trimmed};
 use std::alloc::{AllocError, Global};
 
 /// The message.
@@ -67,83 +68,46 @@ fn posted_lines(
     links: &LinkFile,
     draft: &Draft,
     serial: u32,
-) -> Result<Items<Items<u8>>, AllocError>
+) -> Result<Lines, AllocError>
+    requires { All IsLine (posted_lines links.now draft.now serial) }
     ensures { IfOk result (λ kept. kept ≡ posted_lines links.now draft.now serial) }
 {
-    let mut kept = Vec::new(alloc);
+    let mut text = Vec::new(alloc);
     let id = MsgId::write(alloc, links.system(), serial)?;
-    push_id(alloc, &mut kept, b"\x01MSGID:", &id)?;
-    push_reply(alloc, &mut kept, draft.reply.as_slice())?;
-    push_body(alloc, &mut kept, draft.body.as_slice())?;
-    push_line(alloc, &mut kept, b"--- echonet")?;
-    push_origin(alloc, &mut kept, links)?;
-    Ok(Items::new(kept))
+    push_id(&mut text, b"\x01MSGID:", &id)?;
+    push_reply(&mut text, draft.reply.as_slice())?;
+    push_lines(&mut text, draft.body.as_slice())?;
+    push_line(&mut text, b"--- echonet")?;
+    push_origin(alloc, &mut text, links)?;
+    Ok(Lines::of_text(text))
 }
 
-// Puts a control line that carries an id at the end.
-fn push_id(
-    alloc: Global,
-    kept: &mut Vec<Items<u8>>,
-    word: &[u8],
-    id: &[u8],
-) -> Result<(), AllocError>
-    ensures { OnOk result (kept.new.items ≡ kept.old.items ++ id_line word.now id.now ∷ []) }
+// Adds a control line that carries an id.
+fn push_id(text: &mut Vec<u8>, word: &[u8], id: &[u8]) -> Result<(), AllocError>
+    ensures { OnOk result (text.new.items ≡ text.old.items ++ ended (id_line word.now id.now)) }
 {
-    let mut line = Vec::new(alloc);
-    line.extend_from_slice(word)?;
-    line.push(b' ')?;
-    line.extend_from_slice(id)?;
-    kept.push(Items::new(line))?;
-    Ok(())
+    text.extend_from_slice(word)?;
+    text.push(b' ')?;
+    push_line(text, id)
 }
 
-// Puts the line that names what is replied to, where something is, at the end.
-fn push_reply(alloc: Global, kept: &mut Vec<Items<u8>>, reply: &[u8]) -> Result<(), AllocError>
-    ensures { OnOk result (kept.new.items ≡ kept.old.items ++ reply_lines reply.now) }
+// Adds the line that names what is replied to, where something is.
+fn push_reply(text: &mut Vec<u8>, reply: &[u8]) -> Result<(), AllocError>
+    ensures { OnOk result (text.new.items ≡ text.old.items ++ flat_map ended (reply_lines reply.now)) }
 {
     if !reply.is_empty() {
-        push_id(alloc, kept, b"\x01REPLY:", trimmed(reply))?;
+        push_id(text, b"\x01REPLY:", trimmed(reply))?;
     }
     Ok(())
 }
 
-// Puts the line at the end.
-fn push_line(alloc: Global, kept: &mut Vec<Items<u8>>, line: &[u8]) -> Result<(), AllocError>
-    ensures { OnOk result (kept.new.items ≡ kept.old.items ++ line.now ∷ []) }
-{
-    kept.push(copied(alloc, line)?)?;
-    Ok(())
-}
-
-// Puts the lines of the body at the end.
-fn push_body(alloc: Global, kept: &mut Vec<Items<u8>>, body: &[u8]) -> Result<(), AllocError>
-    ensures { OnOk result (kept.new.items ≡ kept.old.items ++ lines body.now) }
-{
-    let cut = lines_of(alloc, body)?;
-    'lines: for line in &cut {
-        kept.push(copied(alloc, line)?)?;
-    }
-    Ok(())
-}
-
-// Puts the origin line at the end.
-fn push_origin(alloc: Global, kept: &mut Vec<Items<u8>>, links: &LinkFile) -> Result<(), AllocError>
-    ensures { OnOk result (kept.new.items ≡ kept.old.items ++ origin_line links.now ∷ []) }
-{
-    let line = origin_line(alloc, links)?;
-    kept.push(line)?;
-    Ok(())
-}
-
-// ` * Origin: `, the name, and the own address in brackets.
-fn origin_line(alloc: Global, links: &LinkFile) -> Result<Items<u8>, AllocError>
-    ensures { IfOk result (λ line. line ≡ origin_line links.now) }
+// Adds the origin line: ` * Origin: `, the name, and the own address in brackets.
+fn push_origin(alloc: Global, text: &mut Vec<u8>, links: &LinkFile) -> Result<(), AllocError>
+    ensures { OnOk result (text.new.items ≡ text.old.items ++ ended (origin_line links.now)) }
 {
     let system = links.system();
     let address = format!(in alloc; " ({system})")?;
-    let mut line = Vec::new(alloc);
-    line.extend_from_slice(b" * Origin: ")?;
-    line.extend_from_slice(links.name())?;
-    line.extend_from_slice(address.as_bytes())?;
-    Ok(Items::new(line))
+    text.extend_from_slice(b" * Origin: ")?;
+    text.extend_from_slice(links.name())?;
+    push_line(text, address.as_bytes())
 }

@@ -2,18 +2,16 @@
 ghost use Rattle.std.specs.Prelude.{◌≡◌, ◌∷◌, ◌++◌, ◌&&◌, not, false, map, filter, drop, option_map, unwrap_or, IfOk};
 ghost use Rattle.std.specs.List.{list_any};
 ghost use Rattle.echo_addr.specs.Address.{net_node_of};
-ghost use Rattle.echo_text.specs.Echo.{IsEcho};
 ghost use Rattle.echo_base.specs.Base.{links_of};
 ghost use Rattle.echo_base.specs.Sets.{entry_set, same_address, same_entry};
 ghost use Rattle.echo_base.specs.Written.{text_of};
 ghost use Rattle.echo_steps.specs.Scanning.{exported, targets};
 ghost use Rattle.echo_toss.specs.Exports.{outgoing_of};
 
-use crate::drafting::copied;
 use crate::sets::entry_set;
 use echo_addr::{Address, Items, NetNode};
 use echo_base::{Base, Filed, LinkFile};
-use echo_text::{Echo, write_text};
+use echo_text::{Echo, write_parts};
 use std::alloc::{AllocError, Global};
 use std::hash::BuildHasher;
 use std::marker::Model;
@@ -123,44 +121,18 @@ fn is_seen_by(seen: &[NetNode], link: Address) -> bool
     seen.contains(&link.net_node())
 }
 
-// The text that goes out.
+// The text that goes out: the own net/node and those of the links join SEEN-BY, the own ends PATH.
 fn exported_text(alloc: Global, links: &LinkFile, echo: &Echo) -> Result<Items<u8>, AllocError>
     ensures { IfOk result (λ text. text ≡ text_of (exported links.now echo.now)) }
 {
-    let copy = exported(alloc, links, echo)?;
-    let text = write_text(alloc, &copy)?;
-    Ok(Items::new(text))
-}
-
-// What goes out: the own net/node and those of the links join SEEN-BY, the own ends PATH.
-fn exported(alloc: Global, links: &LinkFile, echo: &Echo) -> Result<Echo, AllocError>
-    ensures value { IfOk result (λ copy. copy ≡ exported links.now echo.now) }
-    ensures is_echo { IfOk result IsEcho }
-{
     let own = links.system().net_node();
-    let tag = copied(alloc, echo.tag.as_slice())?;
-    let kept = copied_lines(alloc, echo.kept.as_slice())?;
-    let all = links_of(links, echo.tag.as_slice());
+    let tag = echo.tag.as_slice();
+    let all = links_of(links, tag);
     let seen = joined(alloc, echo.seen.as_slice(), own, all)?;
     let mut path = Vec::from_slice(alloc, echo.path.as_slice())?;
     path.push(own)?;
-    Ok(Echo {
-        tag,
-        kept,
-        seen,
-        path: Items::new(path),
-    })
-}
-
-// The lines as bytes of their own.
-fn copied_lines(alloc: Global, lines: &[Items<u8>]) -> Result<Items<Items<u8>>, AllocError>
-    ensures { IfOk result (λ copies. copies ≡ lines.now) }
-{
-    let mut copies = Vec::new(alloc);
-    'lines: for line in lines {
-        copies.push(copied(alloc, line.as_slice())?)?;
-    }
-    Ok(Items::new(copies))
+    let text = write_parts(alloc, tag, &echo.kept, seen.as_slice(), &path)?;
+    Ok(Items::new(text))
 }
 
 // The entries, the own and those of the links as a set.

@@ -4,7 +4,7 @@ ghost use Rattle.std.specs.List.{flat_map};
 ghost use Rattle.echo_base.specs.Sets.{address_set};
 ghost use Rattle.echo_steps.specs.Scanning.{header_to};
 ghost use Rattle.echo_steps.specs.Stamps.{is_stamp};
-ghost use Rattle.echo_toss.specs.Exports.{copy_out, goes_out, packet_out, packets_out};
+ghost use Rattle.echo_toss.specs.Exports.{copy_out, goes_ready, packet_ready, packets_out, ready_copy, ready_of};
 
 use crate::outgoing::Outgoing;
 use crate::sets::address_set;
@@ -13,6 +13,33 @@ use echo_base::LinkFile;
 use echo_packet::{Header, Packed};
 use echo_steps::{Packet, Stamp};
 use std::alloc::{AllocError, Global};
+use std::marker::Model;
+
+// No address: it stands in a message that is not for one system alone.
+const NOWHERE: Address = Address {
+    zone: 0,
+    net: 0,
+    node: 0,
+};
+
+// A message as it goes out, which its copies share, and the addresses that it goes to, as a set.
+#[derive(Drop)]
+struct Ready {
+    message: Packed,
+    targets: Items<Address>,
+}
+
+impl Model for Ready {
+    ghost use Rattle.std.specs.Prelude.{◌≡◌};
+    ghost use Rattle.echo_base.specs.Sets.{address_set};
+    ghost use Rattle.echo_toss.specs.Exports as model;
+
+    ghost Value = { model.Ready };
+
+    ghost view = { λ r. record { message = r.message; targets = r.targets } };
+
+    ghost invariant = { λ r. address_set r.targets ≡ r.targets };
+}
 
 /// One packet for each address that gets some of the messages, ascending.
 pub(crate) fn packets(
@@ -25,11 +52,8 @@ pub(crate) fn packets(
     ensures { IfOk result (λ all. all.items ≡ packets_out links.now stamp outgoing.now) }
 {
     let recipients = recipients(alloc, outgoing)?;
-    let mut all = Vec::new(alloc);
-    'recipients: for address in &recipients {
-        all.push(packet_to(alloc, links, stamp, *address, outgoing)?)?;
-    }
-    Ok(all)
+    let ready = all_ready(alloc, links, outgoing)?;
+    packets_to(alloc, links, stamp, recipients.as_slice(), ready.as_slice())
 }
 
 // The addresses that get some of the messages, ascending.
@@ -43,20 +67,65 @@ fn recipients(alloc: Global, outgoing: &[Outgoing<'_>]) -> Result<Vec<Address>, 
     Ok(address_set(all))
 }
 
+// The messages, ready to be copied.
+fn all_ready(
+    alloc: Global,
+    links: &LinkFile,
+    outgoing: &[Outgoing<'_>],
+) -> Result<Vec<Ready>, AllocError>
+    ensures { IfOk result (λ all. all.items ≡ map (ready_of links.now) outgoing.now) }
+{
+    let mut all = Vec::with_capacity(alloc, outgoing.len())?;
+    'outgoing: for one in outgoing {
+        all.push(made_ready(alloc, links, one)?)?;
+    }
+    Ok(all)
+}
+
+// The message, ready to be copied.
+fn made_ready(alloc: Global, links: &LinkFile, one: &Outgoing<'_>) -> Result<Ready, AllocError>
+    ensures { IfOk result (λ r. r ≡ ready_of links.now one.now) }
+{
+    let targets = Vec::from_slice(alloc, one.targets.as_slice())?;
+    let message = copy_to(alloc, links, NOWHERE, one)?.shared(alloc)?;
+    Ok(Ready {
+        message,
+        targets: Items::new(address_set(targets)),
+    })
+}
+
+// A packet to each of the addresses.
+fn packets_to(
+    alloc: Global,
+    links: &LinkFile,
+    stamp: Stamp,
+    recipients: &[Address],
+    ready: &[Ready],
+) -> Result<Vec<Packet>, AllocError>
+    requires { is_stamp stamp ≡ true }
+    ensures { IfOk result (λ all. all.items ≡ map (packet_ready links.now stamp ready.now) recipients.now) }
+{
+    let mut all = Vec::with_capacity(alloc, recipients.len())?;
+    'recipients: for address in recipients {
+        all.push(packet_to(alloc, links, stamp, *address, ready)?)?;
+    }
+    Ok(all)
+}
+
 // The packet of those that go to the address.
 fn packet_to(
     alloc: Global,
     links: &LinkFile,
     stamp: Stamp,
     address: Address,
-    outgoing: &[Outgoing<'_>],
+    ready: &[Ready],
 ) -> Result<Packet, AllocError>
     requires { is_stamp stamp ≡ true }
-    ensures { IfOk result (λ packet. packet ≡ packet_out links.now stamp outgoing.now address) }
+    ensures { IfOk result (λ packet. packet ≡ packet_ready links.now stamp ready.now address) }
 {
     let mut messages = Vec::new(alloc);
-    'outgoing: for one in outgoing {
-        push_copy(alloc, links, address, one, &mut messages)?;
+    'ready: for one in ready {
+        push_copy(alloc, address, one, &mut messages)?;
     }
     Ok(Packet {
         header: header_to(links, stamp, address),
@@ -67,24 +136,23 @@ fn packet_to(
 // Puts the copy of the message, where it goes to the address, at the end.
 fn push_copy(
     alloc: Global,
-    links: &LinkFile,
     address: Address,
-    one: &Outgoing<'_>,
+    one: &Ready,
     messages: &mut Vec<Packed>,
 ) -> Result<(), AllocError>
-    ensures { OnOk result (messages.new.items ≡ messages.old.items ++ map (copy_out links.now address) (filter (goes_out address) (one.now ∷ []))) }
+    ensures { OnOk result (messages.new.items ≡ messages.old.items ++ map (ready_copy address) (filter (goes_ready address) (one.now ∷ []))) }
 {
     if goes_to(one, address) {
-        messages.push(copy_to(alloc, links, address, one)?)?;
+        messages.push(one.message.copy_for(alloc, address.node, address.net)?)?;
     }
     Ok(())
 }
 
 // Whether the message goes to the address.
-fn goes_to(one: &Outgoing<'_>, address: Address) -> bool
-    ensures { result ≡ goes_out address one.now }
+fn goes_to(one: &Ready, address: Address) -> bool
+    ensures { result ≡ goes_ready address one.now }
 {
-    one.targets.contains(&address)
+    one.targets.as_slice().binary_search(&address).is_ok()
 }
 
 // The copy of the message that goes to the address.

@@ -78,17 +78,17 @@ pub(crate) fn received(
     alloc: Global,
     sender: Address,
     packed: &Packed,
-    view: &EchoView<'_>,
+    view: EchoView<'_>,
 ) -> Result<Filed, AllocError>
     requires echomail { refusal packed.now.text ≡ None }
-    requires said { view.now ≡ echo_of packed.now.text }
+    requires said { view ≡ echo_of packed.now.text }
     ensures { IfOk result (λ m. m ≡ received sender packed.now) }
 {
     packed.text();
     let to_name = copied(alloc, packed.to_name())?;
     let from_name = copied(alloc, packed.from_name())?;
     let subject = copied(alloc, packed.subject())?;
-    let echo = view.to_echo(alloc)?;
+    let echo = view.into_echo(alloc)?;
     let Address { zone, net, node } = sender;
     Ok(Filed {
         sender: Some(Address { zone, net, node }),

@@ -54,7 +54,7 @@ fn judged<S: BuildHasher>(
             if base.knows(&key) {
                 return Ok(Verdict::Left(Outcome::Known));
             }
-            let message = received(alloc, sender, packed, &view)?;
+            let message = received(alloc, sender, packed, view)?;
             Ok(Verdict::New(key, message))
         }
     }

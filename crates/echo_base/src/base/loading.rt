@@ -142,6 +142,7 @@ impl<S: BuildHasher> Base<S> {
         ensures cursor { self.new.cursor ≡ cursor }
     {
         self.cursor = cursor;
+        self.purged = 0;
     }
 
     // Reads head and messages.

@@ -1,17 +1,23 @@
 //! Scripts and replays that are refused memory say so, and answer as before when they are tried again.
 //! These pass whether or not an allocation is refused.
 use super::*;
+use echo_device::Watched;
 
-// What the script of the chain says as events and what is told after it, if memory is there.
-fn answered(alloc: Global) -> Option<String> {
+// The chain after the script, if memory is there.
+fn scripted(alloc: Global, script: &[u8]) -> Option<World> {
     let mut links = Vec::new(alloc);
     for file in CHAIN {
         links
             .push(LinkFile::read(alloc, file.as_bytes()).ok()?)
             .ok()?;
     }
-    let events = read_script(alloc, SCRIPT).ok()?;
-    let world = replay(alloc, links, &events).ok()?;
+    let events = read_script(alloc, script).ok()?;
+    replay(alloc, links, &events).ok()
+}
+
+// What the script of the chain says as events and what is told after it, if memory is there.
+fn answered(alloc: Global) -> Option<String> {
+    let world = scripted(alloc, SCRIPT)?;
     told(alloc, 3, &world).ok()
 }
 
@@ -34,5 +40,40 @@ fn a_refused_replay(rt: HostRuntime) -> Result<(), Fail> {
     let second = answered(rt.alloc());
     assert!(rt; is_right(&first) && is_right(&second));
     assert!(rt; first.is_some() || second.is_some());
+    Ok(())
+}
+
+const POSTING: &[u8] = b"POST 0 TEST 00000001 Hello\n";
+
+// The base file of the first system, if memory is there.
+fn first_saved(alloc: Global, world: &World) -> Option<Vec<u8>> {
+    let mut writer = Watched::new(Vec::new(alloc));
+    world.save(0, &mut writer)?.ok()?;
+    Some(writer.into_inner())
+}
+
+// Whether they are the bytes of the posting's base file, where there are any.
+fn is_posted(bytes: &Option<Vec<u8>>) -> bool {
+    match bytes {
+        Some(bytes) => bytes.as_slice() == saved::POSTED,
+        None => true,
+    }
+}
+
+// Whether the base file is saved, the first time or when it is tried again.
+fn is_saved(alloc: Global, world: &World) -> bool {
+    let first = first_saved(alloc, world);
+    let second = first_saved(alloc, world);
+    is_posted(&first) && is_posted(&second) && (first.is_some() || second.is_some())
+}
+
+#[test]
+fn a_refused_save(rt: HostRuntime) -> Result<(), Fail> {
+    let alloc = rt.alloc();
+    let world = match scripted(alloc, POSTING) {
+        Some(world) => Some(world),
+        None => scripted(alloc, POSTING),
+    };
+    assert!(rt; world.is_some_and(|world| is_saved(alloc, &world)));
     Ok(())
 }

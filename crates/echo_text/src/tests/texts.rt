@@ -1,6 +1,6 @@
 use super::{checked, copied, read, view, written};
-use crate::{Echo, EchoView};
-use echo_addr::{Items, NetNode};
+use crate::{Echo, EchoView, Lines, split_line};
+use echo_addr::NetNode;
 use std::alloc::Global;
 use std::test::Fail;
 
@@ -23,24 +23,27 @@ fn entry(net: u16, node: u16) -> NetNode {
     NetNode { net, node }
 }
 
-fn are_lines(kept: &[Items<u8>], want: &[&[u8]]) -> bool {
-    kept.len() == want.len() && kept.iter().zip(want).all(|(a, b)| a.as_slice() == *b)
-}
-
-fn are_slices(kept: &[&[u8]], want: &[&[u8]]) -> bool {
-    kept.len() == want.len() && kept.iter().zip(want).all(|(a, b)| *a == *b)
+fn are_lines(kept: &Lines, want: &[&[u8]]) -> bool {
+    let mut rest = kept.as_text();
+    for line in want {
+        let (first, after) = split_line(rest);
+        if rest.is_empty() || first != *line {
+            return false;
+        }
+        rest = after;
+    }
+    rest.is_empty()
 }
 
 fn is_said(echo: &Echo, want: &Said<'_>) -> bool {
     echo.tag.as_slice() == want.tag
-        && are_lines(echo.kept.as_slice(), want.kept)
+        && are_lines(&echo.kept, want.kept)
         && echo.seen.as_slice() == want.seen
         && echo.path.as_slice() == want.path
 }
 
 fn is_viewed(echo: &EchoView<'_>, want: &Said<'_>) -> bool {
     echo.tag.as_slice() == want.tag
-        && are_slices(echo.kept.as_slice(), want.kept)
         && echo.seen.as_slice() == want.seen
         && echo.path.as_slice() == want.path
 }
@@ -56,7 +59,11 @@ fn is_seen(alloc: Global, text: &[u8], want: &Said<'_>) -> Result<bool, Fail> {
     let text = checked(text).ok_or("a text has no 00")?;
     let (seen, dropped) = view(alloc, text)?;
     let copy = copied(alloc, &seen)?;
-    Ok(is_viewed(&seen, want) && dropped == want.dropped && is_said(&copy, want))
+    let told = is_viewed(&seen, want) && dropped == want.dropped && is_said(&copy, want);
+    match seen.into_echo(alloc) {
+        Ok(moved) => Ok(told && moved == copy),
+        Err(_) => Ok(told),
+    }
 }
 
 #[test]
@@ -175,5 +182,62 @@ fn tear_lines_are_kept(rt: HostRuntime) -> Result<(), Fail> {
     };
     assert!(rt; is_read(rt.alloc(), text, &want)?);
     assert!(rt; is_seen(rt.alloc(), text, &want)?);
+    Ok(())
+}
+
+#[test]
+fn last_lines_without_end(rt: HostRuntime) -> Result<(), Fail> {
+    let body = Said {
+        tag: b"T",
+        kept: &[b"x", b"", b"y"],
+        seen: &[],
+        path: &[],
+        dropped: 0,
+        written: b"AREA:T\rx\r\ry\r",
+    };
+    assert!(rt; is_read(rt.alloc(), b"AREA:T\rx\r\ry", &body)?);
+    assert!(rt; is_seen(rt.alloc(), b"AREA:T\rx\r\ry", &body)?);
+    let tail = Said {
+        tag: b"T",
+        kept: &[b"\x01FOO"],
+        seen: &[],
+        path: &[entry(10, 1)],
+        dropped: 0,
+        written: b"AREA:T\r\x01FOO\r\x01PATH: 10/1\r",
+    };
+    assert!(rt; is_read(rt.alloc(), b"AREA:T\r\x01PATH: 10/1\r\x01FOO", &tail)?);
+    assert!(rt; is_seen(rt.alloc(), b"AREA:T\r\x01PATH: 10/1\r\x01FOO", &tail)?);
+    Ok(())
+}
+
+#[test]
+fn blank_lines_of_the_tail_are_dropped(rt: HostRuntime) -> Result<(), Fail> {
+    let text = b"AREA:T\r\rx\r\r \r\nSEEN-BY: 10/1\r\r\t\r\x01FOO\r\r";
+    let want = Said {
+        tag: b"T",
+        kept: &[b"", b"x", b"\x01FOO"],
+        seen: &[entry(10, 1)],
+        path: &[],
+        dropped: 0,
+        written: b"AREA:T\r\rx\r\x01FOO\rSEEN-BY: 10/1\r",
+    };
+    assert!(rt; is_read(rt.alloc(), text, &want)?);
+    assert!(rt; is_seen(rt.alloc(), text, &want)?);
+    Ok(())
+}
+
+#[test]
+fn texts_of_one_part(rt: HostRuntime) -> Result<(), Fail> {
+    let nothing = Said {
+        tag: b"T",
+        kept: &[],
+        seen: &[],
+        path: &[],
+        dropped: 0,
+        written: b"AREA:T\r",
+    };
+    assert!(rt; is_read(rt.alloc(), b"AREA:T", &nothing)?);
+    assert!(rt; is_seen(rt.alloc(), b"AREA:T\r", &nothing)?);
+    assert!(rt; is_seen(rt.alloc(), b"AREA:T\r\r\n\r", &nothing)?);
     Ok(())
 }

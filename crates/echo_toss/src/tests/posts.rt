@@ -168,10 +168,15 @@ fn is_first(at: &System) -> bool {
         && echo.msgid() == Some(b"1:10/1 00000001".as_slice())
 }
 
+// How many 0D bytes there are.
+fn ends(text: &[u8]) -> usize {
+    text.iter().filter(|b| **b == b'\r').count()
+}
+
 // How many lines the first message has.
 fn lines_of_first(at: &System) -> usize {
     match at.message(0) {
-        Some(message) => message.echo.kept.len(),
+        Some(message) => ends(message.echo.kept.as_text()),
         None => 0,
     }
 }

@@ -1,5 +1,6 @@
 //! What becomes of single messages, and the texts that go out.
 use super::*;
+use echo_text::split_line;
 
 /// What becomes of texts that come one after another, each from the system of this node.
 const OUTCOMES: &[(u16, &[u8], Outcome)] = &[
@@ -88,13 +89,8 @@ fn has_control_lines(system: &System) -> bool {
     let Some(message) = system.message(0) else {
         return false;
     };
-    match message.echo.kept.as_slice() {
-        [_, seen, id, _, _] => {
-            seen.as_slice() == b"SEEN-BY: 10/2".as_slice()
-                && id.as_slice() == b"\x01MSGID: 1:10/9 00000009".as_slice()
-        }
-        _ => false,
-    }
+    let (_, lines) = split_line(message.echo.kept.as_text());
+    lines.starts_with(b"SEEN-BY: 10/2\r\x01MSGID: 1:10/9 00000009\r--- ")
 }
 
 #[test]

@@ -3,6 +3,11 @@ use Rattle.std.proofs.lemmas.Result.{err_from_is_err_and}
 use Rattle.echo_commands.proofs.Stationed.{post_refused, post_unsaved}
 use Rattle.echo_commands.proofs.posting.post_given.Goals as goal
 
+pub returns-in_err-draft : goal.returns-in_err-draft
+returns-in_err-draft g c =
+    let p = err_from_is_err_and c.from_residual-in_err-draft.result c.from_residual-in_err-draft.ensures.1 in
+    rw (p.1, p.2) (inl (inr (tt, refl)))
+
 pub returns-in_err-post : goal.returns-in_err-post
 returns-in_err-post g c =
     let p = err_from_is_err_and c.from_residual-in_err-post.result c.from_residual-in_err-post.ensures.1 in

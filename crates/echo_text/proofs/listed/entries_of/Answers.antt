@@ -1,35 +1,16 @@
-use Rattle.std.proofs.Common.{ap, map, ◌∙◌, ◌+◌, ◌++◌, drop, arith}
-use Rattle.echo_addr.specs.Entries.{dropped, entries}
-use Rattle.echo_text.proofs.EachLine.{dropped_more, dropped_same, found_more, found_same, next_seen}
+use Rattle.std.proofs.Common.{ap, length, sym, ◌++◌, ◌∙◌, arith}
+use Rattle.std.proofs.lemmas.Bool.{eqb-true}
+use Rattle.std.proofs.lemmas.List.{append-nil}
 use Rattle.echo_text.specs.Tail.{all_dropped, all_entries, lists_of}
+use Rattle.echo_text.proofs.TextLines.{no_lines}
 use Rattle.echo_text.proofs.listed.entries_of.Goals as goal
-use Rattle.echo_text.proofs.listed.entries_of.Goals.{in-Some+in_ok-dropped, in_default}
 
-pub overflow_add-dropped : goal.overflow_add-dropped
-overflow_add-dropped c =
-    let step =
-    dropped_more c.args.word.now _ _ _ (next_seen (λ line. line.now) c.args.lines.now c.lines.line-index _ c.lines-test.true)
-    c.lines.dropped _ _ c.lines.invariant.1 c.in-Some.ensures.0
-    (c.in_ok-dropped.ensures.dropped ∙ ap dropped c.in-Some.ensures.1)
-    in
-    omega (arith, step, c.requires)
+pub returns-clause-entries : goal.returns-clause-entries
+returns-clause-entries c =
+    let none = no_lines c.lines.rest.now (eqb-true (length c.lines.rest.now) 0 (sym c.is_empty.ensures ∙ c.lines-test.false)) in
+    sym (append-nil c.lines.found.items) ∙ ap (λ ls. c.lines.found.items ++ all_entries (lists_of c.args.word.now ls)) (sym none) ∙ c.lines.invariant.0
 
-pub lines-preserved : goal.lines-preserved
-lines-preserved c = elim c.match-after_word.branch [
-  | in-Some+in_ok-dropped w ↦
-      let next = next_seen (λ line. line.now) c.args.lines.now c.lines.line-index _ c.lines-test.true in (
-        found_more c.args.word.now _ _ _ next c.lines.found.items c.match-after_word.found.items _ c.lines.invariant.0 w.in-Some.ensures.0
-            (ap (λ v. v.items) w.found-is ∙ w.in_ok-dropped.ensures.entries
-            ∙ ap (λ list. c.lines.found.items ++ entries list) w.in-Some.ensures.1),
-        ap (λ n. n + all_dropped (lists_of c.args.word.now (drop (c.lines.line-index + 1) (map (λ line. line.now) c.args.lines.now)))) w.dropped-is
-            ∙ dropped_more c.args.word.now _ _ _ next c.lines.dropped _ _ c.lines.invariant.1 w.in-Some.ensures.0
-            (w.in_ok-dropped.ensures.dropped ∙ ap dropped w.in-Some.ensures.1),
-      )
-  | in_default w ↦
-      let next = next_seen (λ line. line.now) c.args.lines.now c.lines.line-index _ c.lines-test.true in (
-        ap (λ v. v.items ++ all_entries (lists_of c.args.word.now (drop (c.lines.line-index + 1) (map (λ line. line.now) c.args.lines.now)))) w.found-is
-            ∙ found_same c.args.word.now _ _ _ next c.lines.found.items _ c.lines.invariant.0 w.in_default.ensures,
-        ap (λ n. n + all_dropped (lists_of c.args.word.now (drop (c.lines.line-index + 1) (map (λ line. line.now) c.args.lines.now)))) w.dropped-is
-            ∙ dropped_same c.args.word.now _ _ _ next c.lines.dropped _ c.lines.invariant.1 w.in_default.ensures,
-      )
-]
+pub returns-clause-dropped : goal.returns-clause-dropped
+returns-clause-dropped c =
+    let none = no_lines c.lines.rest.now (eqb-true (length c.lines.rest.now) 0 (sym c.is_empty.ensures ∙ c.lines-test.false)) in
+    omega (arith, ap (λ ls. all_dropped (lists_of c.args.word.now ls)) none, c.lines.invariant.1)

@@ -1,4 +1,4 @@
-use Rattle.std.proofs.Common.{ap, map, ◌∙◌}
+use Rattle.std.proofs.Common.{refl, ◌∙◌}
 use Rattle.echo_text.proofs.Reread.{read_is_echo}
 use Rattle.echo_text.proofs.SaidAfter.{answers_memory, answers_refusal, read_text_is, refusal_is, says_same}
 use Rattle.echo_text.proofs.reading.view_text.Goals as goal
@@ -21,7 +21,7 @@ returns-in_err-parts c =
 pub invariant_of-view : goal.invariant_of-view
 invariant_of-view c =
     let says =
-    says_same _ _ _ _ _ _ _ _ c.in_ok-parts.ensures (ap (map (λ line. line.now)) c.new-2.ensures) c.new-3.ensures c.new-4.ensures
+    says_same _ _ _ _ _ _ _ _ c.in_ok-parts.ensures refl c.new-2.ensures c.new-3.ensures
     in
     read_is_echo c.args.text.now _ _ c.requires
     (read_text_is c.args.text.now c.split_line.result.0.now c.split_line.result.1.now _ _ _ _ _ c.split_line.ensures.first c.split_line.ensures.later
@@ -30,7 +30,7 @@ invariant_of-view c =
 pub returns : goal.returns
 returns c =
     let says =
-    says_same _ _ _ _ _ _ _ _ c.in_ok-parts.ensures (ap (map (λ line. line.now)) c.new-2.ensures) c.new-3.ensures c.new-4.ensures
+    says_same _ _ _ _ _ _ _ _ c.in_ok-parts.ensures refl c.new-2.ensures c.new-3.ensures
     in
     read_text_is c.args.text.now c.split_line.result.0.now c.split_line.result.1.now _ _ _ _ _ c.split_line.ensures.first c.split_line.ensures.later
     c.in_ok-raw.ensures.refused (c.new.ensures ∙ c.in_ok-tag.ensures ∙ c.in_ok-raw.ensures.tag) says

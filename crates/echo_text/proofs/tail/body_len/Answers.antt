@@ -1,32 +1,42 @@
-use Rattle.std.proofs.Common.{sym, ◌∙◌, arith}
-use Rattle.echo_text.proofs.Tails.{body_seen, ends_at_start, ends_here, ends_more, tail_seen}
+use Rattle.std.proofs.Common.{ap, sym, take, ◌∙◌, arith}
+use Rattle.std.proofs.lemmas.List.{take_rest}
+use Rattle.echo_text.specs.Lines.{first_line, lines}
+use Rattle.echo_text.specs.Tail.{is_tail_line}
+use Rattle.echo_text.proofs.LastLines.{all_is_tail, body_found, ends_at_end, ends_earlier, no_body, tail_found}
 use Rattle.echo_text.proofs.tail.body_len.Goals as goal
 
+pub ends-init : goal.ends-init
+ends-init c = ends_at_end c.args.text.now
+
 pub ends-preserved : goal.ends-preserved
-ends-preserved c = (
-  omega arith,
-  ends_more (λ line. line.now) c.args.lines.now c.ends.n _ c.ends-test.true c.ends.invariant.0 c.ends.invariant.1
-      (sym c.is_tail_line.ensures ∙ c.if-is_tail_line.true),
-)
+ends-preserved c =
+    let front = take c.ends.end c.args.text.now in
+    let at = c.last_line_start-start.result in
+    let said = c.last_line_start-start.ensures in
+    let line = ap is_tail_line (sym (c.split_line.ensures.first ∙ ap (λ t. first_line (lines t)) (take_rest front at))) in
+    ends_earlier c.args.text.now c.ends.end at c.ends.invariant (record { within = said.within; before = said.before; last = said.last })
+    (line ∙ sym c.is_tail_line.ensures ∙ c.if-not-is_tail_line.false)
 
-pub returns-else-is_tail_line-clause-body : goal.returns-else-is_tail_line-clause-body
-returns-else-is_tail_line-clause-body c =
-    body_seen (λ line. line.now) c.args.lines.now c.ends.n
-    (ends_here (λ line. line.now) c.args.lines.now c.ends.n _ c.ends-test.true c.ends.invariant.0 c.ends.invariant.1
-    (sym c.is_tail_line.ensures ∙ c.if-is_tail_line.false))
+pub returns-then-not-is_tail_line-clause-body : goal.returns-then-not-is_tail_line-clause-body
+returns-then-not-is_tail_line-clause-body c =
+    let front = take c.ends.end c.args.text.now in
+    let at = c.last_line_start-start.result in
+    let said = c.last_line_start-start.ensures in
+    let line = ap is_tail_line (sym (c.split_line.ensures.first ∙ ap (λ t. first_line (lines t)) (take_rest front at))) in
+    body_found c.args.text.now c.ends.end at c.ends.invariant (record { within = said.within; before = said.before; last = said.last })
+    (line ∙ sym c.is_tail_line.ensures ∙ c.if-not-is_tail_line.true)
 
-pub returns-else-is_tail_line-clause-tail : goal.returns-else-is_tail_line-clause-tail
-returns-else-is_tail_line-clause-tail c =
-    tail_seen (λ line. line.now) c.args.lines.now c.ends.n
-    (ends_here (λ line. line.now) c.args.lines.now c.ends.n _ c.ends-test.true c.ends.invariant.0 c.ends.invariant.1
-    (sym c.is_tail_line.ensures ∙ c.if-is_tail_line.false))
+pub returns-then-not-is_tail_line-clause-tail : goal.returns-then-not-is_tail_line-clause-tail
+returns-then-not-is_tail_line-clause-tail c =
+    let front = take c.ends.end c.args.text.now in
+    let at = c.last_line_start-start.result in
+    let said = c.last_line_start-start.ensures in
+    let line = ap is_tail_line (sym (c.split_line.ensures.first ∙ ap (λ t. first_line (lines t)) (take_rest front at))) in
+    tail_found c.args.text.now c.ends.end at c.ends.invariant (record { within = said.within; before = said.before; last = said.last })
+    (line ∙ sym c.is_tail_line.ensures ∙ c.if-not-is_tail_line.true)
 
-pub returns-after-ends-clause-body : goal.returns-after-ends-clause-body
-returns-after-ends-clause-body c =
-    body_seen (λ line. line.now) c.args.lines.now c.ends.n
-    (ends_at_start (λ line. line.now) c.args.lines.now c.ends.n c.ends-test.false c.ends.invariant.1)
+pub returns-clause-body : goal.returns-clause-body
+returns-clause-body c = no_body c.args.text.now c.ends.end (omega arith) c.ends.invariant
 
-pub returns-after-ends-clause-tail : goal.returns-after-ends-clause-tail
-returns-after-ends-clause-tail c =
-    tail_seen (λ line. line.now) c.args.lines.now c.ends.n
-    (ends_at_start (λ line. line.now) c.args.lines.now c.ends.n c.ends-test.false c.ends.invariant.1)
+pub returns-clause-tail : goal.returns-clause-tail
+returns-clause-tail c = all_is_tail c.args.text.now c.ends.end (omega arith) c.ends.invariant

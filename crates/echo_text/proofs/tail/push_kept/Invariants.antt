@@ -1,9 +1,14 @@
-use Rattle.std.proofs.Common.{◌≡◌, ◌++◌, take, map}
-use Rattle.std.specs.List.{filter}
+use Rattle.std.proofs.Common.{◌≡◌, ◌++◌, length}
+use Rattle.std.specs.List.{filter, flat_map}
+use Rattle.echo_text.specs.Lines.{lines}
 use Rattle.echo_text.specs.Tail.{is_kept_control}
+use Rattle.echo_text.specs.Echo.{ended}
 use Rattle.echo_text.proofs.tail.push_kept.Given as goal
 
-abbrev pub invariant-tail : goal.invariant-tail
-invariant-tail l =
-    map (λ line. line.now) l.kept.items
-    ≡ map (λ line. line.now) l.fn.kept.items ++ filter is_kept_control (take l.line-index (map (λ line. line.now) l.tail))
+abbrev pub invariant-lines : goal.invariant-lines
+invariant-lines l =
+    l.text.items ++ flat_map ended (filter is_kept_control (lines l.rest))
+    ≡ l.initial.text.items ++ flat_map ended (filter is_kept_control (lines l.tail))
+
+abbrev pub decreases-lines : goal.decreases-lines
+decreases-lines l = length l.rest

@@ -35,3 +35,9 @@ invariant_of-result c = subst IsFiled (sym (made c)) (filed c)
 
 pub returns : goal.returns
 returns c = made c
+
+pub posted_lines-requires : goal.posted_lines-requires
+unfolding posted
+posted_lines-requires c =
+    (posted_filed c.args.links.now [] c.args.tag.now c.args.draft.now c.args.serial c.args.stamp c.system.ensures.file
+    (draft_allowed c.args.links.now [] c.args.tag.now c.args.draft.now c.args.serial c.args.stamp c.requires refl)).is_echo.kept_lines

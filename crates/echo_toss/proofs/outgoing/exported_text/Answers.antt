@@ -1,9 +1,37 @@
-use Rattle.std.proofs.Common.{◌∙◌, ap}
+use Rattle.std.proofs.Common.{◌++◌, ◌∷◌, [], List, AllPairs, ap, sym, subst, ◌∙◌}
+use Rattle.echo_addr.specs.declared.address.NetNode.{NetNode}
+use Rattle.echo_addr.specs.Address.{net_node_of}
+use Rattle.echo_addr.specs.ShortLines.{ComesBefore}
+use Rattle.echo_text.specs.Echo.{EchoText, IsEcho}
 use Rattle.echo_base.specs.Written.{text_of}
-use Rattle.echo_toss.proofs.Exports.{written_is}
+use Rattle.echo_steps.proofs.Copies.{exported_is_echo}
+use Rattle.echo_toss.proofs.Exports.{exported_made, written_is}
 use Rattle.echo_toss.proofs.outgoing.exported_text.Goals as goal
+
+pub write_parts-requires : goal.write_parts-requires
+write_parts-requires c =
+    let view = c.echo.view_is in
+    let is =
+    exported_made c.args.links.now c.args.echo.now c.net_node-own.result c.links_of-all.result.now c.as_slice-tag.result.now c.echo.inside.kept
+    c.as_slice.result.now c.in_ok-seen.seen c.as_slice-2.result.now c.push.new.self.items
+    (c.net_node-own.ensures ∙ ap net_node_of c.system.ensures.own) c.links_of-all.ensures (c.as_slice-tag.ensures ∙ ap (λ (x : EchoText). x.tag) view)
+    (ap (λ (x : EchoText). x.kept) view) (c.as_slice.ensures ∙ ap (λ (x : EchoText). x.seen) view) c.in_ok-seen.ensures
+    (c.as_slice-2.ensures ∙ ap (λ (x : EchoText). x.path) view) (c.in_ok-push.ensures.items ∙ ap (λ (l : List NetNode). l ++ c.net_node-own.result ∷ []) c.in_ok-path.ensures.items)
+    in
+    let made = subst IsEcho (sym is) (exported_is_echo c.args.links.now c.system.ensures.file c.args.echo.now (subst IsEcho view c.echo.invariant)) in
+    let P : List NetNode → Type 0 = AllPairs ComesBefore in
+    subst P (sym c.as_slice-3.ensures) made.ascending
 
 pub returns : goal.returns
 returns c =
-    c.new.ensures ∙ written_is c.in_ok-copy.copy c.in_ok-text.text.items c.in_ok-copy.ensures.is_echo c.in_ok-text.ensures
-    ∙ ap text_of c.in_ok-copy.ensures.value
+    let view = c.echo.view_is in
+    let is =
+    exported_made c.args.links.now c.args.echo.now c.net_node-own.result c.links_of-all.result.now c.as_slice-tag.result.now c.echo.inside.kept
+    c.as_slice.result.now c.as_slice-3.result.now c.as_slice-2.result.now c.deref.result.now
+    (c.net_node-own.ensures ∙ ap net_node_of c.system.ensures.own) c.links_of-all.ensures (c.as_slice-tag.ensures ∙ ap (λ (x : EchoText). x.tag) view)
+    (ap (λ (x : EchoText). x.kept) view) (c.as_slice.ensures ∙ ap (λ (x : EchoText). x.seen) view) (c.as_slice-3.ensures ∙ c.in_ok-seen.ensures)
+    (c.as_slice-2.ensures ∙ ap (λ (x : EchoText). x.path) view) (c.deref.ensures.value ∙ c.in_ok-push.ensures.items ∙ ap (λ (l : List NetNode). l ++ c.net_node-own.result ∷ []) c.in_ok-path.ensures.items)
+    in
+    let made = subst IsEcho (sym is) (exported_is_echo c.args.links.now c.system.ensures.file c.args.echo.now (subst IsEcho view c.echo.invariant)) in
+    let said : EchoText = record { tag = c.as_slice-tag.result.now; kept = c.echo.inside.kept; seen = c.as_slice-3.result.now; path = c.deref.result.now } in
+    c.new.ensures ∙ written_is said c.in_ok-text.text.items made c.in_ok-text.ensures ∙ ap text_of is

@@ -25,6 +25,6 @@ returns c =
     let to_name = c.as_slice-to_name.ensures ∙ ap (λ x. x.to_name) c.message-inside.view_is ∙ ap (λ x. x.to_name) c.message.view_is in
     let from_name = c.as_slice-from_name.ensures ∙ ap (λ x. x.from_name) c.message-inside.view_is ∙ ap (λ x. x.from_name) c.message.view_is in
     let subject = c.as_slice-subject.ensures ∙ ap (λ x. x.subject) c.message-inside.view_is ∙ ap (λ x. x.subject) c.message.view_is in
-    let kept = c.in_ok-kept.ensures ∙ c.as_slice.ensures ∙ ap (λ x. x.echo.kept) c.message-inside.view_is ∙ ap (λ x. x.echo.kept) c.message.view_is in
+    let kept = c.in_ok-kept.ensures ∙ ap (λ x. x.echo.kept) c.message-inside.view_is ∙ ap (λ x. x.echo.kept) c.message.view_is in
     let P : Key → Type 0 = λ k. IfOk c.by_content.result (λ key. key ≡ k) in
     subst P ((λ i. ByContent (tag i) (date i) (to_name i) (from_name i) (subject i) (kept i)) ∙ key_told m None told) c.by_content.ensures

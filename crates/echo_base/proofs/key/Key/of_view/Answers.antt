@@ -1,4 +1,4 @@
-use Rattle.std.proofs.Common.{◌≡◌, ◌∙◌, ap, map, sym, Result, Ok, Err, Option, Some, None}
+use Rattle.std.proofs.Common.{◌≡◌, ◌∙◌, ap, sym, Result, Ok, Err, Option, Some, None}
 use Rattle.std.specs.Prelude.{IfOk, option_copied}
 use Rattle.echo_addr.specs.declared.address.Address.{Address}
 use Rattle.echo_base.specs.declared.key.Key.{Key}
@@ -39,6 +39,6 @@ returns c =
       echo = c.args.view.now;
     } in
     let tag = c.as_slice-tag.ensures ∙ ap (λ e. e.tag) c.view.view_is in
-    let kept = c.in_ok-kept.ensures ∙ ap (map (λ line. line.now)) c.as_slice.ensures ∙ ap (λ e. e.kept) c.view.view_is in
-    each c.by_content.result (ByContent c.as_slice-tag.result.now c.args.date.now c.args.to_name.now c.args.from_name.now c.args.subject.now c.in_ok-kept.kept.items) (λ sender. key_of (of sender))
+    let kept = c.in_ok-kept.ensures ∙ ap (λ e. e.kept) c.view.view_is in
+    each c.by_content.result (ByContent c.as_slice-tag.result.now c.args.date.now c.args.to_name.now c.args.from_name.now c.args.subject.now c.in_ok-kept.kept) (λ sender. key_of (of sender))
     (λ sender. (λ i. ByContent (tag i) c.args.date.now c.args.to_name.now c.args.from_name.now c.args.subject.now (kept i)) ∙ key_told (of sender) None told) c.by_content.ensures

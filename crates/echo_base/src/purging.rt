@@ -1,0 +1,78 @@
+//! A purge: the messages of a base become their stubs, from those on that are not known to be stubs.
+ghost use Rattle.std.specs.Prelude.{◌≡◌, ◌<◌, ◌≤◌, map, take, drop, true, false, ◌++◌, slice_get, slice_set, IfOk, IfSome};
+ghost use Rattle.std.specs.List.{AllByRecursion};
+ghost use Rattle.echo_base.specs.Stubs.{is_stub, lines_left, stub_of};
+ghost use Rattle.indexmap.specs.IndexMap.{index_map_len, keys, values};
+
+use crate::filed::Filed;
+use crate::key::Key;
+use crate::stub::{is_stub, leave, stub_lines};
+use echo_text::Lines;
+use indexmap::IndexMap;
+use std::alloc::{AllocError, Global};
+use std::hash::BuildHasher;
+
+/// The lines that a purge leaves of each message before the cursor that it changes, in order. Those
+/// before `start` are stubs.
+pub(crate) fn lines_left<S: BuildHasher>(
+    alloc: Global,
+    entries: &IndexMap<Key, Filed, S>,
+    start: usize,
+    cursor: usize,
+) -> Result<Vec<Lines>, AllocError>
+    requires within { cursor ≤ index_map_len entries.now }
+    requires order { start ≤ cursor }
+    requires stubs { AllByRecursion (λ m. is_stub m ≡ true) (take start (values entries.now)) }
+    ensures { IfOk result (λ lines. lines.items ≡ lines_left (take cursor (values entries.now))) }
+{
+    let mut all = Vec::new(alloc);
+    'messages: for i in start..cursor {
+        let message = &entries[i];
+        if !is_stub(message) {
+            all.push(stub_lines(alloc, message)?)?;
+        }
+    }
+    Ok(all)
+}
+
+// Puts the stub of the message at this place in its place.
+fn put_stub<S: BuildHasher>(
+    alloc: Global,
+    entries: &mut IndexMap<Key, Filed, S>,
+    i: usize,
+    lines: Lines,
+)
+    requires within { i < index_map_len entries.old }
+    requires changed { IfSome (slice_get (values entries.old) i) (λ m. is_stub m ≡ false) }
+    requires own { IfSome (slice_get (values entries.old) i) (λ m. lines ≡ (stub_of m).echo.kept) }
+    ensures keys { keys entries.new ≡ keys entries.old }
+    ensures values { IfSome (slice_get (values entries.old) i) (λ m. values entries.new ≡ slice_set (values entries.old) i (stub_of m)) }
+{
+    leave(alloc, &mut entries[i], lines);
+}
+
+/// Puts the stubs of the messages before the cursor in their places. These are the lines left. Those
+/// before `start` are stubs.
+pub(crate) fn put_stubs<S: BuildHasher>(
+    alloc: Global,
+    entries: &mut IndexMap<Key, Filed, S>,
+    start: usize,
+    cursor: usize,
+    lines: Vec<Lines>,
+)
+    requires within { cursor ≤ index_map_len entries.old }
+    requires order { start ≤ cursor }
+    requires stubs { AllByRecursion (λ m. is_stub m ≡ true) (take start (values entries.old)) }
+    requires own { lines.items ≡ lines_left (take cursor (values entries.old)) }
+    ensures keys { keys entries.new ≡ keys entries.old }
+    ensures values { values entries.new ≡ map stub_of (take cursor (values entries.old)) ++ drop cursor (values entries.old) }
+{
+    let mut lines = lines;
+    'places: for i in (start..cursor).rev() {
+        if !is_stub(&entries[i]) {
+            if let Some(own) = lines.pop() {
+                put_stub(alloc, entries, i, own);
+            }
+        }
+    }
+}

@@ -1,0 +1,60 @@
+//! The base files of a replayed net, by the layout of base files.
+use super::*;
+use echo_base::BaseFault;
+use echo_device::{Trial, Watched};
+
+const EMPTY: &[u8] = b"ECHOBAS2\0\0\0\0\0\0\0\0";
+
+/// The posting of the chain, not scanned.
+pub(super) const POSTED: &[u8] = b"ECHOBAS2\0\0\0\0\x01\0\0\0\
+    \0\0\0\0\0\0\001 Jan 00  00:00:00\0\x03All\x05Sysop\x0800000001\x50\0\0\0\
+    AREA:TEST\r\x01MSGID: 1:10/1 00000001\rHello\r--- echonet\r * Origin: echonet (1:10/1)\r";
+
+/// The same, scanned and purged.
+const PURGED: &[u8] = b"ECHOBAS2\x01\0\0\0\x01\0\0\0\
+    \x02\0\0\0\0\0\001 Jan 00  00:00:00\0\x03All\x05Sysop\x0800000001\x04TEST\x0f\0\0\01:10/1 00000001";
+
+/// The same at the second system, which it came to.
+const RECEIVED: &[u8] = b"ECHOBAS2\0\0\0\0\x01\0\0\0\
+    \x01\x01\0\x0a\0\x01\001 Jan 00  00:00:00\0\x03All\x05Sysop\x0800000001\x6c\0\0\0\
+    AREA:TEST\r\x01MSGID: 1:10/1 00000001\rHello\r--- echonet\r * Origin: echonet (1:10/1)\r\
+    SEEN-BY: 10/1 2\r\x01PATH: 10/1\r";
+
+/// What happens on the chain, a system, and its base file, none where there is no such system.
+const SAVED: &[(&[Step], usize, Option<&[u8]>)] = &[
+    (&[], 0, Some(EMPTY)),
+    (&[Post(0)], 0, Some(POSTED)),
+    (&[Post(0)], 1, Some(EMPTY)),
+    (&[Post(0), Scan(0), Purge(0)], 0, Some(PURGED)),
+    (&[Post(0), Scan(0), Deliver(0)], 1, Some(RECEIVED)),
+    (&[Post(0)], 3, None),
+];
+
+#[test]
+fn base_files(rt: HostRuntime) -> Result<(), Fail> {
+    let alloc = rt.alloc();
+    for (steps, system, expected) in SAVED {
+        let world = played(alloc, CHAIN, *steps)?;
+        let mut writer = Watched::new(Vec::new(alloc));
+        let answer = world.save(*system, &mut writer);
+        let wanted = expected.map(|_| Ok(()));
+        assert!(rt; answer == wanted);
+        assert!(rt; writer.into_inner().as_slice() == expected.unwrap_or(b""));
+    }
+    Ok(())
+}
+
+#[test]
+fn failing_writers(rt: HostRuntime) -> Result<(), Fail> {
+    let alloc = rt.alloc();
+    let world = played(alloc, CHAIN, &[Post(0)])?;
+    for left in 0..POSTED.len() {
+        let bytes = left as u64;
+        let mut writer = Watched::new(Trial::new(Vec::new(alloc), 7, 1, bytes));
+        let answer = world.save(0, &mut writer);
+        assert!(rt; answer == Some(Err(BaseFault::Write { bytes })));
+        let went = writer.into_inner().into_inner();
+        assert!(rt; Some(went.as_slice()) == POSTED.get(..left));
+    }
+    Ok(())
+}

@@ -1,5 +1,0 @@
-use Rattle.std.proofs.Common.{◌≡◌, map, take}
-use Rattle.echo_text.proofs.copying.copies.Given as goal
-
-abbrev pub invariant-lines : goal.invariant-lines
-invariant-lines l = l.copies.items ≡ map (λ line. line.now) (take l.line-index l.lines)

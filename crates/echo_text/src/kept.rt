@@ -1,0 +1,175 @@
+use crate::found;
+use crate::lines::push_lines;
+use crate::tail::{kept_len, push_kept};
+use echo_addr::Items;
+use std::alloc::{AllocError, Global};
+use std::hash::{Hash, Hasher};
+use std::marker::Model;
+
+/// Lines one after another in one piece of memory, each with its 0D, seen by contracts as the list of
+/// the lines.
+#[derive(Debug, Drop)]
+pub struct Lines {
+    text: Items<u8>,
+}
+
+impl Model for Lines {
+    ghost use Rattle.std.specs.Prelude.{ℕ, List};
+
+    ghost Value = { List (List ℕ) };
+
+    ghost use Rattle.echo_text.specs.Lines.{lines};
+    ghost use Rattle.echo_text.specs.Echo.{IsEnded};
+
+    ghost view = { λ l. lines l.text };
+
+    ghost invariant = { λ l. IsEnded l.text };
+}
+
+impl Lines {
+    ghost use Rattle.std.specs.Prelude.{◌≡◌, IfOk};
+    ghost use Rattle.std.specs.List.{flat_map};
+    ghost use Rattle.echo_text.specs.Lines.{lines};
+    ghost use Rattle.echo_text.specs.Echo.{IsEnded, ended};
+
+    /// The lines of the text, each of which has its 0D.
+    pub fn of_text(text: Vec<u8>) -> Lines
+        requires { IsEnded text.items }
+        ensures { result ≡ lines text.items }
+    {
+        Lines {
+            text: Items::new(text),
+        }
+    }
+
+    /// The lines one after another, each with its 0D.
+    pub fn as_text(&self) -> &[u8]
+        ensures bytes { result.now ≡ flat_map ended self.now }
+        ensures lines { lines result.now ≡ self.now }
+    {
+        self.text.as_slice()
+    }
+
+    /// The same lines in memory of their own.
+    pub fn copy(&self, alloc: Global) -> Result<Lines, AllocError>
+        ensures { IfOk result (λ lines. lines ≡ self.now) }
+    {
+        let text = Vec::from_slice(alloc, self.as_text())?;
+        Ok(Lines::of_text(text))
+    }
+}
+
+impl PartialEq for Lines {
+    ghost use Rattle.std.specs.Str.{bytes_eq};
+    ghost use Rattle.std.specs.Cmp.{nat_eq_equiv, partial_equiv_from_equiv};
+    ghost use Rattle.std.specs.Cmp.Lexicographic.{lists_per, pointwise};
+
+    ghost eq = { pointwise bytes_eq };
+
+    ghost laws = { lists_per (lists_per (partial_equiv_from_equiv nat_eq_equiv)) };
+
+    fn eq(&self, other: &Self) -> bool {
+        self.text == other.text
+    }
+}
+
+impl Eq for Lines {
+    ghost use Rattle.std.specs.Cmp.{nat_eq_equiv};
+    ghost use Rattle.std.specs.Cmp.Lexicographic.{lists_equiv};
+
+    ghost laws = { lists_equiv (lists_equiv nat_eq_equiv) };
+}
+
+impl Hash for Lines {
+    ghost use Rattle.std.specs.List.{flat_map};
+    ghost use Rattle.std.specs.Hash as fed;
+    ghost use Rattle.std.specs.Hash.{same_Alike};
+    ghost use Rattle.std.specs.Cmp.Lexicographic.{bytes_decides, pointwise_decides};
+    ghost use Rattle.echo_text.specs.Echo.{ended};
+
+    ghost hash_input = { λ lines. fed.slice fed.u8 (flat_map ended lines) };
+
+    ghost respects_eq = { (same_Alike (λ lines. fed.slice fed.u8 (flat_map ended lines)) (pointwise_decides bytes_decides)).fed };
+
+    fn hash<H: Hasher>(&self, state: &mut H) {
+        self.as_text().hash(state);
+    }
+}
+
+/// The kept lines of a text, slices of it: the lines of its body, and those of its control tail that
+/// are kept.
+#[derive(Debug, Drop)]
+pub struct KeptView<'a> {
+    body: &'a [u8],
+    tail: &'a [u8],
+}
+
+impl<'a> Model for KeptView<'a> {
+    ghost use Rattle.std.specs.Prelude.{ℕ, List, ◌++◌, filter};
+
+    ghost Value = { List (List ℕ) };
+
+    ghost use Rattle.echo_text.specs.Lines.{lines};
+    ghost use Rattle.echo_text.specs.Tail.{is_kept_control};
+
+    ghost view = { λ k. lines k.body.now ++ filter is_kept_control (lines k.tail.now) };
+}
+
+impl<'a> KeptView<'a> {
+    ghost use Rattle.std.specs.Prelude.{◌≡◌, ◌++◌, filter, IfOk, option_copied};
+    ghost use Rattle.echo_text.specs.Lines.{lines};
+    ghost use Rattle.echo_text.specs.Tail.{is_kept_control};
+    ghost use Rattle.echo_text.specs.Echo.{msgid_of, origin_of, reply_of, tear_of};
+
+    /// The lines of the body, and those of the tail that are kept.
+    pub(crate) fn new(body: &'a [u8], tail: &'a [u8]) -> KeptView<'a>
+        ensures { result ≡ lines body.now ++ filter is_kept_control (lines tail.now) }
+    {
+        KeptView { body, tail }
+    }
+
+    /// The same lines in memory of their own.
+    pub fn to_lines(&self, alloc: Global) -> Result<Lines, AllocError>
+        ensures { IfOk result (λ lines. lines ≡ self.now) }
+    {
+        let room = self.body.len().saturating_add(1);
+        let mut text = Vec::with_capacity(alloc, room.saturating_add(kept_len(self.tail)))?;
+        push_lines(&mut text, self.body)?;
+        push_kept(&mut text, self.tail)?;
+        Ok(Lines::of_text(text))
+    }
+
+    /// The id of the message.
+    pub(crate) fn msgid(&self) -> Option<&[u8]>
+        ensures { option_copied result ≡ msgid_of self.now }
+    {
+        match found::msgid(self.body) {
+            Some(id) => Some(id),
+            None => found::msgid(self.tail),
+        }
+    }
+
+    /// The id of the message replied to.
+    pub(crate) fn reply(&self) -> Option<&[u8]>
+        ensures { option_copied result ≡ reply_of self.now }
+    {
+        match found::reply(self.body) {
+            Some(id) => Some(id),
+            None => found::reply(self.tail),
+        }
+    }
+
+    /// The last tear line. None stands in a tail.
+    pub(crate) fn tear(&self) -> Option<&[u8]>
+        ensures { option_copied result ≡ tear_of self.now }
+    {
+        found::tear(self.body)
+    }
+
+    /// The last origin line. None stands in a tail.
+    pub(crate) fn origin(&self) -> Option<&[u8]>
+        ensures { option_copied result ≡ origin_of self.now }
+    {
+        found::origin(self.body)
+    }
+}

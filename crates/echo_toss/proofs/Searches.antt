@@ -1,0 +1,87 @@
+-- A binary search in a set of addresses finds just its members.
+use Rattle.std.proofs.Common.{◌≡◌, ℕ, zero, suc, ◌+◌, ◌<◌, Bool, true, false, List, [], ◌∷◌, length, get_or, Result, Ok, Err, is_ok, refl, sym, ap, subst, ◌∙◌, ◌⊎◌, inl, inr, arith}
+use Rattle.std.specs.declared.cmp.Ordering.{Ordering}
+use Rattle.std.specs.declared.cmp.Ordering.TheVariants.{Less, Equal, Greater}
+use Rattle.std.specs.Ordering.{is_eq, is_lt, ordering_index}
+use Rattle.std.specs.List.{list_any}
+use Rattle.std.specs.List.Sorted.{IsBinarySearchResult, IsNonDecreasingBy, IsSearchInRange, IsSorted}
+use Rattle.std.proofs.lemmas.Bool.{cases_Bool, false_from_ne_true, ltb-false, ltb-true, or_cases, or_from, or_left, or_right, true≢false}
+use Rattle.std.proofs.lemmas.List.Sorted.{searchable_from_sorted}
+use Rattle.std.specs.Prelude.{nat_lt}
+use Rattle.echo_addr.specs.declared.address.Address.{Address}
+use Rattle.echo_base.specs.Sets.{address_before, address_set, same_address}
+use Rattle.echo_base.proofs.Choices.{IsIn}
+use Rattle.echo_base.proofs.Orders.{address_order, same_address_decides}
+use Rattle.echo_base.proofs.Sets.{Ascending, ascending_pairs, set_ascending, set_keeps, set_only}
+use Rattle.echo_toss.proofs.AscendingSets.{address_cmp, less_before, ties, total}
+
+-- of two addresses that ascend, the later is not less
+not_less : (x y : Address) → address_before x y ≡ true → is_lt (address_cmp y x) ≡ false
+not_less x y up = by (address_cmp y x) refl
+  where
+    by : (o : Ordering) → address_cmp y x ≡ o → is_lt o ≡ false
+    by Less e = absurd (true≢false (sym (address_order.chain x y x up (less_before y x e)) ∙ address_order.apart x))
+    by Equal e = refl
+    by Greater e = refl
+
+sorted_set : (all : List Address) → Ascending address_before all → IsSorted address_cmp all
+sorted_set all up = λ k d low high. not_less (get_or all k d) (get_or all (k + 1) d) (ascending_pairs address_before all up k (k + 1) d (omega arith) high)
+
+-- along a set the comparisons with an address rise
+set_rises : (all : List Address) → address_set all ≡ all → (x : Address) → IsNonDecreasingBy (λ y. ordering_index (address_cmp y x)) all
+unfolding address_set
+set_rises all same x =
+    searchable_from_sorted total (λ y. y) all x (sorted_set all (subst (Ascending address_before) same (set_ascending address_before address_order all)))
+
+none_passes : {X : Type 0} (p : X → Bool) (xs : List X) → ((k : ℕ) (d : X) → k < length xs → p (get_or xs k d) ≡ false) → list_any p xs ≡ false
+none_passes p [] h = refl
+none_passes p (x ∷ xs) h = or_from (p x) (list_any p xs) (h 0 x (omega arith)) (none_passes p xs (λ k d within. h (suc k) d (omega arith)))
+
+one_passes : {X : Type 0} (p : X → Bool) (xs : List X) (k : ℕ) (d : X) → k < length xs → p (get_or xs k d) ≡ true → list_any p xs ≡ true
+one_passes p [] k d within h = absurd (omega arith)
+one_passes p (x ∷ xs) zero d within h = or_left (p x) (list_any p xs) h
+one_passes p (x ∷ xs) (suc k) d within h = or_right (p x) (list_any p xs) (one_passes p xs k d (omega arith) h)
+
+equal_same : (x y : Address) → address_cmp y x ≡ Equal → same_address x y ≡ true
+equal_same x y e = (same_address_decides x y).1 (sym ((same_address_decides y x).0 (ties y x ∙ ap is_eq e)))
+
+other : (x y : Address) → is_eq (address_cmp y x) ≡ false → same_address x y ≡ false
+other x y e =
+    false_from_ne_true (same_address x y)
+    (λ same. true≢false (sym ((same_address_decides y x).1 (sym ((same_address_decides x y).0 same))) ∙ ties y x ∙ e))
+
+-- what a search in a set finds
+pub searched : (all : List Address) (x : Address) (r : Result ℕ ℕ) → address_set all ≡ all → IsSearchInRange r (length all) → IsBinarySearchResult (λ y. address_cmp y x) all r
+    → is_ok r ≡ list_any (same_address x) all
+searched all x (Ok at) same within found = sym (one_passes (same_address x) all at x within (equal_same x (get_or all at x) (found x)))
+searched all x (Err at) same within parted =
+    let parts = parted (set_rises all same x) in
+    sym (none_passes (same_address x) all (λ k d inside. elim (cases_Bool (nat_lt k at)) [
+      | inl before ↦ other x (get_or all k d) (ap is_eq (parts.0 k d (omega arith) (ltb-true k at before)))
+      | inr behind ↦ other x (get_or all k d) (ap is_eq (parts.1 k d (ltb-false k at behind) inside))
+    ]))
+
+found_in : (x : Address) (xs : List Address) → list_any (same_address x) xs ≡ true → IsIn x xs
+found_in x [] h = absurd (true≢false (sym h))
+found_in x (y ∷ ys) h = elim (or_cases (same_address x y) (list_any (same_address x) ys) h) [
+  | inl here ↦ inl ((same_address_decides x y).0 here)
+  | inr later ↦ inr (found_in x ys later)
+]
+
+in_found : (x : Address) (xs : List Address) → IsIn x xs → list_any (same_address x) xs ≡ true
+in_found x [] h = absurd h
+in_found x (y ∷ ys) h = elim h [
+  | inl here ↦ or_left (same_address x y) (list_any (same_address x) ys) ((same_address_decides x y).1 here)
+  | inr later ↦ or_right (same_address x y) (list_any (same_address x) ys) (in_found x ys later)
+]
+
+-- an address is among those of a list just where it is in their set
+pub among_set : (x : Address) (all : List Address) → list_any (same_address x) (address_set all) ≡ list_any (same_address x) all
+unfolding address_set
+among_set x all = elim (cases_Bool (list_any (same_address x) all)) [
+  | inl some ↦ in_found x (address_set all) (set_keeps address_before address_order x all (found_in x all some)) ∙ sym some
+  | inr none ↦
+      false_from_ne_true (list_any (same_address x) (address_set all))
+      (λ some. true≢false (sym (in_found x all (set_only address_before x all (found_in x (address_set all) some))) ∙ none))
+      ∙ sym none
+]

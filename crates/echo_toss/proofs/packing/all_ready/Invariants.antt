@@ -1,0 +1,6 @@
+use Rattle.std.proofs.Common.{◌≡◌, map, take}
+use Rattle.echo_toss.specs.Exports.{ready_of}
+use Rattle.echo_toss.proofs.packing.all_ready.Given as goal
+
+abbrev pub invariant-outgoing : goal.invariant-outgoing
+invariant-outgoing l = l.all.items ≡ map (ready_of l.links) (take l.one-index l.outgoing)

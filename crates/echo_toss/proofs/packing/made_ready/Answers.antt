@@ -1,0 +1,8 @@
+use Rattle.std.proofs.Common.{◌≡◌, ◌∙◌, subst, sym}
+use Rattle.echo_base.specs.Sets.{address_set}
+use Rattle.echo_toss.proofs.AscendingSets.{set_again}
+use Rattle.echo_toss.proofs.packing.made_ready.Goals as goal
+
+pub invariant_of-result : goal.invariant_of-result
+invariant_of-result c =
+    subst (λ l. address_set l ≡ l) (sym (c.new.ensures ∙ c.address_set.ensures)) (set_again c.in_ok-targets.targets.items)
