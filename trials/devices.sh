@@ -10,39 +10,7 @@ cd "$(dirname "$0")/.."
 . trials/setting.sh
 command -v strace > /dev/null || { echo "devices: strace is not installed"; exit 0; }
 cd "$work"
-
-# The files of a story with a base of so many messages and a packet of so many more.
-make_story() {
-  make_file packet "$1" "$2" "$3" > new.pkt
-  make_file base 0 "$1" "$3" "$1" > old.base
-  make_file base 0 $(($1 + $2)) "$3" "$1" > tossed.base
-}
-
-make_file links 1:10/1 TEST 1:10/2 1:10/3 1:10/4 > one.links
-cp "$top"/examples/nets/chain/*.links .
-cp "$top/examples/scripts/chain.script" "$top/examples/packets/05-areas.pkt" .
-cp "$top/examples/nodelists/nested.lst" .
-
-# The words of a command.
-words_of() {
-  case $1 in
-    show) echo show 05-areas.pkt ;;
-    nodelist) echo nodelist --find 1:10/101 nested.lst ;;
-    check) echo check --nodelist nested.lst TEST 1.links 2.links 3.links ;;
-    picture) echo picture TEST 1.links 2.links 3.links ;;
-    replay) echo replay chain.script 1.links 2.links 3.links ;;
-    post) echo post --area TEST --to All --from Ann --subject Hi --serial 00000001 --at $stamp one.links base ;;
-    toss) echo toss one.links base new.pkt ;;
-    scan) echo scan --at $stamp one.links base out ;;
-    purge) echo purge one.links base ;;
-  esac
-}
-
-start() {
-  rm -rf out base base.new
-  mkdir out
-  case $1 in scan) cp tossed.base base ;; *) cp old.base base ;; esac
-}
+. "$top/trials/commands.sh"
 
 # Runs a command under strace with more words for strace, and sets its status.
 traced() {
@@ -63,10 +31,7 @@ starved() {
 # How a command ends where nothing fails.
 remember() {
   traced "$1"
-  wanted=$status
-  rm -rf want
-  mkdir want
-  cp -r said base out want
+  keep_wanted
   # The call that opens the first file is the first that is the program's own. A call is told by its name
   # and its number among those of the name.
   first=$(grep -n 'openat(AT_FDCWD, "[^/]' calls | head -1 | cut -d : -f 1)
@@ -75,38 +40,11 @@ remember() {
     if (NR >= first) print $1, count[$1] }' > numbered
 }
 
-# Whether the folder of packets holds whole ones alone.
-whole_packets() {
-  local packet
-  for packet in out/*.pkt; do
-    [ -e "$packet" ] || continue
-    cmp -s "$packet" "want/$packet" || return 1
-  done
-}
-
-# Whether all is as without a failure.
-all_done() { cmp -s said want/said && cmp -s base want/base && diff -rq out want/out > /dev/null; }
-
 # One call fails. Words: the command, the call's name and number, the failure.
 fail_call() {
   traced "$1" -e "inject=$2:error=$4:when=$3"
   grep -q INJECTED calls || return 0
   judge "$1" "$4 at $(grep INJECTED calls | head -1 | cut -c 1-60)"
-}
-
-# How a run is to have ended. Words: the command, what it met.
-judge() {
-  local before=old.base call="$1, $2"
-  if [ "$1" = scan ]; then before=tossed.base; fi
-  tried=$((tried + 1))
-  if [ $status = "$wanted" ]; then
-    expect "$call: all is done" all_done
-  else
-    refused=$((refused + 1))
-    expect "$call: status and line" ended_with_fault $status 3 fault "echonet: "
-    expect "$call: the base" is_one_of base $before want/base
-  fi
-  expect "$call: packets" whole_packets
 }
 
 # The failures that a call may meet.
@@ -130,7 +68,6 @@ starve() {
   expect "$1: there is enough memory at last" [ $status = "$wanted" ]
 }
 
-commands="show nodelist check picture replay post toss scan purge"
 make_story 20 10 200
 for command in $commands; do
   tried=0

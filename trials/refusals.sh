@@ -1,0 +1,36 @@
+#!/usr/bin/env bash
+# Refuses each growth of memory in one run of each command in turn, by a malloc that is loaded before the C
+# library's (refuse.c, which needs a C compiler). Each run ends as with all its growths, or with 3, one
+# fault line, and the old base or the new one whole, no packet in part. How many growths a run has is found
+# by one that is refused none; growths before the program's own, the loader's, are among them.
+set -eu
+cd "$(dirname "$0")/.."
+. trials/setting.sh
+command -v cc > /dev/null || { echo "refusals: there is no C compiler"; exit 0; }
+cc -O2 -shared -fPIC -o "$work/refuse.so" trials/refuse.c
+cd "$work"
+. "$top/trials/commands.sh"
+
+# Runs a command with the growth of this number refused, and sets its status.
+run() {
+  start "$1"
+  status=0
+  { echo Hello | REFUSED=$2 GROWTHS=growths LD_PRELOAD=./refuse.so "$program" $(words_of "$1") > said 2> fault ||
+    status=$?; } 2> /dev/null
+}
+
+make_story 8 4 200
+for command in $commands; do
+  tried=0
+  refused=0
+  run $command 0
+  keep_wanted
+  growths=$(cat growths)
+  expect "$command: it takes memory" [ "$growths" -gt 0 ]
+  for ((number = 1; number <= growths; number++)); do
+    run $command $number
+    judge $command "growth $number of $growths"
+  done
+  echo "$command: $tried growths refused, of which $refused ended it with a fault"
+done
+finish refusals
