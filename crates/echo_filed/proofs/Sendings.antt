@@ -1,10 +1,11 @@
 -- A stored message that is sent part after part.
-use Rattle.std.proofs.Common.{◌≡◌, ℕ, ◌^◌, ◌<◌, Bool, true, false, List, [], ◌++◌, length, sym, ap, subst, ◌∙◌, Option, Result, Ok, Err, arith, append_assoc}
+use Rattle.std.proofs.Common.{◌≡◌, ℕ, ◌^◌, ◌<◌, Bool, true, false, List, [], ◌++◌, length, refl, sym, ap, subst, ◌∙◌, Option, Some, None, Result, Ok, Err, arith, append_assoc}
 use Rattle.std.specs.Prelude.{unwrap_or}
 use Rattle.std.proofs.lemmas.Bool.{cond-false, cond-true}
 use Rattle.std.proofs.KnownBytes.{Appends-nil}
 use Rattle.std.specs.Prelude.{IfOk, Vec}
 use Rattle.std.specs.declared.alloc.Global.{Global}
+use Rattle.echo_addr.specs.declared.address.Address.{Address}
 use Rattle.echo_device.specs.Device.{Sends, SendsFront}
 use Rattle.echo_text.specs.Echo.{EchoText, IsEcho, TextOf, msgid_of}
 use Rattle.echo_text.proofs.OneReading.{one_text}
