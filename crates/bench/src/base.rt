@@ -7,8 +7,9 @@
 //! adds the bytes as a yardstick.
 use crate::shared::{number, sum};
 use anyhow::{Result, bail};
-use echo_base::{Base, LinkFile};
+use echo_base::Base;
 use echo_device::Watched;
+use echo_links::LinkFile;
 use std::alloc::{AllocError, Global};
 use std::hash::RandomState;
 use std::mem;

@@ -8,7 +8,7 @@ use crate::graph::rows_of;
 use crate::shared::{number, sum};
 use anyhow::{Result, bail};
 use echo_addr::Items;
-use echo_base::LinkFile;
+use echo_links::LinkFile;
 use echo_net::{Verdict, check};
 use std::alloc::{AllocError, Global};
 

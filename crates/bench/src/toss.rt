@@ -8,8 +8,8 @@
 use crate::shared::{number, sum};
 use anyhow::{Context, Result, bail};
 use echo_addr::Items;
-use echo_base::LinkFile;
 use echo_device::Watched;
+use echo_links::LinkFile;
 use echo_packet::{Header, Limits, Packed, PacketWriter};
 use echo_steps::{Draft, Stamp};
 use echo_toss::{Tally, Tosser};

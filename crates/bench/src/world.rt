@@ -5,8 +5,8 @@
 //! many there are and their bytes are printed. Without words a small net is replayed, and nothing is
 //! written.
 use anyhow::Result;
-use echo_base::LinkFile;
 use echo_device::Watched;
+use echo_links::LinkFile;
 use echo_replay::{World, read_script, replay};
 use std::alloc::Global;
 use std::fs;

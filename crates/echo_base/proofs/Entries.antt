@@ -7,14 +7,15 @@ use Rattle.std.specs.Map.{keys_of, lookup, values_of}
 use Rattle.std.proofs.lemmas.Bool.{and_from, and_right, cases_Bool, false_from_ne_true, or_from, or_parts, true≢false}
 use Rattle.std.proofs.lemmas.List.{append-nil, append_assoc, length-append, map-append}
 use Rattle.echo_text.specs.Echo.{msgid_of}
-use Rattle.echo_base.specs.declared.key.Key.{Key}
-use Rattle.echo_base.specs.declared.key.Key.TheVariants.{ById}
-use Rattle.echo_base.specs.Base.{AreNew, Filed, IsBase, IsFiled, has_id, is_known, key_of, key_with, same_key}
+use Rattle.echo_filed.specs.declared.key.Key.{Key}
+use Rattle.echo_filed.specs.declared.key.Key.TheVariants.{ById}
+use Rattle.echo_filed.specs.Filed.{Filed, IsFiled, has_id, key_of, key_with, same_key}
+use Rattle.echo_filed.specs.Stubs.{is_stub}
+use Rattle.echo_filed.proofs.DerivedKeys.{derived, derived_is_same}
+use Rattle.echo_filed.proofs.Keys.{same_key_decides}
+use Rattle.echo_filed.proofs.Plain.{all_append}
+use Rattle.echo_base.specs.Base.{AreNew, IsBase, is_known}
 use Rattle.echo_base.specs.Entries.{AreEntries, ArePurged, HasTagIn}
-use Rattle.echo_base.specs.Stubs.{is_stub}
-use Rattle.echo_base.proofs.DerivedKeys.{derived, derived_is_same}
-use Rattle.echo_base.proofs.Keys.{same_key_decides}
-use Rattle.echo_base.proofs.Plain.{all_append}
 
 -- one more message that is new
 one_more_new : (earlier base : List Filed) (m : Filed) → AreNew earlier base → is_known (earlier ++ base) (key_of m) ≡ false → AreNew earlier (base ++ m ∷ [])

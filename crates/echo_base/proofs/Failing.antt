@@ -7,17 +7,21 @@ use Rattle.std.proofs.KnownBytes.{Consumes-trans, Consumes-whole}
 use Rattle.std.proofs.lemmas.Grind.{flat_map-append}
 use Rattle.std.proofs.lemmas.List.{append-nil, append_assoc, length-append, length-map, take_at}
 use Rattle.echo_packet.specs.Header.{AreBytes}
+use Rattle.echo_filed.specs.declared.field.Broken.{Broken}
+use Rattle.echo_filed.specs.declared.field.Broken.TheVariants as broken
+use Rattle.echo_filed.specs.Filed.{Filed}
+use Rattle.echo_filed.specs.declared.stored.Version.{Version}
+use Rattle.echo_filed.specs.declared.stored.Version.TheVariants.{First, Second}
+use Rattle.echo_filed.specs.Stored.{IsStored, Stored, long, message_in, stored_bytes}
+use Rattle.echo_filed.specs.Fields.{Breaks, EndsIn, IsLong, StopsIn}
+use Rattle.echo_filed.proofs.Plain.{all_append}
 use Rattle.echo_base.specs.declared.base.loading.Head.{Head}
 use Rattle.echo_base.specs.declared.fault.BaseFault.{BaseFault}
 use Rattle.echo_base.specs.declared.fault.BaseFault.TheVariants as fault
-use Rattle.echo_base.specs.declared.field.Broken.{Broken}
-use Rattle.echo_base.specs.declared.field.Broken.TheVariants as broken
-use Rattle.echo_base.specs.Base.{Base, Filed}
-use Rattle.echo_base.specs.BaseFile.{AreSound, BaseFaultOf, BaseOf, Begins, First, IsDamagedAt, IsStored, LoadOf, Loaded, Second, Stored, Version, head_bytes, is_damaged, long, magic, message_in, stored_bytes}
-use Rattle.echo_base.specs.Fields.{Breaks, EndsIn, IsLong}
-use Rattle.echo_base.specs.Loading.{AnswersLoad, FailsToLoad, LoadFault, StopsIn, TakesAll, TakesBase, TakesDamaged, TakesHead, TakesMessage, TakesNext, told_behind}
+use Rattle.echo_base.specs.Base.{Base}
+use Rattle.echo_base.specs.BaseFile.{AreSound, BaseFaultOf, BaseOf, Begins, IsDamagedAt, LoadOf, Loaded, head_bytes, is_damaged, magic}
+use Rattle.echo_base.specs.Loading.{AnswersLoad, FailsToLoad, LoadFault, TakesAll, TakesBase, TakesDamaged, TakesHead, TakesMessage, TakesNext, told_behind}
 use Rattle.echo_base.proofs.Loading.{only_outcome, say_more, sound_more}
-use Rattle.echo_base.proofs.Plain.{all_append}
 
 if_any : {X : Type 0} (o : Option X) → IfSome o (λ _. Unit {0})
 if_any None = tt

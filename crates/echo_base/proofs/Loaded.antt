@@ -11,13 +11,16 @@ use Rattle.echo_text.specs.Echo.{EchoText, IsEcho}
 use Rattle.echo_text.specs.Ids.{is_line_byte, is_zero}
 use Rattle.echo_text.specs.Refusal.{refusal}
 use Rattle.echo_text.proofs.Reread.{read_is_echo}
-use Rattle.echo_base.specs.Written.{echo_of, text_of}
-use Rattle.echo_base.specs.Base.{AreNew, Filed, HasSmallSender, IsBase, IsFiled, is_known, key_of}
-use Rattle.echo_base.specs.Stubs.{bare}
-use Rattle.echo_base.specs.BaseFile.{AreSound, BaseOf, IsStored, Stored, Version, echo_in, has_tag, has_wrong_form, has_wrong_last, has_wrong_sender, has_wrong_string, is_damaged, is_no_string, is_other_kind, is_posted, is_wrong_id, is_wrong_text, message_in, sender_in}
-use Rattle.echo_base.proofs.Plain.{no_zero, plain_if, some_bytes}
-use Rattle.echo_base.proofs.Stubs.{bare_echo}
-use Rattle.echo_base.proofs.Texts.{says_read}
+use Rattle.echo_filed.specs.Written.{echo_of, text_of}
+use Rattle.echo_filed.specs.Filed.{Filed, HasSmallSender, IsFiled, key_of}
+use Rattle.echo_filed.specs.Stubs.{bare}
+use Rattle.echo_filed.specs.declared.stored.Version.{Version}
+use Rattle.echo_filed.specs.Stored.{IsStored, Stored, echo_in, has_tag, is_posted, message_in, sender_in}
+use Rattle.echo_filed.proofs.Plain.{no_zero, plain_if, some_bytes}
+use Rattle.echo_filed.proofs.Stubs.{bare_echo}
+use Rattle.echo_filed.proofs.Texts.{says_read}
+use Rattle.echo_base.specs.Base.{AreNew, IsBase, is_known}
+use Rattle.echo_base.specs.BaseFile.{AreSound, BaseOf, has_wrong_form, has_wrong_last, has_wrong_sender, has_wrong_string, is_damaged, is_no_string, is_other_kind, is_wrong_id, is_wrong_text}
 
 -- the sender of a stored message
 small_of : (posted : Bool) (s : Stored) → s.zone < 2 ^ 16 → s.net < 2 ^ 16 → s.node < 2 ^ 16

@@ -2,8 +2,8 @@
 use Rattle.std.proofs.Common.{◌≡◌, ℕ, ◌≤◌, List, length, take, refl, sym, ap, subst, ◌∙◌, Result, Ok, Err, arith}
 use Rattle.std.proofs.lemmas.List.{take_all}
 use Rattle.echo_packet.specs.Header.{AreBytes}
+use Rattle.echo_filed.specs.Filed.{Filed}
 use Rattle.echo_base.specs.declared.fault.BaseFault.{BaseFault}
-use Rattle.echo_base.specs.Base.{Filed}
 use Rattle.echo_base.specs.BaseFile.{BaseFaultOf, BaseOf, LoadOf, Loaded}
 use Rattle.echo_base.proofs.Loading.{only_outcome}
 

@@ -12,23 +12,19 @@ use Rattle.echo_text.specs.Lines.{is_tag, is_tag_byte, msgid_word, trimmed}
 use Rattle.echo_text.specs.Echo.{EchoText, IsEcho, IsLine, msgid_of}
 use Rattle.echo_text.specs.Refusal.{refusal}
 use Rattle.echo_text.specs.Ids.{is_line_byte, is_zero}
-use Rattle.echo_base.specs.Written.{echo_of, text_of}
-use Rattle.echo_base.specs.Base.{AreNew, Filed, HasSmallSender, IsBase, IsFiled, is_known, key_of}
-use Rattle.echo_base.specs.Base.{id_line}
-use Rattle.echo_base.specs.Stubs.{bare, is_stub, is_stub_with}
-use Rattle.echo_base.specs.BaseFile.{Second, AreSound, BaseOf, IsStored, LoadOf, echo_in, has_tag, has_wrong_form, has_wrong_last, has_wrong_sender, has_wrong_string, head_bytes, is_countable, is_damaged, is_no_string, is_other_kind, is_posted, is_short, is_short_enough, is_wrong_id, is_wrong_text, kind_of, message_in, saved_bytes, sender_in, sender_or_zeros, stored_as, stored_at, stored_bytes, stored_from}
-use Rattle.echo_base.proofs.Keys.{lines_decide, msgid_is_id}
-use Rattle.echo_base.proofs.Trims.{trimmed_same}
-use Rattle.echo_base.proofs.Plain.{IsLineByte, Plain}
-use Rattle.echo_base.proofs.Bytes.{none_zero, text_no_zero}
-use Rattle.echo_base.proofs.Texts.{written_accepted, written_back}
-
--- the first byte tells the sender and the form
-pub tagged : (short : Bool) (sender : Option Address) → has_tag Second (kind_of short sender) ≡ short
-tagged true None = refl
-tagged true (Some a) = refl
-tagged false None = refl
-tagged false (Some a) = refl
+use Rattle.echo_filed.specs.Written.{echo_of, text_of}
+use Rattle.echo_filed.specs.Filed.{Filed, HasSmallSender, IsFiled, id_line, key_of}
+use Rattle.echo_filed.specs.Stubs.{bare, is_stub, is_stub_with}
+use Rattle.echo_filed.specs.declared.stored.Version.TheVariants.{Second}
+use Rattle.echo_filed.specs.Stored.{IsStored, echo_in, has_tag, is_posted, is_short, is_short_enough, kind_of, message_in, sender_in, sender_or_zeros, stored_as, stored_bytes}
+use Rattle.echo_filed.proofs.Keys.{lines_decide, msgid_is_id}
+use Rattle.echo_filed.proofs.Trims.{trimmed_same}
+use Rattle.echo_filed.proofs.Plain.{IsLineByte, Plain}
+use Rattle.echo_filed.proofs.Bytes.{none_zero, text_no_zero}
+use Rattle.echo_filed.proofs.Texts.{written_accepted, written_back}
+use Rattle.echo_filed.proofs.Sendings.{tagged}
+use Rattle.echo_base.specs.Base.{AreNew, IsBase, is_known}
+use Rattle.echo_base.specs.BaseFile.{AreSound, BaseOf, LoadOf, has_wrong_form, has_wrong_last, has_wrong_sender, has_wrong_string, head_bytes, is_countable, is_damaged, is_no_string, is_other_kind, is_wrong_id, is_wrong_text, saved_bytes, stored_at, stored_from}
 
 known_kind : (short : Bool) (sender : Option Address) → is_other_kind Second (kind_of short sender) ≡ false
 known_kind true None = refl

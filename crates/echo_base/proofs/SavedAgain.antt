@@ -10,12 +10,15 @@ use Rattle.echo_text.specs.Lines.{is_tag, trimmed}
 use Rattle.echo_text.specs.Echo.{EchoText, msgid_of}
 use Rattle.echo_text.specs.Ids.{is_line_byte, is_zero}
 use Rattle.echo_text.specs.Refusal.{refusal}
-use Rattle.echo_base.specs.Written.{echo_of, text_of}
-use Rattle.echo_base.specs.Base.{Filed}
-use Rattle.echo_base.specs.Stubs.{bare}
-use Rattle.echo_base.specs.BaseFile.{AreSound, BaseOf, First, IsStored, Second, Stored, Version, has_tag, has_wrong_form, has_wrong_last, has_wrong_sender, has_wrong_string, head_bytes, is_countable, is_damaged, is_other_kind, is_posted, is_short, is_short_enough, is_wrong_id, is_wrong_text, kind_of, magic, message_in, saved_bytes, sender_or_zeros, stored_as, stored_at, stored_bytes, stored_from}
-use Rattle.echo_base.proofs.Keys.{IsIdText, msgid_first}
-use Rattle.echo_base.proofs.Trims.{IsTrim, trimmed_trim}
+use Rattle.echo_filed.specs.Written.{echo_of, text_of}
+use Rattle.echo_filed.specs.Filed.{Filed}
+use Rattle.echo_filed.specs.Stubs.{bare}
+use Rattle.echo_filed.specs.declared.stored.Version.{Version}
+use Rattle.echo_filed.specs.declared.stored.Version.TheVariants.{First, Second}
+use Rattle.echo_filed.specs.Stored.{IsStored, Stored, has_tag, is_posted, is_short, is_short_enough, kind_of, message_in, sender_or_zeros, stored_as, stored_bytes}
+use Rattle.echo_filed.proofs.Keys.{IsIdText, msgid_first}
+use Rattle.echo_filed.proofs.Trims.{IsTrim, trimmed_trim}
+use Rattle.echo_base.specs.BaseFile.{AreSound, BaseOf, has_wrong_form, has_wrong_last, has_wrong_sender, has_wrong_string, head_bytes, is_countable, is_damaged, is_other_kind, is_wrong_id, is_wrong_text, magic, saved_bytes, stored_at, stored_from}
 
 -- the first byte is told by the sender and the form
 kind_back : (k : ℕ) (sender : Address) → k ≤ 3 → kind_of ((k == 2) || (k == 3)) (cond (is_posted k) None (Some sender)) ≡ k

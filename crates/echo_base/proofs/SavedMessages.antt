@@ -8,8 +8,10 @@ use Rattle.std.proofs.lemmas.List.{append-nil, length-take-le, take-append-drop}
 use Rattle.std.proofs.lemmas.List.Folds.{list_all-append}
 use Rattle.std.proofs.lemmas.Option.{get_or_from_slice_get, slice_get_within}
 use Rattle.std.proofs.Math.Seq.{drop-cons}
-use Rattle.echo_base.specs.Base.{Filed}
-use Rattle.echo_base.specs.BaseFile.{Second, head_bytes, is_countable, is_short, is_short_enough, saved_bytes, stored_as, stored_at, stored_bytes, stored_from}
+use Rattle.echo_filed.specs.Filed.{Filed}
+use Rattle.echo_filed.specs.declared.stored.Version.TheVariants.{Second}
+use Rattle.echo_filed.specs.Stored.{is_short, is_short_enough, stored_as, stored_bytes}
+use Rattle.echo_base.specs.BaseFile.{head_bytes, is_countable, saved_bytes, stored_at, stored_from}
 use Rattle.echo_base.proofs.Purges.{front_more}
 
 -- the bytes of all messages

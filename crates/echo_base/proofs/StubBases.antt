@@ -5,14 +5,15 @@ use Rattle.std.specs.List.{AllByRecursion, list_any}
 use Rattle.std.specs.Map.{keys_of, values_of}
 use Rattle.std.proofs.lemmas.List.{length-append, length-drop, length-map, length-take}
 use Rattle.echo_text.specs.Echo.{msgid_of}
-use Rattle.echo_base.specs.declared.key.Key.{Key}
-use Rattle.echo_base.specs.Base.{AreNew, Filed, IsBase, IsFiled, is_known, key_of, same_key}
+use Rattle.echo_filed.specs.declared.key.Key.{Key}
+use Rattle.echo_filed.specs.Filed.{Filed, IsFiled, key_of, same_key}
+use Rattle.echo_filed.specs.Stubs.{is_stub, stub_of, stub_with}
+use Rattle.echo_filed.proofs.Keys.{stub_keeps_key, stub_of_stub}
+use Rattle.echo_filed.proofs.Plain.{all_append}
+use Rattle.echo_filed.proofs.Stubs.{stub_filed}
+use Rattle.echo_filed.proofs.StubTests.{stub_told}
+use Rattle.echo_base.specs.Base.{AreNew, IsBase, is_known}
 use Rattle.echo_base.specs.Entries.{AreEntries, HasTagIn}
-use Rattle.echo_base.specs.Stubs.{is_stub, stub_of, stub_with}
-use Rattle.echo_base.proofs.Keys.{stub_keeps_key, stub_of_stub}
-use Rattle.echo_base.proofs.Plain.{all_append}
-use Rattle.echo_base.proofs.Stubs.{stub_filed}
-use Rattle.echo_base.proofs.StubTests.{stub_told}
 
 stubs_filed : (base : List Filed) → AllByRecursion IsFiled base → AllByRecursion IsFiled (map stub_of base)
 stubs_filed [] h = tt

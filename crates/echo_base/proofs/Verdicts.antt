@@ -9,15 +9,18 @@ use Rattle.echo_text.specs.Lines.{is_tag, msgid_word, trimmed}
 use Rattle.echo_text.specs.Echo.{EchoOf, EchoText, IsEcho}
 use Rattle.echo_text.specs.Ids.{is_line_byte, is_zero}
 use Rattle.echo_text.specs.Refusal.{refusal}
-use Rattle.echo_base.specs.declared.key.Key.{Key}
-use Rattle.echo_base.specs.Base.{Filed, IsFiled, id_line, is_known, key_of}
-use Rattle.echo_base.specs.Written.{echo_of, text_of}
-use Rattle.echo_base.specs.BaseFile.{IsStored, Stored, Version, has_tag, has_wrong_form, has_wrong_last, has_wrong_sender, has_wrong_string, is_damaged, is_other_kind, is_wrong_id, is_wrong_text, message_in, sender_in}
+use Rattle.echo_filed.specs.declared.key.Key.{Key}
+use Rattle.echo_filed.specs.Filed.{Filed, IsFiled, id_line, key_of}
+use Rattle.echo_filed.specs.Written.{echo_of, text_of}
+use Rattle.echo_filed.specs.declared.stored.Version.{Version}
+use Rattle.echo_filed.specs.Stored.{IsStored, Stored, has_tag, message_in, sender_in}
+use Rattle.echo_filed.proofs.Plain.{plain_if}
+use Rattle.echo_filed.proofs.Stubs.{bare_echo}
+use Rattle.echo_filed.proofs.Texts.{says_accepted, says_one}
+use Rattle.echo_base.specs.Base.{is_known}
+use Rattle.echo_base.specs.BaseFile.{has_wrong_form, has_wrong_last, has_wrong_sender, has_wrong_string, is_damaged, is_other_kind, is_wrong_id, is_wrong_text}
 use Rattle.echo_base.specs.Loading.{Judges, UnlessWrong, has_wrong_field, is_out_of_place, told_last, wrong_last}
 use Rattle.echo_base.proofs.Loaded.{filed_with, right_last, stored_sound}
-use Rattle.echo_base.proofs.Plain.{plain_if}
-use Rattle.echo_base.proofs.Stubs.{bare_echo}
-use Rattle.echo_base.proofs.Texts.{says_accepted, says_one}
 
 -- a text that says an echo is wrong where it is not the one that is written
 pub text_wrong : (text : List ℕ) (e : EchoText) (dropped : ℕ) → list_any is_zero text ≡ false → EchoOf text e dropped → is_wrong_text text ≡ not (bytes_eq (text_of e) text)

@@ -1,107 +1,23 @@
--- Base files. Numbers of several bytes have the low byte first.
-use Rattle.std.specs.Prelude.{◌≡◌, ℕ, ◌+◌, ◌*◌, ◌/◌, ◌%◌, ◌^◌, ◌<◌, ◌≤◌, ◌⊎◌, ⊤, ◌==◌, ◌||◌, ◌&&◌, not, nat_eq, nat_lt, Bool, true, false, List, [], ◌∷◌, ◌++◌, map, length, take, codes, if◌then◌else◌, Option, Some, None, is_some, is_none, unwrap_or, Result, Ok, Err, bytes_eq}
+-- Base files.
+use Rattle.std.specs.Prelude.{◌≡◌, ℕ, ◌+◌, ◌^◌, ◌<◌, ◌≤◌, ◌⊎◌, ⊤, ◌==◌, ◌||◌, ◌&&◌, not, nat_eq, nat_lt, Bool, true, false, List, [], ◌∷◌, ◌++◌, map, length, take, codes, if◌then◌else◌, is_none, Result, Ok, Err, bytes_eq}
 use Rattle.std.specs.List.{AllByRecursion, flat_map, list_all, list_any, starts_with}
-use Rattle.echo_addr.specs.declared.address.Address.{Address}
-use Rattle.echo_packet.specs.Header.{number_at, word}
 use Rattle.echo_packet.specs.Message.{max_name, max_subject}
 use Rattle.echo_text.specs.Lines.{is_tag, trimmed}
-use Rattle.echo_text.specs.Echo.{EchoText, msgid_of}
 use Rattle.echo_text.specs.Refusal.{refusal}
-use Rattle.echo_base.specs.declared.fault.BaseFault.{BaseFault}
-pub use Rattle.echo_base.specs.declared.stored.Version.{Version}
-pub use Rattle.echo_base.specs.declared.stored.Version.TheVariants.{First, Second}
-use Rattle.echo_base.specs.declared.fault.BaseFault.TheVariants as fault
 use Rattle.echo_text.specs.Ids.{is_line_byte, is_zero}
-use Rattle.echo_base.specs.Written.{echo_of, text_of}
-use Rattle.echo_base.specs.Base.{Filed, is_known, key_of}
-use Rattle.echo_base.specs.Stubs.{bare, is_stub}
+use Rattle.echo_filed.specs.Written.{echo_of, text_of}
+use Rattle.echo_filed.specs.Filed.{Filed, key_of}
+use Rattle.echo_filed.specs.declared.stored.Version.{Version}
+use Rattle.echo_filed.specs.declared.stored.Version.TheVariants.{First, Second}
+use Rattle.echo_filed.specs.Stored.{IsStored, Stored, has_tag, is_posted, is_short, is_short_enough, long, long_at, message_in, stored_as, stored_bytes}
+use Rattle.echo_base.specs.declared.fault.BaseFault.{BaseFault}
+use Rattle.echo_base.specs.declared.fault.BaseFault.TheVariants as fault
+use Rattle.echo_base.specs.Base.{is_known}
 
 -- what a base begins with
 abbrev pub magic : Version → List ℕ
 magic First = codes "ECHOBAS1"
 magic Second = codes "ECHOBAS2"
-
--- the bytes of a number of four bytes
-abbrev pub long : ℕ → List ℕ
-long n = word (n % 65536) ++ word (n / 65536)
-
--- the number of four bytes at a place
-abbrev pub long_at : ℕ → List ℕ → ℕ
-long_at at bytes = number_at at bytes + 65536 * number_at (at + 2) bytes
-
--- bytes after their length, of one byte
-abbrev pub after_length : List ℕ → List ℕ
-after_length s = length s ∷ s
-
--- and of four bytes
-abbrev pub after_long_length : List ℕ → List ℕ
-after_long_length s = long (length s) ++ s
-
--- a message as it stands in a base; `last` is its text, or its id where it has the tag in place of the text
-pub record Stored : Type 0 where
-  pub kind : ℕ
-  pub zone : ℕ
-  pub net : ℕ
-  pub node : ℕ
-  pub date : List ℕ
-  pub to_name : List ℕ
-  pub from_name : List ℕ
-  pub subject : List ℕ
-  pub tag : List ℕ
-  pub last : List ℕ
-
--- 02 and 03 of the second version have tag and id in place of the text
-abbrev pub has_tag : Version → ℕ → Bool
-has_tag First kind = false
-has_tag Second kind = (kind == 2) || (kind == 3)
-
--- what stands after the subject
-abbrev pub last_bytes : Version → Stored → List ℕ
-last_bytes version s =
-    if has_tag version s.kind then after_length s.tag ++ after_long_length s.last else after_long_length s.last
-
--- the bytes of a message
-unfoldable pub stored_bytes : Version → Stored → List ℕ
-stored_bytes version s =
-    s.kind ∷ (word s.zone ++ (word s.net ++ (word s.node ++ (s.date
-    ++ (after_length s.to_name ++ (after_length s.from_name ++ (after_length s.subject ++ last_bytes version s)))))))
-
--- each field is of a size that its place has
-pub record IsStored (version : Version) (s : Stored) : Type 0 where
-  pub kind : s.kind < 2 ^ 8
-  pub zone : s.zone < 2 ^ 16
-  pub net : s.net < 2 ^ 16
-  pub node : s.node < 2 ^ 16
-  pub date_len : length s.date ≡ 20
-  pub to_name : length s.to_name < 2 ^ 8
-  pub from_name : length s.from_name < 2 ^ 8
-  pub subject : length s.subject < 2 ^ 8
-  pub tag : length s.tag < 2 ^ 8
-  pub no_tag : has_tag version s.kind ≡ false → s.tag ≡ []
-  pub last : length s.last < 2 ^ 32
-
--- 00 and 02 were posted here, 01 and 03 received
-abbrev pub is_posted : ℕ → Bool
-is_posted kind = (kind == 0) || (kind == 2)
-
--- what the message says of its sender
-abbrev pub sender_in : Stored → Option Address
-sender_in s = if is_posted s.kind then None else Some (record { zone = s.zone; net = s.net; node = s.node })
-
--- and of its text
-abbrev pub echo_in : Version → Stored → EchoText
-echo_in version s = if has_tag version s.kind then bare s.tag s.last else echo_of s.last
-
--- the message that is stored so
-unfoldable pub message_in : Version → Stored → Filed
-message_in version s = record {
-  sender = sender_in s;
-  date = s.date;
-  to_name = s.to_name;
-  from_name = s.from_name;
-  subject = s.subject;
-  echo = echo_in version s;
-}
 
 -- a first byte that the version does not have
 abbrev pub is_other_kind : Version → ℕ → Bool
@@ -133,12 +49,6 @@ is_wrong_id id = (length id == 0) || (not (list_all is_line_byte id) || not (byt
 abbrev pub has_wrong_last : Version → Stored → Bool
 has_wrong_last version s =
     if has_tag version s.kind then not (is_tag s.tag) || is_wrong_id s.last else is_wrong_text s.last
-
--- tag and id stand in place of the text just where a message of the second version was scanned, has an
--- id, and has no more than a purge leaves
-abbrev pub is_short : Version → ℕ → ℕ → Filed → Bool
-is_short First cursor place m = false
-is_short Second cursor place m = nat_lt place cursor && (is_some (msgid_of m.echo.kept) && is_stub m)
 
 -- the message has the text where tag and id are to stand, or the other way round
 abbrev pub has_wrong_form : Version → ℕ → ℕ → Stored → Bool
@@ -235,31 +145,6 @@ abbrev pub LoadOf : List ℕ → Result Loaded BaseFault → Type 0
 LoadOf bytes (Ok found) = (found.2 ≤ length bytes) × BaseOf found.0 found.1 (take found.2 bytes)
 LoadOf bytes (Err refused) = BaseFaultOf bytes refused
 
--- the first byte of a message, in short or not
-abbrev pub kind_of : Bool → Option Address → ℕ
-kind_of short None = if short then 2 else 0
-kind_of short (Some sender) = if short then 3 else 1
-
--- the sender as it is stored, zeros where there is none
-abbrev pub sender_or_zeros : Option Address → Address
-sender_or_zeros None = record { zone = 0; net = 0; node = 0 }
-sender_or_zeros (Some sender) = sender
-
--- a message as it is stored, in short or not
-abbrev pub stored_as : Bool → Filed → Stored
-stored_as short m = record {
-  kind = kind_of short m.sender;
-  zone = (sender_or_zeros m.sender).zone;
-  net = (sender_or_zeros m.sender).net;
-  node = (sender_or_zeros m.sender).node;
-  date = m.date;
-  to_name = m.to_name;
-  from_name = m.from_name;
-  subject = m.subject;
-  tag = if short then m.echo.tag else [];
-  last = if short then unwrap_or (msgid_of m.echo.kept) [] else text_of m.echo;
-}
-
 -- a message as it is stored at this place
 unfoldable pub stored_at : ℕ → ℕ → Filed → Stored
 stored_at cursor place m = stored_as (is_short Second cursor place m) m
@@ -273,10 +158,6 @@ stored_from cursor place (m ∷ later) = stored_at cursor place m ∷ stored_fro
 unfoldable pub saved_bytes : List Filed → ℕ → List ℕ
 saved_bytes base cursor =
     head_bytes Second cursor (length base) ++ flat_map (stored_bytes Second) (stored_from cursor 0 base)
-
--- four bytes count the bytes of the text, or of the id
-abbrev pub is_short_enough : Stored → Bool
-is_short_enough s = nat_lt (length s.last) (2 ^ 32)
 
 -- and so of each message, and four bytes count the messages
 unfoldable pub is_countable : List Filed → ℕ → Bool

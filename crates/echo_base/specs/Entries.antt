@@ -2,9 +2,10 @@
 use Rattle.std.specs.Prelude.{◌≡◌, ◌≤◌, ℕ, true, List, map, take, bytes_eq}
 use Rattle.std.specs.List.{AllByRecursion, list_any}
 use Rattle.std.specs.Map.{keys_of, values_of}
-use Rattle.echo_base.specs.declared.key.Key.{Key}
-use Rattle.echo_base.specs.Base.{Filed, IsBase, key_of}
-use Rattle.echo_base.specs.Stubs.{is_stub}
+use Rattle.echo_filed.specs.declared.key.Key.{Key}
+use Rattle.echo_filed.specs.Filed.{Filed, key_of}
+use Rattle.echo_filed.specs.Stubs.{is_stub}
+use Rattle.echo_base.specs.Base.{IsBase}
 
 -- the tag of the message is among these
 abbrev pub HasTagIn : List (List ℕ) → Filed → Type 0

@@ -6,17 +6,20 @@ use Rattle.echo_device.specs.Device.{Failed}
 use Rattle.echo_packet.specs.Field.{Came}
 use Rattle.echo_text.specs.Lines.{is_tag}
 use Rattle.echo_text.specs.Echo.{EchoText}
+use Rattle.echo_filed.specs.declared.field.Broken.{Broken}
+use Rattle.echo_filed.specs.declared.field.Broken.TheVariants as broken
+use Rattle.echo_filed.specs.declared.key.Key.{Key}
+use Rattle.echo_filed.specs.Filed.{Filed, key_of}
+use Rattle.echo_filed.specs.Stubs.{bare}
+use Rattle.echo_filed.specs.Written.{echo_of}
+use Rattle.echo_filed.specs.declared.stored.Version.{Version}
+use Rattle.echo_filed.specs.Stored.{IsStored, Stored, is_short, message_in, stored_bytes}
+use Rattle.echo_filed.specs.Fields.{StopsIn}
 use Rattle.echo_base.specs.declared.fault.BaseFault.{BaseFault}
 use Rattle.echo_base.specs.declared.fault.BaseFault.TheVariants as fault
 use Rattle.echo_base.specs.declared.base.loading.Head.{Head}
-use Rattle.echo_base.specs.declared.field.Broken.{Broken}
-use Rattle.echo_base.specs.declared.field.Broken.TheVariants as broken
-use Rattle.echo_base.specs.declared.key.Key.{Key}
-use Rattle.echo_base.specs.Base.{Base, Filed, is_known, key_of}
-use Rattle.echo_base.specs.Stubs.{bare}
-use Rattle.echo_base.specs.Written.{echo_of}
-use Rattle.echo_base.specs.BaseFile.{AreSound, BaseFaultOf, BaseOf, IsStored, Loaded, Stored, Version, has_wrong_last, has_wrong_sender, has_wrong_string, head_bytes, is_damaged, is_front, is_other_kind, is_short, is_wrong_id, is_wrong_text, magic, message_in, stored_bytes}
-use Rattle.echo_base.specs.Fields.{EndsIn}
+use Rattle.echo_base.specs.Base.{Base, is_known}
+use Rattle.echo_base.specs.BaseFile.{AreSound, BaseFaultOf, BaseOf, Loaded, has_wrong_last, has_wrong_sender, has_wrong_string, head_bytes, is_damaged, is_front, is_other_kind, is_wrong_id, is_wrong_text, magic}
 
 -- the value, or none where it is wrong
 abbrev pub UnlessWrong : {X : Type 0} → Bool → X → Option X → Type 0
@@ -93,10 +96,6 @@ pub record TakesHead (head : Head) (old new : Option (List ℕ)) : Type 0 where
 abbrev pub ReadsHead : Option (List ℕ) → Option (List ℕ) → Result Head BaseFault → Type 0
 ReadsHead old new (Ok head) = TakesHead head old new
 ReadsHead old new (Err told) = FailsToLoad old new told
-
--- the bytes that came end inside the message that is next
-abbrev pub StopsIn : Version → List ℕ → Type 0
-StopsIn version = EndsIn Stored (IsStored version) (stored_bytes version)
 
 -- a message came that may stand next, and was put at the end
 pub record TakesNext (version : Version) (cursor : ℕ) (base base' : List Filed) (old new : Option (List ℕ)) : Type 0 where

@@ -1,27 +1,9 @@
 -- What saving a base sends, and why it stops.
-use Rattle.std.specs.Prelude.{◌≡◌, ℕ, ◌<◌, Bool, true, false, List, ◌∷◌, ◌++◌, length, take, Option, Result, Ok, Err}
+use Rattle.std.specs.Prelude.{◌≡◌, ℕ, ◌<◌, Bool, true, false, List, length, take, Option, Result, Ok, Err}
 use Rattle.std.specs.Io.KnownBytes.{Appends, Keeps}
 use Rattle.echo_device.specs.Device.{Failed, counted}
-use Rattle.echo_packet.specs.Header.{word}
 use Rattle.echo_base.specs.declared.fault.BaseFault.{BaseFault}
 use Rattle.echo_base.specs.declared.fault.BaseFault.TheVariants as fault
-use Rattle.echo_base.specs.declared.sending.Unsent.{Unsent}
-use Rattle.echo_base.specs.declared.sending.Unsent.TheVariants as unsent
-use Rattle.echo_base.specs.BaseFile.{Stored, after_length}
-
--- the count of failures rose where the device failed, and only there
-abbrev pub CountsUnsent : {A : Type 0} → Result A Unsent → ℕ → ℕ → Type 0
-CountsUnsent (Err unsent.Device) old new = Failed old new
-CountsUnsent (Err unsent.Memory) old new = new ≡ old
-CountsUnsent (Ok _) old new = new ≡ old
-
--- the bytes of a message up to its DateTime
-abbrev pub front_bytes : Stored → List ℕ
-front_bytes s = s.kind ∷ (word s.zone ++ (word s.net ++ (word s.node ++ s.date)))
-
--- its names and the subject
-abbrev pub strings_bytes : List ℕ → List ℕ → List ℕ → List ℕ
-strings_bytes to_name from_name subject = after_length to_name ++ (after_length from_name ++ after_length subject)
 
 -- some first bytes went out, but not all
 abbrev pub SavesFront : Option (List ℕ) → Option (List ℕ) → List ℕ → (ℕ → Type 0) → Type 0

@@ -1,14 +1,14 @@
 ghost use Rattle.std.specs.Prelude.{◌≡◌, ℕ, List, not, [], ◌∷◌, ◌++◌, false, true, bytes_eq, length, map, take, drop, count_by, slice_get, option_copied, IfOk, OnOk, OnErr};
 ghost use Rattle.std.specs.List.{list_any};
-ghost use Rattle.echo_base.specs.Base.{IsBase, has_id, is_known, key_of};
-ghost use Rattle.echo_base.specs.Stubs.{is_stub, stub_of};
+ghost use Rattle.echo_filed.specs.Filed.{has_id, key_of};
+ghost use Rattle.echo_filed.specs.Stubs.{is_stub, stub_of};
+ghost use Rattle.echo_base.specs.Base.{IsBase, is_known};
 
 mod loading;
 mod saving;
 
-use crate::filed::Filed;
-use crate::key::{Key, by_id};
 use crate::purging::{lines_left, put_stubs};
+use echo_filed::{Filed, Key, by_id};
 use indexmap::{IndexMap, IndexSet};
 use std::alloc::{AllocError, Global};
 use std::hash::BuildHasher;

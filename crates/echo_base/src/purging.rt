@@ -1,12 +1,10 @@
 //! A purge: the messages of a base become their stubs, from those on that are not known to be stubs.
 ghost use Rattle.std.specs.Prelude.{◌≡◌, ◌<◌, ◌≤◌, map, take, drop, true, false, ◌++◌, slice_get, slice_set, IfOk, IfSome};
 ghost use Rattle.std.specs.List.{AllByRecursion};
-ghost use Rattle.echo_base.specs.Stubs.{is_stub, lines_left, stub_of};
+ghost use Rattle.echo_filed.specs.Stubs.{is_stub, lines_left, stub_of};
 ghost use Rattle.indexmap.specs.IndexMap.{index_map_len, keys, values};
 
-use crate::filed::Filed;
-use crate::key::Key;
-use crate::stub::{is_stub, leave, stub_lines};
+use echo_filed::{Filed, Key, is_stub, leave, stub_lines};
 use echo_text::Lines;
 use indexmap::IndexMap;
 use std::alloc::{AllocError, Global};

@@ -1,10 +1,10 @@
 -- Link files that are read one after another.
 use Rattle.std.proofs.Common.{◌≡◌, ℕ, ◌+◌, ◌<◌, ◌⊎◌, inl, inr, List, [], ◌∷◌, ◌++◌, length, take, drop, get_or, Result, Ok, Err, refl, sym, ap, subst, ◌∙◌, suc, add-one, drop-cons}
 use Rattle.std.proofs.lemmas.List.{take-append-drop, take_more}
-use Rattle.echo_base.specs.declared.fault.LinkFault.{LinkFault}
-use Rattle.echo_base.specs.declared.fault.LinkFault.TheVariants as link
-use Rattle.echo_base.specs.Base.{LinkFile}
-use Rattle.echo_base.specs.LinkLines.{LinksOf}
+use Rattle.echo_links.specs.declared.fault.LinkFault.{LinkFault}
+use Rattle.echo_links.specs.declared.fault.LinkFault.TheVariants as link
+use Rattle.echo_links.specs.Links.{LinkFile}
+use Rattle.echo_links.specs.LinkLines.{LinksOf}
 use Rattle.echo_commands.specs.declared.fault.Fault.TheVariants.{Link}
 use Rattle.echo_commands.specs.Ended.{IsWantOfMemory}
 use Rattle.echo_commands.specs.Given.{AreLinkFiles, IsLinkFault}

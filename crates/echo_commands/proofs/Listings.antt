@@ -5,7 +5,8 @@ use Rattle.std.specs.List.{flat_map, range_with_len}
 use Rattle.std.specs.Io.KnownBytes.{Appends, append_known}
 use Rattle.std.proofs.KnownBytes.{Appends-trans}
 use Rattle.std.proofs.lemmas.Grind.{flat_map-append}
-use Rattle.echo_base.specs.Base.{Filed, upper}
+use Rattle.echo_links.specs.Links.{upper}
+use Rattle.echo_filed.specs.Filed.{Filed}
 use Rattle.echo_commands.specs.declared.status.Status.TheVariants.{Good}
 use Rattle.echo_commands.specs.BaseListed.{IsBaseListed, asked_text, base_text, messages_text, total_text}
 use Rattle.echo_commands.specs.System.{IsBaseGiven}

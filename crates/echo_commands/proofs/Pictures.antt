@@ -1,7 +1,7 @@
 -- What `picture` answers, from what its parts do.
 use Rattle.std.proofs.Common.{◌≡◌, ℕ, List, [], ◌++◌, Option, refl, sym, ap, subst, ◌∙◌}
 use Rattle.std.specs.Io.KnownBytes.{Appends}
-use Rattle.echo_base.specs.Base.{LinkFile, upper}
+use Rattle.echo_links.specs.Links.{LinkFile, upper}
 use Rattle.echo_net.specs.declared.drawing.Drawing.{Drawing}
 use Rattle.echo_net.specs.declared.verdict.Verdict.{Verdict}
 use Rattle.echo_net.specs.Drawn.{IsDrawing}

@@ -6,7 +6,7 @@ use Rattle.std.proofs.Math.ListN.{get_or-map}
 use Rattle.std.proofs.lemmas.Grind.{flat_map-append}
 use Rattle.std.proofs.lemmas.List.{length-map, length-take-le, take_more}
 use Rattle.std.proofs.lemmas.Option.{slice_get_cases}
-use Rattle.echo_base.specs.Base.{Area, LinkFile}
+use Rattle.echo_links.specs.Links.{Area, LinkFile}
 use Rattle.echo_run.specs.Event.{RunEvent, run_event}
 use Rattle.echo_run.specs.Run.{Run, System, nth, run_of, start}
 use Rattle.echo_run.proofs.TidyRuns.{along, event-files, fresh-files}

@@ -1,11 +1,12 @@
 -- The system that a link file and a base file make.
 use Rattle.std.proofs.Common.{◌≡◌, ℕ, ◌⊎◌, inl, inr, List, [], ◌++◌, length, take, Option, Some, None, Result, Ok, Err, refl, sym, ap, subst, ◌∙◌, arith}
 use Rattle.std.proofs.lemmas.List.{length-append, take_at}
-use Rattle.echo_base.specs.declared.fault.LinkFault.{LinkFault}
-use Rattle.echo_base.specs.declared.fault.LinkFault.TheVariants as link
-use Rattle.echo_base.specs.Base.{Filed, LinkFile}
+use Rattle.echo_links.specs.declared.fault.LinkFault.{LinkFault}
+use Rattle.echo_links.specs.declared.fault.LinkFault.TheVariants as link
+use Rattle.echo_links.specs.Links.{LinkFile}
+use Rattle.echo_links.specs.LinkLines.{LinksOf}
+use Rattle.echo_filed.specs.Filed.{Filed}
 use Rattle.echo_base.specs.BaseFile.{BaseOf, LoadOf}
-use Rattle.echo_base.specs.LinkLines.{LinksOf}
 use Rattle.echo_base.specs.Loading.{TakesBase}
 
 -- the bytes that were taken are at the front

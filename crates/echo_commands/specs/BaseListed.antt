@@ -4,8 +4,9 @@ use Rattle.std.specs.Io.KnownBytes.{Appends}
 use Rattle.std.specs.List.{flat_map, range_with_len}
 use Rattle.echo_addr.specs.declared.address.Address.{Address}
 use Rattle.echo_addr.specs.Address.{address_text}
-use Rattle.echo_base.specs.Base.{Filed, upper}
-use Rattle.echo_base.specs.Stubs.{is_stub}
+use Rattle.echo_links.specs.Links.{upper}
+use Rattle.echo_filed.specs.Filed.{Filed}
+use Rattle.echo_filed.specs.Stubs.{is_stub}
 use Rattle.echo_text.specs.Echo.{EchoText, msgid_of}
 use Rattle.echo_commands.specs.declared.fault.Fault.{Fault}
 use Rattle.echo_commands.specs.declared.status.Status.{Status}

@@ -3,8 +3,8 @@ use Rattle.std.specs.Prelude.{◌≡◌, ℕ, ◌↔◌, true, AllPairs, Contain
 use Rattle.std.specs.List.{flat_map}
 use Rattle.echo_addr.specs.declared.address.Address.{Address}
 use Rattle.echo_addr.specs.Address.{address_text}
-use Rattle.echo_base.specs.Base.{LinkFile, upper}
-use Rattle.echo_base.specs.Sets.{address_before}
+use Rattle.echo_links.specs.Links.{LinkFile, upper}
+use Rattle.echo_filed.specs.Sets.{address_before}
 use Rattle.echo_nodelist.specs.declared.line.Line.{Line}
 use Rattle.echo_run.specs.Event.{RunEvent}
 use Rattle.echo_run.specs.Orderly.{Orderly}

@@ -1,8 +1,8 @@
 -- How a command ends: what it answers before a fault is reported, and its status.
 use Rattle.std.specs.Prelude.{◌≡◌, ℕ, ◌⊎◌, codes, Result, Ok, Err}
 use Rattle.echo_device.specs.Device.{Failed}
+use Rattle.echo_links.specs.declared.fault.LinkFault.TheVariants as link
 use Rattle.echo_base.specs.declared.fault.BaseFault.TheVariants as base
-use Rattle.echo_base.specs.declared.fault.LinkFault.TheVariants as link
 use Rattle.echo_nodelist.specs.declared.fault.NodeFault.TheVariants as node
 use Rattle.echo_packet.specs.declared.fault.PacketFault.TheVariants as packet
 use Rattle.echo_steps.specs.declared.fault.PostFault.TheVariants as post

@@ -1,8 +1,8 @@
 -- The files that a command was given: what they say, and which fault of theirs comes first.
 use Rattle.std.specs.Prelude.{◌≡◌, ℕ, ◌⊎◌, List, [], ◌∷◌, ◌++◌, Option, Some, None, Ok, Err}
-use Rattle.echo_base.specs.declared.fault.LinkFault.{LinkFault}
-use Rattle.echo_base.specs.Base.{LinkFile}
-use Rattle.echo_base.specs.LinkLines.{LinksOf}
+use Rattle.echo_links.specs.declared.fault.LinkFault.{LinkFault}
+use Rattle.echo_links.specs.Links.{LinkFile}
+use Rattle.echo_links.specs.LinkLines.{LinksOf}
 use Rattle.echo_nodelist.specs.declared.fault.NodeFault.{NodeFault}
 use Rattle.echo_nodelist.specs.declared.line.Line.{Line}
 use Rattle.echo_nodelist.specs.Nodelist.{FaultOf, NodelistOf}

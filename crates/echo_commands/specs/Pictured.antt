@@ -3,7 +3,7 @@ use Rattle.std.specs.Prelude.{◌≡◌, ℕ, ◌↔◌, ◌==◌, ◌||◌, Boo
 use Rattle.std.specs.Io.KnownBytes.{Appends}
 use Rattle.std.specs.List.{flat_map}
 use Rattle.echo_addr.specs.Address.{address_text}
-use Rattle.echo_base.specs.Base.{LinkFile, upper}
+use Rattle.echo_links.specs.Links.{LinkFile, upper}
 use Rattle.echo_run.specs.Tidy.{Tidy}
 use Rattle.echo_net.specs.declared.drawing.DrawnLink.{DrawnLink}
 use Rattle.echo_net.specs.declared.drawing.DrawnSystem.{DrawnSystem}

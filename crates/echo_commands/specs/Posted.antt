@@ -1,7 +1,8 @@
 -- What `post` prints and leaves.
 use Rattle.std.specs.Prelude.{◌≡◌, ℕ, ◌⊎◌, ◌==◌, true, List, [], ◌∷◌, ◌++◌, codes, if◌then◌else◌, Option, Some, None, Result}
 use Rattle.std.specs.Io.KnownBytes.{Appends}
-use Rattle.echo_base.specs.Base.{Filed, LinkFile, upper}
+use Rattle.echo_links.specs.Links.{LinkFile, upper}
+use Rattle.echo_filed.specs.Filed.{Filed}
 use Rattle.echo_base.specs.BaseFile.{is_countable, saved_bytes}
 use Rattle.echo_steps.specs.declared.draft.Draft.{Draft}
 use Rattle.echo_steps.specs.declared.fault.PostFault.{PostFault}

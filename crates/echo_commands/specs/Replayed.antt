@@ -4,7 +4,7 @@ use Rattle.std.specs.Io.KnownBytes.{Appends}
 use Rattle.std.specs.List.{flat_map}
 use Rattle.echo_addr.specs.declared.address.Address.{Address}
 use Rattle.echo_addr.specs.Address.{address_text}
-use Rattle.echo_base.specs.Base.{Area, LinkFile}
+use Rattle.echo_links.specs.Links.{Area, LinkFile}
 use Rattle.echo_run.specs.declared.event.Event.{Event}
 use Rattle.echo_run.specs.Event.{run_event}
 use Rattle.echo_run.specs.Run.{Run, run_of}

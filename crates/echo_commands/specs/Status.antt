@@ -4,10 +4,10 @@ use Rattle.echo_commands.specs.declared.status.Status.{Status}
 use Rattle.echo_commands.specs.declared.status.Status.TheVariants.{Good, Differs, Refused, Device, CommandLine}
 use Rattle.echo_commands.specs.declared.fault.Fault.{Fault}
 use Rattle.echo_commands.specs.declared.fault.Fault.TheVariants as fault
+use Rattle.echo_links.specs.declared.fault.LinkFault.{LinkFault}
+use Rattle.echo_links.specs.declared.fault.LinkFault.TheVariants as link
 use Rattle.echo_base.specs.declared.fault.BaseFault.{BaseFault}
 use Rattle.echo_base.specs.declared.fault.BaseFault.TheVariants as base
-use Rattle.echo_base.specs.declared.fault.LinkFault.{LinkFault}
-use Rattle.echo_base.specs.declared.fault.LinkFault.TheVariants as link
 use Rattle.echo_nodelist.specs.declared.fault.NodeFault.{NodeFault}
 use Rattle.echo_nodelist.specs.declared.fault.NodeFault.TheVariants as node
 use Rattle.echo_packet.specs.declared.fault.PacketFault.{PacketFault}

@@ -1,11 +1,12 @@
 -- The system that a link file and a base file make.
 use Rattle.std.specs.Prelude.{◌≡◌, ℕ, ◌⊎◌, false, List, [], Option, Some, None, Ok, Err}
+use Rattle.echo_links.specs.declared.fault.LinkFault.{LinkFault}
+use Rattle.echo_links.specs.Links.{LinkFile}
+use Rattle.echo_links.specs.LinkLines.{LinksOf}
+use Rattle.echo_filed.specs.Filed.{Filed}
 use Rattle.echo_base.specs.declared.fault.BaseFault.{BaseFault}
 use Rattle.echo_base.specs.declared.fault.BaseFault.TheVariants.{TooMany}
-use Rattle.echo_base.specs.declared.fault.LinkFault.{LinkFault}
-use Rattle.echo_base.specs.Base.{Filed, LinkFile}
 use Rattle.echo_base.specs.BaseFile.{BaseFaultOf, LoadOf, is_countable}
-use Rattle.echo_base.specs.LinkLines.{LinksOf}
 use Rattle.echo_steps.specs.SystemState.{SystemState}
 use Rattle.echo_commands.specs.declared.fault.Fault.{Fault}
 use Rattle.echo_commands.specs.declared.fault.Fault.TheVariants.{Base, Link}

@@ -1,7 +1,7 @@
 //! The command `list`: the messages of a base.
 ghost use Rattle.std.specs.Prelude.{◌≡◌, ◌⊎◌, IfErr, IfOk, OnOk, length, option_copied, option_map};
 ghost use Rattle.std.specs.Io.KnownBytes.{Appends, append_known};
-ghost use Rattle.echo_base.specs.Base.{upper};
+ghost use Rattle.echo_links.specs.Links.{upper};
 ghost use Rattle.echo_commands.specs.BaseListed.{ListAnswers, asked_text, is_of_area, messages_text};
 ghost use Rattle.echo_commands.specs.Ended.{Ends, IsWantOfMemory, Stops};
 ghost use Rattle.echo_commands.specs.System.{IsBaseFault, IsBaseGiven};
@@ -11,8 +11,9 @@ use crate::fault::Fault;
 use crate::printing::{pass_on, print_rest};
 use crate::status::{Status, ended};
 use echo_addr::Items;
-use echo_base::{Base, Filed};
+use echo_base::Base;
 use echo_device::Sink;
+use echo_filed::Filed;
 use std::alloc::{AllocError, Global};
 use std::hash::BuildHasher;
 

@@ -2,8 +2,8 @@
 ghost use Rattle.std.specs.Prelude.{◌≡◌, ◌==◌, ◌&&◌, [], ◌∷◌, ◌++◌, codes, decimal, length, OnOk, bytes_eq};
 ghost use Rattle.std.specs.Cmp.Lexicographic.{pointwise};
 ghost use Rattle.std.specs.List.{flat_map};
-ghost use Rattle.echo_base.specs.Base.{id_line};
-ghost use Rattle.echo_base.specs.Stubs.{is_stub_with};
+ghost use Rattle.echo_filed.specs.Filed.{id_line};
+ghost use Rattle.echo_filed.specs.Stubs.{is_stub_with};
 ghost use Rattle.echo_text.specs.Echo.{msgid_of};
 ghost use Rattle.echo_text.specs.Lines.{msgid_word};
 ghost use Rattle.echo_commands.specs.BaseListed.{echo_text, fields_text, head_text, is_purged, mark_text, message_text, origin_text, total_text};
@@ -11,7 +11,7 @@ ghost use Rattle.echo_commands.specs.Escaped.{escaped_line};
 
 use crate::escape::{push_escaped, written};
 use echo_addr::Address;
-use echo_base::Filed;
+use echo_filed::Filed;
 use echo_text::{Echo, Lines, split_line};
 use std::alloc::AllocError;
 use std::io::Write;

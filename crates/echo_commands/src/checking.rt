@@ -1,6 +1,6 @@
 ghost use Rattle.std.specs.Prelude.{◌≡◌, List, None, OnOk, option_copied};
 ghost use Rattle.std.specs.Io.KnownBytes.{Appends};
-ghost use Rattle.echo_base.specs.Base.{LinkFile, upper};
+ghost use Rattle.echo_links.specs.Links.{LinkFile, upper};
 ghost use Rattle.echo_run.specs.Tidy.{Tidy};
 ghost use Rattle.echo_commands.specs.declared.status.Status.TheVariants.{Good};
 ghost use Rattle.echo_commands.specs.Checked.{CheckAnswers, CheckShown, RunsAreOrderly, verdict_status};
@@ -14,8 +14,8 @@ use crate::printing::print_rest;
 use crate::status::{Status, ended};
 use crate::verdict_text::{push_absences, push_verdict};
 use echo_addr::Items;
-use echo_base::LinkFile;
 use echo_device::Sink;
+use echo_links::LinkFile;
 use echo_net::Verdict;
 use echo_nodelist::Nodelist;
 use std::alloc::{AllocError, Global};

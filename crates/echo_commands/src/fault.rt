@@ -4,8 +4,9 @@ ghost use Rattle.echo_commands.specs.Status.{status_of};
 
 use crate::status::Status;
 use echo_addr::Address;
-use echo_base::{BaseFault, LinkFault};
+use echo_base::BaseFault;
 use echo_device::Sink;
+use echo_links::LinkFault;
 use echo_nodelist::NodeFault;
 use echo_packet::PacketFault;
 use echo_steps::{PostFault, ScanFault};

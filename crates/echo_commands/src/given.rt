@@ -5,7 +5,7 @@ ghost use Rattle.echo_commands.specs.Given.{AreLinkFiles, IsLinkFault, IsNodelis
 
 use crate::fault::Fault;
 use echo_addr::Items;
-use echo_base::LinkFile;
+use echo_links::LinkFile;
 use echo_nodelist::Nodelist;
 use std::alloc::Global;
 

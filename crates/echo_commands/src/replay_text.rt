@@ -1,14 +1,14 @@
 //! The lines of a replayed net.
 ghost use Rattle.std.specs.Prelude.{◌≡◌, ◌++◌, OnOk, Some, length, map, slice_get};
 ghost use Rattle.std.specs.List.{flat_map};
-ghost use Rattle.echo_base.specs.Base.{Area};
+ghost use Rattle.echo_links.specs.Links.{Area};
 ghost use Rattle.echo_run.specs.Run.{Run, System, nth};
 ghost use Rattle.echo_replay.specs.Worlds.{IsRun};
 ghost use Rattle.echo_commands.specs.Replayed.{area_line, counts_line, packets_line, replay_lines, settled_line, systems_from};
 
 use crate::escape::written;
 use echo_addr::Address;
-use echo_base::LinkFile;
+use echo_links::LinkFile;
 use echo_replay::World;
 use std::alloc::AllocError;
 use std::io::Write;

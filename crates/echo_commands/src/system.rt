@@ -6,8 +6,9 @@ ghost use Rattle.echo_commands.specs.System.{IsBaseFault, IsFirstFaultOf, IsSyst
 
 use crate::fault::Fault;
 use echo_addr::Items;
-use echo_base::{BaseFault, LinkFile};
+use echo_base::BaseFault;
 use echo_device::Watched;
+use echo_links::LinkFile;
 use echo_toss::Tosser;
 use std::alloc::Global;
 use std::hash::BuildHasher;

@@ -8,8 +8,9 @@ mod stations;
 
 use super::*;
 use echo_addr::Address;
-use echo_base::{BaseFault, LinkFault};
+use echo_base::BaseFault;
 use echo_device::Watched;
+use echo_links::LinkFault;
 use echo_nodelist::NodeFault;
 use echo_packet::PacketFault;
 use echo_steps::{PostFault, ScanFault};

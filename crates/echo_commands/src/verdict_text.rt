@@ -6,7 +6,7 @@ ghost use Rattle.echo_commands.specs.Shown.{Pushes};
 
 use crate::escape::written;
 use echo_addr::Address;
-use echo_base::LinkFile;
+use echo_links::LinkFile;
 use echo_net::{Absence, Verdict, listed};
 use echo_nodelist::Nodelist;
 use std::alloc::{AllocError, Global};

@@ -8,8 +8,7 @@ use Rattle.std.proofs.lemmas.List.Concat.{flat_map-append}
 use Rattle.echo_addr.specs.declared.address.Address.{Address}
 use Rattle.echo_graph.specs.Walk.{Among}
 use Rattle.echo_graph.proofs.Members.{Among-append_cases, Among-append_left, Among-append_right, Among-from_Contains, Contains-from_Among}
-use Rattle.echo_base.specs.Sets.{same_address}
-use Rattle.echo_base.specs.Base.{LinkFile, area_of, has_area, is_link, links_of}
+use Rattle.echo_links.specs.Links.{LinkFile, area_of, has_area, is_link, links_of, same_address}
 use Rattle.echo_run.specs.Tidy.{carries, lists}
 use Rattle.echo_run.proofs.Lists.{Among-filter_from, Among-filter_to, Among-map_from, Among-map_to, any-from, any-to}
 use Rattle.echo_net.specs.declared.link.Link.{Link}

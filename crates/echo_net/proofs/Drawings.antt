@@ -8,8 +8,8 @@ use Rattle.std.proofs.lemmas.Bool.{and_from, and_parts}
 use Rattle.std.proofs.lemmas.List.{take_more}
 use Rattle.std.proofs.lemmas.List.Elements.{Contains-append_cases, Contains-append_left, Contains-append_right}
 use Rattle.echo_addr.specs.declared.address.Address.{Address}
-use Rattle.echo_base.specs.Base.{LinkFile}
-use Rattle.echo_base.specs.Sets.{address_before, same_address}
+use Rattle.echo_links.specs.Links.{LinkFile, same_address}
+use Rattle.echo_filed.specs.Sets.{address_before}
 use Rattle.echo_graph.proofs.Members.{Among-from_Contains, Contains-from_Among}
 use Rattle.echo_run.proofs.Lists.{Among-map_from, Among-map_to, any-from, any-to}
 use Rattle.echo_run.specs.Tidy.{carries, lists}

@@ -5,9 +5,9 @@ use Rattle.std.specs.List.{All}
 use Rattle.std.proofs.lemmas.Bool.{and_from, and_parts, cases_Bool, eqb-false, eqb-true, or_parts}
 use Rattle.std.proofs.lemmas.List.Elements.{Contains-get_or}
 use Rattle.echo_addr.specs.declared.address.Address.{Address}
-use Rattle.echo_base.specs.LinkLines.{no_address}
-use Rattle.echo_base.specs.Base.{IsFile, LinkFile, has_area}
-use Rattle.echo_base.specs.Sets.{address_before, same_address}
+use Rattle.echo_links.specs.LinkLines.{no_address}
+use Rattle.echo_links.specs.Links.{IsFile, LinkFile, has_area, same_address}
+use Rattle.echo_filed.specs.Sets.{address_before}
 use Rattle.echo_graph.proofs.Members.{Among-index}
 use Rattle.echo_run.specs.Fits.{FilesFit}
 use Rattle.echo_run.specs.Tidy.{Carries, carries, lists}

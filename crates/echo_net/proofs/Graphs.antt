@@ -6,8 +6,8 @@ use Rattle.std.specs.List.{All}
 use Rattle.std.proofs.lemmas.Bool.{cases_lt}
 use Rattle.std.proofs.lemmas.List.{get_or_past}
 use Rattle.echo_addr.specs.declared.address.Address.{Address}
-use Rattle.echo_base.specs.Base.{LinkFile}
-use Rattle.echo_base.specs.Sets.{address_before}
+use Rattle.echo_links.specs.Links.{LinkFile}
+use Rattle.echo_filed.specs.Sets.{address_before}
 use Rattle.echo_graph.specs.Walk.{Among, Connected, Different, IsAt, Reaches}
 use Rattle.echo_graph.specs.Cycle.{IsCycle, Polygons}
 use Rattle.echo_graph.specs.Loops.{NamedLoop}

@@ -9,9 +9,9 @@ use Rattle.std.proofs.lemmas.List.{get_or_default}
 use Rattle.std.proofs.lemmas.List.Elements.{Contains-get_or}
 use Rattle.std.proofs.lemmas.List.Sums.{position_or_len_is}
 use Rattle.echo_addr.specs.declared.address.Address.{Address}
-use Rattle.echo_base.specs.LinkLines.{no_address}
-use Rattle.echo_base.specs.Base.{Area, LinkFile, area_of, has_area, is_link, links_of}
-use Rattle.echo_base.specs.Sets.{address_before, same_address}
+use Rattle.echo_links.specs.LinkLines.{no_address}
+use Rattle.echo_links.specs.Links.{Area, LinkFile, area_of, has_area, is_link, links_of, same_address}
+use Rattle.echo_filed.specs.Sets.{address_before}
 use Rattle.echo_graph.specs.Walk.{Connected, Reaches, Simple}
 use Rattle.echo_graph.specs.Cycle.{IsCycle, Polygons}
 use Rattle.echo_graph.specs.Loops.{HasUnlinked}

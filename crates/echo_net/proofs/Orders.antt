@@ -8,7 +8,8 @@ use Rattle.std.proofs.lemmas.Bool.{and_from, and_parts, cond-true, eq-eqb, eqb-t
 use Rattle.std.proofs.lemmas.Cmp.{ranked, tied_itself}
 use Rattle.echo_addr.specs.declared.address.Address.{Address}
 use Rattle.echo_addr.specs.declared.address.NetNode.{NetNode}
-use Rattle.echo_base.specs.Sets.{address_before, same_address}
+use Rattle.echo_links.specs.Links.{same_address}
+use Rattle.echo_filed.specs.Sets.{address_before}
 use Rattle.echo_net.specs.declared.link.Link.{Link}
 use Rattle.echo_net.specs.declared.owners.Owner.{Owner}
 use Rattle.echo_net.specs.declared.same_net_node.Neighbour.{Neighbour}

@@ -8,8 +8,8 @@ use Rattle.std.proofs.lemmas.Bool.{cases_lt, cases_Bool, not-true}
 use Rattle.std.proofs.lemmas.List.{get_or-drop, get_or-take, get_or_at, get_or_append_left, get_or_default, length-drop, length-take, length-append}
 use Rattle.std.proofs.lemmas.Map.Keys.{below_from_sorted}
 use Rattle.echo_addr.specs.declared.address.Address.{Address}
-use Rattle.echo_base.specs.LinkLines.{no_address}
-use Rattle.echo_base.specs.Sets.{address_before}
+use Rattle.echo_links.specs.LinkLines.{no_address}
+use Rattle.echo_filed.specs.Sets.{address_before}
 use Rattle.echo_graph.specs.Walk.{Among, IsAt}
 use Rattle.echo_graph.specs.Rows.{IsAscending, links_of}
 use Rattle.echo_graph.proofs.Members.{Among-from_Contains, Contains-from_Among}

@@ -2,8 +2,8 @@
 use Rattle.std.specs.Prelude.{◌≡◌, ◌<◌, ◌-◌, ◌&&◌, ◌↔◌, ◌⊎◌, ℕ, Bool, true, false, IsTrue, if◌then◌else◌, List, [], ◌∷◌, Contains, length, map, slice_index_or}
 use Rattle.std.specs.List.{list_any}
 use Rattle.echo_addr.specs.declared.address.Address.{Address}
-use Rattle.echo_base.specs.Base.{LinkFile}
-use Rattle.echo_base.specs.Sets.{address_before, same_address}
+use Rattle.echo_links.specs.Links.{LinkFile, same_address}
+use Rattle.echo_filed.specs.Sets.{address_before}
 use Rattle.echo_run.specs.Tidy.{Carries, carries, lists}
 use Rattle.echo_net.specs.declared.link.Link.{Link}
 use Rattle.echo_net.specs.declared.drawing.DrawnLink.{DrawnLink}

@@ -5,8 +5,8 @@ use Rattle.echo_addr.specs.declared.address.Address.{Address}
 use Rattle.echo_addr.specs.Address.{net_node_of}
 use Rattle.echo_graph.specs.Walk.{Different, Reaches}
 use Rattle.echo_graph.specs.Loops.{NamedLoopBy}
-use Rattle.echo_base.specs.Base.{LinkFile, has_area}
-use Rattle.echo_base.specs.Sets.{address_before}
+use Rattle.echo_links.specs.Links.{LinkFile, has_area}
+use Rattle.echo_filed.specs.Sets.{address_before}
 use Rattle.echo_run.specs.Tidy.{Carries, Joined, lists}
 use Rattle.echo_net.specs.declared.verdict.NetFault.{NetFault}
 use Rattle.echo_net.specs.declared.verdict.NetFault.TheVariants.{NoSuchArea, TwoFiles, SelfLink, Unknown, OneSided, SameNetNode, Apart, Loop}

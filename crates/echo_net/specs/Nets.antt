@@ -2,8 +2,8 @@
 use Rattle.std.specs.Prelude.{ℕ, List, map, filter}
 use Rattle.std.specs.List.{count_by, flat_map, sum_by}
 use Rattle.echo_addr.specs.declared.address.Address.{Address}
-use Rattle.echo_base.specs.Sets.{address_before}
-use Rattle.echo_base.specs.Base.{LinkFile, has_area, links_of}
+use Rattle.echo_links.specs.Links.{LinkFile, has_area, links_of}
+use Rattle.echo_filed.specs.Sets.{address_before}
 use Rattle.echo_net.specs.declared.link.Link.{Link}
 
 -- the own addresses of the files

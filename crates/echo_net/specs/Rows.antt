@@ -2,7 +2,7 @@
 use Rattle.std.specs.Prelude.{◌≡◌, ◌<◌, ◌==◌, ◌↔◌, ℕ, IsTrue, List, Contains, length, slice_index_or}
 use Rattle.std.specs.List.{list_any}
 use Rattle.echo_addr.specs.declared.address.Address.{Address}
-use Rattle.echo_base.specs.LinkLines.{no_address}
+use Rattle.echo_links.specs.LinkLines.{no_address}
 use Rattle.echo_graph.specs.Rows.{IsAscending, links_of}
 use Rattle.echo_net.specs.declared.link.Link.{Link}
 use Rattle.echo_net.specs.Nets.{link}

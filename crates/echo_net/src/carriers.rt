@@ -4,8 +4,8 @@ ghost use Rattle.std.specs.Prelude.{◌≡◌, ◌++◌, ◌↔◌, IsTrue, IfOk
 ghost use Rattle.std.specs.List.{All, count_by};
 ghost use Rattle.std.specs.List.Sorted.{IsStrictlySortedBy};
 ghost use Rattle.echo_addr.specs.declared.address.Address.{Address};
-ghost use Rattle.echo_base.specs.Base.{IsFile, links_of};
-ghost use Rattle.echo_base.specs.Sets.{address_before};
+ghost use Rattle.echo_links.specs.Links.{IsFile, links_of};
+ghost use Rattle.echo_filed.specs.Sets.{address_before};
 ghost use Rattle.echo_run.specs.Tidy.{carries, lists};
 ghost use Rattle.echo_net.specs.declared.link.Link.{Link};
 ghost use Rattle.echo_net.specs.Nets as net;
@@ -13,7 +13,7 @@ ghost use Rattle.echo_net.specs.Nets as net;
 use crate::link::Link;
 use crate::sorting::put_in_order;
 use echo_addr::Address;
-use echo_base::LinkFile;
+use echo_links::LinkFile;
 use std::alloc::{AllocError, Global};
 
 /// The own addresses of the files.

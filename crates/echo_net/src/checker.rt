@@ -13,8 +13,8 @@ use crate::graph_faults::graph_fault;
 use crate::link_faults::link_fault;
 use crate::rows::rows;
 use crate::verdict::Verdict;
-use echo_base::LinkFile;
 use echo_graph::Graph;
+use echo_links::LinkFile;
 use echo_run::every_run_of_a_tidy_area_is_orderly;
 use std::alloc::{AllocError, Global};
 

@@ -12,7 +12,7 @@ use crate::link::Link;
 use crate::sorting::{holds, put_in_order};
 use crate::verdict::{NetFault, Verdict};
 use echo_addr::{Address, Items};
-use echo_base::LinkFile;
+use echo_links::LinkFile;
 use std::alloc::{AllocError, Global};
 
 /// How a system is marked.

@@ -11,8 +11,8 @@ ghost use Rattle.echo_net.specs.Rows.{system_at};
 
 use crate::verdict::NetFault;
 use echo_addr::{Address, Items};
-use echo_base::LinkFile;
 use echo_graph::{Graph, loop_of, unreached};
+use echo_links::LinkFile;
 use std::alloc::{AllocError, Global};
 
 /// The first fault of the graph, where there is one. The members of the graph are the places of the

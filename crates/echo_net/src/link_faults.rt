@@ -14,7 +14,7 @@ use crate::owners::shared_address;
 use crate::same_net_node::same_net_node;
 use crate::verdict::NetFault;
 use echo_addr::Address;
-use echo_base::LinkFile;
+use echo_links::LinkFile;
 use std::alloc::{AllocError, Global};
 
 /// The first fault of the files and the links, where there is one.

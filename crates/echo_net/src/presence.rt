@@ -2,14 +2,14 @@
 
 ghost use Rattle.std.specs.Prelude.{◌≡◌, ◌↔◌, ◌++◌, true, IfOk, OnOk, Contains, AllPairs};
 ghost use Rattle.echo_addr.specs.declared.address.Address.{Address};
-ghost use Rattle.echo_base.specs.Sets.{address_before};
+ghost use Rattle.echo_filed.specs.Sets.{address_before};
 ghost use Rattle.echo_run.specs.Tidy.{Carries};
 ghost use Rattle.echo_net.specs.declared.presence.Absence.{Absence};
 ghost use Rattle.echo_net.specs.Absent.{IsAbsent, IsWhy, absent_as, is_down_line};
 
 use crate::carriers::carriers;
 use echo_addr::Address;
-use echo_base::LinkFile;
+use echo_links::LinkFile;
 use echo_nodelist::{Keyword, Line, Nodelist};
 use std::alloc::{AllocError, Global};
 

@@ -1,7 +1,7 @@
 mod small;
 
 use super::*;
-use echo_base::{LinkFault, LinkFile};
+use echo_links::{LinkFault, LinkFile};
 use echo_nodelist::Nodelist;
 use small::{NO_AREA, SmallNet};
 use std::alloc::Global;

@@ -1,7 +1,7 @@
 -- What is read off a world is what is read off its run.
 use Rattle.std.proofs.Common.{◌≡◌, ℕ, zero, suc, cond, arith, ◌+◌, ◌<◌, ◌≤◌, ◌==◌, ◌&&◌, not, Bool, false, List, [], ◌∷◌, length, drop, map, refl, sym, ap, ◌∙◌, Option, Some, None}
 use Rattle.std.proofs.lemmas.List.Sums.{sum_by-cons}
-use Rattle.echo_base.specs.Base.{Filed}
+use Rattle.echo_filed.specs.Filed.{Filed}
 use Rattle.std.specs.Prelude.{bytes_eq, count_by, nat_le, option_map, slice_get, unwrap_or}
 use Rattle.std.specs.List.{list_all}
 use Rattle.std.proofs.lemmas.List.Folds.{list_all-map}

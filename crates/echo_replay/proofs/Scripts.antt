@@ -5,8 +5,8 @@ use Rattle.std.specs.List.{cons_option, filter_map}
 use Rattle.std.specs.Option.{option_or}
 use Rattle.std.proofs.lemmas.List.{append_assoc, append-nil}
 use Rattle.std.proofs.lemmas.List.Elements.{filter-append, filter_map-append}
-use Rattle.echo_base.specs.LinkLines.{file_lines, is_skipped}
-use Rattle.echo_base.proofs.LinkBytes.{no_lines_left}
+use Rattle.echo_links.specs.LinkLines.{file_lines, is_skipped}
+use Rattle.echo_links.proofs.LinkBytes.{no_lines_left}
 use Rattle.echo_run.specs.declared.event.Event.{Event}
 use Rattle.echo_replay.specs.declared.script.ScriptFault.{ScriptFault}
 use Rattle.echo_replay.specs.declared.script.ScriptFault.TheVariants as fault

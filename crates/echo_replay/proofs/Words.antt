@@ -6,7 +6,7 @@ use Rattle.std.specs.List.{list_any, position_or_len}
 use Rattle.std.proofs.Math.Nat.{pow-le-pow_right}
 use Rattle.std.proofs.lemmas.Bool.{and_from, cond-false, cond-true, eq-eqb, le-leb, le-ltb, lt-leb, lt-ltb, ne_eqb}
 use Rattle.echo_addr.specs.Entries.{is_blank, tokens}
-use Rattle.echo_base.specs.LinkLines.{after_first_of, first_of, is_control_byte}
+use Rattle.echo_links.specs.LinkLines.{after_first_of, first_of, is_control_byte}
 use Rattle.echo_run.specs.declared.event.Event.{Event}
 use Rattle.echo_run.specs.declared.event.Event.TheVariants.{Deliver, Post, Purge, Scan}
 use Rattle.echo_replay.specs.Script.{after_word, draft_of, event_in, event_of, index_in, moment, number_in, only_index, posting_in, posting_of, posting_with, serial_in}

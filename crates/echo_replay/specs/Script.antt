@@ -5,7 +5,7 @@ use Rattle.std.specs.List.{filter_map, list_all, list_any, position_or_len}
 use Rattle.std.specs.Option.{option_or}
 use Rattle.std.specs.Str.Parse.{digits_value}
 use Rattle.echo_addr.specs.Entries.{is_blank, tokens}
-use Rattle.echo_base.specs.LinkLines.{after_first_of, file_lines, first_of, is_control_byte, is_skipped}
+use Rattle.echo_links.specs.LinkLines.{after_first_of, file_lines, first_of, is_control_byte, is_skipped}
 use Rattle.echo_run.specs.declared.event.Event.{Event}
 use Rattle.echo_run.specs.declared.event.Event.TheVariants.{Deliver, Post, Purge, Scan}
 use Rattle.echo_steps.specs.declared.draft.Draft.{Draft}

@@ -6,8 +6,8 @@ use Rattle.echo_addr.specs.declared.address.Address.{Address}
 use Rattle.echo_graph.specs.Walk.{Among}
 use Rattle.echo_packet.specs.Packet.{PacketOf, packet_bytes}
 use Rattle.echo_packet.specs.declared.limits.Limits.{Limits}
-use Rattle.echo_base.specs.Base.{Filed}
-use Rattle.echo_base.specs.Sets.{same_address}
+use Rattle.echo_links.specs.Links.{same_address}
+use Rattle.echo_filed.specs.Filed.{Filed}
 use Rattle.echo_steps.specs.declared.packet.Packet.{Packet}
 use Rattle.echo_steps.specs.declared.stamp.Stamp.{Stamp}
 use Rattle.echo_steps.specs.declared.draft.Draft.{Draft}

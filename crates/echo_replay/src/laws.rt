@@ -3,8 +3,8 @@
 
 ghost use Rattle.std.specs.Prelude.{◌≡◌, ℕ, ◌≤◌, List, map};
 ghost use Rattle.echo_graph.specs.Walk.{Among};
-ghost use Rattle.echo_base.specs.declared.key.Key.{Key};
-ghost use Rattle.echo_base.specs.Base.{LinkFile};
+ghost use Rattle.echo_links.specs.Links.{LinkFile};
+ghost use Rattle.echo_filed.specs.declared.key.Key.{Key};
 ghost use Rattle.echo_run.specs.declared.event.Event.{Event};
 ghost use Rattle.echo_run.specs.Event.{RunEvent, run_event};
 ghost use Rattle.echo_run.specs.Fits.{FilesFit};

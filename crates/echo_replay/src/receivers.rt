@@ -3,11 +3,11 @@
 ghost use Rattle.std.specs.Prelude.{◌≡◌, ◌++◌, ◌∷◌, [], List, None, IfOk, OnOk, map, length, is_some};
 ghost use Rattle.std.specs.Map.{lookup};
 ghost use Rattle.echo_addr.specs.declared.address.Address.{Address};
-ghost use Rattle.echo_base.specs.Sets.{same_address};
+ghost use Rattle.echo_links.specs.Links.{same_address};
 ghost use Rattle.echo_replay.specs.Worlds.{IsFirst, Leads};
 
 use echo_addr::Address;
-use echo_base::LinkFile;
+use echo_links::LinkFile;
 use indexmap::IndexMap;
 use std::alloc::{AllocError, Global};
 

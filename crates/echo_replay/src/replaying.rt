@@ -9,7 +9,7 @@ ghost use Rattle.echo_steps.specs.SystemState.{state_at_first};
 use crate::happening::happen;
 use crate::receivers::Receivers;
 use crate::world::{Hashing, World};
-use echo_base::LinkFile;
+use echo_links::LinkFile;
 use echo_run::Event;
 use echo_toss::Tosser;
 use std::alloc::{AllocError, Global};

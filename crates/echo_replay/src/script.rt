@@ -11,7 +11,7 @@ ghost use Rattle.echo_replay.specs.declared.script.ScriptFault.TheVariants as sc
 ghost use Rattle.echo_replay.specs.Script.{ScriptOf, draft_of, event_in, events_in, index_in, line_fault, moment, number_in, only_index, posting_in, serial_in};
 
 use echo_addr::{Items, next_token};
-use echo_base::{has_control_byte, is_skipped, split_line};
+use echo_links::{has_control_byte, is_skipped, split_line};
 use echo_run::Event;
 use echo_steps::{Draft, Stamp};
 use std::alloc::{AllocError, AllocFailed, Global};

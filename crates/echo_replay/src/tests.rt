@@ -4,7 +4,7 @@ mod scripts;
 
 use super::*;
 use echo_addr::Items;
-use echo_base::{LinkFault, LinkFile};
+use echo_links::{LinkFault, LinkFile};
 use echo_run::Event;
 use echo_steps::{Draft, Stamp};
 use std::alloc::{AllocError, Global};

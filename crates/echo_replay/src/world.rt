@@ -10,8 +10,10 @@ ghost use Rattle.echo_run.specs.World.{area_count, filed_at, waiting_at, is_sett
 ghost use Rattle.echo_replay.specs.Worlds.{IsRun, OfSystem, encoded, message_at};
 
 use echo_addr::{Address, Items};
-use echo_base::{BaseFault, Filed, LinkFile};
+use echo_base::BaseFault;
 use echo_device::Sink;
+use echo_filed::Filed;
+use echo_links::LinkFile;
 use echo_toss::Tosser;
 use std::hash::{BuildHasher, BuildHasherDefault, FoldHasher};
 use std::marker::Model;

@@ -12,11 +12,12 @@ use Rattle.echo_graph.specs.Walk.{Among, Different, Simple}
 use Rattle.echo_graph.proofs.Members.{Among-at}
 use Rattle.echo_graph.proofs.Cycles.{Parted-from_Polygons}
 use Rattle.echo_steps.specs.declared.packet.Packet.{Packet}
-use Rattle.echo_base.specs.declared.key.Key.{Key}
-use Rattle.echo_base.specs.declared.key.Key.TheVariants.{ById}
-use Rattle.echo_base.specs.Sets.{same_address}
+use Rattle.echo_links.specs.Links.{same_address}
+use Rattle.echo_filed.specs.declared.key.Key.{Key}
+use Rattle.echo_filed.specs.declared.key.Key.TheVariants.{ById}
 use Rattle.echo_text.specs.Echo.{msgid_of}
-use Rattle.echo_base.specs.Base.{Area, Filed, LinkFile, key_of, key_with, same_key, area_of, has_area, is_link, links_of}
+use Rattle.echo_links.specs.Links.{Area, LinkFile, area_of, has_area, is_link, links_of}
+use Rattle.echo_filed.specs.Filed.{Filed, key_of, key_with, same_key}
 use Rattle.echo_text.specs.Ids.{id_of}
 use Rattle.echo_run.specs.Run.{System, Run, destination}
 use Rattle.echo_run.specs.Orderly.{copies, tag_of}

@@ -3,8 +3,8 @@ use Rattle.std.proofs.Common.{◌≡◌, ◌⊎◌, inl, inr, refl, sym, subst, 
 use Rattle.std.specs.Prelude.{Bool, true, ◌&&◌}
 use Rattle.echo_addr.specs.declared.address.Address.{Address}
 use Rattle.echo_graph.specs.Walk.{Among}
-use Rattle.echo_base.specs.Sets.{same_address}
-use Rattle.echo_base.specs.Base.{Filed, LinkFile, has_area, key_of}
+use Rattle.echo_links.specs.Links.{LinkFile, has_area, same_address}
+use Rattle.echo_filed.specs.Filed.{Filed, key_of}
 use Rattle.echo_run.specs.Run.{System, Run}
 use Rattle.echo_run.specs.Orderly.{IsPosting, Settled}
 use Rattle.echo_run.specs.Tidy.{Tidy, Carries}

@@ -5,15 +5,16 @@ use Rattle.std.specs.List.{list_any}
 use Rattle.echo_graph.specs.Walk.{Among}
 use Rattle.echo_graph.proofs.Members.{Among-append_cases}
 use Rattle.echo_text.specs.Echo.{IsEcho, msgid_of}
-use Rattle.echo_base.specs.declared.key.Key.{Key}
-use Rattle.echo_base.specs.declared.key.Key.TheVariants.{ByContent, ById}
-use Rattle.echo_base.specs.Base.{Filed, key_of, key_with, same_key, is_known}
+use Rattle.echo_filed.specs.declared.key.Key.{Key}
+use Rattle.echo_filed.specs.declared.key.Key.TheVariants.{ByContent, ById}
+use Rattle.echo_filed.specs.Filed.{Filed, key_of, key_with, same_key}
+use Rattle.echo_base.specs.Base.{is_known}
 use Rattle.echo_steps.specs.Posting.{has_id}
-use Rattle.echo_base.specs.Stubs.{stub_of, stub_with}
+use Rattle.echo_filed.specs.Stubs.{stub_of, stub_with}
 use Rattle.echo_steps.specs.Purging.{purged}
 use Rattle.echo_run.specs.Run.{System, filing, nth}
 use Rattle.echo_run.specs.Orderly.{count}
-use Rattle.echo_base.specs.Base.{IsFile}
+use Rattle.echo_links.specs.Links.{IsFile}
 use Rattle.echo_run.proofs.Counts as counts
 use Rattle.echo_run.proofs.TosserPremises.{Laws}
 use Rattle.echo_run.proofs.Lists.{any-to, any-from, and-parts, some_same}

@@ -13,14 +13,15 @@ use Rattle.echo_text.specs.Echo.{EchoText, IsEcho, msgid_of}
 use Rattle.echo_text.specs.Refusal.{refusal}
 use Rattle.echo_text.specs.declared.fault.TextFault.{TextFault}
 use Rattle.echo_steps.specs.declared.stamp.Stamp.{Stamp}
-use Rattle.echo_base.specs.declared.key.Key.{Key}
-use Rattle.echo_base.specs.Sets.{same_address, same_entry}
-use Rattle.echo_base.specs.Base.{Filed, LinkFile, key_of, key_with, same_key, links_of, is_link}
+use Rattle.echo_links.specs.Links.{LinkFile, is_link, links_of, same_address}
+use Rattle.echo_filed.specs.declared.key.Key.{Key}
+use Rattle.echo_filed.specs.Sets.{same_entry}
+use Rattle.echo_filed.specs.Filed.{Filed, key_of, key_with, same_key}
 use Rattle.echo_steps.specs.Tossing.{received}
 use Rattle.echo_steps.specs.Scanning.{packet_to, header_to, copy_to, exported, goes_to, targets, is_sender, is_seen_by, recipients}
 use Rattle.echo_run.specs.Run.{destination}
 use Rattle.echo_run.specs.Orderly.{copies}
-use Rattle.echo_base.specs.Base.{IsFile}
+use Rattle.echo_links.specs.Links.{IsFile}
 use Rattle.echo_run.proofs.Counts.{one_if, count}
 use Rattle.echo_run.proofs.TosserPremises.{Laws}
 use Rattle.echo_run.proofs.Lists.{not_both, yes_or_no, and-parts, and-from, any-to, any-from, filter-yes, filter-no, Among-filter_from, Among-filter_to}

@@ -4,7 +4,7 @@ use Rattle.std.specs.Prelude.{Bool, true, false, if◌then◌else◌}
 use Rattle.echo_graph.specs.Walk.{Among, Different}
 use Rattle.echo_steps.specs.declared.packet.Packet.{Packet}
 use Rattle.echo_steps.specs.declared.stamp.Stamp.{Stamp}
-use Rattle.echo_base.specs.Base.{LinkFile}
+use Rattle.echo_links.specs.Links.{LinkFile}
 use Rattle.echo_steps.specs.Scanning.{scanned}
 use Rattle.echo_steps.specs.Stamps.{is_stamp}
 use Rattle.echo_run.specs.Event.{RunEvent, Posting, Scanning, Delivery, PartDelivery, Purging}

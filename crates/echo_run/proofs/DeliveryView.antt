@@ -10,10 +10,11 @@ use Rattle.echo_packet.specs.Message.{Message}
 use Rattle.echo_text.specs.Echo.{IsEcho}
 use Rattle.echo_text.specs.Refusal.{refusal}
 use Rattle.echo_steps.specs.declared.packet.Packet.{Packet}
-use Rattle.echo_base.specs.declared.key.Key.{Key}
-use Rattle.echo_base.specs.Base.{Filed, LinkFile, key_of, has_area, is_link}
+use Rattle.echo_links.specs.Links.{LinkFile, has_area, is_link}
+use Rattle.echo_filed.specs.declared.key.Key.{Key}
+use Rattle.echo_filed.specs.Filed.{Filed, key_of}
 use Rattle.echo_steps.specs.Tossing.{received, tossing, origin_of}
-use Rattle.echo_base.specs.Written.{echo_of}
+use Rattle.echo_filed.specs.Written.{echo_of}
 use Rattle.echo_run.specs.Run.{System, Run, filing, tossing_at, destination, with_index}
 use Rattle.echo_run.specs.Orderly.{copies, origin}
 use Rattle.echo_run.specs.Tidy.{lists}

@@ -5,8 +5,10 @@ use Rattle.std.specs.List.{list_any}
 use Rattle.echo_addr.specs.declared.address.Address.{Address}
 use Rattle.echo_graph.specs.Walk.{Among}
 use Rattle.echo_steps.specs.declared.packet.Packet.{Packet}
-use Rattle.echo_base.specs.declared.key.Key.{Key}
-use Rattle.echo_base.specs.Base.{Filed, LinkFile, is_known, key_of, same_key}
+use Rattle.echo_links.specs.Links.{LinkFile}
+use Rattle.echo_filed.specs.declared.key.Key.{Key}
+use Rattle.echo_filed.specs.Filed.{Filed, key_of, same_key}
+use Rattle.echo_base.specs.Base.{is_known}
 use Rattle.echo_run.specs.Run.{System, Run, destination, fresh, start}
 use Rattle.echo_run.specs.Orderly.{copies, sent_count, tag_of}
 use Rattle.echo_run.specs.Tidy.{Tidy, lists, Carries, carries}

@@ -4,8 +4,9 @@ use Rattle.std.proofs.Common.{◌≡◌, ◌⊎◌, inl, inr, subst, ap, ◌∙�
 use Rattle.std.specs.Prelude.{Bool, true, not, ◌&&◌, bytes_eq}
 use Rattle.echo_addr.specs.declared.address.Address.{Address}
 use Rattle.echo_graph.specs.Walk.{Among}
-use Rattle.echo_base.specs.declared.key.Key.{Key}
-use Rattle.echo_base.specs.Base.{Filed, LinkFile, key_of}
+use Rattle.echo_links.specs.Links.{LinkFile}
+use Rattle.echo_filed.specs.declared.key.Key.{Key}
+use Rattle.echo_filed.specs.Filed.{Filed, key_of}
 use Rattle.echo_run.specs.Event.{RunEvent}
 use Rattle.echo_run.specs.Run.{System, Run, after_event, after_events}
 use Rattle.echo_run.specs.Orderly.{IsPosting, sent_count, tag_of}

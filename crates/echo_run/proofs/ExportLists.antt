@@ -5,10 +5,10 @@ use Rattle.std.proofs.lemmas.Bool.{eq-eqb, ne_eqb}
 use Rattle.std.proofs.lemmas.List.{append_assoc, append-nil, map-append}
 use Rattle.std.proofs.lemmas.List.Elements.{filter-append}
 use Rattle.echo_addr.specs.declared.address.Address.{Address}
-use Rattle.echo_base.specs.declared.key.Key.{Key}
+use Rattle.echo_filed.specs.declared.key.Key.{Key}
 use Rattle.echo_steps.specs.declared.packet.Packet.{Packet}
 use Rattle.echo_steps.specs.declared.stamp.Stamp.{Stamp}
-use Rattle.echo_base.specs.Base.{Filed}
+use Rattle.echo_filed.specs.Filed.{Filed}
 use Rattle.echo_steps.specs.Scanning.{scanned}
 use Rattle.echo_steps.specs.Stamps.{is_stamp}
 use Rattle.echo_run.specs.Event.{RunEvent, Posting, Scanning, Delivery, PartDelivery, Purging}

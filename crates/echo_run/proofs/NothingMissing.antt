@@ -7,7 +7,7 @@ use Rattle.std.proofs.lemmas.List.{drop_all}
 use Rattle.echo_graph.specs.Walk.{Among}
 use Rattle.echo_graph.proofs.Members.{Among-at}
 use Rattle.echo_steps.specs.declared.packet.Packet.{Packet}
-use Rattle.echo_base.specs.Base.{Filed}
+use Rattle.echo_filed.specs.Filed.{Filed}
 use Rattle.echo_run.specs.Run.{Run, System}
 use Rattle.echo_run.specs.Orderly.{Settled}
 use Rattle.echo_run.specs.World.{is_settled, missing, undelivered}

@@ -6,8 +6,9 @@ use Rattle.std.proofs.lemmas.List.{append-nil}
 use Rattle.echo_addr.specs.declared.address.Address.{Address}
 use Rattle.echo_graph.specs.Walk.{Among, Different}
 use Rattle.echo_graph.proofs.Members.{Among-append_left, Among-append_right}
-use Rattle.echo_base.specs.Sets.{same_address}
-use Rattle.echo_base.specs.Base.{Filed, LinkFile, is_known, key_of, same_key}
+use Rattle.echo_links.specs.Links.{LinkFile, same_address}
+use Rattle.echo_filed.specs.Filed.{Filed, key_of, same_key}
+use Rattle.echo_base.specs.Base.{is_known}
 use Rattle.echo_run.specs.Event.{RunEvent}
 use Rattle.echo_run.specs.Run.{System, Run, after_events}
 use Rattle.echo_run.specs.Orderly.{IsPosting}

@@ -5,8 +5,9 @@ use Rattle.std.proofs.lemmas.List.{take-append-le, drop-append-le, append-nil}
 use Rattle.std.proofs.lemmas.List.Elements.{filter-append}
 use Rattle.echo_addr.specs.declared.address.Address.{Address}
 use Rattle.echo_graph.specs.Walk.{Among}
-use Rattle.echo_base.specs.declared.key.Key.{Key}
-use Rattle.echo_base.specs.Base.{Filed, LinkFile, key_of}
+use Rattle.echo_links.specs.Links.{LinkFile}
+use Rattle.echo_filed.specs.declared.key.Key.{Key}
+use Rattle.echo_filed.specs.Filed.{Filed, key_of}
 use Rattle.echo_run.specs.Run.{System, Run, filing, purging_at}
 use Rattle.echo_run.specs.Tidy.{Tidy, lists, Carries}
 use Rattle.echo_run.proofs.Counts.{Tells-can}

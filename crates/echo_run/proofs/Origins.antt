@@ -9,7 +9,8 @@ use Rattle.echo_text.specs.Refusal.{refusal}
 use Rattle.echo_steps.specs.declared.packet.Packet.{Packet}
 use Rattle.echo_steps.specs.declared.draft.Draft.{Draft}
 use Rattle.echo_steps.specs.declared.stamp.Stamp.{Stamp}
-use Rattle.echo_base.specs.Base.{Filed, LinkFile, key_of}
+use Rattle.echo_links.specs.Links.{LinkFile}
+use Rattle.echo_filed.specs.Filed.{Filed, key_of}
 use Rattle.echo_steps.specs.Posting.{posted, posting}
 use Rattle.echo_steps.specs.Tossing.{received, tossing, origin_of}
 use Rattle.echo_steps.specs.Scanning.{goes_to, scanned}

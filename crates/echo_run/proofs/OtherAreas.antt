@@ -5,8 +5,7 @@ use Rattle.std.specs.List.{list_any}
 use Rattle.std.proofs.lemmas.List.{length-append}
 use Rattle.echo_addr.specs.declared.address.Address.{Address}
 use Rattle.echo_graph.specs.Walk.{Among}
-use Rattle.echo_base.specs.Sets.{same_address}
-use Rattle.echo_base.specs.Base.{Area, LinkFile, area_of, links_of}
+use Rattle.echo_links.specs.Links.{Area, LinkFile, area_of, links_of, same_address}
 use Rattle.echo_run.specs.Tidy.{Tidy, carries, lists}
 use Rattle.echo_run.specs.Fits.{FilesFit}
 use Rattle.echo_run.specs.Epochs.{Epoch, SameArea, TidyThroughout, addresses, area_entries}

@@ -5,8 +5,9 @@ use Rattle.std.proofs.lemmas.List.{append-nil}
 use Rattle.echo_addr.specs.declared.address.Address.{Address}
 use Rattle.echo_graph.specs.Walk.{Among}
 use Rattle.echo_graph.proofs.Members.{Among-append_left}
-use Rattle.echo_base.specs.declared.key.Key.{Key}
-use Rattle.echo_base.specs.Base.{Filed, LinkFile, key_of}
+use Rattle.echo_links.specs.Links.{LinkFile}
+use Rattle.echo_filed.specs.declared.key.Key.{Key}
+use Rattle.echo_filed.specs.Filed.{Filed, key_of}
 use Rattle.echo_run.specs.Event.{RunEvent}
 use Rattle.echo_run.specs.Run.{System, Run, after_events, nth}
 use Rattle.echo_run.specs.Orderly.{FiledUnchanged, IsPosting, Settled, sent_count}

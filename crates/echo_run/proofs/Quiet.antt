@@ -4,8 +4,9 @@ use Rattle.std.specs.Prelude.{Bool, true}
 use Rattle.echo_addr.specs.declared.address.Address.{Address}
 use Rattle.echo_graph.specs.Walk.{Among}
 use Rattle.echo_steps.specs.declared.packet.Packet.{Packet}
-use Rattle.echo_base.specs.declared.key.Key.{Key}
-use Rattle.echo_base.specs.Base.{Filed, LinkFile, key_of}
+use Rattle.echo_links.specs.Links.{LinkFile}
+use Rattle.echo_filed.specs.declared.key.Key.{Key}
+use Rattle.echo_filed.specs.Filed.{Filed, key_of}
 use Rattle.echo_run.specs.Run.{System, Run, destination}
 use Rattle.echo_run.specs.Orderly.{FiledUnchanged, IsPosting, SameContent, Settled, copies, sent_count, tag_of}
 use Rattle.echo_run.specs.Tidy.{Tidy, lists, Carries}

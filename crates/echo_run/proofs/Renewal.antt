@@ -2,8 +2,8 @@
 use Rattle.std.proofs.Common.{◌≡◌, inl, inr, refl, sym, subst, ap, ◌∙◌, arith, List, [], ◌∷◌, map, length, cond}
 use Rattle.echo_addr.specs.declared.address.Address.{Address}
 use Rattle.echo_graph.specs.Walk.{Among}
-use Rattle.echo_base.specs.Sets.{same_address}
-use Rattle.echo_base.specs.Base.{Filed, LinkFile}
+use Rattle.echo_links.specs.Links.{LinkFile, same_address}
+use Rattle.echo_filed.specs.Filed.{Filed}
 use Rattle.echo_run.specs.Run.{System, Run}
 use Rattle.echo_run.specs.Fits.{FilesFit}
 use Rattle.echo_run.specs.Epochs.{addresses, changed_to, with_file, with_files}

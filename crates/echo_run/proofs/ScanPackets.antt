@@ -6,11 +6,11 @@ use Rattle.std.proofs.lemmas.Bool.{cond-true, cond-false}
 use Rattle.echo_addr.specs.declared.address.Address.{Address}
 use Rattle.echo_graph.specs.Walk.{Among, Different}
 use Rattle.echo_graph.proofs.Members.{Among-at}
-use Rattle.echo_base.specs.declared.key.Key.{Key}
+use Rattle.echo_filed.specs.declared.key.Key.{Key}
 use Rattle.echo_steps.specs.declared.packet.Packet.{Packet}
 use Rattle.echo_steps.specs.declared.stamp.Stamp.{Stamp}
-use Rattle.echo_base.specs.Sets.{same_address}
-use Rattle.echo_base.specs.Base.{Filed, LinkFile, same_key}
+use Rattle.echo_links.specs.Links.{LinkFile, same_address}
+use Rattle.echo_filed.specs.Filed.{Filed, same_key}
 use Rattle.echo_steps.specs.Scanning.{exported, goes_to, header_to, packet_to, packets_of, recipients, scanned}
 use Rattle.echo_run.specs.Run.{System, destination}
 use Rattle.echo_run.specs.Orderly.{SameContent, copies, count, origin, sent_count}

@@ -10,9 +10,9 @@ use Rattle.echo_graph.proofs.Members.{Among-append_right, Among-append_cases}
 use Rattle.echo_text.specs.Echo.{IsEcho}
 use Rattle.echo_steps.specs.declared.packet.Packet.{Packet}
 use Rattle.echo_steps.specs.declared.stamp.Stamp.{Stamp}
-use Rattle.echo_base.specs.declared.key.Key.{Key}
-use Rattle.echo_base.specs.Base.{Filed, key_of, is_link, links_of}
-use Rattle.echo_base.specs.Sets.{same_address}
+use Rattle.echo_links.specs.Links.{is_link, links_of, same_address}
+use Rattle.echo_filed.specs.declared.key.Key.{Key}
+use Rattle.echo_filed.specs.Filed.{Filed, key_of}
 use Rattle.echo_steps.specs.Scanning.{scanned, packets_of, packet_to, goes_to, recipients}
 use Rattle.echo_run.specs.Run.{System, Run, scanning_at}
 use Rattle.echo_run.specs.Orderly.{copies}

@@ -7,9 +7,9 @@ use Rattle.echo_addr.specs.declared.address.Address.{Address}
 use Rattle.echo_graph.specs.Walk.{Among}
 use Rattle.echo_graph.proofs.Members.{Among-append_left, Among-append_right, Among-append_cases}
 use Rattle.echo_steps.specs.declared.packet.Packet.{Packet}
-use Rattle.echo_base.specs.declared.key.Key.{Key}
-use Rattle.echo_base.specs.Sets.{same_address}
-use Rattle.echo_base.specs.Base.{Filed, LinkFile, key_of, same_key}
+use Rattle.echo_links.specs.Links.{LinkFile, same_address}
+use Rattle.echo_filed.specs.declared.key.Key.{Key}
+use Rattle.echo_filed.specs.Filed.{Filed, key_of, same_key}
 use Rattle.echo_run.specs.Run.{System, Run, destination}
 use Rattle.echo_run.specs.Orderly.{count, copies, sent_count}
 use Rattle.echo_run.specs.Tidy.{Tidy}

@@ -8,11 +8,11 @@ use Rattle.echo_packet.specs.Message.{Message}
 use Rattle.echo_steps.specs.declared.packet.Packet.{Packet}
 use Rattle.echo_steps.specs.declared.draft.Draft.{Draft}
 use Rattle.echo_steps.specs.declared.stamp.Stamp.{Stamp}
-use Rattle.echo_base.specs.declared.key.Key.TheVariants.{ById}
-use Rattle.echo_base.specs.Sets.{same_address}
-use Rattle.echo_base.specs.Base.{Filed, LinkFile, key_of, has_area}
+use Rattle.echo_links.specs.Links.{LinkFile, has_area, same_address}
+use Rattle.echo_filed.specs.declared.key.Key.TheVariants.{ById}
+use Rattle.echo_filed.specs.Filed.{Filed, key_of}
 use Rattle.echo_text.specs.Ids.{id_of}
-use Rattle.echo_base.specs.Base.{upper}
+use Rattle.echo_links.specs.Links.{upper}
 use Rattle.echo_steps.specs.Posting.{posted, posting}
 use Rattle.echo_steps.specs.Tossing.{origin_of}
 use Rattle.echo_steps.specs.Scanning.{scanned}

@@ -12,10 +12,12 @@ use Rattle.echo_steps.specs.declared.stamp.Stamp.{Stamp}
 use Rattle.echo_steps.specs.declared.fault.PostFault.{PostFault}
 use Rattle.echo_steps.specs.declared.fault.PostFault.TheVariants as fault
 use Rattle.echo_steps.specs.declared.outcome.Outcome.TheVariants as outcome
-use Rattle.echo_base.specs.Base.{Filed, LinkFile, has_area, is_link, is_known, key_of}
+use Rattle.echo_links.specs.Links.{LinkFile, has_area, is_link}
+use Rattle.echo_filed.specs.Filed.{Filed, key_of}
+use Rattle.echo_base.specs.Base.{is_known}
 use Rattle.echo_text.specs.Ids.{id_of, is_id}
 use Rattle.echo_steps.specs.Stamps.{is_stamp}
-use Rattle.echo_base.specs.Base.{upper}
+use Rattle.echo_links.specs.Links.{upper}
 use Rattle.echo_steps.specs.Posting.{posted, posting, post_refusal, holds_zero, is_too_long, has_id}
 use Rattle.echo_steps.specs.Tossing.{received, tossing, toss_outcome, outcome_after, where_filed}
 

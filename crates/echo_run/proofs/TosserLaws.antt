@@ -9,21 +9,23 @@ use Rattle.echo_addr.specs.Address.{IsAddress, address_text, address_in}
 use Rattle.echo_addr.proofs.Outcomes.{AddressOf-address_text, address_in-written}
 use Rattle.echo_graph.specs.Walk.{Among, Different}
 use Rattle.echo_graph.proofs.Members.{Contains-from_Among, Among-from_Contains}
-use Rattle.echo_base.specs.declared.key.Key.TheVariants.{ById}
+use Rattle.echo_filed.specs.declared.key.Key.TheVariants.{ById}
 use Rattle.echo_steps.specs.declared.draft.Draft.{Draft}
 use Rattle.echo_steps.specs.declared.stamp.Stamp.{Stamp}
-use Rattle.echo_base.specs.Sets.{address_before, address_set, entry_set, set_of}
-use Rattle.echo_base.specs.Base.{IsFile, LinkFile, key_of, key_with}
+use Rattle.echo_links.specs.Links.{IsFile, LinkFile}
+use Rattle.echo_filed.specs.Sets.{address_before, address_set, entry_set, set_of}
+use Rattle.echo_filed.specs.Filed.{key_of, key_with}
 use Rattle.echo_text.specs.Ids.{id_of, serial_text}
-use Rattle.echo_base.specs.Base.{upper}
+use Rattle.echo_links.specs.Links.{upper}
 use Rattle.echo_steps.specs.Posting.{posted}
-use Rattle.echo_base.proofs.Choices.{contained_in, in_contained}
-use Rattle.echo_base.proofs.Sets.{IsOrder, Ascending, set_ascending, set_only, set_keeps}
-use Rattle.echo_base.proofs.Orders.{address_order, entry_set_is_set, same_address_decides, same_entry_decides}
-use Rattle.echo_base.proofs.Keys.{same_key_decides, stub_keeps_key, stub_of_stub}
+use Rattle.echo_links.proofs.Addresses.{same_address_decides}
+use Rattle.echo_filed.proofs.Choices.{contained_in, in_contained}
+use Rattle.echo_filed.proofs.Sets.{IsOrder, Ascending, set_ascending, set_only, set_keeps}
+use Rattle.echo_filed.proofs.Orders.{address_order, entry_set_is_set, same_entry_decides}
+use Rattle.echo_filed.proofs.Keys.{same_key_decides, stub_keeps_key, stub_of_stub}
 use Rattle.echo_steps.proofs.Posted.{allowed, posted_id, posted_is_echo}
 use Rattle.echo_steps.proofs.Copies.{exported_is_echo}
-use Rattle.echo_base.proofs.Texts.{written_accepted, written_back}
+use Rattle.echo_filed.proofs.Texts.{written_accepted, written_back}
 use Rattle.echo_run.proofs.Lists.{not_both}
 use Rattle.echo_run.proofs.TosserPremises.{Laws}
 

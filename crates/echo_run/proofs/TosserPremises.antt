@@ -8,16 +8,17 @@ use Rattle.echo_text.specs.Echo.{EchoText, IsEcho}
 use Rattle.echo_text.specs.Refusal.{refusal}
 use Rattle.echo_steps.specs.declared.draft.Draft.{Draft}
 use Rattle.echo_steps.specs.declared.stamp.Stamp.{Stamp}
-use Rattle.echo_base.specs.declared.key.Key.TheVariants.{ById}
-use Rattle.echo_base.specs.Sets.{address_set, entry_set, same_address, same_entry}
-use Rattle.echo_base.specs.Base.{Filed, LinkFile, key_of, same_key}
+use Rattle.echo_links.specs.Links.{LinkFile, same_address}
+use Rattle.echo_filed.specs.declared.key.Key.TheVariants.{ById}
+use Rattle.echo_filed.specs.Sets.{address_set, entry_set, same_entry}
+use Rattle.echo_filed.specs.Filed.{Filed, key_of, same_key}
 use Rattle.echo_text.specs.Ids.{id_of}
-use Rattle.echo_base.specs.Base.{upper}
+use Rattle.echo_links.specs.Links.{upper}
 use Rattle.echo_steps.specs.Posting.{posted, post_refusal}
-use Rattle.echo_base.specs.Stubs.{stub_of}
+use Rattle.echo_filed.specs.Stubs.{stub_of}
 use Rattle.echo_steps.specs.Scanning.{exported}
-use Rattle.echo_base.specs.Written.{echo_of, text_of}
-use Rattle.echo_base.specs.Base.{IsFile}
+use Rattle.echo_links.specs.Links.{IsFile}
+use Rattle.echo_filed.specs.Written.{echo_of, text_of}
 use Rattle.echo_run.proofs.Counts.{Tells}
 
 pub record Laws : Type 0 where

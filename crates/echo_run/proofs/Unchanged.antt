@@ -2,8 +2,8 @@
 use Rattle.std.proofs.Common.{◌≡◌, ◌⊎◌, inl, inr, refl, sym, subst, ap, ◌∙◌, ◌≤◌, arith, List, ◌++◌}
 use Rattle.echo_graph.specs.Walk.{Among}
 use Rattle.echo_graph.proofs.Members.{Among-append_left}
-use Rattle.echo_base.specs.Base.{Filed, key_of, same_key}
-use Rattle.echo_base.specs.Stubs.{stub_of}
+use Rattle.echo_filed.specs.Filed.{Filed, key_of, same_key}
+use Rattle.echo_filed.specs.Stubs.{stub_of}
 use Rattle.echo_run.specs.Run.{System}
 use Rattle.echo_run.specs.Orderly.{FiledUnchanged, SameContent, count}
 use Rattle.echo_run.proofs.Counts as counts

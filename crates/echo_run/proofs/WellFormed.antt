@@ -11,19 +11,21 @@ use Rattle.echo_text.specs.Refusal.{refusal}
 use Rattle.echo_steps.specs.declared.packet.Packet.{Packet}
 use Rattle.echo_steps.specs.declared.draft.Draft.{Draft}
 use Rattle.echo_steps.specs.declared.stamp.Stamp.{Stamp}
-use Rattle.echo_base.specs.declared.key.Key.{Key}
-use Rattle.echo_base.specs.declared.key.Key.TheVariants.{ById}
-use Rattle.echo_base.specs.Base.{Filed, LinkFile, key_of, is_known}
+use Rattle.echo_links.specs.Links.{LinkFile}
+use Rattle.echo_filed.specs.declared.key.Key.{Key}
+use Rattle.echo_filed.specs.declared.key.Key.TheVariants.{ById}
+use Rattle.echo_filed.specs.Filed.{Filed, key_of}
+use Rattle.echo_base.specs.Base.{is_known}
 use Rattle.echo_text.specs.Ids.{id_of}
-use Rattle.echo_base.specs.Base.{upper}
+use Rattle.echo_links.specs.Links.{upper}
 use Rattle.echo_steps.specs.Posting.{posted, posting, has_id}
 use Rattle.echo_steps.specs.Tossing.{received, tossing, origin_of}
 use Rattle.echo_steps.specs.Scanning.{scanned, packets_of, packet_to, header_to, copy_to, exported, recipients, goes_to}
 use Rattle.echo_steps.specs.Stamps.{is_stamp}
-use Rattle.echo_base.specs.Written.{echo_of}
+use Rattle.echo_filed.specs.Written.{echo_of}
 use Rattle.echo_run.specs.Event.{RunEvent, Posting, Scanning, Delivery, PartDelivery, Purging}
 use Rattle.echo_run.specs.Run.{System, Run, fresh, filing, posting_at, tossing_at, scanning_at, purging_at, nth, change, receiver, changing, scanning, taking, coming, delivery, part_delivery, after_event, start}
-use Rattle.echo_base.specs.Base.{IsFile}
+use Rattle.echo_links.specs.Links.{IsFile}
 use Rattle.echo_run.specs.Fits.{FilesFit}
 use Rattle.echo_run.specs.Orderly.{count}
 use Rattle.echo_run.proofs.TosserPremises.{Laws}

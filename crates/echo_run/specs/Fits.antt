@@ -1,7 +1,7 @@
 -- What every link file that was read meets.
 use Rattle.std.specs.Prelude.{List}
 use Rattle.echo_graph.specs.Walk.{Among}
-use Rattle.echo_base.specs.Base.{IsFile, LinkFile}
+use Rattle.echo_links.specs.Links.{IsFile, LinkFile}
 
 -- each of the files is one that was read
 abbrev pub FilesFit : List LinkFile → Type 0

@@ -4,11 +4,11 @@ use Rattle.echo_addr.specs.declared.address.Address.{Address}
 use Rattle.echo_text.specs.Refusal.{refusal}
 use Rattle.echo_graph.specs.Walk.{Among}
 use Rattle.echo_steps.specs.declared.packet.Packet.{Packet}
-use Rattle.echo_base.specs.declared.key.Key.{Key}
-use Rattle.echo_base.specs.declared.key.Key.TheVariants.{ByContent, ById}
-use Rattle.echo_base.specs.Sets.{same_address}
-use Rattle.echo_base.specs.Stubs.{stub_of}
-use Rattle.echo_base.specs.Base.{Filed, has_area, key_of, same_key}
+use Rattle.echo_links.specs.Links.{has_area, same_address}
+use Rattle.echo_filed.specs.declared.key.Key.{Key}
+use Rattle.echo_filed.specs.declared.key.Key.TheVariants.{ByContent, ById}
+use Rattle.echo_filed.specs.Stubs.{stub_of}
+use Rattle.echo_filed.specs.Filed.{Filed, key_of, same_key}
 use Rattle.echo_steps.specs.Tossing.{received}
 use Rattle.echo_run.specs.Run.{System, Run, destination}
 

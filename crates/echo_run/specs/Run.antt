@@ -6,8 +6,8 @@ use Rattle.echo_packet.specs.Message.{Message}
 use Rattle.echo_steps.specs.declared.packet.Packet.{Packet}
 use Rattle.echo_steps.specs.declared.stamp.Stamp.{Stamp}
 use Rattle.echo_steps.specs.declared.draft.Draft.{Draft}
-use Rattle.echo_base.specs.Sets.{same_address}
-use Rattle.echo_base.specs.Base.{Filed, LinkFile}
+use Rattle.echo_links.specs.Links.{LinkFile, same_address}
+use Rattle.echo_filed.specs.Filed.{Filed}
 use Rattle.echo_steps.specs.Posting.{posting}
 use Rattle.echo_steps.specs.Tossing.{tossing, origin_of}
 use Rattle.echo_steps.specs.Scanning.{scanned}

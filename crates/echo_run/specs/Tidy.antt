@@ -5,8 +5,7 @@ use Rattle.echo_addr.specs.declared.address.Address.{Address}
 use Rattle.echo_addr.specs.Address.{net_node_of}
 use Rattle.echo_graph.specs.Walk.{Different, Connected}
 use Rattle.echo_graph.specs.Cycle.{Polygons}
-use Rattle.echo_base.specs.Sets.{same_address}
-use Rattle.echo_base.specs.Base.{LinkFile, has_area, is_link}
+use Rattle.echo_links.specs.Links.{LinkFile, has_area, is_link, same_address}
 
 -- the system of this address has the area
 abbrev pub carries : List LinkFile → List ℕ → Address → Bool

@@ -3,8 +3,9 @@
 ghost use Rattle.std.specs.Prelude.{◌≡◌, ℕ, ◌≤◌, List, [], ◌∷◌, ◌++◌};
 ghost use Rattle.echo_addr.specs.declared.address.Address.{Address};
 ghost use Rattle.echo_graph.specs.Walk.{Among};
-ghost use Rattle.echo_base.specs.declared.key.Key.{Key};
-ghost use Rattle.echo_base.specs.Base.{Filed, LinkFile, key_of};
+ghost use Rattle.echo_links.specs.Links.{LinkFile};
+ghost use Rattle.echo_filed.specs.declared.key.Key.{Key};
+ghost use Rattle.echo_filed.specs.Filed.{Filed, key_of};
 ghost use Rattle.echo_run.specs.Event.{RunEvent};
 ghost use Rattle.echo_run.specs.Run.{System, run_of};
 ghost use Rattle.echo_run.specs.Orderly.{IsPosting, count, sent_count};

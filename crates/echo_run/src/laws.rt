@@ -4,14 +4,15 @@ ghost use Rattle.std.specs.Prelude.{◌≡◌, ◌⊎◌, ℕ, ◌≤◌, ◌++�
 ghost use Rattle.echo_addr.specs.declared.address.Address.{Address};
 ghost use Rattle.echo_graph.specs.Walk.{Among, Different};
 ghost use Rattle.echo_graph.specs.Cycle.{NoCycle};
-ghost use Rattle.echo_base.specs.declared.key.Key.{Key};
-ghost use Rattle.echo_base.specs.Base.{Filed, LinkFile, key_of};
+ghost use Rattle.echo_links.specs.Links.{LinkFile};
+ghost use Rattle.echo_filed.specs.declared.key.Key.{Key};
+ghost use Rattle.echo_filed.specs.Filed.{Filed, key_of};
 ghost use Rattle.echo_packet.specs.Message.{Message};
 ghost use Rattle.echo_text.specs.Refusal.{refusal};
 ghost use Rattle.echo_steps.specs.declared.packet.Packet.{Packet};
 ghost use Rattle.echo_steps.specs.Scanning.{targets};
 ghost use Rattle.echo_steps.specs.Tossing.{received};
-ghost use Rattle.echo_base.specs.Stubs.{stub_of};
+ghost use Rattle.echo_filed.specs.Stubs.{stub_of};
 ghost use Rattle.echo_run.specs.Event.{RunEvent};
 ghost use Rattle.echo_run.specs.Run.{IsLater, Run, System, destination, nth, run_of};
 ghost use Rattle.echo_run.specs.Orderly.{IsPosting, Orderly, SameContent, Settled, copies, count, origin, sent_count};

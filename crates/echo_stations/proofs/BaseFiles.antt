@@ -2,12 +2,14 @@
 use Rattle.std.proofs.Common.{◌≡◌, refl, sym, subst, ap, ◌∙◌, ℕ, arith, true, List, length, take, Option, Some, None, Result, Ok}
 use Rattle.std.proofs.lemmas.List.{take_all}
 use Rattle.echo_packet.specs.Header.{AreBytes}
-use Rattle.echo_base.specs.declared.fault.LinkFault.{LinkFault}
-use Rattle.echo_base.specs.Base.{Filed, IsBase, IsFile, LinkFile}
+use Rattle.echo_links.specs.declared.fault.LinkFault.{LinkFault}
+use Rattle.echo_links.specs.Links.{IsFile, LinkFile}
+use Rattle.echo_links.specs.LinkLines.{LinksOf}
+use Rattle.echo_links.proofs.LinkAnswers.{link_only}
+use Rattle.echo_links.proofs.LinkFiles.{file_is_file}
+use Rattle.echo_filed.specs.Filed.{Filed}
+use Rattle.echo_base.specs.Base.{IsBase}
 use Rattle.echo_base.specs.BaseFile.{BaseOf, LoadOf, is_countable, saved_bytes}
-use Rattle.echo_base.specs.LinkLines.{LinksOf}
-use Rattle.echo_base.proofs.LinkAnswers.{link_only}
-use Rattle.echo_base.proofs.LinkFiles.{file_is_file}
 use Rattle.echo_base.proofs.Loaded.{loaded_is_base}
 use Rattle.echo_base.proofs.OneBase.{only_base, only_length}
 use Rattle.echo_base.proofs.Saved.{saved_is_base}

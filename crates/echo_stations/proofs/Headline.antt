@@ -3,7 +3,8 @@ use Rattle.std.proofs.Common.{◌≡◌, refl, sym, subst, ap, ◌∙◌, ℕ, �
 use Rattle.std.specs.Prelude.{IsTrue}
 use Rattle.std.proofs.lemmas.List.{append-nil}
 use Rattle.echo_graph.specs.Walk.{Among}
-use Rattle.echo_base.specs.Base.{Filed, LinkFile, has_area, key_of, upper}
+use Rattle.echo_links.specs.Links.{LinkFile, has_area, upper}
+use Rattle.echo_filed.specs.Filed.{Filed, key_of}
 use Rattle.echo_steps.specs.declared.packet.Packet.{Packet}
 use Rattle.echo_run.specs.Event.{RunEvent}
 use Rattle.echo_run.specs.Fits.{FilesFit}

@@ -4,7 +4,8 @@ use Rattle.std.specs.List.{AllByRecursion}
 use Rattle.std.proofs.lemmas.Bool.{cond-true}
 use Rattle.echo_packet.specs.Header.{AreBytes}
 use Rattle.echo_graph.specs.Walk.{Among}
-use Rattle.echo_base.specs.Base.{Filed, IsBase}
+use Rattle.echo_filed.specs.Filed.{Filed}
+use Rattle.echo_base.specs.Base.{IsBase}
 use Rattle.echo_base.specs.BaseFile.{is_countable, saved_bytes}
 use Rattle.echo_steps.specs.declared.stamp.Stamp.{Stamp}
 use Rattle.echo_steps.specs.Scanning.{scanned}

@@ -13,12 +13,14 @@ use Rattle.echo_packet.specs.Header.{AreBytes, IsHeader, header_bytes, word}
 use Rattle.echo_packet.specs.Message.{DateTime, FromName, HasNoZero, Message, Subject, Text, ToName, before, message_bytes, messages_bytes, zero_ended}
 use Rattle.echo_packet.specs.Packet.{packet_bytes}
 use Rattle.echo_packet.proofs.Headers.{AreBytes-drop, AreBytes-take, IsHeader-from_bytes}
-use Rattle.echo_base.specs.Base.{Filed, IsBase, IsFile, IsFiled, LinkFile, links_of}
-use Rattle.echo_base.specs.Sets.{address_before, address_set}
-use Rattle.echo_base.specs.Written.{text_of}
-use Rattle.echo_base.proofs.Bytes.{text_no_zero}
-use Rattle.echo_base.proofs.Plain.{all_append}
-use Rattle.echo_base.proofs.Sets.{set_all}
+use Rattle.echo_links.specs.Links.{IsFile, LinkFile, links_of}
+use Rattle.echo_filed.specs.Filed.{Filed, IsFiled}
+use Rattle.echo_filed.specs.Sets.{address_before, address_set}
+use Rattle.echo_filed.specs.Written.{text_of}
+use Rattle.echo_filed.proofs.Bytes.{text_no_zero}
+use Rattle.echo_filed.proofs.Plain.{all_append}
+use Rattle.echo_filed.proofs.Sets.{set_all}
+use Rattle.echo_base.specs.Base.{IsBase}
 use Rattle.echo_steps.specs.declared.stamp.Stamp.{Stamp}
 use Rattle.echo_steps.specs.Scanning.{copy_to, exported, goes_to, header_to, packet_to, packets_of, recipients, scanned, targets}
 use Rattle.echo_steps.proofs.Copies.{exported_is_echo, links_are_addresses}

@@ -4,8 +4,8 @@ use Rattle.std.specs.List.{position_or_len}
 use Rattle.std.proofs.lemmas.Bool.{cond-false, cond-true}
 use Rattle.echo_addr.specs.declared.address.Address.{Address}
 use Rattle.echo_graph.specs.Walk.{Among, Different}
-use Rattle.echo_base.specs.Sets.{same_address}
-use Rattle.echo_base.proofs.Orders.{same_address_decides}
+use Rattle.echo_links.specs.Links.{same_address}
+use Rattle.echo_links.proofs.Addresses.{same_address_decides}
 use Rattle.echo_run.specs.Event.{RunEvent}
 use Rattle.echo_run.specs.Run.{Run, System, after_events, nth}
 use Rattle.echo_run.proofs.Lists.{Among-map_to, none_some, nth-among, some_same, yes_or_no}

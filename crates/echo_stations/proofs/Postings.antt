@@ -1,7 +1,7 @@
 -- What was posted stays filed.
 use Rattle.std.proofs.Common.{◌≡◌, inl, inr, refl, sym, subst, ap, ℕ, zero, suc, List, [], ◌∷◌, Some}
 use Rattle.echo_graph.specs.Walk.{Among}
-use Rattle.echo_base.specs.Base.{Filed}
+use Rattle.echo_filed.specs.Filed.{Filed}
 use Rattle.echo_run.specs.Run.{System, change, nth}
 use Rattle.echo_run.proofs.Lists.{none_some, some_same}
 use Rattle.echo_stations.specs.Agreement.{HasPosting}

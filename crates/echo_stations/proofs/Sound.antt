@@ -1,8 +1,9 @@
 -- The files of a net that agrees with a run are sound.
 use Rattle.std.proofs.Common.{◌≡◌, ◌⊎◌, inl, inr, sym, subst, ap, ◌∙◌, ℕ, ◌≤◌, List, [], ◌∷◌}
 use Rattle.echo_graph.specs.Walk.{Among}
-use Rattle.echo_base.specs.Base.{Filed, IsFile, LinkFile}
-use Rattle.echo_base.specs.Stubs.{stub_of}
+use Rattle.echo_links.specs.Links.{IsFile, LinkFile}
+use Rattle.echo_filed.specs.Filed.{Filed}
+use Rattle.echo_filed.specs.Stubs.{stub_of}
 use Rattle.echo_steps.specs.declared.packet.Packet.{Packet}
 use Rattle.echo_run.specs.Event.{RunEvent}
 use Rattle.echo_run.specs.Fits.{FilesFit}

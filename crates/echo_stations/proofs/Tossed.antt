@@ -7,7 +7,9 @@ use Rattle.echo_addr.specs.declared.address.Address.{Address}
 use Rattle.echo_graph.specs.Walk.{Among}
 use Rattle.echo_graph.proofs.Members.{Among-append_cases}
 use Rattle.echo_packet.specs.Message.{IsMessage, Message}
-use Rattle.echo_base.specs.Base.{Filed, HasSmallSender, IsBase, IsFile, LinkFile}
+use Rattle.echo_links.specs.Links.{IsFile, LinkFile}
+use Rattle.echo_filed.specs.Filed.{Filed, HasSmallSender}
+use Rattle.echo_base.specs.Base.{IsBase}
 use Rattle.echo_steps.specs.declared.packet.Packet.{Packet}
 use Rattle.echo_steps.specs.SystemState.{SystemState}
 use Rattle.echo_steps.specs.Tossing.{destination_of, origin_of, received, tossed, tossing, zone_of}

@@ -5,9 +5,10 @@ use Rattle.echo_graph.specs.Walk.{Among, Different}
 use Rattle.echo_packet.specs.Header.{AreBytes}
 use Rattle.echo_packet.specs.Packet.{PacketOf}
 use Rattle.echo_packet.specs.declared.limits.Limits.{Limits}
-use Rattle.echo_base.specs.Base.{Filed, LinkFile}
+use Rattle.echo_links.specs.Links.{LinkFile}
+use Rattle.echo_links.specs.LinkLines.{LinksOf}
+use Rattle.echo_filed.specs.Filed.{Filed}
 use Rattle.echo_base.specs.BaseFile.{BaseOf, saved_bytes}
-use Rattle.echo_base.specs.LinkLines.{LinksOf}
 use Rattle.echo_steps.specs.declared.packet.Packet.{Packet}
 use Rattle.echo_run.specs.Event.{Delivery, PartDelivery, Posting, Purging, RunEvent, Scanning}
 use Rattle.echo_run.specs.Run.{Run, System, after_events, run_of}

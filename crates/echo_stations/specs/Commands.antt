@@ -2,8 +2,8 @@
 use Rattle.std.specs.Prelude.{◌≡◌, ℕ, ◌⊎◌, ◌+◌, ◌-◌, List, [], ◌∷◌, length, take, Option, Some, None, Ok}
 use Rattle.std.specs.List.{AllByRecursion}
 use Rattle.echo_packet.specs.Header.{AreBytes}
-use Rattle.echo_base.specs.Base.{LinkFile}
-use Rattle.echo_base.specs.LinkLines.{LinksOf}
+use Rattle.echo_links.specs.Links.{LinkFile}
+use Rattle.echo_links.specs.LinkLines.{LinksOf}
 use Rattle.echo_steps.specs.declared.stamp.Stamp.{Stamp}
 use Rattle.echo_steps.specs.Posting.{posted}
 use Rattle.echo_run.specs.Run.{nth}

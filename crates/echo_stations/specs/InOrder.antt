@@ -3,10 +3,11 @@ use Rattle.std.specs.Prelude.{◌≡◌, ◌≢◌, ℕ, ◌⊎◌, ◌≤◌, I
 use Rattle.echo_graph.specs.Walk.{Among, Different}
 use Rattle.echo_packet.specs.Packet.{PacketOf}
 use Rattle.echo_packet.specs.declared.limits.Limits.{Limits}
-use Rattle.echo_base.specs.declared.key.Key.{Key}
-use Rattle.echo_base.specs.Base.{Filed, LinkFile, has_area, key_of, upper}
-use Rattle.echo_base.specs.LinkLines.{LinksOf}
-use Rattle.echo_base.specs.Stubs.{stub_of}
+use Rattle.echo_links.specs.Links.{LinkFile, has_area, upper}
+use Rattle.echo_links.specs.LinkLines.{LinksOf}
+use Rattle.echo_filed.specs.declared.key.Key.{Key}
+use Rattle.echo_filed.specs.Filed.{Filed, key_of}
+use Rattle.echo_filed.specs.Stubs.{stub_of}
 use Rattle.echo_steps.specs.declared.packet.Packet.{Packet}
 use Rattle.echo_run.specs.Orderly.{IsPosting, SameContent, copies, count, sent_count, tag_of}
 use Rattle.echo_run.specs.Run.{nth}

@@ -1,6 +1,6 @@
 -- Nets of files: what stands on the disks of stations, and the packet files between them.
 use Rattle.std.specs.Prelude.{ℕ, List, [], ◌∷◌, ◌++◌, map, Option, Some, None}
-use Rattle.echo_base.specs.Base.{Filed}
+use Rattle.echo_filed.specs.Filed.{Filed}
 use Rattle.echo_run.specs.Run.{change, with_index}
 use Rattle.echo_commands.specs.declared.leaving.PacketFile.{PacketFile}
 

@@ -10,15 +10,17 @@ use Rattle.echo_addr.specs.Address.{IsAddress, net_node_of}
 use Rattle.echo_addr.specs.ShortLines.{IsNetNode}
 use Rattle.echo_text.specs.Echo.{EchoText, IsEcho, msgid_of}
 use Rattle.echo_text.specs.Refusal.{refusal}
-use Rattle.echo_base.specs.Sets.{entry_before, entry_set}
-use Rattle.echo_base.specs.Written.{echo_of, text_of}
+use Rattle.echo_filed.specs.Sets.{entry_before, entry_set}
+use Rattle.echo_filed.specs.Written.{echo_of, text_of}
 use Rattle.echo_steps.specs.declared.stamp.Stamp.{Stamp}
-use Rattle.echo_base.specs.Base.{Area, Filed, IsArea, IsBase, IsFile, IsFiled, LinkFile, key_of, key_with, links_of}
+use Rattle.echo_links.specs.Links.{Area, IsArea, IsFile, LinkFile, links_of}
+use Rattle.echo_filed.specs.Filed.{Filed, IsFiled, key_of, key_with}
+use Rattle.echo_base.specs.Base.{IsBase}
 use Rattle.echo_steps.specs.Tossing.{received}
 use Rattle.echo_steps.specs.Scanning.{copy_to, exported, goes_to, packet_to, packets_of, recipients, scanned}
-use Rattle.echo_base.proofs.Sets.{set_all}
-use Rattle.echo_base.proofs.Orders.{entry_set_is_set}
-use Rattle.echo_base.proofs.Texts.{written_accepted, written_back}
+use Rattle.echo_filed.proofs.Sets.{set_all}
+use Rattle.echo_filed.proofs.Orders.{entry_set_is_set}
+use Rattle.echo_filed.proofs.Texts.{written_accepted, written_back}
 
 -- the links of the area that is found
 found_links : (p : Area → Bool) (areas : List Area) → AllByRecursion IsArea areas → AllByRecursion IsAddress (unwrap_or (option_map (λ area. area.links) (find p areas)) [])

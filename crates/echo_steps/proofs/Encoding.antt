@@ -8,7 +8,7 @@ use Rattle.echo_packet.specs.Header.{IsHeader, header_bytes, word}
 use Rattle.echo_packet.specs.Message.{AreMessages, IsMessage, IsString, Message, Text, before, message_bytes, messages_bytes, zero_ended}
 use Rattle.echo_packet.specs.Packet.{PacketOf, packet_bytes}
 use Rattle.echo_packet.proofs.MessageByMessage.{messages_bytes-push}
-use Rattle.echo_base.proofs.Plain.{all_append}
+use Rattle.echo_filed.proofs.Plain.{all_append}
 
 -- a message of a text of its own length
 abbrev pub IsWhole : Message → Type 0

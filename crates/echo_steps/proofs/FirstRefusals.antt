@@ -14,13 +14,15 @@ use Rattle.echo_steps.specs.declared.fault.PostFault.{PostFault}
 use Rattle.echo_steps.specs.declared.fault.PostFault.TheVariants as fault
 use Rattle.echo_steps.specs.declared.outcome.Outcome.{Outcome}
 use Rattle.echo_steps.specs.declared.outcome.Outcome.TheVariants as outcome
-use Rattle.echo_base.specs.Written.{echo_of}
-use Rattle.echo_base.specs.Base.{Filed, LinkFile, has_area, is_known, is_link, key_of}
+use Rattle.echo_links.specs.Links.{LinkFile, has_area, is_link}
+use Rattle.echo_filed.specs.Written.{echo_of}
+use Rattle.echo_filed.specs.Filed.{Filed, key_of}
+use Rattle.echo_base.specs.Base.{is_known}
 use Rattle.echo_steps.specs.Stamps.{is_stamp}
-use Rattle.echo_base.specs.Base.{upper}
+use Rattle.echo_links.specs.Links.{upper}
 use Rattle.echo_steps.specs.Posting.{IsAllowed, IsFirstRefusal, has_id, holds_zero, is_too_long, post_refusal}
 use Rattle.echo_steps.specs.Tossing.{IsOutcome, outcome_after, received, toss_outcome}
-use Rattle.echo_base.proofs.Choices.{same_some}
+use Rattle.echo_filed.proofs.Choices.{same_some}
 use Rattle.echo_steps.proofs.Posted.{allowed}
 
 -- the refusals of a posting in order, by what each test answered

@@ -9,18 +9,20 @@ use Rattle.echo_packet.specs.Message.{IsMessage, Message, max_name, max_subject}
 use Rattle.echo_text.specs.Ids.{id_of, is_zero}
 use Rattle.echo_text.specs.Refusal.{refusal}
 use Rattle.echo_steps.specs.declared.draft.Draft.{Draft}
-use Rattle.echo_base.specs.declared.key.Key.TheVariants.{ById}
+use Rattle.echo_filed.specs.declared.key.Key.TheVariants.{ById}
 use Rattle.echo_steps.specs.declared.stamp.Stamp.{Stamp}
-use Rattle.echo_base.specs.Base.{Filed, HasSmallSender, IsBase, IsFile, IsFiled, LinkFile, is_known, key_of, key_with}
+use Rattle.echo_links.specs.Links.{IsFile, LinkFile}
+use Rattle.echo_filed.specs.Filed.{Filed, HasSmallSender, IsFiled, key_of, key_with}
+use Rattle.echo_base.specs.Base.{IsBase, is_known}
 use Rattle.echo_steps.specs.Stamps.{date_of, is_stamp, month_name, two_digits}
 use Rattle.echo_steps.specs.Posting.{IsAllowed, posted, posting}
 use Rattle.echo_steps.specs.Tossing.{received, tossing}
 use Rattle.echo_text.proofs.Reread.{read_is_echo}
-use Rattle.echo_base.specs.Written.{echo_of}
+use Rattle.echo_filed.specs.Written.{echo_of}
 use Rattle.echo_steps.proofs.Received.{tossing_received}
+use Rattle.echo_filed.proofs.Texts.{says_read}
+use Rattle.echo_filed.proofs.Plain.{no_zero, some_bytes}
 use Rattle.echo_base.proofs.Entries.{none_known, one_more}
-use Rattle.echo_base.proofs.Texts.{says_read}
-use Rattle.echo_base.proofs.Plain.{no_zero, some_bytes}
 use Rattle.echo_steps.proofs.Posted.{posted_id, posted_is_echo, posting_posted}
 
 -- DateTime has 20 bytes

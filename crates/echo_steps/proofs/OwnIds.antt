@@ -10,9 +10,9 @@ use Rattle.echo_addr.specs.Address.{IsAddress, address_text}
 use Rattle.echo_addr.specs.Entries.{is_blank}
 use Rattle.echo_addr.proofs.Decimals.{IsDigit, digits_of_decimal}
 use Rattle.echo_text.specs.Ids.{hex_digit, id_of, serial_text}
-use Rattle.echo_base.proofs.Trims.{joined_trim}
-use Rattle.echo_base.proofs.Keys.{IsIdText}
-use Rattle.echo_base.proofs.Plain.{IsLineByte, Plain, all_append, plain_address}
+use Rattle.echo_filed.proofs.Trims.{joined_trim}
+use Rattle.echo_filed.proofs.Keys.{IsIdText}
+use Rattle.echo_filed.proofs.Plain.{IsLineByte, Plain, all_append, plain_address}
 
 -- a digit to the base 16 is no control byte and no blank
 hex_digit_high : (n : ℕ) → n < 16 → 48 ≤ hex_digit n

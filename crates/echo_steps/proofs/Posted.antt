@@ -14,14 +14,16 @@ use Rattle.echo_steps.specs.declared.draft.Draft.{Draft}
 use Rattle.echo_steps.specs.declared.stamp.Stamp.{Stamp}
 use Rattle.echo_steps.specs.declared.fault.PostFault.TheVariants as fault
 use Rattle.echo_text.specs.Ids.{id_of, is_id, is_zero, is_line_byte}
-use Rattle.echo_base.specs.Base.{Area, Filed, IsArea, IsFile, LinkFile, has_area}
+use Rattle.echo_links.specs.Links.{Area, IsArea, IsFile, LinkFile, has_area}
+use Rattle.echo_filed.specs.Filed.{Filed}
 use Rattle.echo_steps.specs.Stamps.{is_stamp}
-use Rattle.echo_base.specs.Base.{id_line, upper}
+use Rattle.echo_links.specs.Links.{upper}
+use Rattle.echo_filed.specs.Filed.{id_line}
 use Rattle.echo_steps.specs.Posting.{IsAllowed, has_id, holds_zero, is_too_long, origin_line, post_refusal, posted, posted_lines, posting, reply_lines}
-use Rattle.echo_base.proofs.Choices.{all_weaker}
-use Rattle.echo_base.proofs.Keys.{msgid_first}
+use Rattle.echo_filed.proofs.Choices.{all_weaker}
+use Rattle.echo_filed.proofs.Keys.{msgid_first}
 use Rattle.echo_steps.proofs.OwnIds.{own_id_is_id, plain_id}
-use Rattle.echo_base.proofs.Plain.{IsLineByte, Plain, all_append, lines_plain, no_zero, plain_address, plain_if, plain_line}
+use Rattle.echo_filed.proofs.Plain.{IsLineByte, Plain, all_append, lines_plain, no_zero, plain_address, plain_if, plain_line}
 
 passed : {F : Type 0} (b : Bool) (f : F) (rest : Option F) → cond b (Some f) rest ≡ None → (b ≡ false) × (rest ≡ None)
 passed true f rest h = absurd (cc)

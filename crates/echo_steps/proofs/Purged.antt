@@ -1,6 +1,7 @@
 -- A purge keeps what holds of each base.
 use Rattle.std.proofs.Common.{ℕ, List}
-use Rattle.echo_base.specs.Base.{Filed, IsBase}
+use Rattle.echo_filed.specs.Filed.{Filed}
+use Rattle.echo_base.specs.Base.{IsBase}
 use Rattle.echo_steps.specs.Purging.{purged}
 use Rattle.echo_base.proofs.StubBases.{stubs_keep}
 

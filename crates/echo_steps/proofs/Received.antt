@@ -8,8 +8,10 @@ use Rattle.echo_text.specs.declared.fault.TextFault.TheVariants as text
 use Rattle.echo_text.specs.Refusal.{refusal}
 use Rattle.echo_steps.specs.declared.outcome.Outcome.{Outcome}
 use Rattle.echo_steps.specs.declared.outcome.Outcome.TheVariants as outcome
-use Rattle.echo_base.specs.Written.{echo_of}
-use Rattle.echo_base.specs.Base.{Filed, LinkFile, has_area, is_known, is_link, key_of}
+use Rattle.echo_links.specs.Links.{LinkFile, has_area, is_link}
+use Rattle.echo_filed.specs.Written.{echo_of}
+use Rattle.echo_filed.specs.Filed.{Filed, key_of}
+use Rattle.echo_base.specs.Base.{is_known}
 use Rattle.echo_steps.specs.Tossing.{IsToBeFiled, outcome_after, outcome_of_filed, received, toss_outcome, tossing, where_filed}
 
 some_filed : (o : Outcome) (x m : Filed) → where_filed o x ≡ Some m → (o ≡ outcome.Filed) × (m ≡ x)

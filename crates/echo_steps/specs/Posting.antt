@@ -1,5 +1,5 @@
 -- Posting: what is filed for a draft, and why a draft is refused.
-pub use Rattle.echo_base.specs.Base.{has_id}
+pub use Rattle.echo_filed.specs.Filed.{has_id}
 use Rattle.std.specs.Prelude.{◌≡◌, ℕ, ◌⊎◌, ◌==◌, ◌||◌, not, nat_lt, Bool, true, false, List, [], ◌∷◌, ◌++◌, map, length, codes, if◌then◌else◌, Option, Some, None, is_none, option_map, unwrap_or, bytes_eq, Result, Ok, Err}
 use Rattle.std.specs.List.{list_any}
 use Rattle.echo_addr.specs.Address.{address_text}
@@ -10,7 +10,8 @@ use Rattle.echo_steps.specs.declared.draft.Draft.{Draft}
 use Rattle.echo_steps.specs.declared.stamp.Stamp.{Stamp}
 use Rattle.echo_steps.specs.declared.fault.PostFault.{PostFault}
 use Rattle.echo_steps.specs.declared.fault.PostFault.TheVariants as fault
-use Rattle.echo_base.specs.Base.{Filed, LinkFile, has_area, id_line, upper}
+use Rattle.echo_links.specs.Links.{LinkFile, has_area, upper}
+use Rattle.echo_filed.specs.Filed.{Filed, id_line}
 use Rattle.echo_text.specs.Ids.{id_of, is_id, is_zero}
 use Rattle.echo_steps.specs.Stamps.{date_of, is_stamp}
 use Rattle.echo_steps.specs.SystemState.{SystemState, state_with}

@@ -1,7 +1,7 @@
 -- Purging: scanned messages keep their id and nothing else of their text.
 use Rattle.std.specs.Prelude.{◌≡◌, ℕ, not, List, ◌++◌, map, take, drop, count_by, Result, Ok, Err}
-use Rattle.echo_base.specs.Base.{Filed}
-use Rattle.echo_base.specs.Stubs.{is_stub, stub_of}
+use Rattle.echo_filed.specs.Filed.{Filed}
+use Rattle.echo_filed.specs.Stubs.{is_stub, stub_of}
 use Rattle.echo_steps.specs.SystemState.{SystemState}
 
 -- the base after a purge: the messages before the cursor as a purge leaves them, then the others

@@ -10,9 +10,10 @@ use Rattle.echo_steps.specs.declared.packet.Packet.{Packet}
 use Rattle.echo_steps.specs.declared.stamp.Stamp.{Stamp}
 use Rattle.echo_steps.specs.declared.fault.ScanFault.{ScanFault}
 use Rattle.echo_steps.specs.declared.fault.ScanFault.TheVariants as fault
-use Rattle.echo_base.specs.Sets.{address_set, entry_set, same_address, same_entry}
-use Rattle.echo_base.specs.Written.{text_of}
-use Rattle.echo_base.specs.Base.{Filed, LinkFile, links_of}
+use Rattle.echo_links.specs.Links.{LinkFile, links_of, same_address}
+use Rattle.echo_filed.specs.Sets.{address_set, entry_set, same_entry}
+use Rattle.echo_filed.specs.Written.{text_of}
+use Rattle.echo_filed.specs.Filed.{Filed}
 use Rattle.echo_steps.specs.Stamps.{is_stamp}
 use Rattle.echo_steps.specs.SystemState.{SystemState}
 

@@ -1,6 +1,8 @@
 -- The state of a system: what posting, tossing, scanning and purging read and change.
 use Rattle.std.specs.Prelude.{ℕ, List, [], ◌∷◌, ◌++◌, Option, Some, None, option_to_list}
-use Rattle.echo_base.specs.Base.{Filed, IsBase, IsFile, LinkFile}
+use Rattle.echo_links.specs.Links.{IsFile, LinkFile}
+use Rattle.echo_filed.specs.Filed.{Filed}
+use Rattle.echo_base.specs.Base.{IsBase}
 
 -- what a system keeps: its link file, its base, and the cursor, before which messages were scanned
 pub record SystemState : Type 0 where

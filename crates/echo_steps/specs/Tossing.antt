@@ -8,8 +8,10 @@ use Rattle.echo_text.specs.declared.fault.TextFault.TheVariants as text
 use Rattle.echo_text.specs.Refusal.{refusal}
 use Rattle.echo_steps.specs.declared.outcome.Outcome.{Outcome}
 use Rattle.echo_steps.specs.declared.outcome.Outcome.TheVariants as outcome
-use Rattle.echo_base.specs.Written.{echo_of}
-use Rattle.echo_base.specs.Base.{Filed, LinkFile, has_area, is_known, is_link, key_of}
+use Rattle.echo_links.specs.Links.{LinkFile, has_area, is_link}
+use Rattle.echo_filed.specs.Written.{echo_of}
+use Rattle.echo_filed.specs.Filed.{Filed, key_of}
+use Rattle.echo_base.specs.Base.{is_known}
 use Rattle.echo_steps.specs.SystemState.{SystemState, state_with}
 
 -- a received message as it is filed

@@ -13,10 +13,12 @@ use Rattle.std.proofs.lemmas.List.Sorted.{Contains-permutation, IsPermutation-sy
 use Rattle.echo_addr.specs.declared.address.Address.{Address}
 use Rattle.echo_addr.specs.declared.address.NetNode.{NetNode}
 use Rattle.echo_text.proofs.Sets.{same, set_of_sorted}
-use Rattle.echo_base.specs.Sets.{address_before, address_set, entry_set, same_address}
-use Rattle.echo_base.proofs.Choices.{all_weaker, contained_in, in_contained}
-use Rattle.echo_base.proofs.Orders.{address_order, entry_set_is_set, one_set, same_address_decides}
-use Rattle.echo_base.proofs.Sets.{Ascending, same_set, set_ascending, set_keeps, set_only}
+use Rattle.echo_links.specs.Links.{same_address}
+use Rattle.echo_links.proofs.Addresses.{same_address_decides}
+use Rattle.echo_filed.specs.Sets.{address_before, address_set, entry_set}
+use Rattle.echo_filed.proofs.Choices.{all_weaker, contained_in, in_contained}
+use Rattle.echo_filed.proofs.Orders.{address_order, entry_set_is_set, one_set}
+use Rattle.echo_filed.proofs.Sets.{Ascending, same_set, set_ascending, set_keeps, set_only}
 
 -- entries
 pub entries_sorted : (all sorted : List NetNode) → IsPermutation all sorted → IsSorted Rattle.echo_text.proofs.Sets.order sorted → dedup same sorted ≡ entry_set all

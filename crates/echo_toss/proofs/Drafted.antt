@@ -9,8 +9,9 @@ use Rattle.echo_text.specs.Ids.{id_of}
 use Rattle.echo_text.specs.Lines.{lines, msgid_word}
 use Rattle.echo_text.proofs.EndedLines.{PutTogether, whole_text}
 use Rattle.echo_text.proofs.TextLines.{IsPiece}
-use Rattle.echo_base.specs.Base.{LinkFile, id_line, upper}
-use Rattle.echo_base.proofs.LinesOfIds.{line_piece}
+use Rattle.echo_links.specs.Links.{LinkFile, upper}
+use Rattle.echo_filed.specs.Filed.{id_line}
+use Rattle.echo_filed.proofs.LinesOfIds.{line_piece}
 use Rattle.echo_steps.specs.declared.draft.Draft.{Draft}
 use Rattle.echo_steps.specs.declared.stamp.Stamp.{Stamp}
 use Rattle.echo_steps.specs.Posting.{origin_line, posted, posted_lines, reply_lines}

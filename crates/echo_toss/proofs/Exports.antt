@@ -11,11 +11,12 @@ use Rattle.echo_addr.specs.declared.address.Address.{Address}
 use Rattle.echo_addr.specs.declared.address.NetNode.{NetNode}
 use Rattle.echo_addr.specs.Address.{net_node_of}
 use Rattle.echo_text.specs.Echo.{EchoText, IsEcho, TextOf}
-use Rattle.echo_base.specs.Written.{text_of}
-use Rattle.echo_base.proofs.Texts.{text_is_text}
+use Rattle.echo_filed.specs.Written.{text_of}
+use Rattle.echo_filed.proofs.Texts.{text_is_text}
 use Rattle.echo_text.proofs.OneReading.{one_text}
-use Rattle.echo_base.specs.Base.{Filed, LinkFile, links_of}
-use Rattle.echo_base.specs.Sets.{address_set, entry_set}
+use Rattle.echo_links.specs.Links.{LinkFile, links_of}
+use Rattle.echo_filed.specs.Filed.{Filed}
+use Rattle.echo_filed.specs.Sets.{address_set, entry_set}
 use Rattle.echo_steps.specs.declared.stamp.Stamp.{Stamp}
 use Rattle.echo_steps.specs.Scanning.{copy_to, exported, goes_to, header_to, packet_to, packets_of, recipients, scanned, targets}
 use Rattle.echo_toss.specs.Exports.{Outgoing, Ready, copy_out, goes_out, goes_ready, outgoing_of, packet_out, packet_ready, packets_out, ready_copy, ready_of}

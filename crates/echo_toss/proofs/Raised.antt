@@ -10,7 +10,7 @@ use Rattle.std.proofs.lemmas.List.{drop_more, length-map, length-take-le, map_pu
 use Rattle.std.specs.Prelude.{◌&&◌, nat_le, nat_lt}
 use Rattle.std.specs.Char.{to_ascii_uppercase}
 use Rattle.echo_text.specs.Lines.{is_tag_byte}
-use Rattle.echo_base.specs.Base.{Area, IsArea, IsFile, LinkFile, has_area, upper}
+use Rattle.echo_links.specs.Links.{Area, IsArea, IsFile, LinkFile, has_area, upper}
 
 pub raised_more : (f : ℕ → ℕ) (xs ys : List ℕ) (i y : ℕ) → i < length ys → xs ≡ map f (take i ys) ++ drop i ys → y ≡ f (get_or xs i 0)
     → set xs i y ≡ map f (take (i + 1) ys) ++ drop (i + 1) ys

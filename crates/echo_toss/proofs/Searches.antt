@@ -9,10 +9,12 @@ use Rattle.std.proofs.lemmas.Bool.{cases_Bool, false_from_ne_true, ltb-false, lt
 use Rattle.std.proofs.lemmas.List.Sorted.{searchable_from_sorted}
 use Rattle.std.specs.Prelude.{nat_lt}
 use Rattle.echo_addr.specs.declared.address.Address.{Address}
-use Rattle.echo_base.specs.Sets.{address_before, address_set, same_address}
-use Rattle.echo_base.proofs.Choices.{IsIn}
-use Rattle.echo_base.proofs.Orders.{address_order, same_address_decides}
-use Rattle.echo_base.proofs.Sets.{Ascending, ascending_pairs, set_ascending, set_keeps, set_only}
+use Rattle.echo_links.specs.Links.{same_address}
+use Rattle.echo_links.proofs.Addresses.{same_address_decides}
+use Rattle.echo_filed.specs.Sets.{address_before, address_set}
+use Rattle.echo_filed.proofs.Choices.{IsIn}
+use Rattle.echo_filed.proofs.Orders.{address_order}
+use Rattle.echo_filed.proofs.Sets.{Ascending, ascending_pairs, set_ascending, set_keeps, set_only}
 use Rattle.echo_toss.proofs.AscendingSets.{address_cmp, less_before, ties, total}
 
 -- of two addresses that ascend, the later is not less

@@ -10,10 +10,10 @@ use Rattle.echo_packet.specs.declared.fault.PacketFault.TheVariants as fault
 use Rattle.echo_packet.specs.Message.{IsMessage, Message, message_bytes, messages_bytes}
 use Rattle.echo_packet.specs.Fault.{place_of}
 use Rattle.echo_packet.proofs.MessageByMessage.{messages_bytes-push}
-use Rattle.echo_base.proofs.Plain.{all_append}
+use Rattle.echo_filed.proofs.Plain.{all_append}
 use Rattle.echo_packet.specs.Field.{FailsInField, IsShort}
 use Rattle.echo_packet.specs.Reader.{FrontFault}
-use Rattle.echo_base.specs.Base.{LinkFile}
+use Rattle.echo_links.specs.Links.{LinkFile}
 use Rattle.echo_steps.specs.declared.outcome.Outcome.{Outcome}
 use Rattle.echo_steps.specs.SystemState.{SystemState, state_with}
 use Rattle.echo_steps.specs.Tossing.{outcomes, toss_outcome, tossed, tossing}

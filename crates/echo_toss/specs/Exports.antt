@@ -5,9 +5,10 @@ use Rattle.echo_steps.specs.declared.fault.ScanFault.{ScanFault}
 use Rattle.std.specs.List.{flat_map, list_any}
 use Rattle.echo_addr.specs.declared.address.Address.{Address}
 use Rattle.echo_packet.specs.Message.{Message, readdressed}
-use Rattle.echo_base.specs.Base.{Filed, LinkFile}
-use Rattle.echo_base.specs.Sets.{address_set, same_address}
-use Rattle.echo_base.specs.Written.{text_of}
+use Rattle.echo_links.specs.Links.{LinkFile, same_address}
+use Rattle.echo_filed.specs.Filed.{Filed}
+use Rattle.echo_filed.specs.Sets.{address_set}
+use Rattle.echo_filed.specs.Written.{text_of}
 use Rattle.echo_steps.specs.declared.packet.Packet.{Packet}
 use Rattle.echo_steps.specs.declared.stamp.Stamp.{Stamp}
 use Rattle.echo_steps.specs.Scanning.{exported, header_to, targets}

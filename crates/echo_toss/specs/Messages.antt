@@ -12,7 +12,7 @@ use Rattle.echo_packet.specs.Fault.{place_of}
 use Rattle.echo_packet.specs.Field.{FailsInField, IsShort}
 use Rattle.echo_packet.specs.Next.{FailsInMessage, NextFault}
 use Rattle.echo_packet.specs.Reader.{FrontFault}
-use Rattle.echo_base.specs.Base.{LinkFile}
+use Rattle.echo_links.specs.Links.{LinkFile}
 use Rattle.echo_steps.specs.SystemState.{SystemState}
 use Rattle.echo_steps.specs.Tossing.{destination_of, origin_of}
 use Rattle.echo_toss.specs.declared.tally.Tally.{Tally}

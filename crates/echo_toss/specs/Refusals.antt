@@ -1,8 +1,10 @@
 -- Why a draft is refused, whatever the base.
 use Rattle.std.specs.Prelude.{◌≡◌, false, ℕ, ◌==◌, ◌||◌, not, List, length, if◌then◌else◌, Option, Some, None}
 use Rattle.echo_text.specs.Ids.{is_id}
-use Rattle.echo_base.specs.declared.key.Key.{Key}
-use Rattle.echo_base.specs.Base.{Filed, LinkFile, has_area, is_known, key_of, upper}
+use Rattle.echo_links.specs.Links.{LinkFile, has_area, upper}
+use Rattle.echo_filed.specs.declared.key.Key.{Key}
+use Rattle.echo_filed.specs.Filed.{Filed, key_of}
+use Rattle.echo_base.specs.Base.{is_known}
 use Rattle.echo_steps.specs.declared.draft.Draft.{Draft}
 use Rattle.echo_steps.specs.declared.stamp.Stamp.{Stamp}
 use Rattle.echo_steps.specs.declared.fault.PostFault.{PostFault}

@@ -29,7 +29,9 @@ mod tosser;
 mod tossing;
 mod unpacking;
 
-pub use echo_base::{BaseFault, Filed, LinkFault, LinkFile};
+pub use echo_base::BaseFault;
+pub use echo_filed::Filed;
+pub use echo_links::{LinkFault, LinkFile};
 pub use echo_steps::{Draft, Outcome, Packet, PostFault, ScanFault, Stamp};
 pub use fault::{TossCause, TossFault};
 pub use laws::packet_laws;

@@ -2,15 +2,17 @@
 ghost use Rattle.std.specs.Prelude.{◌≡◌, ◌∷◌, ◌++◌, ◌&&◌, not, false, map, filter, drop, option_map, unwrap_or, IfOk};
 ghost use Rattle.std.specs.List.{list_any};
 ghost use Rattle.echo_addr.specs.Address.{net_node_of};
-ghost use Rattle.echo_base.specs.Base.{links_of};
-ghost use Rattle.echo_base.specs.Sets.{entry_set, same_address, same_entry};
-ghost use Rattle.echo_base.specs.Written.{text_of};
+ghost use Rattle.echo_links.specs.Links.{links_of, same_address};
+ghost use Rattle.echo_filed.specs.Sets.{entry_set, same_entry};
+ghost use Rattle.echo_filed.specs.Written.{text_of};
 ghost use Rattle.echo_steps.specs.Scanning.{exported, targets};
 ghost use Rattle.echo_toss.specs.Exports.{outgoing_of};
 
 use crate::sets::entry_set;
 use echo_addr::{Address, Items, NetNode};
-use echo_base::{Base, Filed, LinkFile};
+use echo_base::Base;
+use echo_filed::Filed;
+use echo_links::LinkFile;
 use echo_text::{Echo, write_parts};
 use std::alloc::{AllocError, Global};
 use std::hash::BuildHasher;
@@ -67,7 +69,7 @@ fn prepared<'a>(
 }
 
 // The links of the area, none where there is no such area.
-#[tactic(auto, unfolding(echo_base::specs::Base::links_of))]
+#[tactic(auto, unfolding(echo_links::specs::Links::links_of))]
 fn links_of<'a>(links: &'a LinkFile, tag: &[u8]) -> &'a [Address]
     ensures { result.now ≡ links_of links.now tag.now }
 {

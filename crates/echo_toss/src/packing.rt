@@ -1,7 +1,7 @@
 //! The packets of what goes out.
 ghost use Rattle.std.specs.Prelude.{◌≡◌, [], ◌∷◌, ◌++◌, true, map, filter, IfOk, OnOk};
 ghost use Rattle.std.specs.List.{flat_map};
-ghost use Rattle.echo_base.specs.Sets.{address_set};
+ghost use Rattle.echo_filed.specs.Sets.{address_set};
 ghost use Rattle.echo_steps.specs.Scanning.{header_to};
 ghost use Rattle.echo_steps.specs.Stamps.{is_stamp};
 ghost use Rattle.echo_toss.specs.Exports.{copy_out, goes_ready, packet_ready, packets_out, ready_copy, ready_of};
@@ -9,7 +9,7 @@ ghost use Rattle.echo_toss.specs.Exports.{copy_out, goes_ready, packet_ready, pa
 use crate::outgoing::Outgoing;
 use crate::sets::address_set;
 use echo_addr::{Address, Items};
-use echo_base::LinkFile;
+use echo_links::LinkFile;
 use echo_packet::{Header, Packed};
 use echo_steps::{Packet, Stamp};
 use std::alloc::{AllocError, Global};
@@ -31,7 +31,7 @@ struct Ready {
 
 impl Model for Ready {
     ghost use Rattle.std.specs.Prelude.{◌≡◌};
-    ghost use Rattle.echo_base.specs.Sets.{address_set};
+    ghost use Rattle.echo_filed.specs.Sets.{address_set};
     ghost use Rattle.echo_toss.specs.Exports as model;
 
     ghost Value = { model.Ready };

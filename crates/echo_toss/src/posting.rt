@@ -1,7 +1,7 @@
 ghost use Rattle.std.specs.Prelude.{◌≡◌, None, IfOk, MatchResult};
 ghost use Rattle.std.specs.List.{list_any};
 ghost use Rattle.echo_text.specs.Ids.{id_of};
-ghost use Rattle.echo_base.specs.Base.{has_id, key_of};
+ghost use Rattle.echo_filed.specs.Filed.{has_id, key_of};
 ghost use Rattle.echo_steps.specs.Posting.{IsPostFault, PostStep, posted};
 ghost use Rattle.echo_toss.specs.Refusals.{IsPrepared, draft_refusal};
 
@@ -9,7 +9,9 @@ use crate::drafting::posted;
 use crate::refusing::judge;
 use crate::tosser::Tosser;
 use echo_addr::Address;
-use echo_base::{Base, Filed, Key, LinkFile};
+use echo_base::Base;
+use echo_filed::{Filed, Key};
+use echo_links::LinkFile;
 use echo_steps::{Draft, PostFault, Stamp};
 use echo_text::MsgId;
 use std::alloc::{AllocError, Global};

@@ -2,14 +2,15 @@
 ghost use Rattle.std.specs.Prelude.{◌≡◌, None, IfOk};
 ghost use Rattle.echo_text.specs.Refusal.{refusal};
 ghost use Rattle.echo_addr.specs.declared.address.Address.{Address as System};
-ghost use Rattle.echo_base.specs.Base.{key_of};
-ghost use Rattle.echo_base.specs.Written.{echo_of};
+ghost use Rattle.echo_filed.specs.Filed.{key_of};
+ghost use Rattle.echo_filed.specs.Written.{echo_of};
 ghost use Rattle.echo_steps.specs.Tossing.{received};
 ghost use Rattle.echo_toss.specs.Wanted.{IsRead, refused_by};
 
 use crate::drafting::copied;
 use echo_addr::Address;
-use echo_base::{Filed, Key, LinkFile};
+use echo_filed::{Filed, Key};
+use echo_links::LinkFile;
 use echo_packet::Packed;
 use echo_steps::Outcome;
 use echo_text::{EchoView, TextFault, view_text};

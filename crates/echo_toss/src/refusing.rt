@@ -3,12 +3,12 @@ ghost use Rattle.std.specs.Prelude.{◌≡◌, ◌==◌, ◌||◌, length, map, 
 ghost use Rattle.std.specs.Char.{to_ascii_uppercase};
 ghost use Rattle.std.specs.List.{list_any};
 ghost use Rattle.echo_text.specs.Ids.{is_id, is_zero};
-ghost use Rattle.echo_base.specs.Base.{has_area, upper};
+ghost use Rattle.echo_links.specs.Links.{has_area, upper};
 ghost use Rattle.echo_steps.specs.Posting.{holds_zero, is_too_long};
 ghost use Rattle.echo_toss.specs.Refusals.{draft_refusal};
 
 use crate::moment::is_stamp;
-use echo_base::LinkFile;
+use echo_links::LinkFile;
 use echo_packet::{MAX_NAME, MAX_SUBJECT};
 use echo_steps::{Draft, PostFault, Stamp};
 use echo_text::MsgId;

@@ -1,6 +1,6 @@
 //! Lists as sets: ascending, without repeats.
 ghost use Rattle.std.specs.Prelude.{◌≡◌};
-ghost use Rattle.echo_base.specs.Sets.{address_set, entry_set};
+ghost use Rattle.echo_filed.specs.Sets.{address_set, entry_set};
 
 use echo_addr::{Address, NetNode};
 

@@ -9,8 +9,9 @@ ghost use Rattle.echo_base.specs.Saving.{CountsSaved, Saves, TellsTooMany};
 ghost use Rattle.echo_toss.specs.Stored.{base_in};
 
 use crate::tosser::Tosser;
-use echo_base::{Base, BaseFault, LinkFile};
+use echo_base::{Base, BaseFault};
 use echo_device::{Sink, Source};
+use echo_links::LinkFile;
 use std::alloc::Global;
 use std::hash::BuildHasher;
 

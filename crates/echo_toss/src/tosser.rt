@@ -2,7 +2,9 @@ ghost use Rattle.std.specs.Prelude.{◌≡◌, ◌-◌, length, slice_get, optio
 ghost use Rattle.echo_base.specs.Base.{IsBase};
 ghost use Rattle.echo_steps.specs.SystemState.{state_at_first};
 
-use echo_base::{Base, Filed, LinkFile};
+use echo_base::Base;
+use echo_filed::Filed;
+use echo_links::LinkFile;
 use std::alloc::Global;
 use std::hash::BuildHasher;
 use std::marker::Model;

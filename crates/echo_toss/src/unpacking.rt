@@ -9,8 +9,8 @@ use crate::fault::{TossCause, TossFault};
 use crate::tally::Tally;
 use crate::tosser::Tosser;
 use echo_addr::Address;
-use echo_base::LinkFile;
 use echo_device::Source;
+use echo_links::LinkFile;
 use echo_packet::{HEADER_BYTES, Header, Limits, read_header, read_next};
 use std::hash::BuildHasher;
 

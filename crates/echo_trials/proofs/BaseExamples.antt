@@ -7,16 +7,17 @@ use Rattle.echo_text.specs.Tail.{kept_of, path_lists, seen_lists}
 use Rattle.echo_text.specs.Echo.{msgid_of}
 use Rattle.echo_text.specs.Ids.{id_of}
 use Rattle.echo_text.specs.Refusal.{refusal}
+use Rattle.echo_filed.specs.Sets.{entry_set}
 use Rattle.echo_base.specs.declared.fault.BaseFault.TheVariants as fault
-use Rattle.echo_base.specs.Sets.{entry_set}
 use Rattle.echo_steps.specs.Stamps.{date_of}
-use Rattle.echo_base.specs.Written.{echo_of, short_lines, text_of}
+use Rattle.echo_filed.specs.Written.{echo_of, short_lines, text_of}
 use Rattle.echo_steps.specs.Posting.{posted, posted_lines}
-use Rattle.echo_base.specs.Stubs.{is_stub, stub_of}
+use Rattle.echo_filed.specs.Stubs.{is_stub, stub_of}
 use Rattle.echo_steps.specs.Purging.{changed, purged}
-use Rattle.echo_base.specs.BaseFile.{BaseFaultOf, BaseOf, EndsInside, IsNoBase, IsStored, Stored, head_bytes, is_damaged, message_in, saved_bytes, stored_at, stored_bytes}
-use Rattle.echo_base.specs.declared.stored.Version.{Version}
-use Rattle.echo_base.specs.declared.stored.Version.TheVariants.{First, Second}
+use Rattle.echo_filed.specs.Stored.{IsStored, Stored, message_in, stored_bytes}
+use Rattle.echo_filed.specs.declared.stored.Version.{Version}
+use Rattle.echo_filed.specs.declared.stored.Version.TheVariants.{First, Second}
+use Rattle.echo_base.specs.BaseFile.{BaseFaultOf, BaseOf, EndsInside, IsNoBase, head_bytes, is_damaged, saved_bytes, stored_at}
 use Rattle.echo_trials.proofs.Examples.{date_bytes, first_posting, id_text, kept_text}
 
 -- a number below 256 in four bytes

@@ -10,10 +10,11 @@ use Rattle.echo_text.specs.Ids.{id_of}
 use Rattle.echo_text.specs.Refusal.{refusal}
 use Rattle.echo_steps.specs.declared.draft.Draft.{Draft}
 use Rattle.echo_steps.specs.declared.outcome.Outcome.TheVariants as outcome
-use Rattle.echo_base.specs.Sets.{entry_set}
+use Rattle.echo_filed.specs.Sets.{entry_set}
 use Rattle.echo_steps.specs.Stamps.{date_of}
-use Rattle.echo_base.specs.Written.{echo_of, short_lines, text_of}
-use Rattle.echo_base.specs.Base.{Filed, LinkFile, key_of, links_of}
+use Rattle.echo_links.specs.Links.{LinkFile, links_of}
+use Rattle.echo_filed.specs.Written.{echo_of, short_lines, text_of}
+use Rattle.echo_filed.specs.Filed.{Filed, key_of}
 use Rattle.echo_steps.specs.Posting.{posted, posted_lines}
 use Rattle.echo_steps.specs.Tossing.{outcomes, received, toss_outcome, tossing}
 use Rattle.echo_steps.specs.Scanning.{copy_to, exported, targets}

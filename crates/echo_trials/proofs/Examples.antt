@@ -13,10 +13,11 @@ use Rattle.echo_text.specs.Ids.{id_of}
 use Rattle.echo_steps.specs.declared.draft.Draft.{Draft}
 use Rattle.echo_steps.specs.declared.stamp.Stamp.{Stamp}
 use Rattle.echo_steps.specs.declared.packet.Packet.{Packet}
-use Rattle.echo_base.specs.Sets.{address_set, entry_set}
+use Rattle.echo_filed.specs.Sets.{address_set, entry_set}
 use Rattle.echo_steps.specs.Stamps.{date_of}
-use Rattle.echo_base.specs.Written.{echo_of, short_lines, text_of}
-use Rattle.echo_base.specs.Base.{Filed, LinkFile, links_of}
+use Rattle.echo_links.specs.Links.{LinkFile, links_of}
+use Rattle.echo_filed.specs.Written.{echo_of, short_lines, text_of}
+use Rattle.echo_filed.specs.Filed.{Filed}
 use Rattle.echo_steps.specs.Posting.{posted, posted_lines}
 use Rattle.echo_steps.specs.Tossing.{destination_of, origin_of, received}
 use Rattle.echo_steps.specs.Scanning.{copy_to, exported, header_to, packet_to, packets_of, recipients, scanned, targets}

@@ -8,15 +8,16 @@ use Rattle.echo_text.specs.Tail.{kept_of, path_lists, seen_lists}
 use Rattle.echo_text.specs.Echo.{msgid_of}
 use Rattle.echo_text.specs.Ids.{id_of}
 use Rattle.echo_text.specs.Refusal.{refusal}
+use Rattle.echo_filed.specs.Sets.{entry_set}
 use Rattle.echo_base.specs.declared.fault.BaseFault.TheVariants as fault
-use Rattle.echo_base.specs.Sets.{entry_set}
 use Rattle.echo_steps.specs.Stamps.{date_of}
-use Rattle.echo_base.specs.Written.{echo_of, short_lines, text_of}
-use Rattle.echo_base.specs.Base.{key_of}
+use Rattle.echo_filed.specs.Written.{echo_of, short_lines, text_of}
+use Rattle.echo_filed.specs.Filed.{key_of}
 use Rattle.echo_steps.specs.Posting.{posted, posted_lines}
-use Rattle.echo_base.specs.BaseFile.{BaseOf, EndsInside, IsDamagedAt, IsStored, LoadOf, Stored, head_bytes, is_damaged, long, magic, message_in, stored_bytes}
-use Rattle.echo_base.specs.declared.stored.Version.{Version}
-use Rattle.echo_base.specs.declared.stored.Version.TheVariants.{First, Second}
+use Rattle.echo_filed.specs.Stored.{IsStored, Stored, long, message_in, stored_bytes}
+use Rattle.echo_filed.specs.declared.stored.Version.{Version}
+use Rattle.echo_filed.specs.declared.stored.Version.TheVariants.{First, Second}
+use Rattle.echo_base.specs.BaseFile.{BaseOf, EndsInside, IsDamagedAt, LoadOf, head_bytes, is_damaged, magic}
 use Rattle.echo_trials.proofs.Examples.{date_bytes, first_posting, kept_text}
 use Rattle.echo_trials.proofs.BaseExamples.{fields_bytes, size_with, small, stored, stored_size, stored_with, text_bytes, whole_bytes}
 

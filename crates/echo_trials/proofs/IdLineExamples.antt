@@ -5,13 +5,14 @@ use Rattle.echo_text.specs.Lines.{after_word, begins, lines, trimmed}
 use Rattle.echo_text.specs.Tail.{kept_of, path_lists, seen_lists}
 use Rattle.echo_text.specs.Echo.{msgid_of}
 use Rattle.echo_text.specs.Refusal.{refusal}
-use Rattle.echo_base.specs.Sets.{entry_set}
-use Rattle.echo_base.specs.Written.{echo_of, short_lines, text_of}
-use Rattle.echo_base.specs.Base.{Filed}
-use Rattle.echo_base.specs.Stubs.{is_stub, stub_of}
+use Rattle.echo_filed.specs.Sets.{entry_set}
+use Rattle.echo_filed.specs.Written.{echo_of, short_lines, text_of}
+use Rattle.echo_filed.specs.Filed.{Filed}
+use Rattle.echo_filed.specs.Stubs.{is_stub, stub_of}
 use Rattle.echo_steps.specs.Purging.{changed, purged}
-use Rattle.echo_base.specs.BaseFile.{BaseOf, head_bytes, is_damaged, message_in, saved_bytes, stored_at, stored_bytes}
-use Rattle.echo_base.specs.declared.stored.Version.TheVariants.{First}
+use Rattle.echo_filed.specs.Stored.{message_in, stored_bytes}
+use Rattle.echo_filed.specs.declared.stored.Version.TheVariants.{First}
+use Rattle.echo_base.specs.BaseFile.{BaseOf, head_bytes, is_damaged, saved_bytes, stored_at}
 use Rattle.echo_trials.proofs.Examples.{date_bytes, first_received}
 use Rattle.echo_trials.proofs.BaseExamples.{size_with, small, stored_with}
 

@@ -10,15 +10,17 @@ use Rattle.echo_text.specs.Echo.{msgid_of}
 use Rattle.echo_text.specs.Ids.{id_of}
 use Rattle.echo_text.specs.Refusal.{refusal}
 use Rattle.echo_steps.specs.declared.draft.Draft.{Draft}
-use Rattle.echo_base.specs.declared.key.Key.{Key}
-use Rattle.echo_base.specs.declared.key.Key.TheVariants.{ById}
+use Rattle.echo_filed.specs.declared.key.Key.{Key}
+use Rattle.echo_filed.specs.declared.key.Key.TheVariants.{ById}
 use Rattle.echo_steps.specs.declared.stamp.Stamp.{Stamp}
-use Rattle.echo_base.specs.Sets.{address_set, entry_set}
+use Rattle.echo_filed.specs.Sets.{address_set, entry_set}
 use Rattle.echo_steps.specs.Stamps.{date_of}
-use Rattle.echo_base.specs.Written.{echo_of, short_lines, text_of}
-use Rattle.echo_base.specs.Base.{Filed, LinkFile, is_known, key_of, links_of}
+use Rattle.echo_links.specs.Links.{LinkFile, links_of}
+use Rattle.echo_filed.specs.Written.{echo_of, short_lines, text_of}
+use Rattle.echo_filed.specs.Filed.{Filed, key_of}
+use Rattle.echo_base.specs.Base.{is_known}
 use Rattle.echo_steps.specs.Posting.{post_refusal, posted, posted_lines, posting}
-use Rattle.echo_base.specs.Stubs.{stub_of}
+use Rattle.echo_filed.specs.Stubs.{stub_of}
 use Rattle.echo_steps.specs.Purging.{purged}
 use Rattle.echo_steps.specs.Scanning.{copy_to, exported, header_to, packet_to, packets_of, recipients, scanned, targets}
 use Rattle.echo_steps.specs.Tossing.{received, toss_outcome, tossing}

@@ -5,7 +5,7 @@ use Rattle.echo_text.specs.Lines.{after_word, begins, lines, trimmed}
 use Rattle.echo_text.specs.Echo.{msgid_of}
 use Rattle.echo_text.specs.Ids.{id_of, is_id}
 use Rattle.echo_steps.specs.declared.fault.PostFault.TheVariants as fault
-use Rattle.echo_base.specs.Base.{LinkFile}
+use Rattle.echo_links.specs.Links.{LinkFile}
 use Rattle.echo_steps.specs.Posting.{post_refusal, posted, posted_lines, posting}
 use Rattle.echo_trials.proofs.Examples.{draft, first_file, first_posting, first_received, posting_of, stamp}
 

@@ -10,14 +10,15 @@ use Rattle.echo_text.specs.Refusal.{refusal}
 use Rattle.echo_steps.specs.declared.fault.PostFault.TheVariants as post
 use Rattle.echo_steps.specs.declared.fault.ScanFault.TheVariants as scan
 use Rattle.echo_steps.specs.declared.outcome.Outcome.TheVariants as outcome
-use Rattle.echo_base.specs.Sets.{entry_set}
-use Rattle.echo_base.specs.Written.{echo_of}
-use Rattle.echo_base.specs.Base.{Filed, LinkFile, key_of, links_of}
+use Rattle.echo_links.specs.Links.{LinkFile, links_of}
+use Rattle.echo_filed.specs.Sets.{entry_set}
+use Rattle.echo_filed.specs.Written.{echo_of}
+use Rattle.echo_filed.specs.Filed.{Filed, key_of}
 use Rattle.echo_steps.specs.SystemState.{SystemState}
 use Rattle.echo_steps.specs.Posting.{PostStep, post_refusal, posted, posted_lines}
 use Rattle.echo_steps.specs.Tossing.{TossStep, received, toss_outcome, tossing}
 use Rattle.echo_steps.specs.Scanning.{ScanStep, scanned}
-use Rattle.echo_base.specs.Stubs.{bare, is_stub, stub_of}
+use Rattle.echo_filed.specs.Stubs.{bare, is_stub, stub_of}
 use Rattle.echo_steps.specs.Purging.{PurgeStep, changed, purged}
 use Rattle.echo_trials.proofs.Examples.{draft, first_copy, first_file, first_posting, first_received, id_text, posting_of, second_file, stamp, system}
 

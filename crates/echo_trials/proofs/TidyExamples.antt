@@ -6,8 +6,7 @@ use Rattle.echo_addr.specs.Address.{net_node_of}
 use Rattle.echo_addr.specs.declared.address.NetNode.{NetNode}
 use Rattle.echo_graph.specs.Walk.{Among, Reaches, Walk}
 use Rattle.echo_graph.specs.Cycle.{Cycle}
-use Rattle.echo_base.specs.Sets.{same_address}
-use Rattle.echo_base.specs.Base.{LinkFile, has_area, is_link, links_of}
+use Rattle.echo_links.specs.Links.{LinkFile, has_area, is_link, links_of, same_address}
 use Rattle.echo_run.specs.Tidy.{Carries, Tidy, lists}
 use Rattle.echo_run.proofs.TosserLaws.{the_laws}
 use Rattle.echo_graph.proofs.Members.{Among-at}

@@ -7,9 +7,10 @@ use Rattle.echo_text.specs.Tail.{kept_of, path_lists, seen_lists}
 use Rattle.echo_text.specs.Echo.{msgid_of}
 use Rattle.echo_text.specs.Refusal.{refusal}
 use Rattle.echo_steps.specs.declared.outcome.Outcome.TheVariants as outcome
-use Rattle.echo_base.specs.Sets.{entry_set}
-use Rattle.echo_base.specs.Written.{echo_of}
-use Rattle.echo_base.specs.Base.{LinkFile, key_of, links_of}
+use Rattle.echo_links.specs.Links.{LinkFile, links_of}
+use Rattle.echo_filed.specs.Sets.{entry_set}
+use Rattle.echo_filed.specs.Written.{echo_of}
+use Rattle.echo_filed.specs.Filed.{key_of}
 use Rattle.echo_steps.specs.Tossing.{destination_of, origin_of, outcomes, received, toss_outcome, tossed, tossing}
 use Rattle.echo_steps.specs.Scanning.{header_to, targets}
 use Rattle.echo_trials.proofs.Examples.{first_copy, first_file, first_received, header_without_zones, second_file, stamp, system}

@@ -7,10 +7,9 @@ ghost use Rattle.echo_base.specs.Loading.{AnswersLoad, CountsLoad, FailsToLoad, 
 
 use crate::base::Base;
 use crate::fault::BaseFault;
-use crate::field::{Broken, read_long};
 use crate::judging::judged;
-use crate::stored::{Version, read_stored};
 use echo_device::{Source, fill};
+use echo_filed::{Broken, Version, read_long, read_stored};
 use std::alloc::Global;
 use std::hash::BuildHasher;
 

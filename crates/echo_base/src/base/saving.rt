@@ -3,17 +3,17 @@ ghost use Rattle.std.specs.Prelude.{◌≡◌, ◌^◌, ◌<◌, ◌≤◌, leng
 ghost use Rattle.std.specs.List.{flat_map, list_all};
 ghost use Rattle.echo_device.specs.Device.{Failed, Sends};
 ghost use Rattle.indexmap.specs.IndexMap.{index_map_len, values};
+ghost use Rattle.echo_filed.specs.declared.stored.Version.TheVariants.{Second};
+ghost use Rattle.echo_filed.specs.Stored.{is_short_enough, stored_bytes};
+ghost use Rattle.echo_filed.specs.Sending.{CountsUnsent};
 ghost use Rattle.echo_base.specs.Base.{IsBase};
-ghost use Rattle.echo_base.specs.BaseFile.{Second, head_bytes, is_countable, is_short_enough, saved_bytes, stored_bytes, stored_from};
-ghost use Rattle.echo_base.specs.Saving.{CountsSaved, CountsUnsent, Saves, TellsTooMany};
+ghost use Rattle.echo_base.specs.BaseFile.{head_bytes, is_countable, saved_bytes, stored_from};
+ghost use Rattle.echo_base.specs.Saving.{CountsSaved, Saves, TellsTooMany};
 
 use crate::base::Base;
 use crate::fault::BaseFault;
-use crate::filed::Filed;
-use crate::key::Key;
-use crate::numbers::long_bytes;
-use crate::sending::{Unsent, is_short, is_short_enough, send_message};
 use echo_device::{Failure, Sink, send};
+use echo_filed::{Filed, Key, Unsent, is_short, is_short_enough, long_bytes, send_message};
 use indexmap::IndexMap;
 use std::alloc::{AllocError, Global};
 use std::hash::BuildHasher;

@@ -1,7 +1,7 @@
 //! The answers for small nets by the definitions, found by trying all systems and all short walks.
 
 use super::Fail;
-use echo_base::LinkFile;
+use echo_links::LinkFile;
 use std::alloc::{AllocError, Global};
 
 /// The choice of a file without the area. A lesser one has a bit for each address that it lists.

@@ -2,7 +2,7 @@ use Rattle.std.proofs.Common.{◌≡◌, ◌∙◌, ◌∷◌, [], true, ap, ref
 use Rattle.std.proofs.lemmas.List.Elements.{All-head}
 use Rattle.echo_text.specs.Lines.{is_tag, msgid_word}
 use Rattle.echo_text.specs.Echo.{IsLine}
-use Rattle.echo_base.specs.Base.{id_line}
+use Rattle.echo_filed.specs.Filed.{id_line}
 use Rattle.echo_base.proofs.Verdicts.{bare_made}
 use Rattle.echo_base.proofs.judging.bare.Goals as goal
 

@@ -1,8 +1,8 @@
 use Rattle.std.proofs.Common.{◌≡◌, ◌∙◌, false, not, ap, sym}
 use Rattle.std.specs.List.{list_any}
 use Rattle.echo_text.specs.Ids.{is_zero}
+use Rattle.echo_filed.proofs.Texts.{says_one}
 use Rattle.echo_base.proofs.Verdicts.{text_wrong}
-use Rattle.echo_base.proofs.Texts.{says_one}
 use Rattle.echo_base.proofs.judging.echo_of.Goals as goal
 
 pub returns-then-not-branch : goal.returns-then-not-branch

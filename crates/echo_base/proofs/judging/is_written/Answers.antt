@@ -1,8 +1,8 @@
 use Rattle.std.proofs.Common.{◌∙◌, ap}
 use Rattle.std.specs.Prelude.{bytes_eq}
 use Rattle.echo_text.proofs.OneReading.{one_text}
-use Rattle.echo_base.specs.Written.{text_of}
-use Rattle.echo_base.proofs.Texts.{text_is_text}
+use Rattle.echo_filed.specs.Written.{text_of}
+use Rattle.echo_filed.proofs.Texts.{text_is_text}
 use Rattle.echo_base.proofs.judging.is_written.Goals as goal
 
 pub returns : goal.returns

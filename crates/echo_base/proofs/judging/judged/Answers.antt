@@ -1,6 +1,6 @@
 use Rattle.std.proofs.Common.{◌∙◌, ap, sym}
-use Rattle.echo_base.specs.Base.{key_of}
-use Rattle.echo_base.specs.BaseFile.{has_tag, message_in}
+use Rattle.echo_filed.specs.Filed.{key_of}
+use Rattle.echo_filed.specs.Stored.{has_tag, message_in}
 use Rattle.echo_base.specs.Loading.{has_wrong_field, is_out_of_place}
 use Rattle.echo_base.proofs.Verdicts.{damaged_field, found_right, none_wrong, placed}
 use Rattle.echo_base.proofs.judging.judged.Goals as goal

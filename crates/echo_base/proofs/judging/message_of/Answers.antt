@@ -1,5 +1,6 @@
 use Rattle.std.proofs.Common.{◌≡◌, ◌∙◌, false, ap, subst, sym}
-use Rattle.echo_base.specs.BaseFile.{IsStored, Stored, has_wrong_last, has_wrong_string, message_in}
+use Rattle.echo_filed.specs.Stored.{IsStored, Stored, message_in}
+use Rattle.echo_base.specs.BaseFile.{has_wrong_last, has_wrong_string}
 use Rattle.echo_base.proofs.Verdicts.{last_told, message_is, message_made}
 use Rattle.echo_base.proofs.judging.message_of.Goals as goal
 

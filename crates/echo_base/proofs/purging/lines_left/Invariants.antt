@@ -1,6 +1,6 @@
 use Rattle.std.proofs.Common.{◌≡◌, take}
 use Rattle.indexmap.specs.IndexMap.{values}
-use Rattle.echo_base.specs.Stubs.{lines_left}
+use Rattle.echo_filed.specs.Stubs.{lines_left}
 use Rattle.echo_base.proofs.purging.lines_left.Given as goal
 
 abbrev pub invariant-messages : goal.invariant-messages

@@ -2,8 +2,8 @@ use Rattle.std.proofs.Common.{◌≡◌, ◌∙◌, ap, subst, sym, set, Option}
 use Rattle.std.specs.Prelude.{IfSome}
 use Rattle.indexmap.specs.IndexMap.{values, with_value_at}
 use Rattle.indexmap.proofs.CallerLemmas.{keys-with_value_at}
-use Rattle.echo_base.specs.Base.{Filed}
-use Rattle.echo_base.specs.Stubs.{stub_of}
+use Rattle.echo_filed.specs.Filed.{Filed}
+use Rattle.echo_filed.specs.Stubs.{stub_of}
 use Rattle.echo_base.proofs.Purges.{values_written}
 use Rattle.echo_base.proofs.purging.put_stub.Goals as goal
 

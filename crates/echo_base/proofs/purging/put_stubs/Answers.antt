@@ -2,8 +2,8 @@ use Rattle.std.proofs.Common.{◌≡◌, ◌∙◌, ◌-◌, ◌≤◌, ap, set,
 use Rattle.std.specs.Prelude.{IfSome}
 use Rattle.std.proofs.lemmas.List.{length-map}
 use Rattle.indexmap.specs.IndexMap.{values}
-use Rattle.echo_base.specs.Base.{Filed}
-use Rattle.echo_base.specs.Stubs.{stub_of}
+use Rattle.echo_filed.specs.Filed.{Filed}
+use Rattle.echo_filed.specs.Stubs.{stub_of}
 use Rattle.echo_base.proofs.Purges.{changed_goes_on, changed_lines_on, from_place, from_stubs, never_empty, stub_goes_on, stub_lines_on}
 use Rattle.echo_base.proofs.purging.put_stubs.Goals as goal
 

@@ -1,6 +1,6 @@
 use Rattle.std.proofs.Common.{◌≡◌, ◌≤◌, ◌++◌, map, take, drop}
 use Rattle.indexmap.specs.IndexMap.{keys, values}
-use Rattle.echo_base.specs.Stubs.{lines_left, stub_of}
+use Rattle.echo_filed.specs.Stubs.{lines_left, stub_of}
 use Rattle.echo_base.proofs.purging.put_stubs.Given as goal
 
 abbrev pub invariant-places : goal.invariant-places

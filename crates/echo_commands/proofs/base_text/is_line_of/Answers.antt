@@ -2,8 +2,8 @@ use Rattle.std.proofs.Common.{length, sym, ◌∙◌, arith}
 use Rattle.std.proofs.lemmas.Bool.{eqb-false, eqb-true}
 use Rattle.std.proofs.Math.Bool.{and-true}
 use Rattle.echo_text.specs.Lines.{msgid_word}
-use Rattle.echo_base.specs.Base.{id_line}
-use Rattle.echo_base.proofs.LinesOfIds.{more_alone, none_alone, one_alone}
+use Rattle.echo_filed.specs.Filed.{id_line}
+use Rattle.echo_filed.proofs.LinesOfIds.{more_alone, none_alone, one_alone}
 use Rattle.echo_commands.proofs.base_text.is_line_of.Goals as goal
 
 pub returns-then-is_empty : goal.returns-then-is_empty

@@ -1,7 +1,7 @@
 use Rattle.std.proofs.Common.{◌≡◌, ◌∙◌, ap, sym, Bool, List, ℕ, [], ◌∷◌, ◌==◌, ◌&&◌, Option, Some, bytes_eq, is_some, length, subst}
 use Rattle.std.specs.Cmp.Lexicographic.{pointwise}
-use Rattle.echo_base.specs.Base.{Filed, id_line}
-use Rattle.echo_base.specs.Stubs.{is_stub, is_stub_with}
+use Rattle.echo_filed.specs.Filed.{Filed, id_line}
+use Rattle.echo_filed.specs.Stubs.{is_stub, is_stub_with}
 use Rattle.echo_text.specs.Echo.{EchoText, msgid_of}
 use Rattle.echo_text.specs.Lines.{msgid_word}
 use Rattle.echo_commands.specs.BaseListed.{is_purged}

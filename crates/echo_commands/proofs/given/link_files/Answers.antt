@@ -1,6 +1,6 @@
 use Rattle.std.proofs.Common.{List, ◌++◌, ◌∷◌, [], take, ◌+◌, sym, subst}
 use Rattle.std.proofs.lemmas.Result.{err_from_is_err_and}
-use Rattle.echo_base.specs.Base.{LinkFile}
+use Rattle.echo_links.specs.Links.{LinkFile}
 use Rattle.echo_commands.specs.Given.{AreLinkFiles}
 use Rattle.echo_commands.proofs.Giving.{link_refused, read_more}
 use Rattle.echo_commands.proofs.given.link_files.Goals as goal

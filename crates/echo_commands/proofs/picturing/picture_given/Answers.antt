@@ -1,5 +1,5 @@
 use Rattle.std.proofs.Common.{◌≡◌, ◌++◌, ℕ, List, subst}
-use Rattle.echo_base.specs.Base.{LinkFile}
+use Rattle.echo_links.specs.Links.{LinkFile}
 use Rattle.echo_net.specs.Drawn.{IsDrawing}
 use Rattle.echo_commands.specs.Checked.{IsVerdict}
 use Rattle.echo_commands.specs.Pictured.{picture_lines}

@@ -1,6 +1,6 @@
 use Rattle.std.proofs.Common.{None, Some, Ok, refl, sym, subst}
-use Rattle.echo_base.specs.Base.{LinkFile}
-use Rattle.echo_base.specs.LinkLines.{LinksOf}
+use Rattle.echo_links.specs.Links.{LinkFile}
+use Rattle.echo_links.specs.LinkLines.{LinksOf}
 use Rattle.echo_steps.specs.SystemState.{SystemState}
 use Rattle.echo_commands.specs.System.{IsSystemGiven}
 use Rattle.echo_commands.proofs.Systems.{links_read, took_base}

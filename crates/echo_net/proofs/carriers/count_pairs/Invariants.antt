@@ -1,7 +1,7 @@
 use Rattle.std.proofs.Common.{◌≡◌, ◌≤◌, ◌*◌, ◌^◌, take}
 use Rattle.std.specs.List.{count_by, sum_by}
-use Rattle.echo_base.specs.Base.{links_of}
-use Rattle.echo_base.specs.Sets.{address_before}
+use Rattle.echo_links.specs.Links.{links_of}
+use Rattle.echo_filed.specs.Sets.{address_before}
 use Rattle.echo_net.proofs.carriers.count_pairs.Given as goal
 
 abbrev pub invariant-files : goal.invariant-files

@@ -1,7 +1,7 @@
 use Rattle.std.proofs.Common.{sym, ap, ◌∙◌, Some, None, List}
 use Rattle.std.specs.List.{count_by}
 use Rattle.echo_addr.specs.declared.address.Address.{Address}
-use Rattle.echo_base.specs.Sets.{address_before}
+use Rattle.echo_filed.specs.Sets.{address_before}
 use Rattle.echo_net.proofs.Collected.{links_found}
 use Rattle.echo_net.proofs.carriers.links_upward.Goals as goal
 

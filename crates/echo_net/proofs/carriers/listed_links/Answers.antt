@@ -1,6 +1,6 @@
 use Rattle.std.proofs.Common.{◌++◌, sym, ap, ◌∙◌, List, take, subst}
 use Rattle.std.specs.List.{flat_map}
-use Rattle.echo_base.specs.Base.{IsFile, LinkFile}
+use Rattle.echo_links.specs.Links.{IsFile, LinkFile}
 use Rattle.echo_net.specs.declared.link.Link.{Link}
 use Rattle.echo_net.specs.Nets.{links_from_file}
 use Rattle.echo_net.proofs.FirstOf.{one_more}

@@ -1,6 +1,6 @@
 use Rattle.std.proofs.Common.{◌≡◌, ◌<◌, ℕ, get_or, take}
 use Rattle.std.specs.List.{flat_map}
-use Rattle.echo_base.specs.Base.{IsFile, LinkFile}
+use Rattle.echo_links.specs.Links.{IsFile, LinkFile}
 use Rattle.echo_net.specs.Nets.{links_from_file}
 use Rattle.echo_net.proofs.carriers.listed_links.Given as goal
 

@@ -2,7 +2,7 @@ use Rattle.std.proofs.Common.{◌≡◌, ◌==◌, ℕ, Bool, true, false, cond,
 use Rattle.std.proofs.lemmas.List.{append-nil}
 use Rattle.echo_addr.specs.declared.address.Address.{Address}
 use Rattle.echo_steps.specs.declared.packet.Packet.{Packet}
-use Rattle.echo_base.specs.Base.{LinkFile}
+use Rattle.echo_links.specs.Links.{LinkFile}
 use Rattle.echo_run.specs.Run.{destination}
 use Rattle.echo_steps.specs.Tossing.{destination_of}
 use Rattle.echo_toss.specs.Unpacked.{PacketStep}

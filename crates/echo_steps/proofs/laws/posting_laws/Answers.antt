@@ -1,6 +1,6 @@
 use Rattle.std.proofs.Common.{subst, sym, ap, ◌∙◌}
 use Rattle.echo_text.specs.Echo.{IsEcho, msgid_of}
-use Rattle.echo_base.specs.Base.{Filed}
+use Rattle.echo_filed.specs.Filed.{Filed}
 use Rattle.echo_steps.proofs.Posted.{posted_id, posted_is_echo, posted_own, posting_posted}
 use Rattle.echo_steps.proofs.laws.posting_laws.Goals as goal
 

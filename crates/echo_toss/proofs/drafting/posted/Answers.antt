@@ -1,5 +1,5 @@
 use Rattle.std.proofs.Common.{◌≡◌, sym, subst, ◌∙◌, [], refl, None}
-use Rattle.echo_base.specs.Base.{IsFiled}
+use Rattle.echo_filed.specs.Filed.{IsFiled}
 use Rattle.echo_steps.specs.Posting.{posted}
 use Rattle.echo_steps.proofs.Kept.{posted_filed}
 use Rattle.echo_toss.proofs.Drafted.{posted_is}

@@ -1,5 +1,5 @@
 use Rattle.std.proofs.Common.{◌∷◌, ◌++◌, [], ap, ◌∙◌, None}
-use Rattle.echo_base.specs.Base.{Filed}
+use Rattle.echo_filed.specs.Filed.{Filed}
 use Rattle.echo_toss.specs.Exports.{Outgoing, outgoing_of}
 use Rattle.echo_toss.proofs.Exports.{next_waits, none_waits}
 use Rattle.echo_toss.proofs.outgoing.waiting.Goals as goal

@@ -1,5 +1,5 @@
 use Rattle.std.proofs.Common.{◌≡◌, ◌∙◌, subst, sym}
-use Rattle.echo_base.specs.Sets.{address_set}
+use Rattle.echo_filed.specs.Sets.{address_set}
 use Rattle.echo_toss.proofs.AscendingSets.{set_again}
 use Rattle.echo_toss.proofs.packing.made_ready.Goals as goal
 

@@ -2,7 +2,7 @@ use Rattle.std.proofs.Common.{true, sym, ap, ◌∙◌}
 use Rattle.std.specs.List.{list_any}
 use Rattle.std.proofs.lemmas.Result.{err_from_is_err_and}
 use Rattle.echo_text.specs.Ids.{id_of}
-use Rattle.echo_base.specs.Base.{has_id}
+use Rattle.echo_filed.specs.Filed.{has_id}
 use Rattle.echo_toss.proofs.Judged.{draft_passes, draft_refused, is_fault, memory_fault, prepared}
 use Rattle.echo_toss.proofs.posting.prepared.Goals as goal
 

@@ -1,5 +1,5 @@
 use Rattle.std.proofs.Common.{◌≡◌, sym, subst, ◌∙◌, Some, arith}
-use Rattle.echo_base.specs.Base.{IsFiled}
+use Rattle.echo_filed.specs.Filed.{IsFiled}
 use Rattle.echo_steps.specs.Tossing.{received}
 use Rattle.echo_steps.proofs.Kept.{received_filed}
 use Rattle.echo_toss.proofs.Tossed.{made_received}

@@ -1,6 +1,6 @@
 use Rattle.std.proofs.Common.{◌∙◌}
 use Rattle.std.proofs.lemmas.List.Filters.{dedup_is}
-use Rattle.echo_base.specs.Sets.{same_address}
+use Rattle.echo_links.specs.Links.{same_address}
 use Rattle.echo_toss.proofs.AscendingSets.{addresses_sorted}
 use Rattle.echo_toss.proofs.sets.address_set.Goals as goal
 

@@ -3,10 +3,11 @@ use Rattle.std.specs.Prelude.{bytes_eq}
 use Rattle.std.specs.List.{list_any}
 use Rattle.std.specs.Map.{values_of}
 use Rattle.indexmap.proofs.CallerLemmas.{insert_entry-new}
-use Rattle.echo_base.specs.declared.key.Key.{Key}
-use Rattle.echo_base.specs.Base.{Base, Filed, IsFiled, is_known}
+use Rattle.echo_filed.specs.declared.key.Key.{Key}
+use Rattle.echo_filed.specs.Filed.{Filed, IsFiled}
+use Rattle.echo_filed.proofs.DerivedKeys.{derived}
+use Rattle.echo_base.specs.Base.{Base, is_known}
 use Rattle.echo_base.specs.Entries.{AreEntries}
-use Rattle.echo_base.proofs.DerivedKeys.{derived}
 use Rattle.echo_base.proofs.Entries.{not_looked_up, one_more_entry, still_entries, values_more}
 use Rattle.echo_base.proofs.base.Base.file.Given as given
 use Rattle.echo_base.proofs.base.Base.file.Goals as goal

@@ -3,7 +3,7 @@ use Rattle.std.specs.List.{AllByRecursion, list_any}
 use Rattle.std.proofs.lemmas.Bool.{or_from}
 use Rattle.std.proofs.lemmas.List.{take_all}
 use Rattle.std.proofs.lemmas.List.Folds.{list_any_more}
-use Rattle.echo_base.specs.declared.key.Key.TheVariants.{ById}
+use Rattle.echo_filed.specs.declared.key.Key.TheVariants.{ById}
 use Rattle.echo_base.specs.Base.{Base, is_known}
 use Rattle.echo_base.specs.Entries.{HasTagIn}
 use Rattle.echo_base.proofs.Entries.{any_map, known_by_id, no_such_id}

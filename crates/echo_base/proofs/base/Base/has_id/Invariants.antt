@@ -1,6 +1,6 @@
 use Rattle.std.proofs.Common.{◌≡◌, false, take}
 use Rattle.std.specs.List.{list_any}
-use Rattle.echo_base.specs.declared.key.Key.TheVariants.{ById}
+use Rattle.echo_filed.specs.declared.key.Key.TheVariants.{ById}
 use Rattle.echo_base.specs.Base.{is_known}
 use Rattle.echo_base.proofs.base.Base.has_id.Given as goal
 

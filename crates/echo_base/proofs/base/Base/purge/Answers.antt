@@ -1,8 +1,8 @@
 use Rattle.std.proofs.Common.{◌∙◌, ap, length, map, take}
 use Rattle.std.specs.Map.{values_of}
 use Rattle.std.specs.Prelude.{count_by, not}
+use Rattle.echo_filed.specs.Stubs.{is_stub}
 use Rattle.echo_base.specs.Base.{Base}
-use Rattle.echo_base.specs.Stubs.{is_stub}
 use Rattle.echo_base.proofs.Purges.{count_left}
 use Rattle.echo_base.proofs.StubBases.{stub_entries}
 use Rattle.echo_base.proofs.base.Base.purge.Goals as goal

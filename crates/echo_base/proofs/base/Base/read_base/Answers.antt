@@ -1,5 +1,5 @@
 use Rattle.std.proofs.Common.{List, ℕ, sym, subst}
-use Rattle.echo_base.specs.Base.{Filed}
+use Rattle.echo_filed.specs.Filed.{Filed}
 use Rattle.echo_base.specs.Loading.{TakesBase}
 use Rattle.echo_base.proofs.Failing.{base_taken}
 use Rattle.echo_base.proofs.base.Base.read_base.Goals as goal

@@ -1,6 +1,7 @@
 use Rattle.std.proofs.Common.{◌++◌, arith}
 use Rattle.std.proofs.KnownBytes.{Consumes-trans}
-use Rattle.echo_base.specs.BaseFile.{long, magic}
+use Rattle.echo_filed.specs.Stored.{long}
+use Rattle.echo_base.specs.BaseFile.{magic}
 use Rattle.echo_base.proofs.Failing.{cursor_cut, cut_fails, head_taken, number_cut}
 use Rattle.echo_base.proofs.base.loading.read_head.Goals as goal
 

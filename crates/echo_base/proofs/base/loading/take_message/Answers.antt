@@ -1,5 +1,6 @@
 use Rattle.std.proofs.Common.{◌∙◌}
-use Rattle.echo_base.specs.BaseFile.{is_damaged, message_in}
+use Rattle.echo_filed.specs.Stored.{message_in}
+use Rattle.echo_base.specs.BaseFile.{is_damaged}
 use Rattle.echo_base.proofs.Verdicts.{judged_right, key_is_new}
 use Rattle.echo_base.proofs.base.loading.take_message.Goals as goal
 

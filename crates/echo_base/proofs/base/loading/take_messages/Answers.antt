@@ -1,7 +1,7 @@
 use Rattle.std.proofs.Common.{◌∙◌, ◌∷◌, [], arith, ap, length}
 use Rattle.std.proofs.lemmas.List.{length-append}
 use Rattle.std.proofs.lemmas.Result.{err_from_is_err_and}
-use Rattle.echo_base.specs.BaseFile.{message_in}
+use Rattle.echo_filed.specs.Stored.{message_in}
 use Rattle.echo_base.proofs.Failing.{message_fails, taken_more}
 use Rattle.echo_base.proofs.base.loading.take_messages.Goals as goal
 

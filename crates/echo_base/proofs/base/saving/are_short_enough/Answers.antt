@@ -1,6 +1,6 @@
 use Rattle.std.proofs.Common.{◌∙◌, ap, sym}
 use Rattle.indexmap.specs.IndexMap.{values}
-use Rattle.echo_base.specs.BaseFile.{is_short_enough}
+use Rattle.echo_filed.specs.Stored.{is_short_enough}
 use Rattle.echo_base.proofs.SavedMessages.{enough_more, stored_here, too_long_here}
 use Rattle.echo_base.proofs.base.saving.are_short_enough.Goals as goal
 

@@ -2,7 +2,8 @@
 use Rattle.std.proofs.Common.{◌≡◌, true, take}
 use Rattle.std.specs.List.{list_all}
 use Rattle.indexmap.specs.IndexMap.{values}
-use Rattle.echo_base.specs.BaseFile.{is_short_enough, stored_from}
+use Rattle.echo_filed.specs.Stored.{is_short_enough}
+use Rattle.echo_base.specs.BaseFile.{stored_from}
 use Rattle.echo_base.proofs.base.saving.are_short_enough.Given as goal
 
 abbrev pub invariant-messages : goal.invariant-messages

@@ -1,5 +1,5 @@
 use Rattle.std.proofs.Common.{Option, ℕ, sym, subst, ◌∙◌}
-use Rattle.echo_base.specs.Sets.{same_address}
+use Rattle.echo_links.specs.Links.{same_address}
 use Rattle.echo_replay.specs.Worlds.{IsFirst}
 use Rattle.echo_replay.proofs.receivers.Receivers.of.Goals as goal
 

@@ -1,6 +1,7 @@
 use Rattle.std.proofs.Common.{◌≡◌, ◌∷◌, ◌++◌, [], Some, None, refl, subst, ap, ◌∙◌, inl}
 use Rattle.std.proofs.lemmas.Result.{err_from_is_err_and}
-use Rattle.echo_base.specs.Base.{Base, Filed}
+use Rattle.echo_filed.specs.Filed.{Filed}
+use Rattle.echo_base.specs.Base.{Base}
 use Rattle.echo_steps.specs.SystemState.{SystemState, state_with}
 use Rattle.echo_steps.specs.Posting.{IsPostFault, post_refusal, posted}
 use Rattle.echo_toss.proofs.Tossed.{state_grown}

@@ -1,5 +1,0 @@
-use Rattle.echo_base.proofs.Keys.{same_key_decides}
-use Rattle.echo_base.proofs.laws.key_law.Goals as goal
-
-pub returns : goal.returns
-returns c = same_key_decides

@@ -1,5 +1,0 @@
-use Rattle.echo_base.proofs.Orders.{entry_set_is_set}
-use Rattle.echo_base.proofs.laws.set_law.Goals as goal
-
-pub returns : goal.returns
-returns c = entry_set_is_set

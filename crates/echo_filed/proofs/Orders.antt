@@ -1,0 +1,153 @@
+-- The orders of entries and of addresses, and their sets.
+use Rattle.std.proofs.Common.{◌≡◌, ℕ, ◌<◌, Bool, true, false, ◌&&◌, ◌||◌, ◌==◌, nat_lt, suc, get_or, List, [], ◌∷◌, sym, ap, ◌∙◌, ◌⊎◌, inl, inr, arith}
+use Rattle.std.specs.Prelude.{AllPairs}
+use Rattle.std.proofs.lemmas.Bool.{and_from, and_parts, and_cases, or_parts, or_from, and_right, or_left, or_right, or_cases, ltb-true, ltb-false, eqb-true, eqb-false, lt-ltb, le-ltb, eq-eqb}
+use Rattle.std.proofs.lemmas.List.Elements.{recursion_from_All}
+use Rattle.echo_addr.specs.declared.address.Address.{Address}
+use Rattle.echo_addr.specs.declared.address.NetNode.{NetNode}
+use Rattle.echo_addr.specs.ShortLines.{ComesBefore}
+use Rattle.echo_text.specs.Echo.{IsSetOf}
+use Rattle.echo_filed.specs.Sets.{address_before, entry_before, entry_set, same_entry, set_of}
+use Rattle.echo_filed.proofs.Choices.{contained_in, in_contained}
+use Rattle.echo_filed.proofs.Sets.{IsOrder, Ascending, ascending_pairs, set_ascending, set_keeps, set_only, same_set}
+
+-- one number comes before the other, or they are the same and a test on the rest passes
+abbrev first_then : ℕ → ℕ → Bool → Bool
+first_then a b rest = nat_lt a b || ((a == b) && rest)
+
+decided : (a b : ℕ) (rest : Bool) → first_then a b rest ≡ true → (a < b) ⊎ ((a ≡ b) × (rest ≡ true))
+decided a b rest h = elim (or_cases (nat_lt a b) ((a == b) && rest) h) [
+  | inl less ↦ inl (ltb-true a b less)
+  | inr same ↦ inr (eqb-true a b (and_parts (a == b) rest same).0, (and_parts (a == b) rest same).1)
+]
+
+decide : (a b : ℕ) (rest : Bool) → (a < b) ⊎ ((a ≡ b) × (rest ≡ true)) → first_then a b rest ≡ true
+decide a b rest h = elim h [
+  | inl less ↦ or_left (nat_lt a b) ((a == b) && rest) (lt-ltb a b less)
+  | inr same ↦ or_right (nat_lt a b) ((a == b) && rest) (and_from (a == b) rest (eq-eqb a b same.0) same.1)
+]
+
+chain_then : (a b c : ℕ) (p q r : Bool) → (p ≡ true → q ≡ true → r ≡ true)
+    → first_then a b p ≡ true → first_then b c q ≡ true → first_then a c r ≡ true
+chain_then a b c p q r chain h g = elim (decided a b p h) [
+  | inl less ↦ elim (decided b c q g) [
+    | inl less' ↦ decide a c r (inl (omega arith))
+    | inr same' ↦ decide a c r (inl (omega (arith, same'.0)))
+  ]
+  | inr same ↦ elim (decided b c q g) [
+    | inl less' ↦ decide a c r (inl (omega (arith, same.0)))
+    | inr same' ↦ decide a c r (inr (same.0 ∙ same'.0, chain same.1 same'.1))
+  ]
+]
+
+apart_then : (a : ℕ) (p : Bool) → p ≡ false → first_then a a p ≡ false
+apart_then a p h = or_from (nat_lt a a) ((a == a) && p) (le-ltb a a (omega arith)) (and_right (a == a) p h)
+
+-- two numbers are the same where neither comes first, and neither test passes
+record Tied (a b : ℕ) (p q : Bool) : Type 0 where
+  same : a ≡ b
+  one : p ≡ false
+  other : q ≡ false
+
+tied_then : (a b : ℕ) (p q : Bool) → first_then a b p ≡ false → first_then b a q ≡ false → Tied a b p q
+tied_then a b p q h g =
+    let h' = or_parts (nat_lt a b) ((a == b) && p) h in
+    let g' = or_parts (nat_lt b a) ((b == a) && q) g in
+    let below = ltb-false a b h'.0 in
+    let above = ltb-false b a g'.0 in
+    let same : a ≡ b = omega arith in
+    let one : p ≡ false = elim (and_cases (a == b) p h'.1) [
+      | inl no_tie ↦ absurd (eqb-false a b no_tie same)
+      | inr fails ↦ fails
+    ] in
+    let other : q ≡ false = elim (and_cases (b == a) q g'.1) [
+      | inl no_tie ↦ absurd (eqb-false b a no_tie (sym same))
+      | inr fails ↦ fails
+    ] in
+    record { same = same; one = one; other = other }
+
+less_chain : (a b c : ℕ) → nat_lt a b ≡ true → nat_lt b c ≡ true → nat_lt a c ≡ true
+less_chain a b c h g =
+    let less = ltb-true a b h in let less' = ltb-true b c g in lt-ltb a c (omega arith)
+
+neither_less : (a b : ℕ) → nat_lt a b ≡ false → nat_lt b a ≡ false → a ≡ b
+neither_less a b h g = let below = ltb-false a b h in let above = ltb-false b a g in omega arith
+
+pub entry_order : IsOrder entry_before
+entry_order = record {
+  chain = λ x y z.
+      chain_then x.net y.net z.net (nat_lt x.node y.node) (nat_lt y.node z.node) (nat_lt x.node z.node) (less_chain x.node y.node z.node);
+  tied = λ x y h g.
+      let t : Tied x.net y.net (nat_lt x.node y.node) (nat_lt y.node x.node) = tied_then x.net y.net (nat_lt x.node y.node) (nat_lt y.node x.node) h g in
+      let node : x.node ≡ y.node = neither_less x.node y.node t.one t.other in
+      λ i. record { net = t.same i; node = node i };
+  apart = λ x. apart_then x.net (nat_lt x.node x.node) (le-ltb x.node x.node (omega arith));
+}
+
+abbrev rest_before : Address → Address → Bool
+rest_before a b = first_then a.net b.net (nat_lt a.node b.node)
+
+pub address_order : IsOrder address_before
+address_order = record {
+  chain = λ x y z.
+      chain_then x.zone y.zone z.zone (rest_before x y) (rest_before y z) (rest_before x z)
+      (chain_then x.net y.net z.net (nat_lt x.node y.node) (nat_lt y.node z.node) (nat_lt x.node z.node) (less_chain x.node y.node z.node));
+  tied = λ x y h g.
+      let t : Tied x.zone y.zone (rest_before x y) (rest_before y x) = tied_then x.zone y.zone (rest_before x y) (rest_before y x) h g in
+      let t' : Tied x.net y.net (nat_lt x.node y.node) (nat_lt y.node x.node) = tied_then x.net y.net (nat_lt x.node y.node) (nat_lt y.node x.node) t.one t.other in
+      let node : x.node ≡ y.node = neither_less x.node y.node t'.one t'.other in
+      λ i. record { zone = t.same i; net = t'.same i; node = node i };
+  apart = λ x. apart_then x.zone (rest_before x x) (apart_then x.net (nat_lt x.node x.node) (le-ltb x.node x.node (omega arith)));
+}
+
+comes_before : (x y : NetNode) → entry_before x y ≡ true → ComesBefore x y
+comes_before x y h = elim (decided x.net y.net (nat_lt x.node y.node) h) [
+  | inl less ↦ inl less
+  | inr same ↦ inr (same.0, ltb-true x.node y.node same.1)
+]
+
+before_comes : (x y : NetNode) → ComesBefore x y → entry_before x y ≡ true
+before_comes x y h = elim h [
+  | inl less ↦ decide x.net y.net (nat_lt x.node y.node) (inl less)
+  | inr same ↦ decide x.net y.net (nat_lt x.node y.node) (inr (same.0, lt-ltb x.node y.node same.1))
+]
+
+pub same_entry_decides : (x y : NetNode) → (same_entry x y ≡ true → x ≡ y) × (x ≡ y → same_entry x y ≡ true)
+same_entry_decides x y = (
+  λ h.
+      let parts = and_parts (x.net == y.net) (x.node == y.node) h in
+      let net = eqb-true x.net y.net parts.0 in
+      let node = eqb-true x.node y.node parts.1 in
+      λ i. record { net = net i; node = node i },
+  λ e. and_from (x.net == y.net) (x.node == y.node) (eq-eqb x.net y.net (ap (λ (z : NetNode). z.net) e)) (eq-eqb x.node y.node (ap (λ (z : NetNode). z.node) e)),
+)
+
+pairs_weaker : {X : Type 0} (R S : X → X → Type 0) → ((x y : X) → R x y → S x y) → (xs : List X) → AllPairs R xs → AllPairs S xs
+pairs_weaker R S weaker xs h = λ i j d less inside. weaker (get_or xs i d) (get_or xs j d) (h i j d less inside)
+
+-- the entries of a list, ascending and without repeats
+pub entry_set_is_set : (all : List NetNode) → IsSetOf (entry_set all) all
+unfolding entry_set
+entry_set_is_set all = record {
+  ascending = pairs_weaker (λ (x : NetNode) (y : NetNode). entry_before x y ≡ true) ComesBefore comes_before (set_of entry_before all)
+      (ascending_pairs entry_before (set_of entry_before all) (set_ascending entry_before entry_order all));
+  members = λ entry. (
+    λ h. in_contained entry all (set_only entry_before entry all (contained_in entry (set_of entry_before all) h)),
+    λ h. in_contained entry (set_of entry_before all) (set_keeps entry_before entry_order entry all (contained_in entry all h)),
+  );
+}
+
+-- ascending pairs, seen from the first
+ascending_from_pairs : (xs : List NetNode) → AllPairs ComesBefore xs → Ascending entry_before xs
+ascending_from_pairs [] up = tt
+ascending_from_pairs (x ∷ xs) up = (
+  recursion_from_All (λ (y : NetNode). entry_before x y ≡ true) xs (λ k d inside. before_comes x (get_or xs k d) (up 0 (suc k) d (omega arith) (omega arith))),
+  ascending_from_pairs xs (λ i j d less inside. up (suc i) (suc j) d (omega arith) (omega arith)),
+)
+
+-- a list has one set
+pub one_set : (xs ys all : List NetNode) → IsSetOf xs all → IsSetOf ys all → xs ≡ ys
+one_set xs ys all h g =
+    same_set entry_before entry_order xs ys (ascending_from_pairs xs h.ascending) (ascending_from_pairs ys g.ascending)
+    (λ z i. contained_in z ys ((g.members z).1 ((h.members z).0 (in_contained z xs i))))
+    (λ z i. contained_in z xs ((h.members z).1 ((g.members z).0 (in_contained z ys i))))

@@ -1,0 +1,67 @@
+-- A stored message that is sent part after part.
+use Rattle.std.proofs.Common.{◌≡◌, ℕ, ◌^◌, ◌<◌, Bool, true, false, List, [], ◌++◌, length, refl, sym, ap, subst, ◌∙◌, Option, Some, None, Result, Ok, Err, arith, append_assoc}
+use Rattle.std.specs.Prelude.{unwrap_or}
+use Rattle.std.proofs.lemmas.Bool.{cond-false, cond-true}
+use Rattle.std.proofs.KnownBytes.{Appends-nil}
+use Rattle.std.specs.Prelude.{IfOk, Vec}
+use Rattle.std.specs.declared.alloc.Global.{Global}
+use Rattle.echo_addr.specs.declared.address.Address.{Address}
+use Rattle.echo_device.specs.Device.{Sends, SendsFront}
+use Rattle.echo_text.specs.Echo.{EchoText, IsEcho, TextOf, msgid_of}
+use Rattle.echo_text.proofs.OneReading.{one_text}
+use Rattle.echo_filed.specs.Written.{text_of}
+use Rattle.echo_filed.specs.Filed.{Filed}
+use Rattle.echo_filed.specs.Stored.{Second, after_length, after_long_length, has_tag, kind_of, last_bytes, stored_as, stored_bytes}
+use Rattle.echo_filed.specs.Sending.{front_bytes, strings_bytes}
+use Rattle.echo_filed.proofs.Texts.{text_is_text}
+
+-- nothing of some bytes went out
+pub SendsFront-none : (a : Option (List ℕ)) (bytes : List ℕ) (s : ℕ) → 0 < length bytes → s < 2 ^ 64 → SendsFront a a bytes s s
+SendsFront-none a bytes s some fits = (0, some, Appends-nil a, omega arith)
+
+-- the tag and the id of an echo
+abbrev pub id_sent : EchoText → List ℕ
+id_sent e = after_length e.tag ++ after_long_length (unwrap_or (msgid_of e.kept) [])
+
+-- what is sent behind the subject
+abbrev pub last_sent : Bool → Filed → List ℕ
+last_sent true m = id_sent m.echo
+last_sent false m = after_long_length (text_of m.echo)
+
+-- the first byte tells the sender and the form
+pub tagged : (short : Bool) (sender : Option Address) → has_tag Second (kind_of short sender) ≡ short
+tagged true None = refl
+tagged true (Some a) = refl
+tagged false None = refl
+tagged false (Some a) = refl
+
+last_is : (short : Bool) (m : Filed) → last_bytes Second (stored_as short m) ≡ last_sent short m
+last_is true m =
+    cond-true (has_tag Second (kind_of true m.sender)) (last_sent true m) (after_long_length (unwrap_or (msgid_of m.echo.kept) [])) (tagged true m.sender)
+last_is false m =
+    cond-false (has_tag Second (kind_of false m.sender)) (after_length [] ++ last_sent false m) (last_sent false m) (tagged false m.sender)
+
+-- the strings and what follows them
+strings_then : (to from subject last : List ℕ)
+    → strings_bytes to from subject ++ last ≡ after_length to ++ (after_length from ++ (after_length subject ++ last))
+strings_then to from subject last =
+    append_assoc (after_length to) (after_length from ++ after_length subject) last
+    ∙ ap (λ bs. after_length to ++ bs) (append_assoc (after_length from) (after_length subject) last)
+
+pub stored_parts : (short : Bool) (m : Filed)
+    → front_bytes (stored_as short m) ++ (strings_bytes m.to_name m.from_name m.subject ++ last_sent short m) ≡ stored_bytes Second (stored_as short m)
+unfolding stored_bytes
+stored_parts short m =
+    ap (λ bs. front_bytes (stored_as short m) ++ bs)
+    (strings_then m.to_name m.from_name m.subject (last_sent short m)
+    ∙ ap (λ bs. after_length m.to_name ++ (after_length m.from_name ++ (after_length m.subject ++ bs))) (sym (last_is short m)))
+
+-- bytes that are known by another name
+pub Sends-as : {E A : Type 0} (a b : Option (List ℕ)) (r : Result A E) (bs cs : List ℕ) (n m : ℕ) → bs ≡ cs → Sends a b r bs n m → Sends a b r cs n m
+Sends-as a b r bs cs n m e sent = subst (λ l. Sends a b r l n m) e sent
+
+-- the text that was written is the one that is defined
+pub written_is : {E : Type 0} (e f : EchoText) (r : Result (Vec ℕ Global) E) → e ≡ f → IsEcho e → IfOk r (λ text. TextOf e text.items)
+    → IfOk r (λ text. text.items ≡ text_of f)
+written_is e f (Ok text) same is h = one_text e text.items (text_of e) h (text_is_text e is) ∙ ap text_of same
+written_is e f (Err x) same is h = tt

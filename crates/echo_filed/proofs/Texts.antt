@@ -1,0 +1,101 @@
+-- What a text says is one echo, and what is written for an echo says it.
+use Rattle.std.proofs.Common.{◌≡◌, ℕ, true, cond, not, List, refl, sym, subst, ◌∙◌, Option, Some, None, inl, inr}
+use Rattle.std.proofs.lemmas.Bool.{cases_Bool, cond-false, cond-true, not_from_true, not_from_false}
+use Rattle.std.proofs.lemmas.List.Elements.{recursion_from_All}
+use Rattle.echo_addr.specs.declared.address.NetNode.{NetNode}
+use Rattle.echo_addr.specs.ShortLines.{IsNetNode, path_prefix, seen_prefix}
+use Rattle.echo_text.specs.declared.fault.TextFault.{TextFault}
+use Rattle.echo_text.specs.declared.fault.TextFault.TheVariants as text
+use Rattle.echo_text.specs.Lines.{area_tag, first_line, is_area, is_tag, later_lines, lines}
+use Rattle.echo_text.specs.Tail.{all_entries, seen_lists}
+use Rattle.echo_text.specs.Echo.{EchoOf, EchoText, IsEcho, TextOf}
+use Rattle.echo_text.specs.Refusal.{refusal, refusal_of}
+use Rattle.echo_text.proofs.Written.{written_read_back}
+use Rattle.echo_filed.specs.Sets.{entry_set}
+use Rattle.echo_filed.specs.Written.{echo_of, echo_of_lines, short_lines, text_of}
+use Rattle.echo_filed.proofs.Orders.{entry_set_is_set, one_set}
+use Rattle.echo_filed.proofs.Runs.{path_short, seen_short}
+
+-- the text of an echo that follows the definition of what is written
+pub text_is_text : (e : EchoText) → IsEcho e → TextOf e (text_of e)
+unfolding text_of
+text_is_text e h = record {
+  seen_lines = short_lines seen_prefix e.seen;
+  path_lines = short_lines path_prefix e.path;
+  seen = seen_short e.seen (recursion_from_All IsNetNode e.seen h.seen_entries);
+  path = path_short e.path (recursion_from_All IsNetNode e.path h.path_entries);
+  whole = refl;
+}
+
+-- two echoes of the same parts
+same_echo : (e f : EchoText) → e.tag ≡ f.tag → e.kept ≡ f.kept → e.seen ≡ f.seen → e.path ≡ f.path → e ≡ f
+same_echo e f tag kept seen path = λ i. record { tag = tag i; kept = kept i; seen = seen i; path = path i }
+
+-- a text says one thing at most
+pub says_one : (bytes : List ℕ) (e : EchoText) (dropped : ℕ) → EchoOf bytes e dropped → echo_of bytes ≡ e
+unfolding echo_of
+says_one bytes e dropped h =
+    let entries : List NetNode = all_entries (seen_lists (later_lines (lines bytes))) in
+    same_echo (echo_of_lines (lines bytes)) e (sym h.tag) (sym h.kept) (one_set (entry_set entries) e.seen entries (entry_set_is_set entries) h.seen) (sym h.path)
+
+-- the first line is an AREA line of a tag
+record IsAreaLine (line : List ℕ) : Type 0 where
+  area : is_area line ≡ true
+  tag : is_tag (area_tag line) ≡ true
+
+accepted : (line : List ℕ) → IsAreaLine line → refusal_of line ≡ None
+accepted line h =
+    cond-false (not (is_area line)) (Some text.NotEcho) (cond (not (is_tag (area_tag line))) (Some text.BadTag) None) (not_from_true (is_area line) h.area)
+    ∙ cond-false (not (is_tag (area_tag line))) (Some text.BadTag) None (not_from_true (is_tag (area_tag line)) h.tag)
+
+some_is_not_none : {A : Type 0} (x : A) → Some x ≡ None → ⊥
+some_is_not_none x e = cc
+
+area_line : (line : List ℕ) → refusal_of line ≡ None → IsAreaLine line
+area_line line none =
+    let other : Option TextFault = cond (not (is_tag (area_tag line))) (Some text.BadTag) None in
+    elim (cases_Bool (is_area line)) [
+      | inl area ↦
+          let left : other ≡ None = sym (cond-false (not (is_area line)) (Some text.NotEcho) other (not_from_true (is_area line) area)) ∙ none in
+          elim (cases_Bool (is_tag (area_tag line))) [
+            | inl tag ↦ record { area = area; tag = tag }
+            | inr no_tag ↦
+                absurd (some_is_not_none text.BadTag (sym (cond-true (not (is_tag (area_tag line))) (Some text.BadTag) None (not_from_false (is_tag (area_tag line)) no_tag)) ∙ left))
+          ]
+      | inr no_area ↦
+          absurd (some_is_not_none text.NotEcho (sym (cond-true (not (is_area line)) (Some text.NotEcho) other (not_from_false (is_area line) no_area)) ∙ none))
+    ]
+
+-- a text that is not refused says what is read of it
+pub says_read : (bytes : List ℕ) → refusal bytes ≡ None → (dropped : ℕ) × EchoOf bytes (echo_of bytes) dropped
+unfolding refusal echo_of
+says_read bytes none =
+    let line = area_line (first_line (lines bytes)) none in (
+      _,
+      record {
+        area = line.area;
+        tag = refl;
+        tag_bytes = line.tag;
+        kept = refl;
+        seen = entry_set_is_set (all_entries (seen_lists (later_lines (lines bytes))));
+        path = refl;
+        dropped_tokens = refl;
+      },
+    )
+
+-- a text that says something is not refused
+pub says_accepted : (bytes : List ℕ) (e : EchoText) (dropped : ℕ) → EchoOf bytes e dropped → refusal bytes ≡ None
+unfolding refusal
+says_accepted bytes e dropped h =
+    let P : List ℕ → Type 0 = λ tag. is_tag tag ≡ true in
+    accepted (first_line (lines bytes)) (record { area = h.area; tag = subst P h.tag h.tag_bytes })
+
+-- what is written for an echo says it and nothing more, is accepted, and is read so
+pub written_says : (e : EchoText) → IsEcho e → EchoOf (text_of e) e 0
+written_says e h = written_read_back e (text_of e) h (text_is_text e h)
+
+pub written_accepted : (e : EchoText) → IsEcho e → refusal (text_of e) ≡ None
+written_accepted e h = says_accepted (text_of e) e 0 (written_says e h)
+
+pub written_back : (e : EchoText) → IsEcho e → echo_of (text_of e) ≡ e
+written_back e h = says_one (text_of e) e 0 (written_says e h)

@@ -1,0 +1,12 @@
+use Rattle.echo_filed.proofs.Keys.{stub_keeps_key, stub_of_stub}
+use Rattle.echo_filed.proofs.StubTests.{stub_told}
+use Rattle.echo_filed.proofs.laws.stub_laws.Goals as goal
+
+pub returns-clause-keep_keys : goal.returns-clause-keep_keys
+returns-clause-keep_keys c = stub_keeps_key
+
+pub returns-clause-stay : goal.returns-clause-stay
+returns-clause-stay c = stub_of_stub
+
+pub returns-clause-told : goal.returns-clause-told
+returns-clause-told c = stub_told

@@ -1,0 +1,39 @@
+//! What holds of the definitions. Each law is the contract of a function that does nothing.
+
+ghost use Rattle.std.specs.Prelude.{◌≡◌, ◌↔◌, ℕ, List, None, true};
+ghost use Rattle.echo_addr.specs.declared.address.NetNode.{NetNode};
+ghost use Rattle.echo_text.specs.Echo.{EchoOf, EchoText, IsEcho, IsSetOf, TextOf};
+ghost use Rattle.echo_text.specs.Refusal.{refusal};
+ghost use Rattle.echo_filed.specs.declared.key.Key.{Key};
+ghost use Rattle.echo_filed.specs.Sets.{entry_set};
+ghost use Rattle.echo_filed.specs.Written.{echo_of, text_of};
+ghost use Rattle.echo_filed.specs.Filed.{Filed, key_of, same_key};
+ghost use Rattle.echo_filed.specs.Stubs.{is_stub, stub_of};
+
+/// The test of keys passes exactly where they are the same.
+pub fn key_law()
+    ensures { (k l : Key) → (same_key k l ≡ true) ↔ (k ≡ l) }
+{}
+
+/// A purge keeps keys, a second purge leaves what the first one left, and the test of stubs passes
+/// exactly where a purge leaves the message as it is.
+pub fn stub_laws()
+    ensures keep_keys { (m : Filed) → key_of (stub_of m) ≡ key_of m }
+    ensures stay { (m : Filed) → stub_of (stub_of m) ≡ stub_of m }
+    ensures told { (m : Filed) → (is_stub m ≡ true) ↔ (stub_of m ≡ m) }
+{}
+
+/// The entries of a list as a set: ascending, without repeats, with its members.
+pub fn set_law()
+    ensures { (all : List NetNode) → IsSetOf (entry_set all) all }
+{}
+
+/// What an echomail text says, and what is written, are the functions that the definitions of texts
+/// describe; what is written is read back, no token dropped.
+pub fn text_laws()
+    ensures said { (text : List ℕ) → refusal text ≡ None → (dropped : ℕ) × EchoOf text (echo_of text) dropped }
+    ensures only_said { (text : List ℕ) (e : EchoText) (dropped : ℕ) → EchoOf text e dropped → (refusal text ≡ None) × (echo_of text ≡ e) }
+    ensures written { (e : EchoText) → IsEcho e → TextOf e (text_of e) }
+    ensures read_back { (e : EchoText) → IsEcho e → (refusal (text_of e) ≡ None) × (echo_of (text_of e) ≡ e) }
+    ensures whole { (e : EchoText) → IsEcho e → EchoOf (text_of e) e 0 }
+{}

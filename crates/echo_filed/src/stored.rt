@@ -1,0 +1,88 @@
+//! A message as it stands in a base file, taken from a source.
+ghost use Rattle.std.specs.Prelude.{◌≡◌};
+ghost use Rattle.echo_filed.specs.Stored.{IsStored, has_tag, sender_in, stored_bytes};
+ghost use Rattle.echo_filed.specs.Fields.{CountsBroken, Reads};
+
+use crate::field::{Broken, read_address, read_byte, read_date, read_last, read_short};
+use echo_addr::{Address, Items};
+use echo_device::Source;
+use std::alloc::Global;
+use std::marker::Model;
+
+/// The two layouts of a base file. Both are read, the second is written.
+#[derive(Clone, Copy, Debug, PartialEq, Eq)]
+pub enum Version {
+    First,
+    Second,
+}
+
+/// A message as it stands there; `last` is its text, or its id where it has the tag in place of the
+/// text.
+#[derive(Drop)]
+pub struct StoredMessage {
+    pub kind: u8,
+    pub sender: Address,
+    pub date: [u8; 20],
+    pub to_name: Items<u8>,
+    pub from_name: Items<u8>,
+    pub subject: Items<u8>,
+    pub tag: Items<u8>,
+    pub last: Items<u8>,
+}
+
+impl Model for StoredMessage {
+    ghost use Rattle.echo_filed.specs.Stored.{Stored};
+
+    ghost Value = { Stored };
+
+    ghost view = { λ s. record {
+      kind = s.kind;
+      zone = s.sender.zone;
+      net = s.sender.net;
+      node = s.sender.node;
+      date = s.date;
+      to_name = s.to_name;
+      from_name = s.from_name;
+      subject = s.subject;
+      tag = s.tag;
+      last = s.last;
+    } };
+}
+
+/// Whether messages of this first byte have tag and id in place of the text.
+pub fn has_tag(version: Version, kind: u8) -> bool
+    ensures { result ≡ has_tag version kind }
+{
+    match version {
+        Version::First => false,
+        Version::Second => kind == 2 || kind == 3,
+    }
+}
+
+/// The message that stands next.
+pub fn read_stored<R: Source>(
+    alloc: Global,
+    reader: &mut R,
+    version: Version,
+) -> Result<StoredMessage, Broken>
+    ensures read { Reads (IsStored version) (stored_bytes version) (R.remaining reader.old) (R.remaining reader.new) result }
+    ensures device { CountsBroken result (R.failures reader.old) (R.failures reader.new) }
+{
+    let kind = read_byte(reader)?;
+    let sender = read_address(reader)?;
+    let date = read_date(reader)?;
+    let to_name = read_short(alloc, reader)?;
+    let from_name = read_short(alloc, reader)?;
+    let subject = read_short(alloc, reader)?;
+    let (tag, last) = read_last(alloc, reader, has_tag(version, kind))?;
+    Ok(StoredMessage {
+        kind,
+        sender,
+        date,
+        to_name,
+        from_name,
+        subject,
+        tag,
+        last,
+    })
+}

@@ -1,0 +1,9 @@
+pub mod Addresses
+pub mod Plain
+pub mod LinkFiles
+pub mod LinkAnswers
+pub mod LinkBytes
+pub mod LinkLoops
+pub mod LinkTaking
+pub mod LinkSteps
+pub mod AreaMaps

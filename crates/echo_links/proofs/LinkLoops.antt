@@ -1,0 +1,73 @@
+-- Reading the links of an AREA line one by one.
+use Rattle.std.proofs.Common.{◌≡◌, ℕ, ◌||◌, Bool, true, false, List, [], ◌∷◌, ◌++◌, map, refl, sym, ap, ◌∙◌, Some, None}
+use Rattle.std.specs.Prelude.{is_err}
+use Rattle.std.specs.List.{list_any}
+use Rattle.std.proofs.lemmas.Bool.{cond-false, cond-true}
+use Rattle.std.proofs.lemmas.List.{append_assoc, append-nil}
+use Rattle.echo_addr.specs.declared.address.Address.{Address}
+use Rattle.echo_addr.specs.Address.{address_in, outcome}
+use Rattle.echo_links.specs.declared.fault.LinkFault.TheVariants as fault
+use Rattle.echo_links.specs.Links.{same_address}
+use Rattle.echo_links.specs.LinkLines.{links_fault}
+use Rattle.echo_links.specs.LinkReading.{IsWordOf}
+
+-- these links were read of the words, and these words are left
+pub record LinksRead (number : ℕ) (all later : List (List ℕ)) (links : List Address) : Type 0 where
+  pub before : List (List ℕ)
+  pub faults : links_fault number [] all ≡ links_fault number before later
+  pub whole : map address_in all ≡ links ++ map address_in later
+  pub known : (a : Address) → list_any (same_address a) (map address_in before) ≡ list_any (same_address a) links
+
+pub links_begun : (number : ℕ) (all : List (List ℕ)) → LinksRead number all all []
+links_begun number all = record { before = []; faults = refl; whole = refl; known = λ a. refl }
+
+any_last : (a b : Address) (links : List Address) → list_any (same_address a) (links ++ b ∷ []) ≡ (same_address a b || list_any (same_address a) links)
+any_last a b [] = refl
+any_last a b (c ∷ links) = ap (λ t. same_address a c || t) (any_last a b links) ∙ turned (same_address a c) (same_address a b) (list_any (same_address a) links)
+  where
+    turned : (x y z : Bool) → (x || (y || z)) ≡ (y || (x || z))
+    turned true true z = refl
+    turned true false z = refl
+    turned false true z = refl
+    turned false false z = refl
+
+module _ (number : ℕ) (all : List (List ℕ)) (word : List ℕ) (more : List (List ℕ)) (links : List Address) where
+  -- one more link
+  pub links_more : (later : List (List ℕ)) (a : Address) → LinksRead number all later links → later ≡ word ∷ more → IsWordOf word (Some a)
+      → list_any (same_address a) links ≡ false → LinksRead number all more (links ++ a ∷ [])
+  links_more later a h next is new =
+      let value : a ≡ address_in word = is.2 in
+      let fresh : list_any (same_address (address_in word)) (map address_in h.before) ≡ false =
+      ap (λ b. list_any (same_address b) (map address_in h.before)) (sym value) ∙ h.known a ∙ new in
+      record {
+        before = word ∷ h.before;
+        faults = h.faults ∙ ap (links_fault number h.before) next ∙ cond-false (is_err (outcome word)) (Some (fault.BadAddress number)) _ is.1
+            ∙ cond-false (list_any (same_address (address_in word)) (map address_in h.before)) (Some (fault.RepeatedLink number)) _ fresh;
+        whole = h.whole ∙ ap (λ ws. links ++ map address_in ws) next ∙ ap (λ b. links ++ b ∷ map address_in more) (sym value)
+            ∙ sym (append_assoc links (a ∷ []) (map address_in more));
+        known = λ b. ap (λ c. same_address b c || list_any (same_address b) (map address_in h.before)) (sym value)
+            ∙ ap (λ t. same_address b a || t) (h.known b) ∙ sym (any_last b a links);
+      }
+
+  -- a word that is no address
+  pub links_bad : (later : List (List ℕ)) → LinksRead number all later links → later ≡ word ∷ more → IsWordOf word None
+      → links_fault number [] all ≡ Some (fault.BadAddress number)
+  links_bad later h next is = h.faults ∙ ap (links_fault number h.before) next ∙ cond-true (is_err (outcome word)) (Some (fault.BadAddress number)) _ is.1
+
+  -- an address that is a link already
+  pub links_again : (later : List (List ℕ)) (a : Address) → LinksRead number all later links → later ≡ word ∷ more → IsWordOf word (Some a)
+      → list_any (same_address a) links ≡ true → links_fault number [] all ≡ Some (fault.RepeatedLink number)
+  links_again later a h next is old =
+      let value : a ≡ address_in word = is.2 in
+      let known : list_any (same_address (address_in word)) (map address_in h.before) ≡ true =
+      ap (λ b. list_any (same_address b) (map address_in h.before)) (sym value) ∙ h.known a ∙ old in
+      h.faults ∙ ap (links_fault number h.before) next ∙ cond-false (is_err (outcome word)) (Some (fault.BadAddress number)) _ is.1
+      ∙ cond-true (list_any (same_address (address_in word)) (map address_in h.before)) (Some (fault.RepeatedLink number)) _ known
+
+-- no words are left
+pub links_done : (number : ℕ) (all later : List (List ℕ)) (links : List Address) → LinksRead number all later links → later ≡ []
+    → (links_fault number [] all ≡ None) × (links ≡ map address_in all)
+links_done number all later links h none = (
+  h.faults ∙ ap (links_fault number h.before) none,
+  sym (h.whole ∙ ap (λ ws. links ++ map address_in ws) none ∙ append-nil links),
+)

@@ -1,0 +1,276 @@
+-- Reading a link file line by line.
+use Rattle.std.proofs.Common.{◌≡◌, ℕ, ◌+◌, ◌||◌, not, Bool, true, false, cond, List, [], ◌∷◌, ◌++◌, map, codes, refl, sym, ap, ◌∙◌, Option, Some, None, inl, inr, ◌⊎◌}
+use Rattle.std.specs.Prelude.{bytes_eq, filter, find, is_some, option_map, unwrap_or}
+use Rattle.std.specs.Option.{option_or}
+use Rattle.std.specs.List.{list_any}
+use Rattle.std.proofs.lemmas.Bool.{cases_Bool, cond-false, cond-true}
+use Rattle.std.proofs.lemmas.List.{append_assoc, append-nil}
+use Rattle.echo_addr.specs.declared.address.Address.{Address}
+use Rattle.echo_links.specs.declared.fault.LinkFault.{LinkFault}
+use Rattle.echo_links.specs.declared.fault.LinkFault.TheVariants as fault
+use Rattle.echo_links.specs.declared.link_file.reading.Reading.{Reading}
+use Rattle.echo_links.specs.Links.{Area}
+use Rattle.echo_links.specs.LinkLines.{area_in, file_fault, file_lines, file_of, first_fault, is_area_line, is_name_line, is_skipped, is_system_line, line_fault, name_in, no_address, system_in, tag_in}
+use Rattle.echo_links.specs.LinkReading.{Adds, Holds, Knows, areas_of, has_tag, kept, name_of, system_of}
+use Rattle.echo_links.proofs.AreaMaps.{bytes_turned}
+use Rattle.echo_links.proofs.LinkBytes.{no_lines_left, skipped_word}
+use Rattle.echo_links.proofs.LinkTaking.{areas_one, name_one, or_none, system_one}
+
+-- ---- more lines
+
+or_assoc : {X : Type 0} (a b c : Option X) → option_or (option_or a b) c ≡ option_or a (option_or b c)
+or_assoc None b c = refl
+or_assoc (Some x) b c = refl
+
+some_or : {X : Type 0} (a b : Option X) → is_some (option_or a b) ≡ (is_some b || is_some a)
+some_or None None = refl
+some_or None (Some y) = refl
+some_or (Some x) None = refl
+some_or (Some x) (Some y) = refl
+
+-- what is found of a line, or else of the later ones
+found_next : {X : Type 0} (say : List ℕ → X) (p : List ℕ → Bool) (skipped : Bool) (line : List ℕ) (later : List (List ℕ))
+    → option_map say (find p (cond (not skipped) (line ∷ later) later))
+    ≡ option_or (option_map say (find p (cond (not skipped) (line ∷ []) []))) (option_map say (find p later))
+found_next say p true line later = refl
+found_next say p false line later = elim (cases_Bool (p line)) [
+  | inl is ↦
+      ap (option_map say) (cond-true (p line) (Some line) (find p later) is)
+      ∙ sym (ap (λ o. option_or (option_map say o) (option_map say (find p later))) (cond-true (p line) (Some line) None is))
+  | inr isnt ↦
+      ap (option_map say) (cond-false (p line) (Some line) (find p later) isnt)
+      ∙ sym (ap (λ o. option_or (option_map say o) (option_map say (find p later))) (cond-false (p line) (Some line) None isnt))
+]
+
+kept_next : (skipped : Bool) (line : List ℕ) (later : List (List ℕ))
+    → map area_in (filter is_area_line (cond (not skipped) (line ∷ later) later))
+    ≡ map area_in (filter is_area_line (cond (not skipped) (line ∷ []) [])) ++ map area_in (filter is_area_line later)
+kept_next true line later = refl
+kept_next false line later = elim (cases_Bool (is_area_line line)) [
+  | inl is ↦
+      ap (map area_in) (cond-true (is_area_line line) (line ∷ filter is_area_line later) (filter is_area_line later) is)
+      ∙ sym (ap (λ ls. map area_in ls ++ map area_in (filter is_area_line later)) (cond-true (is_area_line line) (line ∷ []) [] is))
+  | inr isnt ↦
+      ap (map area_in) (cond-false (is_area_line line) (line ∷ filter is_area_line later) (filter is_area_line later) isnt)
+      ∙ sym (ap (λ ls. map area_in ls ++ map area_in (filter is_area_line later)) (cond-false (is_area_line line) (line ∷ []) [] isnt))
+]
+
+module _ (line : List ℕ) (later : List (List ℕ)) where
+  system_next : system_of (line ∷ later) ≡ option_or (system_of (line ∷ [])) (system_of later)
+  unfolding system_of
+  system_next = found_next system_in is_system_line (is_skipped line) line (kept later)
+
+  name_next : name_of (line ∷ later) ≡ option_or (name_of (line ∷ [])) (name_of later)
+  unfolding name_of
+  name_next = found_next name_in is_name_line (is_skipped line) line (kept later)
+
+  areas_next : areas_of (line ∷ later) ≡ areas_of (line ∷ []) ++ areas_of later
+  unfolding areas_of
+  areas_next = kept_next (is_skipped line) line (kept later)
+
+-- ---- what is known of the lines before
+
+-- what a line says tells its kind
+module _ (line : List ℕ) where
+  unread : is_skipped line ≡ true → (system_of (line ∷ []) ≡ None) × (name_of (line ∷ []) ≡ None) × (areas_of (line ∷ []) ≡ [])
+  unfolding system_of name_of areas_of
+  unread h = (
+    ap (λ s. option_map system_in (find is_system_line (cond (not s) (line ∷ []) []))) h,
+    ap (λ s. option_map name_in (find is_name_line (cond (not s) (line ∷ []) []))) h,
+    ap (λ s. map area_in (filter is_area_line (cond (not s) (line ∷ []) []))) h,
+  )
+
+  says_system : is_some (system_of (line ∷ [])) ≡ is_system_line line
+  says_system = elim (cases_Bool (is_skipped line)) [
+    | inl h ↦ ap is_some (unread h).0 ∙ sym (skipped_word line 83 (codes "YSTEM") refl h)
+    | inr h ↦
+        elim (cases_Bool (is_system_line line)) [
+          | inl is ↦ ap is_some (system_one line true h is) ∙ sym is
+          | inr isnt ↦ ap is_some (system_one line false h isnt) ∙ sym isnt
+        ]
+  ]
+
+  says_name : is_some (name_of (line ∷ [])) ≡ is_name_line line
+  says_name = elim (cases_Bool (is_skipped line)) [
+    | inl h ↦ ap is_some (unread h).1 ∙ sym (skipped_word line 78 (codes "AME") refl h)
+    | inr h ↦
+        elim (cases_Bool (is_name_line line)) [
+          | inl is ↦ ap is_some (name_one line true h is) ∙ sym is
+          | inr isnt ↦ ap is_some (name_one line false h isnt) ∙ sym isnt
+        ]
+  ]
+
+  says_area : areas_of (line ∷ []) ≡ cond (is_area_line line) (area_in line ∷ []) []
+  says_area = elim (cases_Bool (is_skipped line)) [
+    | inl h ↦ (unread h).2 ∙ sym (cond-false (is_area_line line) (area_in line ∷ []) [] (skipped_word line 65 (codes "REA") refl h))
+    | inr h ↦
+        elim (cases_Bool (is_area_line line)) [
+          | inl is ↦ areas_one line true h is ∙ sym (cond-true (is_area_line line) (area_in line ∷ []) [] is)
+          | inr isnt ↦ areas_one line false h isnt ∙ sym (cond-false (is_area_line line) (area_in line ∷ []) [] isnt)
+        ]
+  ]
+
+has_tag_append : (all more : List Area) (tag : List ℕ) → has_tag (all ++ more) tag ≡ (has_tag all tag || has_tag more tag)
+has_tag_append [] more tag = refl
+has_tag_append (area ∷ all) more tag = elim (cases_Bool (bytes_eq area.tag tag)) [
+  | inl is ↦
+      ap is_some (cond-true (bytes_eq area.tag tag) (Some area) (find (λ (a : Area). bytes_eq a.tag tag) (all ++ more)) is)
+      ∙ sym (ap (λ o. is_some o || has_tag more tag) (cond-true (bytes_eq area.tag tag) (Some area) (find (λ (a : Area). bytes_eq a.tag tag) all) is))
+  | inr isnt ↦
+      ap is_some (cond-false (bytes_eq area.tag tag) (Some area) (find (λ (a : Area). bytes_eq a.tag tag) (all ++ more)) isnt)
+      ∙ has_tag_append all more tag
+      ∙ sym (ap (λ o. is_some o || has_tag more tag) (cond-false (bytes_eq area.tag tag) (Some area) (find (λ (a : Area). bytes_eq a.tag tag) all) isnt))
+]
+
+one_tag : (area : Area) (tag : List ℕ) → has_tag (area ∷ []) tag ≡ bytes_eq tag area.tag
+one_tag area tag = elim (cases_Bool (bytes_eq area.tag tag)) [
+  | inl is ↦ ap is_some (cond-true (bytes_eq area.tag tag) (Some area) None is) ∙ sym (bytes_turned tag area.tag ∙ is)
+  | inr isnt ↦ ap is_some (cond-false (bytes_eq area.tag tag) (Some area) None isnt) ∙ sym (bytes_turned tag area.tag ∙ isnt)
+]
+
+or_turned : (x y : Bool) → (x || y) ≡ (y || x)
+or_turned true true = refl
+or_turned true false = refl
+or_turned false true = refl
+or_turned false false = refl
+
+no_begun : Knows [] (record { system = None; name = None; areas = [] })
+no_begun = record { system = refl; name = refl; areas = λ tag. refl }
+
+knows_more : (earlier : List (List ℕ)) (line : List ℕ) (old new : Reading) → Knows earlier old → Adds (line ∷ []) old new → Knows (line ∷ earlier) new
+knows_more earlier line old new knows adds = record {
+  system = ap (λ t. is_system_line line || t) knows.system ∙ ap (λ t. t || is_some old.system) (sym (says_system line))
+      ∙ sym (ap is_some adds.system ∙ some_or old.system (system_of (line ∷ [])));
+  name = ap (λ t. is_name_line line || t) knows.name ∙ ap (λ t. t || is_some old.name) (sym (says_name line))
+      ∙ sym (ap is_some adds.name ∙ some_or old.name (name_of (line ∷ [])));
+  areas = λ tag. tags tag ∙ sym (ap (λ all. has_tag all tag) (adds.areas ∙ ap (λ all. old.areas ++ all) (says_area line)));
+}
+  where
+    tags : (tag : List ℕ) → list_any (bytes_eq tag) (map tag_in (filter is_area_line (line ∷ earlier)))
+        ≡ has_tag (old.areas ++ cond (is_area_line line) (area_in line ∷ []) []) tag
+    tags tag = elim (cases_Bool (is_area_line line)) [
+      | inl is ↦
+          ap (λ ls. list_any (bytes_eq tag) (map tag_in ls)) (cond-true (is_area_line line) (line ∷ filter is_area_line earlier) (filter is_area_line earlier) is)
+          ∙ ap (λ t. bytes_eq tag (tag_in line) || t) (knows.areas tag)
+          ∙ or_turned (bytes_eq tag (tag_in line)) (has_tag old.areas tag)
+          ∙ ap (λ t. has_tag old.areas tag || t) (sym (one_tag (area_in line) tag))
+          ∙ sym (has_tag_append old.areas (area_in line ∷ []) tag)
+          ∙ sym (ap (λ all. has_tag (old.areas ++ all) tag) (cond-true (is_area_line line) (area_in line ∷ []) [] is))
+      | inr isnt ↦
+          ap (λ ls. list_any (bytes_eq tag) (map tag_in ls)) (cond-false (is_area_line line) (line ∷ filter is_area_line earlier) (filter is_area_line earlier) isnt)
+          ∙ knows.areas tag
+          ∙ sym (ap (λ all. has_tag (old.areas ++ all) tag) (cond-false (is_area_line line) (area_in line ∷ []) [] isnt)
+          ∙ ap (λ all. has_tag all tag) (append-nil old.areas))
+    ]
+
+-- ---- all lines
+
+-- so many lines were read of the bytes, and these bytes are left
+pub record LinesRead (bytes : List ℕ) (number : ℕ) (rest : List ℕ) (r : Reading) : Type 0 where
+  pub earlier : List (List ℕ)
+  pub knows : Knows earlier r
+  pub faults : first_fault [] 1 (file_lines bytes) ≡ first_fault earlier (number + 1) (file_lines rest)
+  pub system : system_of (file_lines bytes) ≡ option_or r.system (system_of (file_lines rest))
+  pub name : name_of (file_lines bytes) ≡ option_or r.name (name_of (file_lines rest))
+  pub areas : areas_of (file_lines bytes) ≡ r.areas ++ areas_of (file_lines rest)
+
+pub lines_begun : (bytes : List ℕ) → LinesRead bytes 0 bytes (record { system = None; name = None; areas = [] })
+lines_begun bytes = record {
+  earlier = [];
+  knows = no_begun;
+  faults = refl;
+  system = refl;
+  name = refl;
+  areas = refl;
+}
+
+module _ (bytes : List ℕ) (number : ℕ) (rest line after : List ℕ) (old : Reading) (h : LinesRead bytes number rest old)
+    (next : file_lines rest ≡ line ∷ file_lines after) where
+  -- a line that adds something
+  pub lines_more : (new : Reading) → (line_fault h.earlier (number + 1) line ≡ None) × Adds (line ∷ []) old new → LinesRead bytes (number + 1) after new
+  lines_more new takes = record {
+    earlier = line ∷ h.earlier;
+    knows = knows_more h.earlier line old new h.knows takes.1;
+    faults = h.faults ∙ ap (first_fault h.earlier (number + 1)) next
+        ∙ ap (λ o. option_or o (first_fault (line ∷ h.earlier) (number + 1 + 1) (file_lines after))) takes.0;
+    system = h.system ∙ ap (λ ls. option_or old.system (system_of ls)) next ∙ ap (option_or old.system) (system_next line (file_lines after))
+        ∙ sym (or_assoc old.system (system_of (line ∷ [])) (system_of (file_lines after)))
+        ∙ ap (λ o. option_or o (system_of (file_lines after))) (sym takes.1.system);
+    name = h.name ∙ ap (λ ls. option_or old.name (name_of ls)) next ∙ ap (option_or old.name) (name_next line (file_lines after))
+        ∙ sym (or_assoc old.name (name_of (line ∷ [])) (name_of (file_lines after)))
+        ∙ ap (λ o. option_or o (name_of (file_lines after))) (sym takes.1.name);
+    areas = h.areas ∙ ap (λ ls. old.areas ++ areas_of ls) next ∙ ap (λ all. old.areas ++ all) (areas_next line (file_lines after))
+        ∙ sym (append_assoc old.areas (areas_of (line ∷ [])) (areas_of (file_lines after)))
+        ∙ ap (λ all. all ++ areas_of (file_lines after)) (sym takes.1.areas);
+  }
+
+  -- the first faulty line
+  pub lines_bad : (refused : LinkFault) → (refused ≡ fault.Memory) ⊎ (line_fault h.earlier (number + 1) line ≡ Some refused)
+      → (refused ≡ fault.Memory) ⊎ (first_fault [] 1 (file_lines bytes) ≡ Some refused)
+  lines_bad refused (inl memory) = inl memory
+  lines_bad refused (inr bad) =
+      inr (h.faults ∙ ap (first_fault h.earlier (number + 1)) next
+      ∙ ap (λ o. option_or o (first_fault (line ∷ h.earlier) (number + 1 + 1) (file_lines after))) bad)
+
+-- nothing is left
+pub lines_done : (bytes : List ℕ) (number : ℕ) (rest : List ℕ) (r : Reading) → LinesRead bytes number rest r → rest ≡ []
+    → (first_fault [] 1 (file_lines bytes) ≡ None) × Holds (file_lines bytes) r
+unfolding system_of name_of areas_of
+lines_done bytes number rest r h none =
+    let end : file_lines rest ≡ [] = ap file_lines none ∙ no_lines_left in (
+      h.faults ∙ ap (first_fault h.earlier (number + 1)) end,
+      record {
+        system = or_none r.system ∙ ap (λ ls. option_or r.system (system_of ls)) (sym end) ∙ sym h.system;
+        name = or_none r.name ∙ ap (λ ls. option_or r.name (name_of ls)) (sym end) ∙ sym h.name;
+        areas = sym (append-nil r.areas) ∙ ap (λ ls. r.areas ++ areas_of ls) (sym end) ∙ sym h.areas;
+      },
+    )
+
+-- ---- the file
+
+any_found : (p : List ℕ → Bool) (lines : List (List ℕ)) → list_any p lines ≡ is_some (find p lines)
+any_found p [] = refl
+any_found p (line ∷ lines) = elim (cases_Bool (p line)) [
+  | inl is ↦ ap (λ t. t || list_any p lines) is ∙ sym (ap is_some (cond-true (p line) (Some line) (find p lines) is))
+  | inr isnt ↦ ap (λ t. t || list_any p lines) isnt ∙ any_found p lines ∙ sym (ap is_some (cond-false (p line) (Some line) (find p lines) isnt))
+]
+
+mapped_some : {X Y : Type 0} (f : X → Y) (o : Option X) → is_some (option_map f o) ≡ is_some o
+mapped_some f None = refl
+mapped_some f (Some x) = refl
+
+module _ (bytes : List ℕ) where
+  has_system : list_any is_system_line (kept (file_lines bytes)) ≡ is_some (system_of (file_lines bytes))
+  unfolding system_of
+  has_system = any_found is_system_line (kept (file_lines bytes)) ∙ sym (mapped_some system_in (find is_system_line (kept (file_lines bytes))))
+
+  pub file_bad : (refused : LinkFault) → first_fault [] 1 (file_lines bytes) ≡ Some refused → file_fault bytes ≡ Some refused
+  unfolding file_fault
+  file_bad refused h = ap (λ o. option_or o (cond (list_any is_system_line (kept (file_lines bytes))) None (Some (fault.NoSystem 0)))) h
+
+  module _ (fine : first_fault [] 1 (file_lines bytes) ≡ None) (r : Reading) (holds : Holds (file_lines bytes) r) where
+    of_system : (b : Bool) → is_some r.system ≡ b → file_fault bytes ≡ cond b None (Some (fault.NoSystem 0))
+    unfolding file_fault
+    of_system b is =
+        ap (λ o. option_or o (cond (list_any is_system_line (kept (file_lines bytes))) None (Some (fault.NoSystem 0)))) fine
+        ∙ ap (λ t. cond t None (Some (fault.NoSystem 0))) (has_system ∙ sym (ap is_some holds.system) ∙ is)
+
+    pub file_homeless : r.system ≡ None → file_fault bytes ≡ Some (fault.NoSystem 0)
+    file_homeless none = of_system false (ap is_some none)
+
+    -- the name that is kept, where there is one, else the one of no line
+    pub file_said : (own : Address) (name : List ℕ) → r.system ≡ Some own → name ≡ unwrap_or r.name (codes "echonet")
+        → (file_fault bytes ≡ None) × (record { system = own; name = name; areas = r.areas } ≡ file_of bytes)
+    unfolding file_of system_of name_of areas_of
+    file_said own name is name-is = (
+      of_system true (ap is_some is),
+      ap (λ (a : Address). record { system = a; name = name; areas = r.areas })
+          (sym (ap (λ o. unwrap_or o no_address) (sym holds.system ∙ is)))
+          ∙ ap (λ (n : List ℕ). record { system = unwrap_or (system_of (file_lines bytes)) no_address; name = n; areas = r.areas })
+          (name-is ∙ ap (λ o. unwrap_or o (codes "echonet")) holds.name)
+          ∙ ap (λ (all : List Area). record {
+            system = unwrap_or (system_of (file_lines bytes)) no_address;
+            name = unwrap_or (name_of (file_lines bytes)) (codes "echonet");
+            areas = all;
+          }) holds.areas,
+    )

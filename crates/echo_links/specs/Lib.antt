@@ -1,0 +1,3 @@
+pub mod Links
+pub mod LinkLines
+pub mod LinkReading

@@ -1,0 +1,173 @@
+-- Link files: lines of SYSTEM, NAME and AREA.
+use Rattle.std.specs.Prelude.{◌≡◌, ℕ, ◌+◌, ◌-◌, ◌==◌, ◌||◌, ◌&&◌, not, nat_eq, nat_lt, Bool, false, List, [], ◌∷◌, map, length, take, drop, codes, if◌then◌else◌, Option, Some, None, option_map, unwrap_or, Result, Ok, Err, is_ok, is_err, bytes_eq, filter, find}
+use Rattle.std.specs.Option.{option_or}
+use Rattle.std.specs.List.{ends_with, list_all, list_any, prefix_len, slice_split, starts_with, suffix_len}
+use Rattle.echo_addr.specs.declared.address.Address.{Address}
+use Rattle.echo_addr.specs.Address.{address_in, outcome}
+use Rattle.echo_text.specs.Lines.{is_feed, is_tag}
+use Rattle.echo_links.specs.declared.fault.LinkFault.{LinkFault}
+use Rattle.echo_links.specs.declared.fault.LinkFault.TheVariants as fault
+use Rattle.echo_links.specs.Links.{Area, LinkFile, same_address, upper}
+
+-- a line without the 0D that may stand before its 0A
+abbrev pub without_return : List ℕ → List ℕ
+without_return line = if ends_with nat_eq line (13 ∷ []) then take (length line - 1) line else line
+
+-- pieces that 0A ended, but for the last, which nothing ended and which is no line where it is empty
+abbrev pub ended_pieces : List (List ℕ) → List (List ℕ)
+ended_pieces [] = []
+ended_pieces (piece ∷ []) = if length piece == 0 then [] else piece ∷ []
+ended_pieces (piece ∷ (next ∷ more)) = without_return piece ∷ ended_pieces (next ∷ more)
+
+-- the lines, which end in 0A or in 0D 0A; the last may end without either
+unfoldable pub file_lines : List ℕ → List (List ℕ)
+file_lines bytes = ended_pieces (slice_split is_feed bytes)
+
+-- a blank: 20 or 09
+abbrev pub is_space : ℕ → Bool
+is_space b = (b == 32) || (b == 9)
+
+-- blank lines, and lines that begin with `;`
+abbrev pub is_skipped : List ℕ → Bool
+is_skipped line = list_all is_space line || starts_with nat_eq line (codes ";")
+
+-- a byte below 20 that is not 09
+abbrev pub is_control_byte : ℕ → Bool
+is_control_byte b = nat_lt b 32 && not (b == 9)
+
+-- what stands between blanks
+unfoldable pub words : List ℕ → List (List ℕ)
+words line = filter (λ word. nat_lt 0 (length word)) (slice_split is_space line)
+
+-- the first of some words
+abbrev pub first_of : List (List ℕ) → List ℕ
+first_of [] = []
+first_of (word ∷ more) = word
+
+-- the words after it
+abbrev pub after_first_of : List (List ℕ) → List (List ℕ)
+after_first_of [] = []
+after_first_of (word ∷ more) = more
+
+-- whether the first word of a line is this one
+abbrev pub has_word : List ℕ → List ℕ → Bool
+has_word word line = bytes_eq (first_of (words line)) word
+
+-- a line of the own address
+abbrev pub is_system_line : List ℕ → Bool
+is_system_line line = has_word (codes "SYSTEM") line
+
+-- a line of the name
+abbrev pub is_name_line : List ℕ → Bool
+is_name_line line = has_word (codes "NAME") line
+
+-- a line of an area
+abbrev pub is_area_line : List ℕ → Bool
+is_area_line line = has_word (codes "AREA") line
+
+-- bytes without the blanks at the front
+abbrev pub without_front_spaces : List ℕ → List ℕ
+without_front_spaces bytes = drop (prefix_len is_space bytes) bytes
+
+-- and without those at both ends
+abbrev pub without_spaces : List ℕ → List ℕ
+without_spaces bytes =
+    take (length (without_front_spaces bytes) - suffix_len is_space (without_front_spaces bytes)) (without_front_spaces bytes)
+
+-- the address of a SYSTEM line
+abbrev pub system_in : List ℕ → Address
+system_in line = address_in (first_of (after_first_of (words line)))
+
+-- the text of a NAME line, without blanks at both ends
+abbrev pub name_in : List ℕ → List ℕ
+name_in line = without_spaces (drop 4 (without_front_spaces line))
+
+-- the tag of an AREA line, in upper case
+abbrev pub tag_in : List ℕ → List ℕ
+tag_in line = upper (first_of (after_first_of (words line)))
+
+-- the words after it
+abbrev pub links_in : List ℕ → List (List ℕ)
+links_in line = after_first_of (after_first_of (words line))
+
+-- an AREA line as an area
+abbrev pub area_in : List ℕ → Area
+area_in line = record { tag = tag_in line; links = map address_in (links_in line) }
+
+-- one word, which is an address
+abbrev pub is_one_address : List (List ℕ) → Bool
+is_one_address [] = false
+is_one_address (word ∷ []) = is_ok (outcome word)
+is_one_address (word ∷ (next ∷ more)) = false
+
+-- the first refusal that applies to a SYSTEM line, where these lines stand before it
+abbrev pub system_fault : List (List ℕ) → ℕ → List ℕ → Option LinkFault
+system_fault earlier number line =
+    if list_any is_system_line earlier then Some (fault.RepeatedSystem number)
+    else if is_one_address (after_first_of (words line)) then None
+    else Some (fault.BadAddress number)
+
+-- of a NAME line
+abbrev pub name_fault : List (List ℕ) → ℕ → List ℕ → Option LinkFault
+name_fault earlier number line =
+    if list_any is_name_line earlier then Some (fault.RepeatedSystem number)
+    else if nat_lt 40 (length (name_in line)) then Some (fault.NameTooLong number)
+    else None
+
+-- of the links of an AREA line one by one, where these words stand before them
+abbrev pub links_fault : ℕ → List (List ℕ) → List (List ℕ) → Option LinkFault
+links_fault number before [] = None
+links_fault number before (word ∷ more) =
+    if is_err (outcome word) then Some (fault.BadAddress number)
+    else if list_any (same_address (address_in word)) (map address_in before) then Some (fault.RepeatedLink number)
+    else links_fault number (word ∷ before) more
+
+-- of an AREA line
+abbrev pub area_fault : List (List ℕ) → ℕ → List ℕ → Option LinkFault
+area_fault earlier number line =
+    if not (is_tag (tag_in line)) then Some (fault.BadTag number)
+    else if list_any (bytes_eq (tag_in line)) (map tag_in (filter is_area_line earlier)) then Some (fault.RepeatedArea number)
+    else links_fault number [] (links_in line)
+
+-- of a line
+unfoldable pub line_fault : List (List ℕ) → ℕ → List ℕ → Option LinkFault
+line_fault earlier number line =
+    if is_skipped line then None
+    else if list_any is_control_byte line then Some (fault.UnknownWord number)
+    else if is_system_line line then system_fault earlier number line
+    else if is_name_line line then name_fault earlier number line
+    else if is_area_line line then area_fault earlier number line
+    else Some (fault.UnknownWord number)
+
+-- of the first faulty line, where the first of the lines has this number and these stand before it
+abbrev pub first_fault : List (List ℕ) → ℕ → List (List ℕ) → Option LinkFault
+first_fault earlier number [] = None
+first_fault earlier number (line ∷ later) =
+    option_or (line_fault earlier number line) (first_fault (line ∷ earlier) (number + 1) later)
+
+-- the lines that are not skipped
+abbrev pub read_lines : List ℕ → List (List ℕ)
+read_lines bytes = filter (λ line. not (is_skipped line)) (file_lines bytes)
+
+-- what is wrong with a link file
+unfoldable pub file_fault : List ℕ → Option LinkFault
+file_fault bytes =
+    option_or (first_fault [] 1 (file_lines bytes))
+    (if list_any is_system_line (read_lines bytes) then None else Some (fault.NoSystem 0))
+
+-- the address of no system
+abbrev pub no_address : Address
+no_address = record { zone = 0; net = 0; node = 0 }
+
+-- what a link file says
+unfoldable pub file_of : List ℕ → LinkFile
+file_of bytes = record {
+  system = unwrap_or (option_map system_in (find is_system_line (read_lines bytes))) no_address;
+  name = unwrap_or (option_map name_in (find is_name_line (read_lines bytes))) (codes "echonet");
+  areas = map area_in (filter is_area_line (read_lines bytes));
+}
+
+-- what reading a link file is to answer: what it says where no line is faulty, else the first fault
+abbrev pub LinksOf : List ℕ → Result LinkFile LinkFault → Type 0
+LinksOf bytes (Ok file) = (file_fault bytes ≡ None) × (file ≡ file_of bytes)
+LinksOf bytes (Err refused) = file_fault bytes ≡ Some refused

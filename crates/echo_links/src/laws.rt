@@ -1,0 +1,21 @@
+//! What holds of the definitions. Each law is the contract of a function that does nothing.
+
+ghost use Rattle.std.specs.Prelude.{◌≡◌, ℕ, List, Result, Ok, Err};
+ghost use Rattle.echo_links.specs.declared.fault.LinkFault.{LinkFault};
+ghost use Rattle.echo_links.specs.declared.fault.LinkFault.TheVariants as link;
+ghost use Rattle.echo_links.specs.Links.{IsFile, LinkFile};
+ghost use Rattle.echo_links.specs.LinkLines.{LinksOf};
+
+/// Bytes are a link file or have a fault, and only one of these holds; want of memory is no fault of
+/// theirs.
+pub fn one_link_file_or_fault()
+    ensures answered { (bytes : List ℕ) →
+        (answer : Result LinkFile LinkFault) × LinksOf bytes answer × ((other : Result LinkFile LinkFault) → LinksOf bytes other → other ≡ answer) }
+    ensures no_memory { (bytes : List ℕ) → LinksOf bytes (Err link.Memory) → ⊥ }
+{}
+
+/// A link file that is read says a system in range, a name of one line, areas each once, and in each
+/// area links in range, each once.
+pub fn link_file_law()
+    ensures { (bytes : List ℕ) (file : LinkFile) → LinksOf bytes (Ok file) → IsFile file }
+{}

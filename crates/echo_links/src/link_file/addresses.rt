@@ -1,0 +1,61 @@
+ghost use Rattle.std.specs.Prelude.{◌≡◌, ◌⊎◌, [], Some, None, true, false, map, MatchResult};
+ghost use Rattle.echo_addr.specs.Address.{address_in};
+ghost use Rattle.echo_addr.specs.Entries.{tokens};
+ghost use Rattle.echo_links.specs.declared.fault.LinkFault.TheVariants as link;
+ghost use Rattle.echo_links.specs.LinkLines.{first_of, is_one_address, links_fault};
+ghost use Rattle.echo_links.specs.LinkReading.{IsWordOf};
+
+use crate::fault::LinkFault;
+use echo_addr::{Address, next_token};
+use indexmap::IndexSet;
+use std::alloc::Global;
+
+/// The address that the word writes.
+fn address(word: &[u8]) -> Option<Address>
+    ensures { IsWordOf word.now result }
+{
+    Address::parse(word).ok()
+}
+
+/// The address of a SYSTEM line, by what stands after that word in the line of this number.
+pub(super) fn system_in(number: u64, rest: &[u8]) -> Result<Address, LinkFault>
+    ensures { MatchResult result
+        (λ a. (is_one_address (tokens rest.now) ≡ true) × (a ≡ address_in (first_of (tokens rest.now))))
+        (λ fault. (is_one_address (tokens rest.now) ≡ false) × (fault ≡ link.BadAddress number)) }
+{
+    let bad = LinkFault::BadAddress { line: number };
+    let Some((word, after)) = next_token(rest) else {
+        return Err(bad);
+    };
+    let Some(address) = address(word) else {
+        return Err(bad);
+    };
+    if next_token(after).is_some() {
+        return Err(bad);
+    }
+    Ok(address)
+}
+
+/// The links of an AREA line, by what stands after its tag in the line of this number.
+pub(super) fn links_in(
+    alloc: Global,
+    number: u64,
+    rest: &[u8],
+) -> Result<IndexSet<Address>, LinkFault>
+    ensures { MatchResult result
+        (λ links. (links_fault number [] (tokens rest.now) ≡ None) × (links.keys ≡ map address_in (tokens rest.now)))
+        (λ fault. (fault ≡ link.Memory) ⊎ (links_fault number [] (tokens rest.now) ≡ Some fault)) }
+{
+    let mut links = IndexSet::new(alloc);
+    let mut left = rest;
+    'links: while let Some((word, after)) = next_token(left) {
+        let Some(address) = address(word) else {
+            return Err(LinkFault::BadAddress { line: number });
+        };
+        if !links.insert(address)? {
+            return Err(LinkFault::RepeatedLink { line: number });
+        }
+        left = after;
+    }
+    Ok(links)
+}

@@ -1,0 +1,139 @@
+ghost use Rattle.std.specs.Prelude.{◌≡◌, ◌⊎◌, ◌++◌, ◌∷◌, [], List, ℕ, Some, None, is_some, map, MatchResult};
+ghost use Rattle.echo_addr.specs.Address.{address_in};
+ghost use Rattle.echo_addr.specs.Entries.{tokens};
+ghost use Rattle.echo_text.specs.Lines.{trimmed};
+ghost use Rattle.echo_links.specs.declared.fault.LinkFault.TheVariants as link;
+ghost use Rattle.echo_links.specs.Links.{upper};
+ghost use Rattle.echo_links.specs.LinkLines.{after_first_of, first_of};
+ghost use Rattle.echo_links.specs.LinkReading.{Knows, Reads, TakesLine, area_refusal, name_refusal, system_refusal};
+
+use super::addresses::{links_in, system_in};
+use super::areas::Areas;
+use super::lines::{has_control_byte, is_skipped, split_line};
+use crate::fault::LinkFault;
+use echo_addr::{Address, Items, next_token};
+use echo_text::{in_upper_case, is_tag, trimmed};
+use std::alloc::Global;
+
+/// The first words of lines.
+const SYSTEM: &[u8] = b"SYSTEM";
+
+const NAME: &[u8] = b"NAME";
+
+const AREA: &[u8] = b"AREA";
+
+/// The most bytes of a name.
+const MOST: usize = 40;
+
+/// What the lines of a link file say so far.
+#[derive(Drop)]
+pub(super) struct Reading {
+    pub(super) system: Option<Address>,
+    pub(super) name: Option<Items<u8>>,
+    pub(super) areas: Areas,
+}
+
+impl Reading {
+    /// Takes what the line of this number says.
+    fn take(&mut self, alloc: Global, number: u64, line: &[u8]) -> Result<(), LinkFault>
+        ensures { (earlier : List (List ℕ)) → Knows earlier self.old → TakesLine earlier number line.now self.old self.new result }
+    {
+        if is_skipped(line) {
+            return Ok(());
+        }
+        let unknown = LinkFault::UnknownWord { line: number };
+        if has_control_byte(line) {
+            return Err(unknown);
+        }
+        let Some((word, rest)) = next_token(line) else {
+            return Err(unknown);
+        };
+        if word == SYSTEM {
+            self.take_system(number, rest)
+        } else if word == NAME {
+            self.take_name(alloc, number, rest)
+        } else if word == AREA {
+            self.take_area(alloc, number, rest)
+        } else {
+            Err(unknown)
+        }
+    }
+
+    /// Takes a SYSTEM line, of which `rest` stands after that word.
+    fn take_system(&mut self, number: u64, rest: &[u8]) -> Result<(), LinkFault>
+        ensures { MatchResult result
+            (λ _. (system_refusal (is_some self.old.system) number (tokens rest.now) ≡ None)
+            × (self.new ≡ record self.old { system = Some (address_in (first_of (tokens rest.now))) }))
+            (λ fault. system_refusal (is_some self.old.system) number (tokens rest.now) ≡ Some fault) }
+    {
+        if self.system.is_some() {
+            return Err(LinkFault::RepeatedSystem { line: number });
+        }
+        self.system = Some(system_in(number, rest)?);
+        Ok(())
+    }
+
+    /// Takes a NAME line, of which `rest` stands after that word.
+    fn take_name(&mut self, alloc: Global, number: u64, rest: &[u8]) -> Result<(), LinkFault>
+        ensures { MatchResult result
+            (λ _. (name_refusal (is_some self.old.name) number (trimmed rest.now) ≡ None)
+            × (self.new ≡ record self.old { name = Some (trimmed rest.now) }))
+            (λ fault. (fault ≡ link.Memory) ⊎ (name_refusal (is_some self.old.name) number (trimmed rest.now) ≡ Some fault)) }
+    {
+        if self.name.is_some() {
+            return Err(LinkFault::RepeatedSystem { line: number });
+        }
+        let name = trimmed(rest);
+        if name.len() > MOST {
+            return Err(LinkFault::NameTooLong { line: number });
+        }
+        self.name = Some(Items::new(Vec::from_slice(alloc, name)?));
+        Ok(())
+    }
+
+    /// Takes an AREA line, of which `rest` stands after that word.
+    fn take_area(&mut self, alloc: Global, number: u64, rest: &[u8]) -> Result<(), LinkFault>
+        ensures { let words = tokens rest.now in MatchResult result
+            (λ _. (area_refusal self.old.areas number words ≡ None)
+            × (self.new ≡ record self.old {
+              areas = self.old.areas
+                  ++ record { tag = upper (first_of words); links = map address_in (after_first_of words) } ∷ [];
+            }))
+            (λ fault. (fault ≡ link.Memory) ⊎ (area_refusal self.old.areas number words ≡ Some fault)) }
+    {
+        let bad = LinkFault::BadTag { line: number };
+        let Some((word, after)) = next_token(rest) else {
+            return Err(bad);
+        };
+        if !is_tag(word) {
+            return Err(bad);
+        }
+        let tag = in_upper_case(alloc, word)?;
+        if self.areas.has(&tag) {
+            return Err(LinkFault::RepeatedArea { line: number });
+        }
+        let links = links_in(alloc, number, after)?;
+        self.areas.push(tag, links)?;
+        Ok(())
+    }
+}
+
+/// What the lines of a link file say, each line read once.
+pub(super) fn read_lines(alloc: Global, bytes: &[u8]) -> Result<Reading, LinkFault>
+    ensures { Reads bytes.now result }
+{
+    let mut reading = Reading {
+        system: None,
+        name: None,
+        areas: Areas::new(alloc),
+    };
+    let mut rest = bytes;
+    let mut number = 0;
+    'lines: while !rest.is_empty() {
+        let (line, after) = split_line(rest);
+        number += 1;
+        reading.take(alloc, number, line)?;
+        rest = after;
+    }
+    Ok(reading)
+}
