@@ -40,10 +40,6 @@ draft_of words body = record {
   body = draft_body body;
 }
 
--- the tag in upper case, and the id: the own address and the serial
-abbrev pub posted_line : List ℕ → List ℕ → List ℕ
-posted_line tag id = codes "posted " ++ (upper tag ++ (codes " " ++ (id ++ codes "\n")))
-
 -- the base with one message more
 abbrev pub base_after : SystemState → NewMessage → List ℕ → List Filed
 base_after system words body = system.base ++ posted system.file words.tag.now (draft_of words body) words.serial words.stamp ∷ []

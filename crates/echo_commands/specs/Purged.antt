@@ -10,10 +10,6 @@ use Rattle.echo_commands.specs.Ended.{Answers}
 use Rattle.echo_commands.specs.Files.{only_base}
 use Rattle.echo_commands.specs.System.{IsFirstFaultOf, IsSystemGiven, IsTooMany}
 
--- how many messages changed
-abbrev pub purged_line : ℕ → List ℕ
-purged_line count = codes "purged " ++ (decimal count ++ codes "\n")
-
 -- the purge of the system that the files make: how many messages it changes is printed, and the base that it leaves, which four bytes count, is to be written
 pub record IsPurged (links : List ℕ) (base : Option (List ℕ)) (old new : Option (List ℕ)) (files : Files) : Type 0 where
   pub system : SystemState

@@ -17,7 +17,7 @@ use Rattle.echo_commands.specs.declared.fault.Fault.TheVariants.{Scan}
 use Rattle.echo_commands.specs.declared.leaving.Files.{Files}
 use Rattle.echo_commands.specs.declared.leaving.PacketFile.{PacketFile}
 use Rattle.echo_commands.specs.Ended.{Answers}
-use Rattle.echo_commands.specs.Shown.{destination}
+use Rattle.echo_print.specs.Shown.{destination}
 use Rattle.echo_commands.specs.System.{IsFirstFaultOf, IsSystemGiven, IsTooMany}
 
 -- `zone.net.node.N.pkt`, for the system that the packet is for and the number of messages scanned before
@@ -28,11 +28,6 @@ packet_name to before =
 -- a packet's file
 abbrev pub file_of : ℕ → Packet → PacketFile
 file_of before p = record { name = packet_name (destination p.header) before; bytes = packet_bytes p.header p.messages }
-
--- a packet's line: whom it is for, and how many messages and bytes it has
-abbrev pub sent_line : Address → ℕ → ℕ → List ℕ
-sent_line to messages bytes =
-    codes "packet " ++ (address_text to ++ (codes " " ++ (decimal messages ++ (codes " messages " ++ (decimal bytes ++ codes " bytes\n")))))
 
 abbrev pub line_of : Packet → List ℕ
 line_of p = sent_line (destination p.header) (length p.messages) (length (packet_bytes p.header p.messages))

@@ -8,18 +8,12 @@ use Rattle.echo_toss.specs.declared.tally.Tally.{Tally}
 use Rattle.echo_toss.specs.Unpacked.{CountsToss, PacketStep}
 use Rattle.echo_commands.specs.declared.fault.Fault.{Fault}
 use Rattle.echo_commands.specs.declared.fault.Fault.TheVariants.{NotForUs, OutOfMemory, Packet, TossMemory}
-use Rattle.echo_commands.specs.Shown.{show_limits}
+use Rattle.echo_commands.specs.Showing.{show_limits}
 
 -- a run of `toss`: the system as it is now, and the lines so far
 pub record TossRun : Type 0 where
   pub system : SystemState
   pub lines : List ℕ
-
--- what became of the messages of a packet
-abbrev pub tally_line : Tally → List ℕ
-tally_line t =
-    codes "filed " ++ (decimal t.filed ++ (codes " known " ++ (decimal t.known ++ (codes " notecho " ++ (decimal t.not_echo
-    ++ (codes " badtag " ++ (decimal t.bad_tag ++ (codes " noarea " ++ (decimal t.no_area ++ (codes " notlinked " ++ (decimal t.not_linked ++ codes "\n")))))))))))
 
 -- why a packet was not tossed whole, as it is reported
 abbrev pub fault_of : TossCause → Fault
