@@ -1,8 +1,8 @@
 //! What the commands of `echonet` print, as lines that are added to a text.
 //!
-//! The contract for the layers above: what is added, where memory was not wanting, is just the lines that
-//! the definitions in specs/ give for the value; nothing that stood in the text changes. Nothing is written
-//! here, and no function knows of faults or of a status: that is with the commands.
+//! The contract for the layers above: a call that ends well added just the lines that the definitions in
+//! specs/ give for the value, behind what stood in the text. One that lacked memory may have added a part of
+//! them. Nothing is written here, and no function knows of faults or of a status: that is with the commands.
 //!
 //! Modules in reading order: `escape` (how bytes are printed), `show_text` and `said` (a packet, and what a
 //! text says), `nodelist_text` (a nodelist), `verdict_text` (a verdict, and the systems that a nodelist does
