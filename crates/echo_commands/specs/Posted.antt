@@ -1,11 +1,10 @@
 -- What `post` prints and leaves.
-use Rattle.std.specs.Prelude.{◌≡◌, ℕ, ◌⊎◌, ◌==◌, true, List, [], ◌∷◌, ◌++◌, codes, if◌then◌else◌, Option, Some, None, Result}
+use Rattle.std.specs.Prelude.{◌≡◌, ℕ, ◌⊎◌, ◌==◌, true, List, [], ◌∷◌, ◌++◌, if◌then◌else◌, Option, Some, None, Result}
 use Rattle.std.specs.Io.KnownBytes.{Appends}
-use Rattle.echo_base.specs.Base.{Filed, LinkFile, upper}
+use Rattle.echo_base.specs.Base.{Filed}
 use Rattle.echo_base.specs.BaseFile.{is_countable, saved_bytes}
 use Rattle.echo_steps.specs.declared.draft.Draft.{Draft}
 use Rattle.echo_steps.specs.declared.fault.PostFault.{PostFault}
-use Rattle.echo_steps.specs.declared.stamp.Stamp.{Stamp}
 use Rattle.echo_steps.specs.Posting.{post_refusal, posted}
 use Rattle.echo_steps.specs.SystemState.{SystemState}
 use Rattle.echo_text.specs.Ids.{id_of}
@@ -16,6 +15,7 @@ use Rattle.echo_commands.specs.declared.posting.NewMessage.{NewMessage}
 use Rattle.echo_commands.specs.Ended.{Answers}
 use Rattle.echo_commands.specs.Files.{only_base}
 use Rattle.echo_commands.specs.System.{IsFirstFaultOf, IsSystemGiven, IsTooMany}
+use Rattle.echo_print.specs.Told.{posted_line}
 
 -- what a byte of the body becomes in the draft: 0A becomes 0D, and nothing after a 0D
 abbrev pub draft_byte : ℕ → ℕ → List ℕ

@@ -3,7 +3,6 @@ use Rattle.std.specs.Prelude.{◌≡◌, ℕ, ◌⊎◌, true, false, List, ◌+
 use Rattle.std.specs.Io.KnownBytes.{Appends}
 use Rattle.std.specs.List.{flat_map}
 use Rattle.echo_addr.specs.declared.address.Address.{Address}
-use Rattle.echo_addr.specs.Address.{address_text}
 use Rattle.echo_base.specs.BaseFile.{is_countable, saved_bytes}
 use Rattle.echo_packet.specs.Packet.{packet_bytes}
 use Rattle.echo_steps.specs.declared.fault.ScanFault.TheVariants.{BadStamp}
@@ -19,6 +18,7 @@ use Rattle.echo_commands.specs.declared.leaving.PacketFile.{PacketFile}
 use Rattle.echo_commands.specs.Ended.{Answers}
 use Rattle.echo_print.specs.Shown.{destination}
 use Rattle.echo_commands.specs.System.{IsFirstFaultOf, IsSystemGiven, IsTooMany}
+use Rattle.echo_print.specs.Told.{sent_line}
 
 -- `zone.net.node.N.pkt`, for the system that the packet is for and the number of messages scanned before
 abbrev pub packet_name : Address → ℕ → List ℕ

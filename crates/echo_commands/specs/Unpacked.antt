@@ -1,5 +1,5 @@
 -- What `toss` does with one packet.
-use Rattle.std.specs.Prelude.{◌≡◌, ℕ, ◌⊎◌, List, ◌++◌, codes, decimal, Option, Some, None, Result, Ok, Err}
+use Rattle.std.specs.Prelude.{◌≡◌, ℕ, ◌⊎◌, List, ◌++◌, Option, Some, None, Result, Ok, Err}
 use Rattle.echo_steps.specs.SystemState.{SystemState}
 use Rattle.echo_toss.specs.declared.fault.TossCause.{TossCause}
 use Rattle.echo_toss.specs.declared.fault.TossCause.TheVariants as stop
@@ -9,6 +9,7 @@ use Rattle.echo_toss.specs.Unpacked.{CountsToss, PacketStep}
 use Rattle.echo_commands.specs.declared.fault.Fault.{Fault}
 use Rattle.echo_commands.specs.declared.fault.Fault.TheVariants.{NotForUs, OutOfMemory, Packet, TossMemory}
 use Rattle.echo_commands.specs.Showing.{show_limits}
+use Rattle.echo_print.specs.Told.{tally_line}
 
 -- a run of `toss`: the system as it is now, and the lines so far
 pub record TossRun : Type 0 where
