@@ -5,7 +5,7 @@ use Rattle.echo_commands.specs.declared.fault.Fault.{Fault}
 use Rattle.echo_commands.specs.declared.status.Status.{Status}
 use Rattle.echo_commands.specs.Ended.{CannotPrint, IsWantOfMemory}
 use Rattle.echo_commands.specs.Showing.{DecodeAnswers, IsBroken, IsGood, PacketAnswers, ShowAnswers}
-use Rattle.echo_commands.specs.Shown.{Stands}
+use Rattle.echo_commands.specs.Showing.{Stands}
 use Rattle.echo_commands.proofs.Pushed.{all_written}
 use Rattle.echo_commands.proofs.Stopping.{answer_le, print_later}
 

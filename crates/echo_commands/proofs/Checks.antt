@@ -1,13 +1,9 @@
 -- What `check` answers, from what its parts do.
-use Rattle.std.specs.Prelude.{AllPairs, Contains, ◌↔◌, true}
-use Rattle.std.proofs.Common.{◌≡◌, ℕ, List, [], ◌∷◌, ◌++◌, Option, Some, None, Result, Ok, Err, refl, sym, ap, subst, ◌∙◌, append-nil}
-use Rattle.std.specs.List.{flat_map}
+use Rattle.std.proofs.Common.{◌≡◌, ℕ, List, [], ◌∷◌, ◌++◌, Option, Result, Ok, Err, refl, sym, ap, subst, ◌∙◌}
 use Rattle.std.specs.Io.KnownBytes.{Appends}
-use Rattle.echo_addr.specs.declared.address.Address.{Address}
 use Rattle.echo_links.specs.declared.fault.LinkFault.{LinkFault}
 use Rattle.echo_links.specs.declared.fault.LinkFault.TheVariants as link
 use Rattle.echo_links.specs.Links.{LinkFile, upper}
-use Rattle.echo_filed.specs.Sets.{address_before}
 use Rattle.echo_base.specs.declared.fault.BaseFault.{BaseFault}
 use Rattle.echo_base.specs.declared.fault.BaseFault.TheVariants as base
 use Rattle.echo_nodelist.specs.declared.fault.NodeFault.{NodeFault}
@@ -15,38 +11,26 @@ use Rattle.echo_nodelist.specs.declared.fault.NodeFault.TheVariants as node
 use Rattle.echo_nodelist.specs.declared.line.Line.{Line}
 use Rattle.echo_packet.specs.declared.fault.PacketFault.{PacketFault}
 use Rattle.echo_packet.specs.declared.fault.PacketFault.TheVariants as packet
-use Rattle.echo_run.specs.Tidy.{Carries, Tidy}
+use Rattle.echo_run.specs.Tidy.{Tidy}
 use Rattle.echo_steps.specs.declared.fault.PostFault.{PostFault}
 use Rattle.echo_steps.specs.declared.fault.PostFault.TheVariants as post
 use Rattle.echo_steps.specs.declared.fault.ScanFault.{ScanFault}
 use Rattle.echo_steps.specs.declared.fault.ScanFault.TheVariants as scan
 use Rattle.echo_text.specs.declared.fault.TextFault.{TextFault}
 use Rattle.echo_text.specs.declared.fault.TextFault.TheVariants as text
-use Rattle.echo_net.specs.declared.presence.Absence.{Absence}
 use Rattle.echo_net.specs.declared.verdict.Verdict.{Verdict}
 use Rattle.echo_net.specs.declared.verdict.Verdict.TheVariants.{Yes, No}
-use Rattle.echo_net.specs.Absent.{IsAbsent}
 use Rattle.echo_net.specs.Faults.{IsYes}
 use Rattle.echo_commands.specs.declared.fault.Fault.{Fault}
 use Rattle.echo_commands.specs.declared.fault.Fault.TheVariants as fault
 use Rattle.echo_commands.specs.declared.status.Status.{Status}
-use Rattle.echo_commands.specs.declared.status.Status.TheVariants.{Good, Differs, Refused, Device}
+use Rattle.echo_commands.specs.declared.status.Status.TheVariants.{Good}
 use Rattle.echo_commands.specs.Status.{base_status, link_status, node_status, packet_status, post_status, scan_status, status_of, text_status}
 use Rattle.echo_commands.specs.Ended.{status_at}
-use Rattle.echo_commands.specs.Checked.{AbsencesShown, CheckAnswers, CheckShown, IsChecked, IsVerdict, RunsAreOrderly, absence_line, verdict_status}
+use Rattle.echo_print.specs.Checked.{CheckShown}
+use Rattle.echo_commands.specs.Checking.{CheckAnswers, IsChecked, IsVerdict, RunsAreOrderly, verdict_status}
 use Rattle.echo_commands.specs.Given.{AreLinkFiles, IsNodelistGiven}
-use Rattle.echo_commands.specs.Shown.{Pushes}
-
--- the lines of the systems that a nodelist does not hold
-pub absences_pushed : (files : List LinkFile) (tag : List ℕ) (list : List Line) (absent : List (Address × Absence)) (old new : List ℕ)
-    → AllPairs (λ (one later : Address × Absence). address_before one.0 later.0 ≡ true) absent
-    → ((a : Address) (why : Absence) → Contains absent (a, why) ↔ (Carries files tag a × IsAbsent list a why))
-    → new ≡ old ++ flat_map absence_line absent → Pushes (AbsencesShown files tag (Some list)) old new
-absences_pushed files tag list absent old new ascending members whole = record {
-  lines = flat_map absence_line absent;
-  are = (absent, record { ascending = ascending; members = members }, refl);
-  whole = whole;
-}
+use Rattle.echo_print.specs.Pushed.{Pushes}
 
 -- a yes has the status 0, and only a yes
 pub good_is_yes : (v : Verdict) → verdict_status v ≡ Good → IsYes v

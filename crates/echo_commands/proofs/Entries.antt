@@ -17,8 +17,9 @@ use Rattle.echo_nodelist.specs.Nodelist.{Answers, NodelistOf}
 use Rattle.echo_commands.specs.declared.fault.Fault.TheVariants.{Nodelist}
 use Rattle.echo_commands.specs.declared.status.Status.{Status}
 use Rattle.echo_commands.specs.Ended.{IsWantOfMemory}
-use Rattle.echo_commands.specs.Listed.{NodelistAnswers, Listed, RestListed, addressed_text, crc_status, crc_text, entries_text, line_at}
-use Rattle.echo_commands.specs.Shown.{Writes}
+use Rattle.echo_commands.specs.Listing.{NodelistAnswers, crc_status}
+use Rattle.echo_print.specs.Listed.{Listed, RestListed, addressed_text, crc_text, entries_text, line_at}
+use Rattle.echo_commands.specs.Written.{Writes}
 use Rattle.echo_commands.proofs.Pushed.{all_written}
 
 same_map : (xs : List ℕ) → map (λ x. x) xs ≡ xs

@@ -1,4 +1,3 @@
-pub mod Padding
 pub mod Pushed
 pub mod Stopping
 pub mod Printed

@@ -8,7 +8,8 @@ use Rattle.std.proofs.lemmas.Grind.{flat_map-append}
 use Rattle.echo_links.specs.Links.{upper}
 use Rattle.echo_filed.specs.Filed.{Filed}
 use Rattle.echo_commands.specs.declared.status.Status.TheVariants.{Good}
-use Rattle.echo_commands.specs.BaseListed.{IsBaseListed, asked_text, base_text, messages_text, total_text}
+use Rattle.echo_commands.specs.BaseListing.{IsBaseListed}
+use Rattle.echo_print.specs.BaseListed.{asked_text, base_text, messages_text, total_text}
 use Rattle.echo_commands.specs.System.{IsBaseGiven}
 use Rattle.echo_commands.proofs.Entries.{range_more}
 use Rattle.echo_commands.proofs.Pushed.{all_written, grown}

@@ -17,9 +17,10 @@ use Rattle.echo_commands.specs.declared.fault.Fault.TheVariants.{BadHex, Packet}
 use Rattle.echo_commands.specs.declared.status.Status.{Status}
 use Rattle.echo_commands.specs.declared.status.Status.TheVariants.{Good}
 use Rattle.echo_commands.specs.Ended.{IsOfInput}
-use Rattle.echo_commands.specs.Said.{LinesFor, echo_lines}
+use Rattle.echo_print.specs.Said.{LinesFor, echo_lines}
 use Rattle.echo_commands.specs.Showing.{ShowAnswers}
-use Rattle.echo_commands.specs.Shown.{IsPrinted, IsShown, MessageShown, MessagesShown, Shown, Stands, end_line, header_lines, hex_text, message_lines, show_limits}
+use Rattle.echo_commands.specs.Showing.{IsPrinted, IsShown, Stands, hex_text, show_limits}
+use Rattle.echo_print.specs.Shown.{MessageShown, MessagesShown, Shown, end_line, header_lines, message_lines}
 
 one_said : (r : Option TextFault) (text a b : List ℕ) → LinesFor r text a → LinesFor r text b → a ≡ b
 one_said None text a b h k =

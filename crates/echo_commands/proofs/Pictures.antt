@@ -6,9 +6,10 @@ use Rattle.echo_net.specs.declared.drawing.Drawing.{Drawing}
 use Rattle.echo_net.specs.declared.verdict.Verdict.{Verdict}
 use Rattle.echo_net.specs.Drawn.{IsDrawing}
 use Rattle.echo_commands.specs.declared.status.Status.{Status}
-use Rattle.echo_commands.specs.Checked.{IsVerdict, verdict_status}
+use Rattle.echo_commands.specs.Checking.{IsVerdict, verdict_status}
 use Rattle.echo_commands.specs.Given.{AreLinkFiles}
-use Rattle.echo_commands.specs.Pictured.{IsPictured, picture_lines}
+use Rattle.echo_commands.specs.Picturing.{IsPictured}
+use Rattle.echo_print.specs.Pictured.{picture_lines}
 use Rattle.echo_commands.proofs.Checks.{good_is_yes, of_same, went, yes_is_good}
 
 -- the area of link files that were read is drawn

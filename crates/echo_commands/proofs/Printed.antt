@@ -22,7 +22,9 @@ use Rattle.echo_packet.proofs.Slices.{HasGiven}
 use Rattle.echo_commands.specs.declared.fault.Fault.TheVariants.{Packet}
 use Rattle.echo_commands.specs.Ended.{IsWantOfMemory}
 use Rattle.echo_commands.specs.Showing.{IsBroken, PacketAnswers}
-use Rattle.echo_commands.specs.Shown.{IsPrinted, MessageShown, MessagesShown, Writes, header_lines, end_line, show_limits}
+use Rattle.echo_commands.specs.Showing.{IsPrinted, show_limits}
+use Rattle.echo_print.specs.Shown.{MessageShown, MessagesShown, header_lines, end_line}
+use Rattle.echo_commands.specs.Written.{Writes}
 
 -- the header and the messages that were given are printed, and the next one begins at this place
 pub record HasPrinted (bytes rest : List ℕ) (header : Header) (own : Limits) (given at : ℕ) (next : Stage) (old new : Option (List ℕ)) (count place : ℕ) : Type 0 where

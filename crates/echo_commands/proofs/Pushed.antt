@@ -2,7 +2,8 @@
 use Rattle.std.proofs.Common.{◌≡◌, ℕ, List, [], ◌++◌, Option, Some, None, ap, ◌∙◌, append_assoc, append-nil}
 use Rattle.std.specs.Io.KnownBytes.{Appends, Keeps, append_known}
 use Rattle.std.proofs.KnownBytes.{Appends-kept, Keeps-refl, append_known-grown}
-use Rattle.echo_commands.specs.Shown.{Pushes, Writes}
+use Rattle.echo_print.specs.Pushed.{Pushes}
+use Rattle.echo_commands.specs.Written.{Writes}
 
 -- lines of one kind, and then of another
 pub then_lines : (P Q R : List ℕ → Type 0) (old mid new : List ℕ) → ((a b : List ℕ) → P a → Q b → R (a ++ b)) → Pushes P old mid → Pushes Q mid new → Pushes R old new

@@ -8,8 +8,9 @@ use Rattle.echo_text.specs.Echo.{EchoOf, EchoText, HasNoZero}
 use Rattle.echo_text.specs.Lines.{area_tag, first_line, is_area, is_tag, lines}
 use Rattle.echo_text.specs.Refusal.{Answers, refusal}
 use Rattle.echo_text.proofs.SaidAfter.{not_refused}
-use Rattle.echo_commands.specs.Said.{LinesFor, TextShown, echo_lines}
-use Rattle.echo_commands.specs.Shown.{MessageShown, Pushes, message_lines}
+use Rattle.echo_print.specs.Said.{LinesFor, TextShown, echo_lines}
+use Rattle.echo_print.specs.Shown.{MessageShown, message_lines}
+use Rattle.echo_print.specs.Pushed.{Pushes}
 
 -- the text of a message has no 00
 pub text_has_no_zero : (most : ℕ) (m : Message) (text : List ℕ) → text ≡ m.text → IsMessage most m → HasNoZero text

@@ -1,13 +1,11 @@
-pub mod Escaped
-pub mod Said
-pub mod Shown
 pub mod Status
 pub mod Ended
+pub mod Written
 pub mod Showing
-pub mod Listed
+pub mod Listing
 pub mod Given
-pub mod Checked
-pub mod Pictured
+pub mod Checking
+pub mod Picturing
 pub mod Options
 pub mod Files
 pub mod System
@@ -17,5 +15,5 @@ pub mod Posted
 pub mod Unpacked
 pub mod Coming
 pub mod Tossed
-pub mod BaseListed
-pub mod Replayed
+pub mod BaseListing
+pub mod Replaying

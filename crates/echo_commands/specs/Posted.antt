@@ -1,12 +1,10 @@
 -- What `post` prints and leaves.
-use Rattle.std.specs.Prelude.{◌≡◌, ℕ, ◌⊎◌, ◌==◌, true, List, [], ◌∷◌, ◌++◌, codes, if◌then◌else◌, Option, Some, None, Result}
+use Rattle.std.specs.Prelude.{◌≡◌, ℕ, ◌⊎◌, ◌==◌, true, List, [], ◌∷◌, ◌++◌, if◌then◌else◌, Option, Some, None, Result}
 use Rattle.std.specs.Io.KnownBytes.{Appends}
-use Rattle.echo_links.specs.Links.{LinkFile, upper}
 use Rattle.echo_filed.specs.Filed.{Filed}
 use Rattle.echo_base.specs.BaseFile.{is_countable, saved_bytes}
 use Rattle.echo_steps.specs.declared.draft.Draft.{Draft}
 use Rattle.echo_steps.specs.declared.fault.PostFault.{PostFault}
-use Rattle.echo_steps.specs.declared.stamp.Stamp.{Stamp}
 use Rattle.echo_steps.specs.Posting.{post_refusal, posted}
 use Rattle.echo_steps.specs.SystemState.{SystemState}
 use Rattle.echo_text.specs.Ids.{id_of}
@@ -17,6 +15,7 @@ use Rattle.echo_commands.specs.declared.posting.NewMessage.{NewMessage}
 use Rattle.echo_commands.specs.Ended.{Answers}
 use Rattle.echo_commands.specs.Files.{only_base}
 use Rattle.echo_commands.specs.System.{IsFirstFaultOf, IsSystemGiven, IsTooMany}
+use Rattle.echo_print.specs.Told.{posted_line}
 
 -- what a byte of the body becomes in the draft: 0A becomes 0D, and nothing after a 0D
 abbrev pub draft_byte : ℕ → ℕ → List ℕ
@@ -40,10 +39,6 @@ draft_of words body = record {
   reply = words.reply.now;
   body = draft_body body;
 }
-
--- the tag in upper case, and the id: the own address and the serial
-abbrev pub posted_line : List ℕ → List ℕ → List ℕ
-posted_line tag id = codes "posted " ++ (upper tag ++ (codes " " ++ (id ++ codes "\n")))
 
 -- the base with one message more
 abbrev pub base_after : SystemState → NewMessage → List ℕ → List Filed

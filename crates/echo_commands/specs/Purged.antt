@@ -1,5 +1,5 @@
 -- What `purge` prints and leaves.
-use Rattle.std.specs.Prelude.{◌≡◌, ℕ, ◌⊎◌, true, List, ◌++◌, codes, decimal, Option, None, Result}
+use Rattle.std.specs.Prelude.{◌≡◌, ℕ, ◌⊎◌, true, List, Option, None, Result}
 use Rattle.std.specs.Io.KnownBytes.{Appends}
 use Rattle.echo_base.specs.BaseFile.{is_countable, saved_bytes}
 use Rattle.echo_steps.specs.Purging.{changed, purged}
@@ -9,10 +9,7 @@ use Rattle.echo_commands.specs.declared.leaving.Files.{Files}
 use Rattle.echo_commands.specs.Ended.{Answers}
 use Rattle.echo_commands.specs.Files.{only_base}
 use Rattle.echo_commands.specs.System.{IsFirstFaultOf, IsSystemGiven, IsTooMany}
-
--- how many messages changed
-abbrev pub purged_line : ℕ → List ℕ
-purged_line count = codes "purged " ++ (decimal count ++ codes "\n")
+use Rattle.echo_print.specs.Told.{purged_line}
 
 -- the purge of the system that the files make: how many messages it changes is printed, and the base that it leaves, which four bytes count, is to be written
 pub record IsPurged (links : List ℕ) (base : Option (List ℕ)) (old new : Option (List ℕ)) (files : Files) : Type 0 where

@@ -3,7 +3,6 @@ use Rattle.std.specs.Prelude.{◌≡◌, ℕ, ◌⊎◌, true, false, List, ◌+
 use Rattle.std.specs.Io.KnownBytes.{Appends}
 use Rattle.std.specs.List.{flat_map}
 use Rattle.echo_addr.specs.declared.address.Address.{Address}
-use Rattle.echo_addr.specs.Address.{address_text}
 use Rattle.echo_base.specs.BaseFile.{is_countable, saved_bytes}
 use Rattle.echo_packet.specs.Packet.{packet_bytes}
 use Rattle.echo_steps.specs.declared.fault.ScanFault.TheVariants.{BadStamp}
@@ -17,8 +16,9 @@ use Rattle.echo_commands.specs.declared.fault.Fault.TheVariants.{Scan}
 use Rattle.echo_commands.specs.declared.leaving.Files.{Files}
 use Rattle.echo_commands.specs.declared.leaving.PacketFile.{PacketFile}
 use Rattle.echo_commands.specs.Ended.{Answers}
-use Rattle.echo_commands.specs.Shown.{destination}
+use Rattle.echo_print.specs.Shown.{destination}
 use Rattle.echo_commands.specs.System.{IsFirstFaultOf, IsSystemGiven, IsTooMany}
+use Rattle.echo_print.specs.Told.{sent_line}
 
 -- `zone.net.node.N.pkt`, for the system that the packet is for and the number of messages scanned before
 abbrev pub packet_name : Address → ℕ → List ℕ
@@ -28,11 +28,6 @@ packet_name to before =
 -- a packet's file
 abbrev pub file_of : ℕ → Packet → PacketFile
 file_of before p = record { name = packet_name (destination p.header) before; bytes = packet_bytes p.header p.messages }
-
--- a packet's line: whom it is for, and how many messages and bytes it has
-abbrev pub sent_line : Address → ℕ → ℕ → List ℕ
-sent_line to messages bytes =
-    codes "packet " ++ (address_text to ++ (codes " " ++ (decimal messages ++ (codes " messages " ++ (decimal bytes ++ codes " bytes\n")))))
 
 abbrev pub line_of : Packet → List ℕ
 line_of p = sent_line (destination p.header) (length p.messages) (length (packet_bytes p.header p.messages))

@@ -1,5 +1,5 @@
--- What `show` answers.
-use Rattle.std.specs.Prelude.{◌≡◌, ℕ, ◌⊎◌, ◌++◌, Bool, true, List, [], Option, Result, Ok, Err, IsErr, Vec}
+-- What an input of `show` stands for, and what `show` answers.
+use Rattle.std.specs.Prelude.{◌≡◌, ℕ, ◌⊎◌, ◌++◌, Bool, true, List, [], Option, Result, Ok, Err, IsErr, Vec, ◌-◌, length, filter, ◌≤◌, take, not, false, ◌||◌, ◌==◌}
 use Rattle.std.specs.declared.alloc.Global.{Global}
 use Rattle.hex.specs.Hex.{decode_of}
 use Rattle.echo_packet.specs.declared.header.Header.{Header}
@@ -13,7 +13,40 @@ use Rattle.echo_commands.specs.declared.fault.Fault.TheVariants.{BadHex, OutOfMe
 use Rattle.echo_commands.specs.declared.status.Status.{Status}
 use Rattle.echo_commands.specs.declared.status.Status.TheVariants.{Good}
 use Rattle.echo_commands.specs.Ended.{Answers}
-use Rattle.echo_commands.specs.Shown.{IsPrinted, IsShown, MessagesShown, Stands, Writes, header_lines, hex_text, show_limits}
+use Rattle.echo_packet.specs.declared.limits.Limits.{Limits}
+use Rattle.echo_packet.specs.Packet.{PacketOf}
+use Rattle.echo_print.specs.Shown.{MessagesShown, Shown, header_lines}
+use Rattle.echo_commands.specs.Written.{Writes}
+
+-- a byte that lays out hexadecimal text: a blank, a tab or a part of a line end
+abbrev pub is_layout : ℕ → Bool
+is_layout b = b == 32 || b == 9 || b == 10 || b == 13
+
+-- the digits of hexadecimal text
+abbrev pub hex_text : List ℕ → List ℕ
+hex_text input = filter (λ b. not (is_layout b)) input
+
+-- the bytes that the input stands for: itself, or what its hexadecimal digits say
+abbrev pub Stands : Bool → List ℕ → List ℕ → Type 0
+Stands false input bytes = bytes ≡ input
+Stands true input bytes = decode_of (hex_text input) ≡ Ok bytes
+
+-- what `show` takes: texts of 16 MiB and any number of messages
+abbrev pub show_limits : Limits
+show_limits = record { text = 16777216; messages = 18446744073709551615 }
+
+-- the packet at the front of the bytes was printed, and nothing else
+pub record IsPrinted (bytes : List ℕ) (old new : Option (List ℕ)) : Type 0 where
+  pub header : Header
+  pub messages : List Message
+  pub size : ℕ
+  pub room : size ≤ length bytes
+  pub packet : PacketOf show_limits header messages (take size bytes)
+  pub printed : Writes (Shown header messages size) old new
+
+-- the same of the bytes that the input stands for
+abbrev pub IsShown : Bool → List ℕ → Option (List ℕ) → Option (List ℕ) → Type 0
+IsShown hex input old new = (bytes : List ℕ) × Stands hex input bytes × IsPrinted bytes old new
 
 -- the lines of the header at the front of the bytes, and of these messages
 pub record FrontShown (bytes : List ℕ) (messages : List Message) (lines : List ℕ) : Type 0 where

@@ -1,5 +1,5 @@
 -- What `toss` does with one packet.
-use Rattle.std.specs.Prelude.{◌≡◌, ℕ, ◌⊎◌, List, ◌++◌, codes, decimal, Option, Some, None, Result, Ok, Err}
+use Rattle.std.specs.Prelude.{◌≡◌, ℕ, ◌⊎◌, List, ◌++◌, Option, Some, None, Result, Ok, Err}
 use Rattle.echo_steps.specs.SystemState.{SystemState}
 use Rattle.echo_toss.specs.declared.fault.TossCause.{TossCause}
 use Rattle.echo_toss.specs.declared.fault.TossCause.TheVariants as stop
@@ -8,18 +8,13 @@ use Rattle.echo_toss.specs.declared.tally.Tally.{Tally}
 use Rattle.echo_toss.specs.Unpacked.{CountsToss, PacketStep}
 use Rattle.echo_commands.specs.declared.fault.Fault.{Fault}
 use Rattle.echo_commands.specs.declared.fault.Fault.TheVariants.{NotForUs, OutOfMemory, Packet, TossMemory}
-use Rattle.echo_commands.specs.Shown.{show_limits}
+use Rattle.echo_commands.specs.Showing.{show_limits}
+use Rattle.echo_print.specs.Told.{tally_line}
 
 -- a run of `toss`: the system as it is now, and the lines so far
 pub record TossRun : Type 0 where
   pub system : SystemState
   pub lines : List ℕ
-
--- what became of the messages of a packet
-abbrev pub tally_line : Tally → List ℕ
-tally_line t =
-    codes "filed " ++ (decimal t.filed ++ (codes " known " ++ (decimal t.known ++ (codes " notecho " ++ (decimal t.not_echo
-    ++ (codes " badtag " ++ (decimal t.bad_tag ++ (codes " noarea " ++ (decimal t.no_area ++ (codes " notlinked " ++ (decimal t.not_linked ++ codes "\n")))))))))))
 
 -- why a packet was not tossed whole, as it is reported
 abbrev pub fault_of : TossCause → Fault

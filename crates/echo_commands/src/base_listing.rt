@@ -2,11 +2,11 @@
 ghost use Rattle.std.specs.Prelude.{◌≡◌, ◌⊎◌, IfErr, IfOk, OnOk, length, option_copied, option_map};
 ghost use Rattle.std.specs.Io.KnownBytes.{Appends, append_known};
 ghost use Rattle.echo_links.specs.Links.{upper};
-ghost use Rattle.echo_commands.specs.BaseListed.{ListAnswers, asked_text, is_of_area, messages_text};
+ghost use Rattle.echo_commands.specs.BaseListing.{ListAnswers};
+ghost use Rattle.echo_print.specs.BaseListed.{asked_text, is_of_area, messages_text};
 ghost use Rattle.echo_commands.specs.Ended.{Ends, IsWantOfMemory, Stops};
 ghost use Rattle.echo_commands.specs.System.{IsBaseFault, IsBaseGiven};
 
-use crate::base_text::{push_message, push_total};
 use crate::fault::Fault;
 use crate::printing::{pass_on, print_rest};
 use crate::status::{Status, ended};
@@ -14,6 +14,7 @@ use echo_addr::Items;
 use echo_base::Base;
 use echo_device::Sink;
 use echo_filed::Filed;
+use echo_print::{push_base_total, push_message};
 use std::alloc::{AllocError, Global};
 use std::hash::BuildHasher;
 
@@ -48,7 +49,7 @@ fn list_given<'a, S: BuildHasher + Drop, W: Sink>(
     let area = raised(alloc, area)?;
     let mut lines = Vec::new(alloc);
     print_messages(area.as_ref(), first, &base, &mut lines, out)?;
-    push_total(&mut lines, base.len(), base.len() - base.cursor())?;
+    push_base_total(&mut lines, base.len(), base.len() - base.cursor())?;
     print_rest(&mut lines, out)?;
     Ok(Status::Good)
 }

@@ -3,21 +3,22 @@ ghost use Rattle.std.specs.Io.KnownBytes.{Appends};
 ghost use Rattle.echo_links.specs.Links.{LinkFile, upper};
 ghost use Rattle.echo_run.specs.Tidy.{Tidy};
 ghost use Rattle.echo_commands.specs.declared.status.Status.TheVariants.{Good};
-ghost use Rattle.echo_commands.specs.Checked.{CheckAnswers, CheckShown, RunsAreOrderly, verdict_status};
+ghost use Rattle.echo_commands.specs.Checking.{CheckAnswers, RunsAreOrderly, verdict_status};
+ghost use Rattle.echo_print.specs.Checked.{CheckShown};
 ghost use Rattle.echo_commands.specs.Ended.{Ends};
 ghost use Rattle.echo_commands.specs.Given.{AreLinkFiles};
-ghost use Rattle.echo_commands.specs.Shown.{Pushes};
+ghost use Rattle.echo_print.specs.Pushed.{Pushes};
 
 use crate::fault::Fault;
 use crate::given::{link_files, nodelist_given};
 use crate::printing::print_rest;
 use crate::status::{Status, ended};
-use crate::verdict_text::{push_absences, push_verdict};
 use echo_addr::Items;
 use echo_device::Sink;
 use echo_links::LinkFile;
 use echo_net::Verdict;
 use echo_nodelist::Nodelist;
+use echo_print::{push_absences, push_verdict};
 use std::alloc::{AllocError, Global};
 
 /// `check [--nodelist LIST] TAG LINKS...`: prints whether the area of the tag, its letters made upper

@@ -7,7 +7,8 @@ ghost use Rattle.echo_commands.specs.declared.fault.Fault.{Fault};
 ghost use Rattle.echo_commands.specs.declared.status.Status.{Status};
 ghost use Rattle.echo_commands.specs.Ended.{IsOfInput};
 ghost use Rattle.echo_commands.specs.Showing.{ShowAnswers};
-ghost use Rattle.echo_commands.specs.Shown.{IsShown, Shown};
+ghost use Rattle.echo_commands.specs.Showing.{IsShown};
+ghost use Rattle.echo_print.specs.Shown.{Shown};
 
 /// A packet has one printing, and an input has one: where `show` ends well, what it wrote is known from
 /// its input alone. So has it one answer, the status of a fault among them, unless standard output

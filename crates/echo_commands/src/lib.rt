@@ -5,44 +5,37 @@
 //! just where that has the fault, after the lines of what came before it; and standard output failed
 //! where the answer says so, and only there.
 //!
+//! Which lines are printed for a value stands in the crate `echo_print`; here is what a command reads, which
+//! fault comes first, what it writes of those lines, and what it leaves.
+//!
 //! Modules in reading order: `fault` and `status` (how a command ends), `given` (the files that a command
 //! was given), `options` (stamps, serials and numbers of the command line), `printing` (lines on their way
-//! to standard output), `escape`, `showing` with `show_text` and `said` (what is printed of a packet, and
-//! of what a text says), `listing` with `nodelist_text` (what is printed of a nodelist), `checking` with
-//! `verdict_text` (is an area in order), `picturing` with `picture_text` (an area as a graph), `leaving`
-//! (the files that a command leaves to be written), `system` (a link file and a base are read, and the
-//! base is written), `posting`, `scanning`, `purging`, `coming` (packet files) and `unpacking` (they are
-//! tossed), `base_listing` with `base_text` (the messages of a base), `replaying` with `replay_text` (what
-//! becomes of a net), and `laws` (what holds of the definitions).
+//! to standard output), `showing` (a packet), `listing` (a nodelist), `checking` (is an area in order),
+//! `picturing` (an area as a graph), `leaving` (the files that a command leaves to be written), `system` (a
+//! link file and a base are read, and the base is written), `posting`, `scanning`, `purging`, `coming`
+//! (packet files) and `unpacking` (they are tossed), `base_listing` (the messages of a base), `replaying`
+//! (what becomes of a net), and `laws` (what holds of the definitions).
 #![tactic(auto)]
 
 mod base_listing;
-mod base_text;
 mod checking;
 mod coming;
-mod escape;
 mod fault;
 mod given;
 mod laws;
 mod leaving;
 mod listing;
-mod nodelist_text;
 mod options;
-mod picture_text;
 mod picturing;
 mod posting;
 mod printing;
 mod purging;
-mod replay_text;
 mod replaying;
-mod said;
 mod scanning;
-mod show_text;
 mod showing;
 mod status;
 mod system;
 mod unpacking;
-mod verdict_text;
 
 pub use base_listing::list;
 pub use checking::check;

@@ -3,16 +3,17 @@ ghost use Rattle.std.specs.Io.KnownBytes.{Appends, append_known};
 ghost use Rattle.echo_addr.specs.Address.{AddressOf, refusal};
 ghost use Rattle.echo_commands.specs.declared.fault.Fault.TheVariants.{BadAddress};
 ghost use Rattle.echo_commands.specs.Ended.{Ends, Stops};
-ghost use Rattle.echo_commands.specs.Listed.{NodelistAnswers, Listed, RestListed, addressed_text, crc_status};
-ghost use Rattle.echo_commands.specs.Shown.{Writes};
+ghost use Rattle.echo_commands.specs.Listing.{NodelistAnswers, crc_status};
+ghost use Rattle.echo_print.specs.Listed.{Listed, RestListed, addressed_text};
+ghost use Rattle.echo_commands.specs.Written.{Writes};
 
 use crate::fault::Fault;
-use crate::nodelist_text::{push_crc, push_entry, push_found, push_total};
 use crate::printing::{pass_on, print_rest};
 use crate::status::{Status, ended};
 use echo_addr::Address;
 use echo_device::Sink;
 use echo_nodelist::{CrcLine, Line, Nodelist, crc_line};
+use echo_print::{push_crc, push_entry, push_found, push_list_total};
 use std::alloc::Global;
 
 /// The address that the word after `--find` writes.
@@ -116,6 +117,6 @@ fn print_entries<'a, W: Sink>(
     'entries: for (i, line) in list.lines().iter().enumerate() {
         print_entry(list.address_of(i), line, lines, out)?;
     }
-    push_total(lines, list)?;
+    push_list_total(lines, list)?;
     Ok(())
 }

@@ -1,14 +1,14 @@
 ghost use Rattle.echo_commands.specs.Ended.{Ends};
-ghost use Rattle.echo_commands.specs.Pictured.{PictureAnswers};
+ghost use Rattle.echo_commands.specs.Picturing.{PictureAnswers};
 
 use crate::checking::status_of;
 use crate::fault::Fault;
 use crate::given::link_files;
-use crate::picture_text::push_picture;
 use crate::printing::print_rest;
 use crate::status::{Status, ended};
 use echo_addr::Items;
 use echo_device::Sink;
+use echo_print::push_picture;
 use std::alloc::Global;
 
 /// `picture TAG LINKS...`: prints the systems and links of the area of the tag, its letters made upper

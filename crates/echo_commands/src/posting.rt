@@ -1,16 +1,15 @@
 ghost use Rattle.std.specs.Prelude.{◌≡◌, ◌++◌, IfOk, OnOk, option_copied};
-ghost use Rattle.echo_text.specs.Ids.{id_of};
 ghost use Rattle.echo_commands.specs.Files.{Leaves};
-ghost use Rattle.echo_commands.specs.Posted.{PostAnswers, draft_body, draft_byte, draft_of, posted_line};
+ghost use Rattle.echo_commands.specs.Posted.{PostAnswers, draft_body, draft_byte, draft_of};
 
 use crate::fault::Fault;
 use crate::leaving::{Done, Files, leave};
 use crate::printing::print_rest;
 use crate::system::{saved, system_given};
-use echo_addr::{Address, Items};
+use echo_addr::Items;
 use echo_device::Sink;
+use echo_print::push_posted;
 use echo_steps::{Draft, Stamp};
-use echo_text::MsgId;
 use std::alloc::{AllocError, Global};
 use std::hash::BuildHasher;
 
@@ -115,25 +114,5 @@ fn push_byte(lines: &mut Vec<u8>, before: u8, byte: u8) -> Result<(), AllocError
     } else if before != b'\r' {
         lines.push(b'\r')?;
     }
-    Ok(())
-}
-
-// Adds the tag in upper case, and the id.
-fn push_posted(
-    alloc: Global,
-    lines: &mut Vec<u8>,
-    tag: &[u8],
-    system: Address,
-    serial: u32,
-) -> Result<(), AllocError>
-    ensures { OnOk result (lines.new.items ≡ lines.old.items ++ posted_line tag.now (id_of system serial)) }
-{
-    let tag = tag.to_ascii_uppercase(alloc)?;
-    let id = MsgId::write(alloc, system, serial)?;
-    lines.extend_from_slice(b"posted ")?;
-    lines.extend_from_slice(&tag)?;
-    lines.push(b' ')?;
-    lines.extend_from_slice(&id)?;
-    lines.push(b'\n')?;
     Ok(())
 }

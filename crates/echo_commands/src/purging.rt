@@ -1,16 +1,15 @@
-ghost use Rattle.std.specs.Prelude.{◌≡◌, ◌++◌, OnOk, option_copied};
+ghost use Rattle.std.specs.Prelude.{option_copied};
 ghost use Rattle.echo_commands.specs.Files.{Leaves};
-ghost use Rattle.echo_commands.specs.Purged.{PurgeAnswers, purged_line};
+ghost use Rattle.echo_commands.specs.Purged.{PurgeAnswers};
 
-use crate::escape::written;
 use crate::fault::Fault;
 use crate::leaving::{Done, Files, leave};
 use crate::printing::print_rest;
 use crate::system::{saved, system_given};
 use echo_device::Sink;
-use std::alloc::{AllocError, Global};
+use echo_print::push_purged;
+use std::alloc::Global;
 use std::hash::BuildHasher;
-use std::io::Write;
 
 /// `purge LINKS BASE`: leaves of each scanned message with an id nothing of its text but the id, and
 /// prints how many messages changed. The base is to be written where no fault is answered. Of faulty
@@ -51,11 +50,4 @@ fn purge_given<'a, S: BuildHasher + Drop, W: Sink>(
     push_purged(&mut lines, count)?;
     print_rest(&mut lines, out)?;
     Ok(Files::of_base(alloc, base))
-}
-
-// Adds how many messages changed.
-fn push_purged(lines: &mut Vec<u8>, count: u64) -> Result<(), AllocError>
-    ensures { OnOk result (lines.new.items ≡ lines.old.items ++ purged_line count) }
-{
-    written(writeln!(lines, "purged {count}"))
 }

@@ -1,16 +1,16 @@
 //! What `replay` answers.
 ghost use Rattle.std.specs.Prelude.{◌≡◌, ◌⊎◌, Ok, IfErr, IfOk};
 ghost use Rattle.echo_commands.specs.Ended.{Ends, IsWantOfMemory};
-ghost use Rattle.echo_commands.specs.Replayed.{IsScriptFault, ReplayAnswers};
+ghost use Rattle.echo_commands.specs.Replaying.{IsScriptFault, ReplayAnswers};
 ghost use Rattle.echo_replay.specs.Script.{ScriptOf};
 
 use crate::fault::Fault;
 use crate::given::link_files;
 use crate::printing::print_rest;
-use crate::replay_text::push_world;
 use crate::status::{Status, ended};
 use echo_addr::Items;
 use echo_device::Sink;
+use echo_print::push_world;
 use echo_replay::{ScriptFault, read_script};
 use echo_run::Event;
 use std::alloc::Global;

@@ -2,10 +2,9 @@ ghost use Rattle.std.specs.Prelude.{◌≡◌, ◌++◌, length, map, IfOk, OnOk
 ghost use Rattle.std.specs.List.{flat_map};
 ghost use Rattle.echo_packet.specs.Packet.{packet_bytes};
 ghost use Rattle.echo_commands.specs.Files.{Leaves};
-ghost use Rattle.echo_commands.specs.Scanned.{ScanAnswers, file_of, line_of, packet_name, sent_line};
-ghost use Rattle.echo_commands.specs.Shown.{destination};
+ghost use Rattle.echo_commands.specs.Scanned.{ScanAnswers, file_of, line_of, packet_name};
+ghost use Rattle.echo_print.specs.Shown.{destination};
 
-use crate::escape::written;
 use crate::fault::Fault;
 use crate::leaving::{Done, Files, PacketFile, leave};
 use crate::printing::print_rest;
@@ -13,10 +12,10 @@ use crate::system::{saved, system_given};
 use echo_addr::{Address, Items};
 use echo_device::Sink;
 use echo_packet::Header;
+use echo_print::push_sent;
 use echo_steps::{Packet, Stamp};
 use std::alloc::{AllocError, Global};
 use std::hash::BuildHasher;
-use std::io::Write;
 
 /// `scan --at STAMP LINKS BASE DIR`: makes the packets of the messages that wait, and prints a line for
 /// each. The packets, and then the base, are to be written where no fault is answered. Of faulty files
@@ -125,16 +124,4 @@ fn push_packet(lines: &mut Vec<u8>, packet: &Packet, bytes: usize) -> Result<(),
 {
     let to = destination(&packet.header);
     push_sent(lines, to, packet.messages.len(), bytes)
-}
-
-// Adds the line of a packet to this system, with so many messages and bytes.
-fn push_sent(
-    lines: &mut Vec<u8>,
-    to: Address,
-    messages: usize,
-    bytes: usize,
-) -> Result<(), AllocError>
-    ensures { OnOk result (lines.new.items ≡ lines.old.items ++ sent_line to messages bytes) }
-{
-    written(writeln!(lines, "packet {to} {messages} messages {bytes} bytes"))
 }

@@ -1,9 +1,9 @@
 //! The command `toss`: packet files one after the other, of which one is open at a time.
-ghost use Rattle.std.specs.Prelude.{◌≡◌, ◌+◌, ◌≤◌, ◌⊎◌, ◌++◌, [], None, IfErr, IfOk, decimal, length, option_copied, vec_capacity, vec_len};
+ghost use Rattle.std.specs.Prelude.{◌≡◌, ◌⊎◌, [], None, IfErr, IfOk, option_copied};
 ghost use Rattle.echo_commands.specs.Ended.{IsWantOfMemory};
 ghost use Rattle.echo_commands.specs.System.{IsFirstFaultOf, IsSystemGiven};
 ghost use Rattle.echo_commands.specs.Tossed.{EndsRun, RunEnds, TossAnswers, TossesEach};
-ghost use Rattle.echo_commands.specs.Unpacked.{TossesPacket, fault_of, tally_line};
+ghost use Rattle.echo_commands.specs.Unpacked.{TossesPacket, fault_of};
 
 use crate::coming::PacketFiles;
 use crate::fault::Fault;
@@ -12,8 +12,8 @@ use crate::printing::print_rest;
 use crate::showing::LIMITS;
 use crate::system::{saved, system_given};
 use echo_device::{Sink, Source};
-use echo_toss::{Tally, TossCause, Tosser};
-use itoa::Buffer;
+use echo_print::push_tally;
+use echo_toss::{TossCause, Tosser};
 use std::alloc::Global;
 use std::hash::BuildHasher;
 use std::marker::Model;
@@ -178,32 +178,4 @@ fn fault_of<'a>(cause: TossCause) -> Fault<'a>
         TossCause::Memory => Fault::TossMemory,
         TossCause::Packet(fault) => Fault::Packet(fault),
     }
-}
-
-// Adds what became of the messages of a packet.
-fn push_tally(lines: &mut Vec<u8>, tally: Tally)
-    requires { vec_len lines.old + 170 ≤ vec_capacity lines.old }
-    ensures { lines.new.items ≡ lines.old.items ++ tally_line tally }
-{
-    push_count(lines, b"filed ", tally.filed);
-    push_count(lines, b" known ", tally.known);
-    push_count(lines, b" notecho ", tally.not_echo);
-    push_count(lines, b" badtag ", tally.bad_tag);
-    push_count(lines, b" noarea ", tally.no_area);
-    push_count(lines, b" notlinked ", tally.not_linked);
-    lines.extend_from_slice(b"\n").unwrap();
-}
-
-// Adds a word and a number of at most 20 digits.
-fn push_count(lines: &mut Vec<u8>, word: &[u8], count: u64)
-    requires { vec_len lines.old + (length word.now + 20) ≤ vec_capacity lines.old }
-    ensures added { lines.new.items ≡ lines.old.items ++ (word.now ++ decimal count) }
-    ensures short { vec_len lines.new ≤ vec_len lines.old + (length word.now + 20) }
-    ensures room { vec_capacity lines.old ≤ vec_capacity lines.new }
-{
-    let mut digits = Buffer::new();
-    lines.extend_from_slice(word).unwrap();
-    lines
-        .extend_from_slice(digits.format(count).as_bytes())
-        .unwrap();
 }

@@ -17,7 +17,7 @@ use Rattle.echo_run.proofs.TosserLaws.{the_laws}
 use Rattle.echo_commands.specs.declared.fault.Fault.{Fault}
 use Rattle.echo_commands.specs.declared.status.Status.{Status}
 use Rattle.echo_commands.specs.declared.status.Status.TheVariants.{Good}
-use Rattle.echo_commands.specs.Checked.{CheckAnswers, RunsAreOrderly}
+use Rattle.echo_commands.specs.Checking.{CheckAnswers, RunsAreOrderly}
 use Rattle.echo_commands.specs.Ended.{Ends, status_at}
 use Rattle.echo_commands.specs.Given.{AreLinkFiles}
 use Rattle.echo_commands.proofs.Checks.{not_good}

@@ -20,7 +20,7 @@ use Rattle.echo_run.proofs.Lists.{none_some, nth-among, some_same}
 use Rattle.echo_commands.specs.declared.fault.Fault.{Fault}
 use Rattle.echo_commands.specs.declared.leaving.Done.{Done}
 use Rattle.echo_commands.specs.declared.leaving.Files.{Files}
-use Rattle.echo_commands.specs.Shown.{show_limits}
+use Rattle.echo_commands.specs.Showing.{show_limits}
 use Rattle.echo_commands.specs.Coming.{Coming, Fails, Holds, Opens, Unknown}
 use Rattle.echo_commands.specs.Tossed.{EndsRun, RunEnds, TossesEach, TossesFile, run_begun, run_done}
 use Rattle.echo_commands.specs.Unpacked.{HasTossedPacket, TellsPacket, TossRun, TossesPacket}

@@ -17,7 +17,7 @@ use Rattle.echo_toss.specs.declared.fault.TossFault.{TossFault}
 use Rattle.echo_toss.specs.declared.tally.Tally.{Tally}
 use Rattle.echo_toss.specs.Unpacked.{BeginsWith, FailsBehind, FailsInHeader, HasTossed, IsForUs, PacketStep, TossesAll, TossesPart, TossesSome}
 use Rattle.echo_toss.proofs.Parsed.{first_messages, one_header, one_list}
-use Rattle.echo_commands.specs.Shown.{show_limits}
+use Rattle.echo_commands.specs.Showing.{show_limits}
 use Rattle.echo_stations.specs.Agreement.{IsPacketFile, limits_of}
 
 -- limits that both are within

@@ -13,7 +13,7 @@ use Rattle.echo_run.specs.Orderly.{IsPosting, SameContent, copies, count, sent_c
 use Rattle.echo_run.specs.Run.{nth}
 use Rattle.echo_commands.specs.declared.fault.Fault.{Fault}
 use Rattle.echo_commands.specs.declared.status.Status.TheVariants.{Good}
-use Rattle.echo_commands.specs.Checked.{CheckAnswers}
+use Rattle.echo_commands.specs.Checking.{CheckAnswers}
 use Rattle.echo_commands.specs.Ended.{Ends}
 use Rattle.echo_commands.specs.System.{IsBaseGiven}
 use Rattle.echo_commands.specs.Given.{AreLinkFiles}

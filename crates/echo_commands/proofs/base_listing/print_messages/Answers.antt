@@ -1,6 +1,6 @@
 use Rattle.std.proofs.Common.{ℕ, ◌∙◌, option_copied, subst}
 use Rattle.std.specs.Io.KnownBytes.{Appends, append_known}
-use Rattle.echo_commands.specs.BaseListed.{asked_text}
+use Rattle.echo_print.specs.BaseListed.{asked_text}
 use Rattle.echo_commands.proofs.Listings.{message_printed}
 use Rattle.echo_commands.proofs.base_listing.print_messages.Goals as goal
 

@@ -1,7 +1,7 @@
 -- The lines of the messages so far are printed.
 use Rattle.std.proofs.Common.{◌≡◌, option_copied}
 use Rattle.std.specs.Io.KnownBytes.{Appends, append_known}
-use Rattle.echo_commands.specs.BaseListed.{messages_text}
+use Rattle.echo_print.specs.BaseListed.{messages_text}
 use Rattle.echo_commands.proofs.base_listing.print_messages.Given as goal
 
 abbrev pub invariant-messages : goal.invariant-messages

@@ -2,8 +2,9 @@ use Rattle.std.proofs.Common.{◌≡◌, ℕ, List, ◌∙◌}
 use Rattle.std.specs.Option.{option_copied}
 use Rattle.echo_links.specs.Links.{LinkFile, upper}
 use Rattle.echo_net.specs.Faults.{IsYes}
-use Rattle.echo_commands.specs.Checked.{CheckShown, IsVerdict, RunsAreOrderly}
-use Rattle.echo_commands.specs.Shown.{Pushes}
+use Rattle.echo_print.specs.Checked.{CheckShown}
+use Rattle.echo_commands.specs.Checking.{IsVerdict, RunsAreOrderly}
+use Rattle.echo_print.specs.Pushed.{Pushes}
 use Rattle.echo_commands.proofs.Checks.{of_same, was_checked}
 use Rattle.echo_commands.proofs.checking.check_given.Goals as goal
 

@@ -1,7 +1,7 @@
 -- The lines of the entries so far are printed.
 use Rattle.std.proofs.Common.{◌≡◌}
 use Rattle.std.specs.Io.KnownBytes.{Appends, append_known}
-use Rattle.echo_commands.specs.Listed.{entries_text}
+use Rattle.echo_print.specs.Listed.{entries_text}
 use Rattle.echo_commands.proofs.listing.print_entries.Given as goal
 
 abbrev pub invariant-entries : goal.invariant-entries

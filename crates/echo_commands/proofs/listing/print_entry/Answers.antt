@@ -1,7 +1,7 @@
 use Rattle.std.specs.Io.KnownBytes.{append_known}
 use Rattle.std.proofs.KnownBytes.{Appends-kept}
 use Rattle.std.proofs.lemmas.Result.{on_ok_weaker}
-use Rattle.echo_commands.specs.Listed.{entry_text}
+use Rattle.echo_print.specs.Listed.{entry_text}
 use Rattle.echo_commands.proofs.Pushed.{grown}
 use Rattle.echo_commands.proofs.listing.print_entry.Goals as goal
 

@@ -1,8 +1,8 @@
 use Rattle.std.proofs.Common.{◌≡◌, ◌++◌, ℕ, List, subst}
 use Rattle.echo_links.specs.Links.{LinkFile}
 use Rattle.echo_net.specs.Drawn.{IsDrawing}
-use Rattle.echo_commands.specs.Checked.{IsVerdict}
-use Rattle.echo_commands.specs.Pictured.{picture_lines}
+use Rattle.echo_commands.specs.Checking.{IsVerdict}
+use Rattle.echo_print.specs.Pictured.{picture_lines}
 use Rattle.echo_commands.proofs.Checks.{of_same}
 use Rattle.echo_commands.proofs.Pictures.{was_pictured}
 use Rattle.echo_commands.proofs.picturing.picture_given.Goals as goal

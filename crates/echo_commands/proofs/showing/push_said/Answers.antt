@@ -1,5 +1,5 @@
 use Rattle.std.proofs.Common.{refl}
-use Rattle.echo_commands.specs.Said.{echo_lines}
+use Rattle.echo_print.specs.Said.{echo_lines}
 use Rattle.echo_commands.proofs.Saying.{echo_shown}
 use Rattle.echo_commands.proofs.showing.push_said.Goals as goal
 

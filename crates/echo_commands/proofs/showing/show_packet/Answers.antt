@@ -2,7 +2,8 @@ use Rattle.std.proofs.Common.{◌+◌, ◌++◌, ◌∷◌, [], refl, ◌∙◌,
 use Rattle.std.proofs.lemmas.Result.{err_from_is_err_and}
 use Rattle.std.specs.Io.KnownBytes.{append_known}
 use Rattle.echo_packet.proofs.Slices.{slice-opens, slice-gives, slice-ends}
-use Rattle.echo_commands.specs.Shown.{MessageShown, end_line, header_lines, show_limits}
+use Rattle.echo_print.specs.Shown.{MessageShown, end_line, header_lines}
+use Rattle.echo_commands.specs.Showing.{show_limits}
 use Rattle.echo_commands.proofs.Printed.{end_printed, front_refused, header_printed, message_printed, message_refused, never_read, shorter}
 use Rattle.echo_commands.proofs.Pushed.{grown, kept_back, still_written}
 use Rattle.echo_commands.proofs.showing.show_packet.Goals as goal

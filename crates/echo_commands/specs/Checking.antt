@@ -1,0 +1,54 @@
+-- What `check` answers.
+use Rattle.std.specs.Prelude.{◌≡◌, ℕ, ◌↔◌, List, Option, None, Result}
+use Rattle.echo_links.specs.Links.{LinkFile, upper}
+use Rattle.echo_nodelist.specs.declared.line.Line.{Line}
+use Rattle.echo_run.specs.Event.{RunEvent}
+use Rattle.echo_run.specs.Orderly.{Orderly}
+use Rattle.echo_run.specs.Run.{run_of}
+use Rattle.echo_run.specs.Tidy.{Tidy}
+use Rattle.echo_net.specs.declared.verdict.Verdict.{Verdict}
+use Rattle.echo_net.specs.declared.verdict.Verdict.TheVariants.{Yes, No}
+use Rattle.echo_net.specs.Faults.{IfNo, IfYes, IsFirstFault, IsYes}
+use Rattle.echo_net.specs.Nets.{carrier_count, linked_pairs}
+use Rattle.echo_commands.specs.declared.fault.Fault.{Fault}
+use Rattle.echo_commands.specs.declared.status.Status.{Status}
+use Rattle.echo_commands.specs.declared.status.Status.TheVariants.{Good, Differs}
+use Rattle.echo_commands.specs.Ended.{Answers}
+use Rattle.echo_commands.specs.Given.{AreLinkFiles, IsFirstFaultGiven, IsNodelistGiven}
+use Rattle.echo_commands.specs.Written.{Writes}
+use Rattle.echo_print.specs.Checked.{CheckShown}
+
+-- 1 for a no
+abbrev pub verdict_status : Verdict → Status
+verdict_status (Yes systems links) = Good
+verdict_status (No fault) = Differs
+
+-- the verdict on an area: yes exactly where it is tidy, with its numbers of carriers and of linked pairs; a no
+-- names the first thing that is wrong
+pub record IsVerdict (files : List LinkFile) (tag : List ℕ) (verdict : Verdict) : Type 0 where
+  pub tidy : IsYes verdict ↔ Tidy files tag
+  pub counted : IfYes verdict (λ systems links. (systems ≡ carrier_count files tag) × (links ≡ linked_pairs files tag))
+  pub first : IfNo verdict (IsFirstFault files tag)
+
+-- every run on these files is orderly in the area
+abbrev pub RunsAreOrderly : List LinkFile → List ℕ → Type 0
+RunsAreOrderly files tag = (events : List RunEvent) → Orderly (run_of files events) tag
+
+-- The link files and the nodelist have no fault; the verdict on the area of the tag in upper case is printed. The status is 0 exactly where the area is tidy, and then every run is orderly.
+pub record IsChecked (nodelist : Option (List ℕ)) (tag : List ℕ) (inputs : List (List ℕ)) (old new : Option (List ℕ)) (status : Status) : Type 0 where
+  pub files : List LinkFile
+  pub are_files : AreLinkFiles inputs files
+  pub list : Option (List Line)
+  pub is_list : IsNodelistGiven nodelist list
+  pub verdict : Verdict
+  pub is_verdict : IsVerdict files (upper tag) verdict
+  pub printed : Writes (CheckShown files (upper tag) list verdict) old new
+  pub status_is : status ≡ verdict_status verdict
+  pub tidy : (status ≡ Good) ↔ Tidy files (upper tag)
+  pub orderly : status ≡ Good → RunsAreOrderly files (upper tag)
+
+-- what is answered where an area is to be checked; of a faulty file nothing is printed
+abbrev pub CheckAnswers : Option (List ℕ) → List ℕ → List (List ℕ) → Option Fault → Option (List ℕ) → Option (List ℕ) → ℕ → ℕ → Result Status Fault → Type 0
+CheckAnswers nodelist tag inputs stopped old new before after answer =
+    Answers (λ status. IsChecked nodelist tag inputs old new status × (stopped ≡ None))
+    (λ fault. IsFirstFaultGiven nodelist inputs stopped fault × (new ≡ old)) before after answer

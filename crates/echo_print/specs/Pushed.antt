@@ -1,0 +1,8 @@
+-- Lines that are added to a text.
+use Rattle.std.specs.Prelude.{◌≡◌, ℕ, List, ◌++◌}
+
+-- lines of this kind were added
+pub record Pushes (AreLines : List ℕ → Type 0) (old new : List ℕ) : Type 0 where
+  pub lines : List ℕ
+  pub are : AreLines lines
+  pub whole : new ≡ old ++ lines

@@ -1,0 +1,98 @@
+-- What `show` prints of a packet.
+use Rattle.std.specs.Prelude.{◌≡◌, ℕ, ◌+◌, ◌-◌, List, [], ◌∷◌, ◌++◌, length, replicate, codes, decimal}
+use Rattle.echo_addr.specs.declared.address.Address.{Address}
+use Rattle.echo_addr.specs.Address.{address_text}
+use Rattle.hex.specs.Hex.{encode_lower}
+use Rattle.echo_packet.specs.declared.header.Header.{Header}
+use Rattle.echo_packet.specs.Message.{Message, message_bytes}
+use Rattle.echo_print.specs.Escaped.{escaped_line}
+use Rattle.echo_print.specs.Said.{TextShown}
+
+-- a number in decimal, with leading zeros where it has fewer digits than asked for
+unfoldable pub zero_padded : ℕ → ℕ → List ℕ
+zero_padded digits n = replicate (digits - length (decimal n)) 48 ++ decimal n
+
+-- the day of the header, its month counted from 1
+abbrev pub date : Header → List ℕ
+date h = zero_padded 4 h.year ++ (codes "-" ++ (zero_padded 2 (h.month + 1) ++ (codes "-" ++ zero_padded 2 h.day)))
+
+-- the time of day of the header
+abbrev pub time : Header → List ℕ
+time h = zero_padded 2 h.hour ++ (codes ":" ++ (zero_padded 2 h.minute ++ (codes ":" ++ zero_padded 2 h.second)))
+
+-- the end of the first line: the product and the serial number of its release
+abbrev pub product : Header → List ℕ
+product h = codes " product " ++ (decimal h.prod_code ++ (codes " serial " ++ (decimal h.serial_no ++ codes "\n")))
+
+-- the systems that the header names
+abbrev pub sender : Header → Address
+sender h = record { zone = h.orig_zone; net = h.orig_net; node = h.orig_node }
+
+abbrev pub destination : Header → Address
+destination h = record { zone = h.dest_zone; net = h.dest_net; node = h.dest_node }
+
+-- from which system to which
+abbrev pub systems : Header → List ℕ
+systems h = codes "packet " ++ (address_text (sender h) ++ (codes " to " ++ address_text (destination h)))
+
+-- the line of the two systems, the moment and the product
+abbrev pub packet_line : Header → List ℕ
+packet_line h = systems h ++ (codes " at " ++ (date h ++ (codes " " ++ (time h ++ product h))))
+
+-- the three lines of a header
+abbrev pub header_lines : Header → List ℕ
+header_lines h =
+    packet_line h ++ (codes "password " ++ (encode_lower h.password ++ (codes "\nfill " ++ (encode_lower h.fill ++ codes "\n"))))
+
+-- net/node
+abbrev pub net_node : ℕ → ℕ → List ℕ
+net_node net node = decimal net ++ (codes "/" ++ decimal node)
+
+-- from which system to which a message goes
+abbrev pub route : Message → List ℕ
+route m = net_node m.orig_net m.orig_node ++ (codes " to " ++ net_node m.dest_net m.dest_node)
+
+-- a message's number and the place where it begins
+abbrev pub numbered : ℕ → ℕ → List ℕ
+numbered number place = codes "message " ++ (decimal number ++ (codes " at " ++ (decimal place ++ codes ": ")))
+
+-- a message's attribute word and its cost
+abbrev pub costing : Message → List ℕ
+costing m = codes " attribute " ++ (decimal m.attribute ++ (codes " cost " ++ (decimal m.cost ++ codes "\n")))
+
+-- the line of a message's number, the place where it begins, its systems and numbers
+abbrev pub message_line : ℕ → ℕ → Message → List ℕ
+message_line number place m = numbered number place ++ (route m ++ costing m)
+
+-- the line of the length of a text
+abbrev pub text_line : ℕ → List ℕ
+text_line n = codes "text " ++ (decimal n ++ codes " bytes\n")
+
+-- the lines of a message, but for those of what its text says
+abbrev pub message_lines : ℕ → ℕ → Message → List ℕ
+message_lines number place m =
+    message_line number place m ++ (escaped_line (codes "date") m.date ++ (escaped_line (codes "to") m.to_name
+    ++ (escaped_line (codes "from") m.from_name ++ (escaped_line (codes "subject") m.subject ++ text_line (length m.text)))))
+
+-- the lines of a message, those of what its text says among them
+pub record MessageShown (number place : ℕ) (m : Message) (lines : List ℕ) : Type 0 where
+  pub said : List ℕ
+  pub text : TextShown m.text said
+  pub whole : lines ≡ message_lines number place m ++ said
+
+-- the lines of messages, of which the first has this number and begins at this place
+abbrev pub MessagesShown : ℕ → ℕ → List Message → List ℕ → Type 0
+MessagesShown number place [] lines = lines ≡ []
+MessagesShown number place (m ∷ ms) lines =
+    (first : List ℕ) × (later : List ℕ) × MessageShown number place m first
+    × MessagesShown (number + 1) (place + length (message_bytes m)) ms later × (lines ≡ first ++ later)
+
+-- the line after the last message
+abbrev pub end_line : ℕ → ℕ → List ℕ
+end_line messages bytes = codes "end " ++ (decimal messages ++ (codes " messages, " ++ (decimal bytes ++ codes " bytes\n")))
+
+-- the lines for a packet of n bytes: its messages begin after the 58 bytes of the header
+pub record Shown (h : Header) (ms : List Message) (n : ℕ) (lines : List ℕ) : Type 0 where
+  pub of_messages : List ℕ
+  pub each : MessagesShown 1 58 ms of_messages
+  pub whole : lines ≡ header_lines h ++ (of_messages ++ end_line (length ms) n)

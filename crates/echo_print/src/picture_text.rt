@@ -1,0 +1,162 @@
+//! The lines of an area as a graph, in the language DOT of Graphviz.
+ghost use Rattle.std.specs.Prelude.{◌≡◌, ◌++◌, OnOk};
+ghost use Rattle.std.specs.List.{flat_map};
+ghost use Rattle.echo_print.specs.Pictured.{carrier_marks, ends_text, head_lines, link_line, loop_marks, picture_lines, quoted, quoted_byte, side_marks, system_line, system_marks};
+
+use crate::escape::written;
+use crate::verdict_text::push_verdict_text;
+use echo_net::{Drawing, DrawnLink, DrawnSystem, Mark, Sides, Verdict};
+use std::alloc::{AllocError, Global};
+use std::io::Write;
+
+/// Adds all lines of a drawing in the language DOT, with the tag as its name and the verdict as its label.
+pub fn push_picture(
+    alloc: Global,
+    lines: &mut Vec<u8>,
+    tag: &[u8],
+    verdict: &Verdict,
+    drawing: &Drawing,
+) -> Result<(), AllocError>
+    ensures { OnOk result (lines.new.items ≡ lines.old.items ++ picture_lines tag.now verdict.now drawing.now) }
+{
+    push_head(alloc, lines, tag, verdict)?;
+    push_systems(lines, drawing.systems.as_slice())?;
+    push_links(lines, drawing.links.as_slice())?;
+    lines.extend_from_slice(b"}\n")
+}
+
+// Adds the lines before the systems.
+fn push_head(
+    alloc: Global,
+    lines: &mut Vec<u8>,
+    tag: &[u8],
+    verdict: &Verdict,
+) -> Result<(), AllocError>
+    ensures { OnOk result (lines.new.items ≡ lines.old.items ++ head_lines tag.now verdict.now) }
+{
+    let mut label = Vec::new(alloc);
+    push_verdict_text(&mut label, tag, verdict)?;
+    lines.extend_from_slice(b"graph ")?;
+    push_quoted(lines, tag)?;
+    lines.extend_from_slice(b" {\nlabel=")?;
+    push_quoted(lines, &label)?;
+    lines.extend_from_slice(b";\n")
+}
+
+// Adds the bytes in double quotes.
+fn push_quoted(lines: &mut Vec<u8>, bytes: &[u8]) -> Result<(), AllocError>
+    ensures { OnOk result (lines.new.items ≡ lines.old.items ++ quoted bytes.now) }
+{
+    lines.push(b'"')?;
+    push_quoted_bytes(lines, bytes)?;
+    lines.push(b'"')?;
+    Ok(())
+}
+
+fn push_quoted_bytes(lines: &mut Vec<u8>, bytes: &[u8]) -> Result<(), AllocError>
+    ensures { OnOk result (lines.new.items ≡ lines.old.items ++ flat_map quoted_byte bytes.now) }
+{
+    'bytes: for byte in bytes {
+        push_quoted_byte(lines, *byte)?;
+    }
+    Ok(())
+}
+
+// Adds a byte between double quotes, these and the backslash after a backslash.
+fn push_quoted_byte(lines: &mut Vec<u8>, byte: u8) -> Result<(), AllocError>
+    ensures { OnOk result (lines.new.items ≡ lines.old.items ++ quoted_byte byte) }
+{
+    if byte == b'"' || byte == b'\\' {
+        lines.push(b'\\')?;
+    }
+    lines.push(byte)?;
+    Ok(())
+}
+
+// Adds the line of each of these systems.
+fn push_systems(lines: &mut Vec<u8>, systems: &[DrawnSystem]) -> Result<(), AllocError>
+    ensures { OnOk result (lines.new.items ≡ lines.old.items ++ flat_map system_line systems.now) }
+{
+    'systems: for system in systems {
+        push_system(lines, *system)?;
+    }
+    Ok(())
+}
+
+fn push_system(lines: &mut Vec<u8>, drawn: DrawnSystem) -> Result<(), AllocError>
+    ensures { OnOk result (lines.new.items ≡ lines.old.items ++ system_line drawn) }
+{
+    let system = drawn.system;
+    written(write!(lines, "\"{system}\""))?;
+    lines.extend_from_slice(carrier_marks(drawn.carries))?;
+    lines.extend_from_slice(system_marks(drawn.mark))?;
+    lines.extend_from_slice(b";\n")
+}
+
+// An address that is no carrier is dotted.
+fn carrier_marks(carries: bool) -> &'static [u8]
+    ensures { result.now ≡ carrier_marks carries }
+{
+    if carries { b"" } else { b" [style=dotted]" }
+}
+
+// A system that the verdict names is red, one on the loop that it names red and thick.
+fn system_marks(mark: Mark) -> &'static [u8]
+    ensures { result.now ≡ system_marks mark }
+{
+    match mark {
+        Mark::Plain => b"",
+        Mark::Named => b" [color=red]",
+        Mark::OnLoop => b" [color=red, penwidth=3]",
+    }
+}
+
+// Adds the line of each of these links.
+fn push_links(lines: &mut Vec<u8>, links: &[DrawnLink]) -> Result<(), AllocError>
+    ensures { OnOk result (lines.new.items ≡ lines.old.items ++ flat_map link_line links.now) }
+{
+    'links: for link in links {
+        push_link(lines, *link)?;
+    }
+    Ok(())
+}
+
+fn push_link(lines: &mut Vec<u8>, link: DrawnLink) -> Result<(), AllocError>
+    ensures { OnOk result (lines.new.items ≡ lines.old.items ++ link_line link) }
+{
+    push_ends(lines, link)?;
+    lines.extend_from_slice(side_marks(link.sides))?;
+    lines.extend_from_slice(loop_marks(link.on_loop))?;
+    lines.extend_from_slice(b";\n")
+}
+
+// Adds the two ends of a link.
+fn push_ends(lines: &mut Vec<u8>, link: DrawnLink) -> Result<(), AllocError>
+    ensures { OnOk result (lines.new.items ≡ lines.old.items ++ ends_text link) }
+{
+    let one = link.one;
+    let other = link.other;
+    written(write!(lines, "\"{one}\" -- \"{other}\""))
+}
+
+// A link that one side lists is red and dashed, with an arrow from this side.
+fn side_marks(sides: Sides) -> &'static [u8]
+    ensures { result.now ≡ side_marks sides }
+{
+    match sides {
+        Sides::Both => b"",
+        Sides::First => b" [color=red, style=dashed, dir=forward]",
+        Sides::Second => b" [color=red, style=dashed, dir=back]",
+    }
+}
+
+// A link of the loop is red and thick.
+fn loop_marks(on_loop: bool) -> &'static [u8]
+    ensures { result.now ≡ loop_marks on_loop }
+{
+    if on_loop {
+        b" [color=red, penwidth=3]"
+    } else {
+        b""
+    }
+}
