@@ -3,7 +3,7 @@
 ghost use Rattle.std.specs.Prelude.{◌≡◌, ◌≢◌, ◌<◌, ◌↔◌, ℕ, IsTrue, IfOk, MatchOption, None, length};
 ghost use Rattle.echo_graph.specs.Rows.{linked, IsGraph};
 ghost use Rattle.echo_graph.specs.Levels.{level_of, AreLevels};
-ghost use Rattle.echo_graph.specs.Pinches.{IsPinch, FirstPinch, FirstOther, FirstHere};
+ghost use Rattle.echo_graph.specs.Pinches.{IsPinch, FirstPinch, FirstOther, FirstHere, HasUnlinked};
 
 use crate::graph::Graph;
 use crate::levels::levels_around;
@@ -23,7 +23,8 @@ pub struct Pinch {
 /// The first pinch of the graph: the smallest member, and of its pinches the one with the smallest
 /// links. `None` exactly where the graph has none. Fails only by want of memory.
 ///
-/// One search is made for each end of each link, so this takes about the square of the links.
+/// For each member a search is made from each link that has a later one which it is not linked with, so
+/// this takes at most about the square of the links.
 pub fn first_pinch(alloc: Global, graph: &Graph) -> Result<Option<Pinch>, AllocError>
     ensures sound { IsGraph graph.now }
     ensures first { IfOk result (λ found. MatchOption found
@@ -46,8 +47,7 @@ fn first_pinch_at(alloc: Global, graph: &Graph, at: usize) -> Result<Option<Pinc
         (λ pinch. (pinch.at ≡ at) × FirstHere (linked graph.now) at pinch.one pinch.other)) }
 {
     'links: for one in graph.links(at) {
-        let levels = levels_around(alloc, graph, at, *one)?;
-        if let Some(other) = first_other(graph, at, *one, &levels) {
+        if let Some(other) = first_around(alloc, graph, at, *one)? {
             return Ok(Some(Pinch {
                 at,
                 one: *one,
@@ -56,6 +56,43 @@ fn first_pinch_at(alloc: Global, graph: &Graph, at: usize) -> Result<Option<Pinc
         }
     }
     Ok(None)
+}
+
+/// The first link of `at` after `one` that is joined with it around `at`, though not linked with it. A
+/// search is made only where some link after `one` is not linked with it.
+fn first_around(
+    alloc: Global,
+    graph: &Graph,
+    at: usize,
+    one: usize,
+) -> Result<Option<usize>, AllocError>
+    requires inside { at < length graph.now }
+    requires within { one < length graph.now }
+    requires apart { one ≢ at }
+    requires link { IsTrue (linked graph.now at one) }
+    ensures { IfOk result (λ found. MatchOption found
+        ((c : ℕ) → ¬ IsPinch (linked graph.now) at one c)
+        (FirstOther (linked graph.now) at one)) }
+{
+    if !has_unlinked(graph, at, one) {
+        return Ok(None);
+    }
+    let levels = levels_around(alloc, graph, at, one)?;
+    Ok(first_other(graph, at, one, &levels))
+}
+
+/// Is there a link of `at` after `one` that is not linked with it?
+fn has_unlinked(graph: &Graph, at: usize, one: usize) -> bool
+    requires inside { at < length graph.now }
+    requires within { one < length graph.now }
+    ensures { IsTrue result ↔ HasUnlinked (linked graph.now) at one }
+{
+    'others: for other in graph.links(at) {
+        if one < *other && !graph.is_linked(one, *other) {
+            return true;
+        }
+    }
+    false
 }
 
 /// The first link of `at` after `one` that is joined with it around `at`, though not linked with it.

@@ -14,7 +14,7 @@ use std::alloc::{AllocError, Global};
 
 /// `None` exactly where any two members of a cycle are linked; else a cycle with two members that
 /// are not linked. Fails only by want of memory. `None` takes about the time of one search; the cycle
-/// takes a search for each end of each link.
+/// takes a search for each end of a link that has a later one unlinked.
 ///
 /// Of all members b with links a < c that are not linked, though a walk from a to c does not pass b,
 /// it takes the smallest b, then the smallest a, then the smallest c; of those walks it takes one with
