@@ -10,7 +10,9 @@ use Rattle.echo_packet.specs.Header.{AreBytes}
 use Rattle.echo_filed.specs.declared.field.Broken.{Broken}
 use Rattle.echo_filed.specs.declared.field.Broken.TheVariants as broken
 use Rattle.echo_filed.specs.Filed.{Filed}
-use Rattle.echo_filed.specs.Stored.{First, IsStored, Second, Stored, Version, long, message_in, stored_bytes}
+use Rattle.echo_filed.specs.declared.stored.Version.{Version}
+use Rattle.echo_filed.specs.declared.stored.Version.TheVariants.{First, Second}
+use Rattle.echo_filed.specs.Stored.{IsStored, Stored, long, message_in, stored_bytes}
 use Rattle.echo_filed.specs.Fields.{Breaks, EndsIn, IsLong, StopsIn}
 use Rattle.echo_filed.proofs.Plain.{all_append}
 use Rattle.echo_base.specs.declared.base.loading.Head.{Head}

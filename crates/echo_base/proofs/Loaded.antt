@@ -14,7 +14,8 @@ use Rattle.echo_text.proofs.Reread.{read_is_echo}
 use Rattle.echo_filed.specs.Written.{echo_of, text_of}
 use Rattle.echo_filed.specs.Filed.{Filed, HasSmallSender, IsFiled, key_of}
 use Rattle.echo_filed.specs.Stubs.{bare}
-use Rattle.echo_filed.specs.Stored.{IsStored, Stored, Version, echo_in, has_tag, is_posted, message_in, sender_in}
+use Rattle.echo_filed.specs.declared.stored.Version.{Version}
+use Rattle.echo_filed.specs.Stored.{IsStored, Stored, echo_in, has_tag, is_posted, message_in, sender_in}
 use Rattle.echo_filed.proofs.Plain.{no_zero, plain_if, some_bytes}
 use Rattle.echo_filed.proofs.Stubs.{bare_echo}
 use Rattle.echo_filed.proofs.Texts.{says_read}

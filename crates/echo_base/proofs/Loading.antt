@@ -9,10 +9,13 @@ use Rattle.std.proofs.lemmas.List.{append-nil, append_assoc, drop-drop, get_or-d
 use Rattle.echo_packet.specs.Header.{AreBytes}
 use Rattle.echo_packet.proofs.Headers.{AreBytes-drop}
 use Rattle.echo_filed.specs.Filed.{Filed}
-use Rattle.echo_filed.specs.Stored.{First, IsStored, Second, Stored, Version, long, long_at, message_in, stored_bytes}
+use Rattle.echo_filed.specs.declared.stored.Version.{Version}
+use Rattle.echo_filed.specs.declared.stored.Version.TheVariants.{First, Second}
+use Rattle.echo_filed.specs.Stored.{IsStored, Stored, long, long_at, message_in, stored_bytes}
 use Rattle.echo_filed.proofs.Layouts.{long_front, long_value}
 use Rattle.echo_filed.proofs.Plain.{all_append}
-use Rattle.echo_filed.proofs.StoredFields.{Stands, StopsIn, stopped_unread, stored_again, stored_in, stored_stands, stored_stops}
+use Rattle.echo_filed.specs.Fields.{StopsIn}
+use Rattle.echo_filed.proofs.StoredFields.{Stands, stopped_unread, stored_again, stored_in, stored_stands, stored_stops}
 use Rattle.echo_base.specs.declared.fault.BaseFault.{BaseFault}
 use Rattle.echo_base.specs.declared.fault.BaseFault.TheVariants as fault
 use Rattle.echo_base.specs.BaseFile.{AreSound, BaseOf, Begins, EndsInside, IsDamagedAt, IsNoBase, LoadOf, Loaded, head_bytes, is_damaged, is_front, magic}

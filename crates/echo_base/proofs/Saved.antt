@@ -15,7 +15,8 @@ use Rattle.echo_text.specs.Ids.{is_line_byte, is_zero}
 use Rattle.echo_filed.specs.Written.{echo_of, text_of}
 use Rattle.echo_filed.specs.Filed.{Filed, HasSmallSender, IsFiled, id_line, key_of}
 use Rattle.echo_filed.specs.Stubs.{bare, is_stub, is_stub_with}
-use Rattle.echo_filed.specs.Stored.{Second, IsStored, echo_in, has_tag, is_posted, is_short, is_short_enough, kind_of, message_in, sender_in, sender_or_zeros, stored_as, stored_bytes}
+use Rattle.echo_filed.specs.declared.stored.Version.TheVariants.{Second}
+use Rattle.echo_filed.specs.Stored.{IsStored, echo_in, has_tag, is_posted, is_short, is_short_enough, kind_of, message_in, sender_in, sender_or_zeros, stored_as, stored_bytes}
 use Rattle.echo_filed.proofs.Keys.{lines_decide, msgid_is_id}
 use Rattle.echo_filed.proofs.Trims.{trimmed_same}
 use Rattle.echo_filed.proofs.Plain.{IsLineByte, Plain}

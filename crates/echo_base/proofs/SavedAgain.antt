@@ -13,7 +13,9 @@ use Rattle.echo_text.specs.Refusal.{refusal}
 use Rattle.echo_filed.specs.Written.{echo_of, text_of}
 use Rattle.echo_filed.specs.Filed.{Filed}
 use Rattle.echo_filed.specs.Stubs.{bare}
-use Rattle.echo_filed.specs.Stored.{First, IsStored, Second, Stored, Version, has_tag, is_posted, is_short, is_short_enough, kind_of, message_in, sender_or_zeros, stored_as, stored_bytes}
+use Rattle.echo_filed.specs.declared.stored.Version.{Version}
+use Rattle.echo_filed.specs.declared.stored.Version.TheVariants.{First, Second}
+use Rattle.echo_filed.specs.Stored.{IsStored, Stored, has_tag, is_posted, is_short, is_short_enough, kind_of, message_in, sender_or_zeros, stored_as, stored_bytes}
 use Rattle.echo_filed.proofs.Keys.{IsIdText, msgid_first}
 use Rattle.echo_filed.proofs.Trims.{IsTrim, trimmed_trim}
 use Rattle.echo_base.specs.BaseFile.{AreSound, BaseOf, has_wrong_form, has_wrong_last, has_wrong_sender, has_wrong_string, head_bytes, is_countable, is_damaged, is_other_kind, is_wrong_id, is_wrong_text, magic, saved_bytes, stored_at, stored_from}

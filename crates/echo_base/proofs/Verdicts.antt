@@ -12,7 +12,8 @@ use Rattle.echo_text.specs.Refusal.{refusal}
 use Rattle.echo_filed.specs.declared.key.Key.{Key}
 use Rattle.echo_filed.specs.Filed.{Filed, IsFiled, id_line, key_of}
 use Rattle.echo_filed.specs.Written.{echo_of, text_of}
-use Rattle.echo_filed.specs.Stored.{IsStored, Stored, Version, has_tag, message_in, sender_in}
+use Rattle.echo_filed.specs.declared.stored.Version.{Version}
+use Rattle.echo_filed.specs.Stored.{IsStored, Stored, has_tag, message_in, sender_in}
 use Rattle.echo_filed.proofs.Plain.{plain_if}
 use Rattle.echo_filed.proofs.Stubs.{bare_echo}
 use Rattle.echo_filed.proofs.Texts.{says_accepted, says_one}

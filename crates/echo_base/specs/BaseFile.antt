@@ -7,7 +7,9 @@ use Rattle.echo_text.specs.Refusal.{refusal}
 use Rattle.echo_text.specs.Ids.{is_line_byte, is_zero}
 use Rattle.echo_filed.specs.Written.{echo_of, text_of}
 use Rattle.echo_filed.specs.Filed.{Filed, key_of}
-use Rattle.echo_filed.specs.Stored.{First, IsStored, Second, Stored, Version, has_tag, is_posted, is_short, is_short_enough, long, long_at, message_in, stored_as, stored_bytes}
+use Rattle.echo_filed.specs.declared.stored.Version.{Version}
+use Rattle.echo_filed.specs.declared.stored.Version.TheVariants.{First, Second}
+use Rattle.echo_filed.specs.Stored.{IsStored, Stored, has_tag, is_posted, is_short, is_short_enough, long, long_at, message_in, stored_as, stored_bytes}
 use Rattle.echo_base.specs.declared.fault.BaseFault.{BaseFault}
 use Rattle.echo_base.specs.declared.fault.BaseFault.TheVariants as fault
 use Rattle.echo_base.specs.Base.{is_known}

@@ -12,7 +12,8 @@ use Rattle.echo_filed.specs.declared.key.Key.{Key}
 use Rattle.echo_filed.specs.Filed.{Filed, key_of}
 use Rattle.echo_filed.specs.Stubs.{bare}
 use Rattle.echo_filed.specs.Written.{echo_of}
-use Rattle.echo_filed.specs.Stored.{IsStored, Stored, Version, is_short, message_in, stored_bytes}
+use Rattle.echo_filed.specs.declared.stored.Version.{Version}
+use Rattle.echo_filed.specs.Stored.{IsStored, Stored, is_short, message_in, stored_bytes}
 use Rattle.echo_filed.specs.Fields.{StopsIn}
 use Rattle.echo_base.specs.declared.fault.BaseFault.{BaseFault}
 use Rattle.echo_base.specs.declared.fault.BaseFault.TheVariants as fault

@@ -3,7 +3,7 @@
 ghost use Rattle.std.specs.Prelude.{◌≡◌, ℕ, ◌≤◌, List, ◌++◌, length, take, Result, Ok, true};
 ghost use Rattle.echo_packet.specs.Header.{AreBytes};
 ghost use Rattle.echo_filed.specs.Filed.{Filed};
-ghost use Rattle.echo_filed.specs.Stored.{Second};
+ghost use Rattle.echo_filed.specs.declared.stored.Version.TheVariants.{Second};
 ghost use Rattle.echo_base.specs.declared.fault.BaseFault.{BaseFault};
 ghost use Rattle.echo_base.specs.Base.{IsBase};
 ghost use Rattle.echo_base.specs.BaseFile.{BaseFaultOf, BaseOf, LoadOf, Loaded, is_countable, magic, saved_bytes};

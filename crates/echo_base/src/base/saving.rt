@@ -3,7 +3,8 @@ ghost use Rattle.std.specs.Prelude.{◌≡◌, ◌^◌, ◌<◌, ◌≤◌, leng
 ghost use Rattle.std.specs.List.{flat_map, list_all};
 ghost use Rattle.echo_device.specs.Device.{Failed, Sends};
 ghost use Rattle.indexmap.specs.IndexMap.{index_map_len, values};
-ghost use Rattle.echo_filed.specs.Stored.{Second, is_short_enough, stored_bytes};
+ghost use Rattle.echo_filed.specs.declared.stored.Version.TheVariants.{Second};
+ghost use Rattle.echo_filed.specs.Stored.{is_short_enough, stored_bytes};
 ghost use Rattle.echo_filed.specs.Sending.{CountsUnsent};
 ghost use Rattle.echo_base.specs.Base.{IsBase};
 ghost use Rattle.echo_base.specs.BaseFile.{head_bytes, is_countable, saved_bytes, stored_from};

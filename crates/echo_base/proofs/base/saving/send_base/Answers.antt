@@ -5,7 +5,7 @@ use Rattle.echo_device.specs.Device.{Sends}
 use Rattle.echo_device.proofs.Devices.{SendsFront-more}
 use Rattle.echo_packet.proofs.SentMessage.{SendsAll-as, SendsFront-as, Sends-at_err, Sends-behind}
 use Rattle.indexmap.specs.IndexMap.{values}
-use Rattle.echo_filed.specs.Stored.{Second}
+use Rattle.echo_filed.specs.declared.stored.Version.TheVariants.{Second}
 use Rattle.echo_filed.proofs.Sendings.{Sends-as}
 use Rattle.echo_base.specs.BaseFile.{head_bytes, saved_bytes}
 use Rattle.echo_base.proofs.SavedMessages.{countable_parts, saved_parts, stored_all}

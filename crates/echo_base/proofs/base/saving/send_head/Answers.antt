@@ -1,7 +1,8 @@
 use Rattle.std.proofs.Common.{◌++◌}
 use Rattle.echo_device.proofs.Devices.{SendsAll-front, SendsFront-more}
 use Rattle.echo_packet.proofs.SentMessage.{SendsAll-as, SendsFront-as, Sends-at_err, Sends-behind}
-use Rattle.echo_filed.specs.Stored.{Second, long}
+use Rattle.echo_filed.specs.declared.stored.Version.TheVariants.{Second}
+use Rattle.echo_filed.specs.Stored.{long}
 use Rattle.echo_filed.proofs.Sendings.{Sends-as}
 use Rattle.echo_base.specs.BaseFile.{head_bytes, magic}
 use Rattle.echo_base.proofs.base.saving.send_head.Goals as goal

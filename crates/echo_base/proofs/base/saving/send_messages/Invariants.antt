@@ -3,7 +3,8 @@ use Rattle.std.proofs.Common.{◌≡◌, take}
 use Rattle.std.specs.List.{flat_map}
 use Rattle.echo_device.specs.Device.{SendsAll}
 use Rattle.indexmap.specs.IndexMap.{values}
-use Rattle.echo_filed.specs.Stored.{Second, stored_bytes}
+use Rattle.echo_filed.specs.declared.stored.Version.TheVariants.{Second}
+use Rattle.echo_filed.specs.Stored.{stored_bytes}
 use Rattle.echo_base.specs.BaseFile.{stored_from}
 use Rattle.echo_base.proofs.base.saving.send_messages.Given as goal
 
