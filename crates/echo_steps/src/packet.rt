@@ -25,10 +25,11 @@ fn room_for(alloc: Global, messages: &[Packed]) -> Result<Vec<u8>, AllocError>
 {
     let mut size = AROUND;
     'messages: for message in messages {
-        let names = message.to_name().len() + message.from_name().len();
-        let strings = names + message.subject().len();
         size = size
-            .saturating_add(FIXED + strings)
+            .saturating_add(FIXED)
+            .saturating_add(message.to_name().len())
+            .saturating_add(message.from_name().len())
+            .saturating_add(message.subject().len())
             .saturating_add(message.text().len());
     }
     Vec::with_capacity(alloc, size)
