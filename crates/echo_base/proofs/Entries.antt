@@ -1,10 +1,12 @@
 -- What a base that looks up keys keeps, and what its look-ups say of the messages.
 use Rattle.std.proofs.Common.{◌≡◌, ℕ, zero, suc, ◌≤◌, length, take, ◌||◌, Bool, true, false, cond, List, [], ◌∷◌, ◌++◌, map, refl, sym, ap, subst, ◌∙◌, Option, Some, None, is_some, arith, inl, inr}
-use Rattle.std.specs.Prelude.{bytes_eq, option_map, unwrap_or}
+use Rattle.std.specs.Prelude.{bytes_eq, option_map, slice_get, unwrap_or}
 use Rattle.std.specs.Cmp.Lexicographic.{bytes_decides}
 use Rattle.std.specs.List.{AllByRecursion, list_any}
 use Rattle.std.specs.Map.{keys_of, lookup, values_of}
 use Rattle.std.proofs.lemmas.Bool.{and_from, and_right, cases_Bool, false_from_ne_true, or_from, or_parts, true≢false}
+use Rattle.std.proofs.lemmas.List.Folds.{list_any_at}
+use Rattle.std.proofs.lemmas.Option.{get_or_from_slice_get, slice_get_within}
 use Rattle.std.proofs.lemmas.List.{append-nil, append_assoc, length-append, map-append}
 use Rattle.echo_text.specs.Echo.{msgid_of}
 use Rattle.echo_filed.specs.declared.key.Key.{Key}
@@ -170,3 +172,22 @@ one_more_entry entries tags cursor purged key m h filed own new tagged =
       own_tags = subst R (sym values) (all_append (HasTagIn tags) (values_of entries) (m ∷ []) h.own_tags (tagged, tt));
       front = let P : List Filed → Type 0 = λ l. ArePurged l cursor purged in subst P (sym values) (still_purged (values_of entries) cursor purged m h.is_base.within h.front);
     }
+
+-- the tag of a message whose tag is among the tags is among them
+pub tag_of_one : (tags : List (List ℕ)) (tag : List ℕ) (base : List Filed) → AllByRecursion (HasTagIn tags) base
+    → list_any (λ m. bytes_eq tag m.echo.tag) base ≡ true → list_any (bytes_eq tag) tags ≡ true
+tag_of_one tags tag [] h some = absurd (true≢false (sym some))
+tag_of_one tags tag (m ∷ base) h some = elim (cases_Bool (bytes_eq tag m.echo.tag)) [
+  | inl same ↦
+      let T : List ℕ → Type 0 = λ t. list_any (bytes_eq t) tags ≡ true in
+      subst T (sym ((bytes_decides tag m.echo.tag).0 same)) h.0
+  | inr other ↦ tag_of_one tags tag base h.1 (ap (λ b. b || list_any (λ m. bytes_eq tag m.echo.tag) base) (sym other) ∙ some)
+]
+
+-- where an entry has a message that passes, one of the messages does
+pub passes_at : (p : Filed → Bool) (entries : List (Key × Filed)) (i : ℕ) (key : Key) (m : Filed) → Some (key, m) ≡ slice_get entries i → p m ≡ true → list_any p (values_of entries) ≡ true
+passes_at p entries i key m is pass =
+    let within = slice_get_within entries i (key, m) (sym is) in
+    any_map (λ (e : Key × Filed). e.1) p entries
+    ∙ list_any_at (λ (e : Key × Filed). p e.1) entries i (key, m) within
+    (ap (λ (e : Key × Filed). p e.1) (get_or_from_slice_get entries i (key, m) (key, m) (sym is)) ∙ pass)

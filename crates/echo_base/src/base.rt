@@ -1,7 +1,9 @@
-ghost use Rattle.std.specs.Prelude.{◌≡◌, ℕ, List, not, [], ◌∷◌, ◌++◌, false, true, bytes_eq, length, map, take, drop, count_by, slice_get, option_copied, IfOk, OnOk, OnErr};
-ghost use Rattle.std.specs.List.{list_any};
+ghost use Rattle.std.specs.Prelude.{◌≡◌, ℕ, List, not, [], ◌∷◌, ◌++◌, false, true, bytes_eq, length, map, take, drop, count_by, slice_get, option_copied, IsTrue, IfOk, OnOk, OnErr};
+ghost use Rattle.std.specs.List.{AllByRecursion, list_any};
+ghost use Rattle.std.specs.Map.{values_of};
 ghost use Rattle.echo_filed.specs.Filed.{has_id, key_of};
 ghost use Rattle.echo_filed.specs.Stubs.{is_stub, stub_of};
+ghost use Rattle.echo_base.specs.Entries.{HasTagIn};
 ghost use Rattle.echo_base.specs.Base.{IsBase, is_known};
 
 mod loading;
@@ -108,7 +110,7 @@ impl<S: BuildHasher> Base<S> {
     {
         let echo = &message.echo;
         let tag = &echo.tag;
-        note_tag(&mut self.tags, tag.as_slice())?;
+        keep_tag(&self.entries, &mut self.tags, tag.as_slice())?;
         self.entries.insert(key, message)?;
         Ok(())
     }
@@ -137,6 +139,34 @@ impl<S: BuildHasher> Base<S> {
         put_stubs(alloc, &mut self.entries, self.purged, self.cursor, lines);
         self.purged = self.cursor;
         Ok(count)
+    }
+}
+
+// Puts the tag among the tags, if it is not there. Messages of one area often stand together, so that the
+// last one is looked at first.
+fn keep_tag<S: BuildHasher>(
+    entries: &IndexMap<Key, Filed, S>,
+    tags: &mut IndexSet<Vec<u8>>,
+    tag: &[u8],
+) -> Result<(), AllocError>
+    requires own { AllByRecursion (HasTagIn (map (λ t. t.items) tags.old.keys)) (values_of entries.now.entries) }
+    ensures found { OnOk result (list_any (bytes_eq tag.now) (map (λ t. t.items) tags.new.keys) ≡ true) }
+    ensures kept { (other : List ℕ) → list_any (bytes_eq other) (map (λ t. t.items) tags.old.keys) ≡ true
+        → list_any (bytes_eq other) (map (λ t. t.items) tags.new.keys) ≡ true }
+{
+    if is_tag_of_last(entries, tag) {
+        return Ok(());
+    }
+    note_tag(tags, tag)
+}
+
+// Whether the last message has the tag.
+fn is_tag_of_last<S: BuildHasher>(entries: &IndexMap<Key, Filed, S>, tag: &[u8]) -> bool
+    ensures { IsTrue result → list_any (λ m. bytes_eq tag.now m.echo.tag) (values_of entries.now.entries) ≡ true }
+{
+    match entries.last() {
+        Some((_, last)) => last.echo.tag.as_slice() == tag,
+        None => false,
     }
 }
 

@@ -1,4 +1,4 @@
-ghost use Rattle.std.specs.Prelude.{IfOk};
+ghost use Rattle.std.specs.Prelude.{◌≡◌, [], IfOk};
 ghost use Rattle.echo_packet.specs.Packet.{PacketOf};
 
 use echo_addr::Items;
@@ -13,12 +13,34 @@ pub struct Packet {
     pub messages: Items<Packed>,
 }
 
+// The bytes of a packet beside its messages.
+const AROUND: usize = 60;
+
+// The bytes of a message beside its strings, the 00 after each among them.
+const FIXED: usize = 38;
+
+// Room for the bytes of a packet with these messages.
+fn room_for(alloc: Global, messages: &[Packed]) -> Result<Vec<u8>, AllocError>
+    ensures { IfOk result (λ room. room.items ≡ []) }
+{
+    let mut size = AROUND;
+    'messages: for message in messages {
+        size = size
+            .saturating_add(FIXED)
+            .saturating_add(message.to_name().len())
+            .saturating_add(message.from_name().len())
+            .saturating_add(message.subject().len())
+            .saturating_add(message.text().len());
+    }
+    Vec::with_capacity(alloc, size)
+}
+
 impl Packet {
     /// The bytes of the packet (FTS-0001): the header, the messages in order, and 00 00.
     pub fn encode(&self, alloc: Global) -> Result<Vec<u8>, AllocError>
         ensures { IfOk result (λ bytes. PacketOf (record { text = usize.MAX; messages = u64.MAX }) self.now.header self.now.messages bytes.items) }
     {
-        let bytes = Watched::new(Vec::new(alloc));
+        let bytes = Watched::new(room_for(alloc, self.messages.as_slice())?);
         let Ok(mut writer) = PacketWriter::begin(bytes, &self.header) else {
             return Err(AllocError);
         };
