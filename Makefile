@@ -21,6 +21,7 @@ closure = $(sort $(1) $(foreach name,$(filter $(ours),$(call lower,$(1))),$(call
 needed := $(call closure,echonet)
 # And with the program by which a trial replays events.
 tried := $(sort $(needed) $(call closure,bench))
+proving := $(if $(filter trials,$(MAKECMDGOALS)),$(tried),$(needed))
 
 all: bin/echonet
 
@@ -30,7 +31,7 @@ toolchain:
 # One rule for each crate: it is proved after those that it stands on.
 define crate_rule
 bin/proved/$(1): crates.txt $$(shell find crates/$(1) -name out -prune -o \( -name '*.rt' -o -name '*.antt' \) -print) $$(patsubst %,bin/proved/%,$$(filter $$(ours),$$(call lower,$(1)))) | toolchain
-	@scripts/prove.sh $(1) $$(words $$(if $$(filter bench,$(1)),$$(tried),$$(needed))) $$(or $$(run_$(1)),lib)
+	@scripts/prove.sh $(1) $$(words $$(proving)) $$(or $$(run_$(1)),lib)
 endef
 # How a program is run once it is built.
 run_echonet = run --help
