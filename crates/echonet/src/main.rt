@@ -188,13 +188,15 @@ fn run_words<W: Sink, E: Sink>(
 
 // Prints what the parser says, and answers the status: 0 for help that was asked for.
 fn refuse(rt: &HostRuntime, error: &clap::Error) -> Status {
+    if error.kind() == ErrorKind::OutOfMemory {
+        return Fault::OutOfMemory.report(&mut Watched::new(rt.stderr()));
+    }
     let printed = error.print(rt);
     match error.kind() {
         ErrorKind::DisplayHelp | ErrorKind::DisplayVersion if printed.is_ok() => Status::Good,
         ErrorKind::DisplayHelp | ErrorKind::DisplayVersion => {
             Fault::CannotUse("-").report(&mut Watched::new(rt.stderr()))
         }
-        ErrorKind::OutOfMemory => Fault::OutOfMemory.report(&mut Watched::new(rt.stderr())),
         _ => Status::CommandLine,
     }
 }
