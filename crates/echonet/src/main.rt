@@ -211,7 +211,10 @@ fn words_given(rt: &HostRuntime) -> Result<Vec<String>, Status> {
         Err(error) if error.kind() == io::ErrorKind::OutOfMemory => {
             Err(Fault::OutOfMemory.report(&mut Watched::new(rt.stderr())))
         }
-        Err(_) => Err(Status::CommandLine),
+        Err(_) => {
+            let _ = eprintln!(rt; "error: a word of the command line is not UTF-8");
+            Err(Status::CommandLine)
+        }
     }
 }
 
