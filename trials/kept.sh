@@ -31,4 +31,8 @@ done < "$kept/stories.txt"
 for file in "$kept"/*.*; do
   [ "$file" = "$kept/stories.txt" ] || expect "$file has a story" grep -q "^$(basename "$file") |" "$kept/stories.txt"
 done
+# A word of the command line that is no text.
+status=0
+"$program" list $'\377' > said 2> fault || status=$?
+expect "a word that is not UTF-8" ended_with_fault $status 4 fault "error: "
 finish kept
