@@ -4,7 +4,8 @@
 //! whose area has LINKS links beside the sender. ROUNDS times, `new` tosses it at a fresh system, which
 //! stays in memory, so that its end is not timed, `known` tosses it at one that has all its messages,
 //! `post` posts one more message there, and `sum` adds the bytes of the packet as a yardstick. `scan` and
-//! `purge` toss it once and then scan once, and `purge` purges ROUNDS times.
+//! `purge` toss it once and then scan once, and `purge` purges ROUNDS times. With words, the time of the
+//! rounds alone is printed too, in microseconds.
 use crate::shared::{number, sum};
 use anyhow::{Context, Result, bail};
 use echo_addr::Items;
@@ -16,6 +17,7 @@ use echo_toss::{Tally, Tosser};
 use std::alloc::{AllocError, Global};
 use std::hash::{BuildHasherDefault, FoldHasher};
 use std::mem;
+use std::time::{Duration, Instant};
 
 /// How many lines the body of a message has.
 const LINES: usize = 14;
@@ -126,34 +128,49 @@ fn draft(alloc: Global) -> Result<Draft> {
     })
 }
 
-/// How many messages were handled: tossed, copied, posted or changed.
-fn toss_new(alloc: Global, links: usize, packet: &[u8], rounds: usize) -> Result<u64> {
+/// How many messages were handled, tossed, copied, posted or changed, and how long that took.
+#[derive(Clone, Copy)]
+struct Done {
+    all: u64,
+    time: Duration,
+}
+
+fn finished(rt: &HostRuntime, all: u64, start: &Instant) -> Result<Done> {
+    let time = start.elapsed(rt)?;
+    Ok(Done { all, time })
+}
+
+fn toss_new(rt: &HostRuntime, links: usize, packet: &[u8], rounds: usize) -> Result<Done> {
+    let alloc = rt.alloc();
     let mut all = 0u64;
+    let start = Instant::now(rt)?;
     for _ in 0..rounds {
         let mut system = fresh(alloc, links)?;
         all = all.wrapping_add(toss(&mut system, packet)?.filed);
         mem::forget(system);
     }
-    Ok(all)
+    finished(rt, all, &start)
 }
 
-fn toss_known(alloc: Global, links: usize, packet: &[u8], rounds: usize) -> Result<u64> {
-    let mut system = filled(alloc, links, packet)?;
+fn toss_known(rt: &HostRuntime, links: usize, packet: &[u8], rounds: usize) -> Result<Done> {
+    let mut system = filled(rt.alloc(), links, packet)?;
     let mut all = 0u64;
+    let start = Instant::now(rt)?;
     for _ in 0..rounds {
         all = all.wrapping_add(toss(&mut system, packet)?.known);
     }
-    Ok(all)
+    finished(rt, all, &start)
 }
 
-fn post(alloc: Global, links: usize, packet: &[u8], rounds: usize) -> Result<u64> {
-    let mut system = filled(alloc, links, packet)?;
-    let draft = draft(alloc)?;
+fn post(rt: &HostRuntime, links: usize, packet: &[u8], rounds: usize) -> Result<Done> {
+    let mut system = filled(rt.alloc(), links, packet)?;
+    let draft = draft(rt.alloc())?;
     let rounds = u32::try_from(rounds).context("at most 4,294,967,295 rounds")?;
+    let start = Instant::now(rt)?;
     for serial in 0..rounds {
         system.post(b"BENCH", &draft, serial, STAMP)?;
     }
-    Ok(u64::from(rounds))
+    finished(rt, u64::from(rounds), &start)
 }
 
 /// The number of copies that a scan makes.
@@ -166,31 +183,34 @@ fn scan(system: &mut System) -> Result<u64> {
     Ok(copies)
 }
 
-fn toss_and_scan(alloc: Global, links: usize, packet: &[u8], rounds: usize) -> Result<u64> {
-    let mut system = filled(alloc, links, packet)?;
+fn toss_and_scan(rt: &HostRuntime, links: usize, packet: &[u8], rounds: usize) -> Result<Done> {
+    let mut system = filled(rt.alloc(), links, packet)?;
     let mut copies = 0u64;
+    let start = Instant::now(rt)?;
     for _ in 0..rounds {
         copies = copies.wrapping_add(scan(&mut system)?);
     }
-    Ok(copies)
+    finished(rt, copies, &start)
 }
 
-fn purge(alloc: Global, packet: &[u8], rounds: usize) -> Result<u64> {
-    let mut system = filled(alloc, 0, packet)?;
+fn purge(rt: &HostRuntime, packet: &[u8], rounds: usize) -> Result<Done> {
+    let mut system = filled(rt.alloc(), 0, packet)?;
     scan(&mut system)?;
     let mut changed = 0u64;
+    let start = Instant::now(rt)?;
     for _ in 0..rounds {
         changed = changed.wrapping_add(system.purge()?);
     }
-    Ok(changed)
+    finished(rt, changed, &start)
 }
 
-fn sums(packet: &[u8], rounds: usize) -> u64 {
+fn sums(rt: &HostRuntime, packet: &[u8], rounds: usize) -> Result<Done> {
     let mut all = 0u64;
+    let start = Instant::now(rt)?;
     for _ in 0..rounds {
         all = all.wrapping_add(sum(packet));
     }
-    all
+    finished(rt, all, &start)
 }
 
 /// Runs the benchmark with the words that follow its name.
@@ -199,17 +219,19 @@ pub(crate) fn run(rt: &HostRuntime, words: &[String]) -> Result<()> {
     let count = number(words.get(1), 16)?;
     let rounds = number(words.get(2), 1)?;
     let links = number(words.get(3), 1)?;
-    let alloc = rt.alloc();
-    let packet = packet(alloc, count)?;
-    let all = match kind {
-        "new" => toss_new(alloc, links, &packet, rounds)?,
-        "known" => toss_known(alloc, links, &packet, rounds)?,
-        "scan" => toss_and_scan(alloc, links, &packet, rounds)?,
-        "post" => post(alloc, links, &packet, rounds)?,
-        "purge" => purge(alloc, &packet, rounds)?,
-        "sum" => sums(&packet, rounds),
+    let packet = packet(rt.alloc(), count)?;
+    let done = match kind {
+        "new" => toss_new(rt, links, &packet, rounds)?,
+        "known" => toss_known(rt, links, &packet, rounds)?,
+        "scan" => toss_and_scan(rt, links, &packet, rounds)?,
+        "post" => post(rt, links, &packet, rounds)?,
+        "purge" => purge(rt, &packet, rounds)?,
+        "sum" => sums(rt, &packet, rounds)?,
         _ => bail!("new, known, scan, post, purge or sum"),
     };
-    println!(rt; "bytes {} messages {all}", packet.len())?;
+    println!(rt; "bytes {} messages {}", packet.len(), done.all)?;
+    if !words.is_empty() {
+        println!(rt; "microseconds {}", done.time.as_micros())?;
+    }
     Ok(())
 }
