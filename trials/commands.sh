@@ -56,10 +56,13 @@ whole_packets() {
 # Whether all is as without a failure.
 all_done() { cmp -s said want/said && cmp -s base want/base && diff -rq out want/out > /dev/null; }
 
-# How a run is to have ended. Words: the command, what it met.
+# How a run is to have ended. A toss that met a failure inside a packet leaves the base with the messages
+# before it: `parts` names such bases. Words: the command, what it met.
+parts=
 judge() {
   local before=old.base call="$1, $2"
   if [ "$1" = scan ]; then before=tossed.base; fi
+  if [ "$1" = toss ]; then before="$before $parts"; fi
   tried=$((tried + 1))
   if [ $status = "$wanted" ]; then
     expect "$call: all is done" all_done

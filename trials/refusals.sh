@@ -1,8 +1,9 @@
 #!/usr/bin/env bash
 # Refuses each growth of memory in one run of each command in turn, by a malloc that is loaded before the C
 # library's (refuse.c, which needs a C compiler). Each run ends as with all its growths, or with 3, one
-# fault line, and the old base or the new one whole, no packet in part. How many growths a run has is found
-# by one that is refused none; growths before the program's own, the loader's, are among them.
+# fault line, and the old base or the new one whole, or the old one with the messages of the packet that
+# were tossed before it; no packet in part. How many growths a run has is found by one that is refused
+# none; growths before the program's own, the loader's, are among them.
 set -eu
 cd "$(dirname "$0")/.."
 . trials/setting.sh
@@ -20,6 +21,10 @@ run() {
 }
 
 make_story 8 4 200
+for number in 1 2 3; do
+  make_file base 0 $((8 + number)) 200 8 > part.$number
+done
+parts="part.1 part.2 part.3"
 for command in $commands; do
   tried=0
   refused=0
