@@ -1,5 +1,9 @@
 -- The lines of a text that ends each with a byte.
-use Rattle.std.specs.Prelude.{ℕ, ◌==◌, List, [], ◌∷◌, length, if◌then◌else◌}
+use Rattle.std.specs.Prelude.{ℕ, ◌==◌, Bool, List, [], ◌∷◌, length, if◌then◌else◌}
+
+-- 0A
+abbrev pub is_feed : ℕ → Bool
+is_feed b = b == 10
 
 -- the pieces between those bytes, but for an empty last one
 abbrev pub without_empty_last : List (List ℕ) → List (List ℕ)

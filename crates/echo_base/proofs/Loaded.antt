@@ -9,7 +9,7 @@ use Rattle.echo_packet.specs.Message.{HasNoZero, max_name, max_subject}
 use Rattle.echo_text.specs.Lines.{is_tag, trimmed}
 use Rattle.echo_text.specs.Echo.{EchoText, IsEcho}
 use Rattle.echo_text.specs.Ids.{is_line_byte, is_zero}
-use Rattle.echo_text.specs.Refusal.{refusal}
+use Rattle.echo_text.specs.Refusal.{text_refusal}
 use Rattle.echo_text.proofs.Reread.{read_is_echo}
 use Rattle.echo_filed.specs.Written.{echo_of, text_of}
 use Rattle.echo_filed.specs.Filed.{Filed, HasSmallSender, IsFiled, key_of}
@@ -44,9 +44,9 @@ none_of (Some f) h = absurd (cc)
 
 right_text : (text : List ℕ) → is_wrong_text text ≡ false → IsEcho (echo_of text)
 right_text text h =
-    let p1 = or_parts (list_any is_zero text) (not (is_none (refusal text)) || not (bytes_eq (text_of (echo_of text)) text)) h in
-    let p2 = or_parts (not (is_none (refusal text))) (not (bytes_eq (text_of (echo_of text)) text)) p1.1 in
-    let said = says_read text (none_of (refusal text) (not-false (is_none (refusal text)) p2.0)) in
+    let p1 = or_parts (list_any is_zero text) (not (is_none (text_refusal text)) || not (bytes_eq (text_of (echo_of text)) text)) h in
+    let p2 = or_parts (not (is_none (text_refusal text))) (not (bytes_eq (text_of (echo_of text)) text)) p1.1 in
+    let said = says_read text (none_of (text_refusal text) (not-false (is_none (text_refusal text)) p2.0)) in
     read_is_echo text (echo_of text) said.0 (All-from_recursion (λ b. b ≢ 0) text (no_zero text p1.0)) said.1
 
 pub right_last : (with_tag : Bool) (s : Stored) → cond with_tag (not (is_tag s.tag) || is_wrong_id s.last) (is_wrong_text s.last) ≡ false

@@ -10,7 +10,7 @@ use Rattle.echo_addr.specs.declared.address.Address.{Address}
 use Rattle.echo_packet.specs.Message.{HasNoZero, max_name, max_subject}
 use Rattle.echo_text.specs.Lines.{is_tag, is_tag_byte, msgid_word, trimmed}
 use Rattle.echo_text.specs.Echo.{EchoText, IsEcho, IsLine, msgid_of}
-use Rattle.echo_text.specs.Refusal.{refusal}
+use Rattle.echo_text.specs.Refusal.{text_refusal}
 use Rattle.echo_text.specs.Ids.{is_line_byte, is_zero}
 use Rattle.echo_filed.specs.Written.{echo_of, text_of}
 use Rattle.echo_filed.specs.Filed.{Filed, HasSmallSender, IsFiled, id_line, key_of}
@@ -127,9 +127,9 @@ strings_right short m h =
 
 text_right : (e : EchoText) → IsEcho e → is_wrong_text (text_of e) ≡ false
 text_right e is =
-    or_from (list_any is_zero (text_of e)) (not (is_none (refusal (text_of e))) || not (bytes_eq (text_of (echo_of (text_of e))) (text_of e)))
+    or_from (list_any is_zero (text_of e)) (not (is_none (text_refusal (text_of e))) || not (bytes_eq (text_of (echo_of (text_of e))) (text_of e)))
     (none_zero (text_of e) (text_no_zero e is))
-    (or_from (not (is_none (refusal (text_of e)))) (not (bytes_eq (text_of (echo_of (text_of e))) (text_of e)))
+    (or_from (not (is_none (text_refusal (text_of e)))) (not (bytes_eq (text_of (echo_of (text_of e))) (text_of e)))
     (ap (λ o. not (is_none o)) (written_accepted e is))
     (not_from_true (bytes_eq (text_of (echo_of (text_of e))) (text_of e))
     ((bytes_decides (text_of (echo_of (text_of e))) (text_of e)).1 (ap text_of (written_back e is)))))

@@ -9,7 +9,7 @@ use Rattle.echo_addr.specs.declared.address.Address.{Address}
 use Rattle.echo_text.specs.Lines.{is_tag, trimmed}
 use Rattle.echo_text.specs.Echo.{EchoText, msgid_of}
 use Rattle.echo_text.specs.Ids.{is_line_byte, is_zero}
-use Rattle.echo_text.specs.Refusal.{refusal}
+use Rattle.echo_text.specs.Refusal.{text_refusal}
 use Rattle.echo_filed.specs.Written.{echo_of, text_of}
 use Rattle.echo_filed.specs.Filed.{Filed}
 use Rattle.echo_filed.specs.Stubs.{bare}
@@ -56,8 +56,8 @@ last_back true tag last none right =
     some [] h = absurd (cc)
     some (x ∷ l) h = omega arith
 last_back false tag last none right =
-    let p1 = or_parts (list_any is_zero last) (not (is_none (refusal last)) || not (bytes_eq (text_of (echo_of last)) last)) right in
-    let p2 = or_parts (not (is_none (refusal last))) (not (bytes_eq (text_of (echo_of last)) last)) p1.1 in
+    let p1 = or_parts (list_any is_zero last) (not (is_none (text_refusal last)) || not (bytes_eq (text_of (echo_of last)) last)) right in
+    let p2 = or_parts (not (is_none (text_refusal last))) (not (bytes_eq (text_of (echo_of last)) last)) p1.1 in
     (sym (none refl), (bytes_decides (text_of (echo_of last)) last).0 (not-false (bytes_eq (text_of (echo_of last)) last) p2.1))
 
 -- the form is the one that is to be used

@@ -8,7 +8,7 @@ use Rattle.echo_addr.specs.declared.address.NetNode.{NetNode}
 use Rattle.echo_text.specs.Lines.{is_tag, msgid_word, trimmed}
 use Rattle.echo_text.specs.Echo.{EchoOf, EchoText, IsEcho}
 use Rattle.echo_text.specs.Ids.{is_line_byte, is_zero}
-use Rattle.echo_text.specs.Refusal.{refusal}
+use Rattle.echo_text.specs.Refusal.{text_refusal}
 use Rattle.echo_filed.specs.declared.key.Key.{Key}
 use Rattle.echo_filed.specs.Filed.{Filed, IsFiled, id_line, key_of}
 use Rattle.echo_filed.specs.Written.{echo_of, text_of}
@@ -25,9 +25,9 @@ use Rattle.echo_base.proofs.Loaded.{filed_with, right_last, stored_sound}
 -- a text that says an echo is wrong where it is not the one that is written
 pub text_wrong : (text : List ℕ) (e : EchoText) (dropped : ℕ) → list_any is_zero text ≡ false → EchoOf text e dropped → is_wrong_text text ≡ not (bytes_eq (text_of e) text)
 text_wrong text e dropped zero says =
-    let read : not (is_none (refusal text)) ≡ false = ap (λ o. not (is_none o)) (says_accepted text e dropped says) in
+    let read : not (is_none (text_refusal text)) ≡ false = ap (λ o. not (is_none o)) (says_accepted text e dropped says) in
     let written : Bool = not (bytes_eq (text_of (echo_of text)) text) in
-    ap (λ b. b || (not (is_none (refusal text)) || written)) zero
+    ap (λ b. b || (not (is_none (text_refusal text)) || written)) zero
     ∙ ap (λ b. b || written) read
     ∙ ap (λ x. not (bytes_eq (text_of x) text)) (says_one text e dropped says)
 

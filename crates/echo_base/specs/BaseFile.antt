@@ -3,7 +3,7 @@ use Rattle.std.specs.Prelude.{◌≡◌, ℕ, ◌+◌, ◌^◌, ◌<◌, ◌≤�
 use Rattle.std.specs.List.{AllByRecursion, flat_map, list_all, list_any, starts_with}
 use Rattle.echo_packet.specs.Message.{max_name, max_subject}
 use Rattle.echo_text.specs.Lines.{is_tag, trimmed}
-use Rattle.echo_text.specs.Refusal.{refusal}
+use Rattle.echo_text.specs.Refusal.{text_refusal}
 use Rattle.echo_text.specs.Ids.{is_line_byte, is_zero}
 use Rattle.echo_filed.specs.Written.{echo_of, text_of}
 use Rattle.echo_filed.specs.Filed.{Filed, key_of}
@@ -39,7 +39,7 @@ has_wrong_string s = is_no_string max_name s.to_name || (is_no_string max_name s
 -- a text with a 00, one that is no echomail, or one that is not written so
 abbrev pub is_wrong_text : List ℕ → Bool
 is_wrong_text text =
-    list_any is_zero text || (not (is_none (refusal text)) || not (bytes_eq (text_of (echo_of text)) text))
+    list_any is_zero text || (not (is_none (text_refusal text)) || not (bytes_eq (text_of (echo_of text)) text))
 
 -- an id without a byte, with 00 or 0D, or with a blank at an end
 abbrev pub is_wrong_id : List ℕ → Bool

@@ -13,12 +13,12 @@ use Rattle.echo_nodelist.specs.declared.line.Line.TheVariants.{Note}
 use Rattle.echo_nodelist.specs.declared.stated.CrcLine.{CrcLine}
 use Rattle.echo_nodelist.specs.Back.{address_at}
 use Rattle.echo_nodelist.specs.CrcLine.{crc_line_of}
-use Rattle.echo_nodelist.specs.Nodelist.{Answers, NodelistOf}
+use Rattle.echo_nodelist.specs.Nodelist.{ListAnswered, NodelistOf}
 use Rattle.echo_commands.specs.declared.fault.Fault.TheVariants.{Nodelist}
 use Rattle.echo_commands.specs.declared.status.Status.{Status}
 use Rattle.echo_commands.specs.Ended.{IsWantOfMemory}
 use Rattle.echo_commands.specs.Listing.{NodelistAnswers, crc_status}
-use Rattle.echo_print.specs.Listed.{Listed, RestListed, addressed_text, crc_text, entries_text, line_at}
+use Rattle.echo_print.specs.Listed.{Listed, RestListed, addressed_text, crc_text, listed_entries, line_at}
 use Rattle.echo_commands.specs.Written.{Writes}
 use Rattle.echo_commands.proofs.Pushed.{all_written}
 
@@ -32,11 +32,11 @@ range_more n =
     ∙ ap (λ t. t ++ n ∷ []) (same_map (range_with_len 0 n))
 
 -- one line more
-entries_more : (lines : List Line) (n : ℕ) → entries_text lines (n + 1) ≡ entries_text lines n ++ addressed_text (address_at lines n) (line_at lines n)
+entries_more : (lines : List Line) (n : ℕ) → listed_entries lines (n + 1) ≡ listed_entries lines n ++ addressed_text (address_at lines n) (line_at lines n)
 entries_more lines n =
     let text : ℕ → List ℕ = λ i. addressed_text (address_at lines i) (line_at lines i) in
     ap (flat_map text) (range_more n) ∙ flat_map-append text (range_with_len 0 n) (n ∷ [])
-    ∙ ap (λ t. entries_text lines n ++ t) (append-nil (text n))
+    ∙ ap (λ t. listed_entries lines n ++ t) (append-nil (text n))
 
 -- the line on the checksum, and then the others
 pub listed_lines : (find : Option Address) (lines : List Line) (stated : CrcLine) (a b c : Option (List ℕ)) → Appends a b (crc_text stated) → Writes (RestListed find lines) b c
@@ -48,7 +48,7 @@ listed_lines find lines stated a b c first rest = record {
 }
 
 -- the input is no nodelist
-pub read_refused : (find : Option Address) (input : List ℕ) (old : Option (List ℕ)) (n : ℕ) (f : NodeFault) → Answers input (Err f)
+pub read_refused : (find : Option Address) (input : List ℕ) (old : Option (List ℕ)) (n : ℕ) (f : NodeFault) → ListAnswered input (Err f)
     → NodelistAnswers find input old old n n (Err (Nodelist f))
 read_refused find input old n f (inl wrong) = inr (record { why = f; is = refl; of_lines = wrong; nothing = refl }, refl)
 read_refused find input old n f (inr memory) = inl (inr (subst (λ x. IsWantOfMemory (Nodelist x)) (sym memory) tt, refl))
@@ -70,16 +70,16 @@ list_printed find input none rest lines stated status a b c x y z is agreed noth
 
 -- the same, as the loop over the lines has it
 entry_more : (lines items : List Line) (i : ℕ) (a : Option Address) (line : Line) → items ≡ lines → i < length items → a ≡ address_at lines i → line ≡ get_or items i line
-    → entries_text lines (i + 1) ≡ entries_text lines i ++ addressed_text a line
+    → listed_entries lines (i + 1) ≡ listed_entries lines i ++ addressed_text a line
 entry_more lines items i a line same within here is =
     let found : line_at lines i ≡ line =
     ap (λ xs. get_or xs i (Note [])) (sym same) ∙ get_or_default items i (Note []) line within ∙ sym is in
     entries_more lines i
-    ∙ ap (λ t. entries_text lines i ++ t) (ap (addressed_text (address_at lines i)) found ∙ ap (λ x. addressed_text x line) (sym here))
+    ∙ ap (λ t. listed_entries lines i ++ t) (ap (addressed_text (address_at lines i)) found ∙ ap (λ x. addressed_text x line) (sym here))
 
 -- one entry more is printed
 pub printed_more : (a b c : Option (List ℕ)) (lines items : List Line) (i : ℕ) (x : Option Address) (line : Line) → items ≡ lines → i < length items → x ≡ address_at lines i → line ≡ get_or items i line
-    → Appends a b (entries_text lines i) → Appends b c (addressed_text x line) → Appends a c (entries_text lines (i + 1))
+    → Appends a b (listed_entries lines i) → Appends b c (addressed_text x line) → Appends a c (listed_entries lines (i + 1))
 printed_more a b c lines items i x line same within here is before more =
     subst (Appends a c) (sym (entry_more lines items i x line same within here is))
-    (Appends-trans a b c (entries_text lines i) (addressed_text x line) before more)
+    (Appends-trans a b c (listed_entries lines i) (addressed_text x line) before more)

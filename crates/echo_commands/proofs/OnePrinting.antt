@@ -8,7 +8,7 @@ use Rattle.echo_packet.specs.Answer.{Answer, Describes, Found}
 use Rattle.echo_packet.proofs.Outcome.{only_one, outcome}
 use Rattle.echo_text.specs.declared.fault.TextFault.{TextFault}
 use Rattle.echo_text.specs.declared.fault.TextFault.TheVariants.{BadMsgId, BadTag, Memory, NotEcho}
-use Rattle.echo_text.specs.Refusal.{refusal}
+use Rattle.echo_text.specs.Refusal.{text_refusal}
 use Rattle.echo_text.proofs.OneReading.{one_count, one_echo}
 use Rattle.hex.specs.Hex.{decode_of}
 use Rattle.hex.specs.declared.error.FromHexError.{FromHexError}
@@ -35,7 +35,7 @@ one_said (Some BadMsgId) text a b h k = absurd h
 
 one_message : (number place : ℕ) (m : Message) (a b : List ℕ) → MessageShown number place m a → MessageShown number place m b → a ≡ b
 one_message number place m a b h k =
-    h.whole ∙ ap (λ t. message_lines number place m ++ t) (one_said (refusal m.text) m.text h.said k.said h.text k.text) ∙ sym k.whole
+    h.whole ∙ ap (λ t. message_lines number place m ++ t) (one_said (text_refusal m.text) m.text h.said k.said h.text k.text) ∙ sym k.whole
 
 all_messages : (number place : ℕ) (ms : List Message) (a b : List ℕ) → MessagesShown number place ms a → MessagesShown number place ms b → a ≡ b
 all_messages number place [] a b h k = h ∙ sym k

@@ -6,7 +6,7 @@ use Rattle.echo_text.specs.declared.fault.TextFault.{TextFault}
 use Rattle.echo_text.specs.declared.fault.TextFault.TheVariants.{BadMsgId, BadTag, Memory, NotEcho}
 use Rattle.echo_text.specs.Echo.{EchoOf, EchoText, HasNoZero}
 use Rattle.echo_text.specs.Lines.{area_tag, first_line, is_area, is_tag, lines}
-use Rattle.echo_text.specs.Refusal.{Answers, refusal}
+use Rattle.echo_text.specs.Refusal.{TextAnswers, text_refusal}
 use Rattle.echo_text.proofs.SaidAfter.{not_refused}
 use Rattle.echo_print.specs.Said.{LinesFor, TextShown, echo_lines}
 use Rattle.echo_print.specs.Shown.{MessageShown, message_lines}
@@ -23,14 +23,14 @@ echo_shown text lines e dropped said whole =
     subst (λ r. LinesFor r text lines) (sym (not_refused text e dropped said)) shown
 
 -- the line of a text that is none
-pub no_echo_shown : (text : List ℕ) → Answers text (Err NotEcho) → TextShown text (codes "not echomail\n")
+pub no_echo_shown : (text : List ℕ) → TextAnswers text (Err NotEcho) → TextShown text (codes "not echomail\n")
 no_echo_shown text answer = elim answer [
   | inl is ↦ let shown : LinesFor (Some NotEcho) text (codes "not echomail\n") = refl in subst (λ r. LinesFor r text (codes "not echomail\n")) (sym is) shown
   | inr memory ↦ let no = memory.1 in absurd cc
 ]
 
 -- the line of a text with a bad tag
-pub bad_tag_shown : (text : List ℕ) → Answers text (Err BadTag) → TextShown text (codes "bad tag\n")
+pub bad_tag_shown : (text : List ℕ) → TextAnswers text (Err BadTag) → TextShown text (codes "bad tag\n")
 bad_tag_shown text answer = elim answer [
   | inl is ↦ let shown : LinesFor (Some BadTag) text (codes "bad tag\n") = refl in subst (λ r. LinesFor r text (codes "bad tag\n")) (sym is) shown
   | inr memory ↦ let no = memory.1 in absurd cc
@@ -51,12 +51,12 @@ no_id true b is = absurd cc
 no_id false true is = absurd cc
 no_id false false is = absurd cc
 
-pub no_bad_id : (text : List ℕ) → refusal text ≡ Some BadMsgId → ⊥
-unfolding refusal
+pub no_bad_id : (text : List ℕ) → text_refusal text ≡ Some BadMsgId → ⊥
+unfolding text_refusal
 no_bad_id text is = no_id (not (is_area (first_line (lines text)))) (not (is_tag (area_tag (first_line (lines text))))) is
 
 -- a text is refused for other reasons only where memory was wanting
-pub other_fault : (text : List ℕ) (f : TextFault) → Answers text (Err f) → f ≢ NotEcho → f ≢ BadTag → f ≡ Memory
+pub other_fault : (text : List ℕ) (f : TextFault) → TextAnswers text (Err f) → f ≢ NotEcho → f ≢ BadTag → f ≡ Memory
 other_fault text NotEcho answer a b = absurd (a refl)
 other_fault text BadTag answer a b = absurd (b refl)
 other_fault text Memory answer a b = refl

@@ -21,9 +21,9 @@ use Rattle.echo_steps.specs.declared.fault.ScanFault.TheVariants as scan
 use Rattle.echo_commands.specs.declared.fault.Fault.{Fault}
 use Rattle.echo_commands.specs.declared.fault.Fault.TheVariants.{Post, Scan}
 use Rattle.echo_commands.specs.Ended.{IsWantOfMemory}
-use Rattle.echo_commands.specs.Posted.{PostAnswers, draft_of}
+use Rattle.echo_commands.specs.Posted.{PostAnswers, draft_given}
 use Rattle.echo_commands.specs.Purged.{PurgeAnswers}
-use Rattle.echo_commands.specs.Scanned.{IsScanned, ScanAnswers, file_of, line_of}
+use Rattle.echo_commands.specs.Scanned.{IsScanned, ScanAnswers, file_sent, line_sent}
 use Rattle.echo_commands.specs.System.{IsSystemGiven, IsTooMany}
 use Rattle.echo_commands.proofs.Checks.{went}
 
@@ -34,7 +34,7 @@ scanned_before all waiting cursor before is within counted = omega (arith, is, w
 pub was_scanned : (stamp : Stamp) (links : List ℕ) (base : Option (List ℕ)) (system left : SystemState) (packets : List Packet) (sent : List PacketFile) (all waiting before : ℕ)
     (bytes none lines : List ℕ) (files : Files) (a b : Option (List ℕ)) → IsSystemGiven links base system → IsBase system.base system.cursor → all ≡ length system.base
     → waiting ≡ length system.base - system.cursor → before ≡ all - waiting → ScanStep system stamp (Ok packets) left → bytes ≡ saved_bytes left.base left.cursor
-    → is_countable left.base left.cursor ≡ true → sent ≡ map (file_of before) packets → none ≡ [] → lines ≡ none ++ flat_map line_of packets → Appends a b lines → files ≡ record { packets = sent; base = Some bytes }
+    → is_countable left.base left.cursor ≡ true → sent ≡ map (file_sent before) packets → none ≡ [] → lines ≡ none ++ flat_map line_sent packets → Appends a b lines → files ≡ record { packets = sent; base = Some bytes }
     → IsScanned stamp links base a b files
 was_scanned stamp links base system left packets sent all waiting before bytes none lines files a b given is_base counted waits rest step saved few made nothing whole out are =
     let scanned_first : before ≡ system.cursor =
@@ -43,22 +43,22 @@ was_scanned stamp links base system left packets sent all waiting before bytes n
       system = system;
       given = given;
       moment = step.0;
-      printed = subst (λ (ps : List Packet). Appends a b (flat_map line_of ps)) step.1 (went none lines (flat_map line_of packets) a b nothing whole out);
-      left = are ∙ ap (λ (fs : List PacketFile). record { packets = fs; base = Some bytes }) (made ∙ ap (λ (n : ℕ). map (file_of n) packets) scanned_first ∙ ap (map (file_of system.cursor)) step.1)
-          ∙ ap (λ (bs : List ℕ). record { packets = map (file_of system.cursor) (scanned system.file system.base system.cursor stamp); base = Some bs }) (saved ∙ ap (λ (s : SystemState). saved_bytes s.base s.cursor) step.2);
+      printed = subst (λ (ps : List Packet). Appends a b (flat_map line_sent ps)) step.1 (went none lines (flat_map line_sent packets) a b nothing whole out);
+      left = are ∙ ap (λ (fs : List PacketFile). record { packets = fs; base = Some bytes }) (made ∙ ap (λ (n : ℕ). map (file_sent n) packets) scanned_first ∙ ap (map (file_sent system.cursor)) step.1)
+          ∙ ap (λ (bs : List ℕ). record { packets = map (file_sent system.cursor) (scanned system.file system.base system.cursor stamp); base = Some bs }) (saved ∙ ap (λ (s : SystemState). saved_bytes s.base s.cursor) step.2);
       countable = subst (λ (s : SystemState). is_countable s.base s.cursor ≡ true) step.2 few;
     }
 
 -- the refusal is that of the draft of the words
-refused_draft : (words : NewMessage) (body : List ℕ) (system : SystemState) (draft : Draft) (why : PostFault) → draft ≡ draft_of words body
+refused_draft : (words : NewMessage) (body : List ℕ) (system : SystemState) (draft : Draft) (why : PostFault) → draft ≡ draft_given words body
     → post_refusal system.file system.base words.tag.now draft words.serial words.stamp ≡ Some why
-    → post_refusal system.file system.base words.tag.now (draft_of words body) words.serial words.stamp ≡ Some why
+    → post_refusal system.file system.base words.tag.now (draft_given words body) words.serial words.stamp ≡ Some why
 refused_draft words body system draft why drafted refused =
     subst (λ (d : Draft). post_refusal system.file system.base words.tag.now d words.serial words.stamp ≡ Some why) drafted refused
 
 -- a posting that is refused
 pub post_refused : (words : NewMessage) (links : List ℕ) (base : Option (List ℕ)) (stopped : Option Fault) (body : List ℕ) (system left : SystemState) (draft : Draft)
-    (why : PostFault) (old : Option (List ℕ)) (n : ℕ) → IsSystemGiven links base system → stopped ≡ None → draft ≡ draft_of words body
+    (why : PostFault) (old : Option (List ℕ)) (n : ℕ) → IsSystemGiven links base system → stopped ≡ None → draft ≡ draft_given words body
     → IsPostFault system.file system.base words.tag.now draft words.serial words.stamp why → PostAnswers words links base stopped body old old n n (Err (Post why))
 post_refused words links base stopped body system left draft post.Memory old n given went_on drafted step = inl (inr (tt, refl))
 post_refused words links base stopped body system left draft post.NoArea old n given went_on drafted step =
@@ -76,7 +76,7 @@ post_refused words links base stopped body system left draft post.KnownSerial ol
 
 -- a base that is not saved after the posting
 pub post_unsaved : (words : NewMessage) (links : List ℕ) (base : Option (List ℕ)) (stopped : Option Fault) (body : List ℕ) (system left : SystemState) (draft : Draft)
-    (fault : Fault) (old : Option (List ℕ)) (n : ℕ) → IsSystemGiven links base system → stopped ≡ None → draft ≡ draft_of words body
+    (fault : Fault) (old : Option (List ℕ)) (n : ℕ) → IsSystemGiven links base system → stopped ≡ None → draft ≡ draft_given words body
     → post_refusal system.file system.base words.tag.now draft words.serial words.stamp ≡ None
     → left ≡ state_with system (Some (posted system.file words.tag.now draft words.serial words.stamp)) → IsWantOfMemory fault ⊎ IsTooMany left.base left.cursor fault
     → PostAnswers words links base stopped body old old n n (Err fault)

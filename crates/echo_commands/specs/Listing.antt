@@ -6,7 +6,7 @@ use Rattle.echo_nodelist.specs.declared.stated.CrcLine.TheVariants.{Mismatch}
 use Rattle.echo_nodelist.specs.declared.line.Line.{Line}
 use Rattle.echo_nodelist.specs.declared.fault.NodeFault.{NodeFault}
 use Rattle.echo_nodelist.specs.CrcLine.{crc_line_of}
-use Rattle.echo_nodelist.specs.Nodelist.{FaultOf, NodelistOf}
+use Rattle.echo_nodelist.specs.Nodelist.{ListFaultOf, NodelistOf}
 use Rattle.echo_commands.specs.declared.fault.Fault.{Fault}
 use Rattle.echo_commands.specs.declared.fault.Fault.TheVariants.{Nodelist}
 use Rattle.echo_commands.specs.declared.status.Status.{Status}
@@ -31,7 +31,7 @@ pub record IsListed (find : Option Address) (input : List ℕ) (old new : Option
 pub record IsFaulty (input : List ℕ) (old new : Option (List ℕ)) (fault : Fault) : Type 0 where
   pub why : NodeFault
   pub is : fault ≡ Nodelist why
-  pub of_lines : FaultOf input why
+  pub of_lines : ListFaultOf input why
   pub nothing : new ≡ old
 
 -- what is answered where a nodelist is to be printed

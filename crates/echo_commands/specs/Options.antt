@@ -7,16 +7,16 @@ use Rattle.echo_steps.specs.declared.stamp.Stamp.{Stamp}
 use Rattle.echo_text.specs.Ids.{is_hex_digit}
 
 -- the number that the bytes from one index up to another write
-abbrev pub number_at : List ℕ → ℕ → ℕ → ℕ
-number_at word from to = digits_value 10 (slice_range word from to)
+abbrev pub number_between : List ℕ → ℕ → ℕ → ℕ
+number_between word from to = digits_value 10 (slice_range word from to)
 
 -- whether a word is a serial: eight digits to the base 16, of either case
 abbrev pub is_serial : List ℕ → Bool
 is_serial word = (length word == 8) && list_all is_hex_digit word
 
 -- the number that it writes
-abbrev pub serial_in : List ℕ → ℕ
-serial_in word = digits_value 16 word
+abbrev pub serial_of_word : List ℕ → ℕ
+serial_of_word word = digits_value 16 word
 
 -- whether the marks of a stamp stand where they are to stand: YYYY-MM-DDThh:mm:ss
 abbrev pub has_marks : List ℕ → Bool
@@ -30,20 +30,20 @@ has_numbers word =
     && (is_number (slice_range word 11 13) && (is_number (slice_range word 14 16) && is_number (slice_range word 17 19)))
 
 -- whether a word is laid out as a stamp
-abbrev pub is_stamp : List ℕ → Bool
-is_stamp word = (length word == 19) && (has_marks word && has_numbers word)
+abbrev pub is_stamp_word : List ℕ → Bool
+is_stamp_word word = (length word == 19) && (has_marks word && has_numbers word)
 
 -- the moment that it writes, whose parts may be out of their ranges
 abbrev pub stamp_in : List ℕ → Stamp
 stamp_in word = record {
-  year = number_at word 0 4;
-  month = number_at word 5 7;
-  day = number_at word 8 10;
-  hour = number_at word 11 13;
-  minute = number_at word 14 16;
-  second = number_at word 17 19;
+  year = number_between word 0 4;
+  month = number_between word 5 7;
+  day = number_between word 8 10;
+  hour = number_between word 11 13;
+  minute = number_between word 14 16;
+  second = number_between word 17 19;
 }
 
 -- the number that decimal digits write, of any number of digits; a greater one is the greatest u64
-abbrev pub index_in : List ℕ → ℕ
-index_in word = min (digits_value 10 word) (2 ^ 64 - 1)
+abbrev pub index_of_word : List ℕ → ℕ
+index_of_word word = min (digits_value 10 word) (2 ^ 64 - 1)

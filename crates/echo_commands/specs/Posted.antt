@@ -31,8 +31,8 @@ abbrev pub draft_body : List ℕ → List ℕ
 draft_body body = draft_after 0 body
 
 -- the draft of the words and the body
-abbrev pub draft_of : NewMessage → List ℕ → Draft
-draft_of words body = record {
+abbrev pub draft_given : NewMessage → List ℕ → Draft
+draft_given words body = record {
   to_name = words.to_name.now;
   from_name = words.from_name.now;
   subject = words.subject.now;
@@ -42,17 +42,17 @@ draft_of words body = record {
 
 -- the base with one message more
 abbrev pub base_after : SystemState → NewMessage → List ℕ → List Filed
-base_after system words body = system.base ++ posted system.file words.tag.now (draft_of words body) words.serial words.stamp ∷ []
+base_after system words body = system.base ++ posted system.file words.tag.now (draft_given words body) words.serial words.stamp ∷ []
 
 -- no refusal applies, or this is the first that does
-abbrev pub refusal_of : SystemState → NewMessage → List ℕ → Option PostFault
-refusal_of system words body = post_refusal system.file system.base words.tag.now (draft_of words body) words.serial words.stamp
+abbrev pub refusal_given : SystemState → NewMessage → List ℕ → Option PostFault
+refusal_given system words body = post_refusal system.file system.base words.tag.now (draft_given words body) words.serial words.stamp
 
 -- the posting at the system that the files make: its tag and id are printed, and the base with it, which four bytes count, is to be written
 pub record IsPosted (words : NewMessage) (links : List ℕ) (base : Option (List ℕ)) (body : List ℕ) (old new : Option (List ℕ)) (files : Files) : Type 0 where
   pub system : SystemState
   pub given : IsSystemGiven links base system
-  pub allowed : refusal_of system words body ≡ None
+  pub allowed : refusal_given system words body ≡ None
   pub printed : Appends old new (posted_line words.tag.now (id_of system.file.system words.serial))
   pub left : files ≡ only_base (saved_bytes (base_after system words body) system.cursor)
   pub countable : is_countable (base_after system words body) system.cursor ≡ true
@@ -60,8 +60,8 @@ pub record IsPosted (words : NewMessage) (links : List ℕ) (base : Option (List
 -- a posting is refused at a system: the first refusal that applies, or a base that is too great
 abbrev pub IsUnposted : SystemState → NewMessage → List ℕ → Fault → Type 0
 IsUnposted system words body fault =
-    ((why : PostFault) × (fault ≡ Post why) × (refusal_of system words body ≡ Some why))
-    ⊎ ((refusal_of system words body ≡ None) × IsTooMany (base_after system words body) system.cursor fault)
+    ((why : PostFault) × (fault ≡ Post why) × (refusal_given system words body ≡ Some why))
+    ⊎ ((refusal_given system words body ≡ None) × IsTooMany (base_after system words body) system.cursor fault)
 
 -- the files have the fault, or the posting is refused
 abbrev pub PostRefuses : NewMessage → List ℕ → Option (List ℕ) → Option Fault → List ℕ → Fault → Type 0

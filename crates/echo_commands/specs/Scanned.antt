@@ -16,7 +16,7 @@ use Rattle.echo_commands.specs.declared.fault.Fault.TheVariants.{Scan}
 use Rattle.echo_commands.specs.declared.leaving.Files.{Files}
 use Rattle.echo_commands.specs.declared.leaving.PacketFile.{PacketFile}
 use Rattle.echo_commands.specs.Ended.{Answers}
-use Rattle.echo_print.specs.Shown.{destination}
+use Rattle.echo_print.specs.Shown.{told_receiver}
 use Rattle.echo_commands.specs.System.{IsFirstFaultOf, IsSystemGiven, IsTooMany}
 use Rattle.echo_print.specs.Told.{sent_line}
 
@@ -26,16 +26,16 @@ packet_name to before =
     decimal to.zone ++ (codes "." ++ (decimal to.net ++ (codes "." ++ (decimal to.node ++ (codes "." ++ (decimal before ++ codes ".pkt"))))))
 
 -- a packet's file
-abbrev pub file_of : ℕ → Packet → PacketFile
-file_of before p = record { name = packet_name (destination p.header) before; bytes = packet_bytes p.header p.messages }
+abbrev pub file_sent : ℕ → Packet → PacketFile
+file_sent before p = record { name = packet_name (told_receiver p.header) before; bytes = packet_bytes p.header p.messages }
 
-abbrev pub line_of : Packet → List ℕ
-line_of p = sent_line (destination p.header) (length p.messages) (length (packet_bytes p.header p.messages))
+abbrev pub line_sent : Packet → List ℕ
+line_sent p = sent_line (told_receiver p.header) (length p.messages) (length (packet_bytes p.header p.messages))
 
 -- the files of the packets of a scan, and then the base whose messages are all scanned
 abbrev pub files_of : SystemState → List Packet → Files
 files_of system packets = record {
-  packets = map (file_of system.cursor) packets;
+  packets = map (file_sent system.cursor) packets;
   base = Some (saved_bytes system.base (length system.base));
 }
 
@@ -44,7 +44,7 @@ pub record IsScanned (stamp : Stamp) (links : List ℕ) (base : Option (List ℕ
   pub system : SystemState
   pub given : IsSystemGiven links base system
   pub moment : is_stamp stamp ≡ true
-  pub printed : Appends old new (flat_map line_of (scanned system.file system.base system.cursor stamp))
+  pub printed : Appends old new (flat_map line_sent (scanned system.file system.base system.cursor stamp))
   pub left : files ≡ files_of system (scanned system.file system.base system.cursor stamp)
   pub countable : is_countable system.base (length system.base) ≡ true
 

@@ -5,7 +5,7 @@ ghost use Rattle.echo_addr.specs.Digits.{is_number};
 ghost use Rattle.echo_text.specs.Ids.{is_hex_digit};
 ghost use Rattle.echo_commands.specs.declared.fault.Fault.TheVariants.{BadNumber, BadSerial, BadStamp};
 ghost use Rattle.echo_commands.specs.Options as options;
-ghost use Rattle.echo_commands.specs.Options.{index_in, is_serial, is_stamp, serial_in};
+ghost use Rattle.echo_commands.specs.Options.{index_of_word, is_serial, is_stamp_word, serial_of_word};
 ghost use Rattle.std.specs.Str.Parse.{digits_value};
 
 use crate::fault::Fault;
@@ -14,8 +14,8 @@ use echo_steps::Stamp;
 
 /// The moment that `YYYY-MM-DDThh:mm:ss` writes. Its parts may be out of their ranges.
 pub fn stamp_of<'a>(word: &str) -> Result<Stamp, Fault<'a>>
-    ensures ok { IfOk result (λ stamp. (is_stamp word.now ≡ true) × (stamp ≡ options.stamp_in word.now)) }
-    ensures refused { IfErr result (λ fault. (fault ≡ BadStamp) × (is_stamp word.now ≡ false)) }
+    ensures ok { IfOk result (λ stamp. (is_stamp_word word.now ≡ true) × (stamp ≡ options.stamp_in word.now)) }
+    ensures refused { IfErr result (λ fault. (fault ≡ BadStamp) × (is_stamp_word word.now ≡ false)) }
 {
     let bytes = word.as_bytes();
     if !is_stamp(bytes) {
@@ -26,7 +26,7 @@ pub fn stamp_of<'a>(word: &str) -> Result<Stamp, Fault<'a>>
 
 /// The number that eight hexadecimal digits of either case write.
 pub fn serial_of<'a>(word: &str) -> Result<u32, Fault<'a>>
-    ensures ok { IfOk result (λ serial. (is_serial word.now ≡ true) × (serial ≡ serial_in word.now)) }
+    ensures ok { IfOk result (λ serial. (is_serial word.now ≡ true) × (serial ≡ serial_of_word word.now)) }
     ensures refused { IfErr result (λ fault. (fault ≡ BadSerial) × (is_serial word.now ≡ false)) }
 {
     let bytes = word.as_bytes();
@@ -41,7 +41,7 @@ pub fn serial_of<'a>(word: &str) -> Result<u32, Fault<'a>>
 
 /// The number that decimal digits write, however many; a greater one is the greatest `u64`.
 pub fn number_of<'a>(word: &str) -> Result<u64, Fault<'a>>
-    ensures ok { IfOk result (λ n. (is_number word.now ≡ true) × (n ≡ index_in word.now)) }
+    ensures ok { IfOk result (λ n. (is_number word.now ≡ true) × (n ≡ index_of_word word.now)) }
     ensures refused { IfErr result (λ fault. (fault ≡ BadNumber) × (is_number word.now ≡ false)) }
 {
     if !is_number(word.as_bytes()) {
@@ -57,7 +57,7 @@ fn is_number(digits: &[u8]) -> bool
 }
 
 fn is_stamp(word: &[u8]) -> bool
-    ensures { result ≡ is_stamp word.now }
+    ensures { result ≡ is_stamp_word word.now }
 {
     word.len() == 19 && has_marks(word) && has_numbers(word)
 }
@@ -83,7 +83,7 @@ fn has_numbers(word: &[u8]) -> bool
 }
 
 fn stamp_in(word: &[u8]) -> Stamp
-    requires { is_stamp word.now ≡ true }
+    requires { is_stamp_word word.now ≡ true }
     ensures { result ≡ options.stamp_in word.now }
 {
     Stamp {
@@ -109,7 +109,7 @@ fn part(digits: &[u8]) -> u16
 // The number that at most eight digits to the base 16 write.
 fn serial_in(digits: &[u8]) -> Option<u32>
     requires { length digits.now ≤ 8 }
-    ensures { MatchOption result (list_all is_hex_digit digits.now ≡ false) (λ n. (list_all is_hex_digit digits.now ≡ true) × (n ≡ serial_in digits.now)) }
+    ensures { MatchOption result (list_all is_hex_digit digits.now ≡ false) (λ n. (list_all is_hex_digit digits.now ≡ true) × (n ≡ serial_of_word digits.now)) }
 {
     let mut value = 0;
     'digits: for digit in digits {

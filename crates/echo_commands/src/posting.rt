@@ -1,6 +1,6 @@
 ghost use Rattle.std.specs.Prelude.{◌≡◌, ◌++◌, IfOk, OnOk, option_copied};
 ghost use Rattle.echo_commands.specs.Files.{Leaves};
-ghost use Rattle.echo_commands.specs.Posted.{PostAnswers, draft_body, draft_byte, draft_of};
+ghost use Rattle.echo_commands.specs.Posted.{PostAnswers, draft_body, draft_byte, draft_given};
 
 use crate::fault::Fault;
 use crate::leaving::{Done, Files, leave};
@@ -81,7 +81,7 @@ fn post_given<'a, S: BuildHasher + Drop, W: Sink>(
 
 // The draft of the words and the body.
 fn draft_of(alloc: Global, words: NewMessage<'_>, body: &[u8]) -> Result<Draft, AllocError>
-    ensures { IfOk result (λ draft. draft ≡ draft_of words.entry body.now) }
+    ensures { IfOk result (λ draft. draft ≡ draft_given words.entry body.now) }
 {
     Ok(Draft {
         to_name: Items::new(Vec::from_slice(alloc, words.to_name)?),

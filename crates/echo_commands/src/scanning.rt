@@ -2,8 +2,8 @@ ghost use Rattle.std.specs.Prelude.{◌≡◌, ◌++◌, length, map, IfOk, OnOk
 ghost use Rattle.std.specs.List.{flat_map};
 ghost use Rattle.echo_packet.specs.Packet.{packet_bytes};
 ghost use Rattle.echo_commands.specs.Files.{Leaves};
-ghost use Rattle.echo_commands.specs.Scanned.{ScanAnswers, file_of, line_of, packet_name};
-ghost use Rattle.echo_print.specs.Shown.{destination};
+ghost use Rattle.echo_commands.specs.Scanned.{ScanAnswers, file_sent, line_sent, packet_name};
+ghost use Rattle.echo_print.specs.Shown.{told_receiver};
 
 use crate::fault::Fault;
 use crate::leaving::{Done, Files, PacketFile, leave};
@@ -71,8 +71,8 @@ fn packet_files(
     before: usize,
     lines: &mut Vec<u8>,
 ) -> Result<Vec<PacketFile>, AllocError>
-    ensures files { IfOk result (λ files. files.items ≡ map (file_of before) packets.now) }
-    ensures lines { OnOk result (lines.new.items ≡ lines.old.items ++ flat_map line_of packets.now) }
+    ensures files { IfOk result (λ files. files.items ≡ map (file_sent before) packets.now) }
+    ensures lines { OnOk result (lines.new.items ≡ lines.old.items ++ flat_map line_sent packets.now) }
 {
     let mut files = Vec::new(alloc);
     'packets: for packet in packets {
@@ -85,7 +85,7 @@ fn packet_files(
 
 // The file of a packet.
 fn packet_file(alloc: Global, packet: &Packet, before: usize) -> Result<PacketFile, AllocError>
-    ensures { IfOk result (λ file. file ≡ file_of before packet.now) }
+    ensures { IfOk result (λ file. file ≡ file_sent before packet.now) }
 {
     let name = packet_name(alloc, destination(&packet.header), before)?;
     let bytes = packet.encode(alloc)?;
@@ -97,7 +97,7 @@ fn packet_file(alloc: Global, packet: &Packet, before: usize) -> Result<PacketFi
 
 // Whom a packet is for.
 fn destination(header: &Header) -> Address
-    ensures { result ≡ destination header.now }
+    ensures { result ≡ told_receiver header.now }
 {
     Address {
         zone: header.dest_zone,
@@ -120,7 +120,7 @@ fn packet_name(alloc: Global, to: Address, before: usize) -> Result<Vec<u8>, All
 // Adds the line of a packet of so many bytes.
 fn push_packet(lines: &mut Vec<u8>, packet: &Packet, bytes: usize) -> Result<(), AllocError>
     requires { bytes ≡ length (packet_bytes packet.now.header packet.now.messages) }
-    ensures { OnOk result (lines.new.items ≡ lines.old.items ++ line_of packet.now) }
+    ensures { OnOk result (lines.new.items ≡ lines.old.items ++ line_sent packet.now) }
 {
     let to = destination(&packet.header);
     push_sent(lines, to, packet.messages.len(), bytes)

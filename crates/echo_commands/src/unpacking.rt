@@ -12,14 +12,11 @@ use crate::printing::print_rest;
 use crate::showing::LIMITS;
 use crate::system::{saved, system_given};
 use echo_device::{Sink, Source};
-use echo_print::push_tally;
+use echo_print::{MOST_TALLY, push_tally};
 use echo_toss::{TossCause, Tosser};
 use std::alloc::Global;
 use std::hash::BuildHasher;
 use std::marker::Model;
-
-/// How many bytes the line of a packet has at most.
-const MOST_LINE: usize = 170;
 
 /// `toss LINKS BASE PACKET...`: tosses the packet at the front of each file, in order, and prints a line
 /// for each, also for one whose fault ends the run; the files behind it are not opened. The base is to
@@ -109,7 +106,7 @@ impl<S: BuildHasher> Run<S> {
     fn packet<'a, R: Source>(&mut self, reader: &mut R) -> Option<Fault<'a>>
         ensures { TossesPacket self.old (R.remaining reader.old) (R.remaining reader.new) (R.failures reader.old) (R.failures reader.new) result self.new }
     {
-        if self.lines.reserve(MOST_LINE).is_err() {
+        if self.lines.reserve(MOST_TALLY).is_err() {
             return Some(Fault::OutOfMemory);
         }
         match self.system.toss(reader, LIMITS) {

@@ -8,7 +8,7 @@ use Rattle.echo_packet.specs.Header.{AreBytes, number_at, word}
 use Rattle.echo_filed.specs.declared.field.Broken.{Broken}
 use Rattle.echo_filed.specs.declared.field.Broken.TheVariants as broken
 use Rattle.echo_filed.specs.Stored.{long, long_at}
-use Rattle.echo_filed.specs.Fields.{Breaks, BreaksFixed, BreaksString, EndsIn, HasLength, IsByte, IsLong, IsSmall, IsWord, Reads, address_bytes, itself, one_byte}
+use Rattle.echo_filed.specs.Fields.{Breaks, BreaksFilling, BreaksSized, EndsIn, HasLength, IsByte, IsLong, IsSmall, IsWord, Reads, address_bytes, itself, one_byte}
 use Rattle.echo_filed.proofs.Layouts.{BothFit, Layout, LengthFits, both_bytes, ends_first, ends_second, ends_string, length_first, long_front}
 
 -- the first bytes of a value end inside it
@@ -24,7 +24,7 @@ front_ends x fits n buf same short = record {
 
 -- a buffer of a field's size was not filled
 pub fixed_breaks : (X : Type 0) (Fits : X → Type 0) (write : X → List ℕ) (x : X) (buf : List ℕ) → Fits x → write x ≡ buf
-    → (a b : Option (List ℕ)) (e : Broken) → BreaksFixed buf a b e → Breaks X Fits write a b e
+    → (a b : Option (List ℕ)) (e : Broken) → BreaksFilling buf a b e → Breaks X Fits write a b e
 fixed_breaks X Fits write x buf fits same a b broken.Cut h = ((take h.0.0 buf, h.0.2, front_ends x fits h.0.0 buf same h.0.1), h.1)
 fixed_breaks X Fits write x buf fits same a b broken.Device h = (take h.0 buf, h.2, front_ends x fits h.0 buf same h.1)
 fixed_breaks X Fits write x buf fits same a b broken.Memory h = tt
@@ -113,7 +113,7 @@ string_ends size bytes short =
       cut = refl;
     }
 
-pub string_breaks : (size : ℕ) (had : List ℕ) (a b c : Option (List ℕ)) (e : Broken) → length had ≤ size → Consumes a b had → BreaksString (size - length had) b c e
+pub string_breaks : (size : ℕ) (had : List ℕ) (a b c : Option (List ℕ)) (e : Broken) → length had ≤ size → Consumes a b had → BreaksSized (size - length had) b c e
     → Breaks (List ℕ) (HasLength size) itself a c e
 string_breaks size had a b c broken.Cut within took h =
     let short = h.0.2 in

@@ -9,7 +9,7 @@ use Rattle.echo_text.specs.declared.fault.TextFault.TheVariants as text
 use Rattle.echo_text.specs.Lines.{area_tag, first_line, is_area, is_tag, later_lines, lines}
 use Rattle.echo_text.specs.Tail.{all_entries, seen_lists}
 use Rattle.echo_text.specs.Echo.{EchoOf, EchoText, IsEcho, TextOf}
-use Rattle.echo_text.specs.Refusal.{refusal, refusal_of}
+use Rattle.echo_text.specs.Refusal.{text_refusal, refusal_of}
 use Rattle.echo_text.proofs.Written.{written_read_back}
 use Rattle.echo_filed.specs.Sets.{entry_set}
 use Rattle.echo_filed.specs.Written.{echo_of, echo_of_lines, short_lines, text_of}
@@ -67,8 +67,8 @@ area_line line none =
     ]
 
 -- a text that is not refused says what is read of it
-pub says_read : (bytes : List ℕ) → refusal bytes ≡ None → (dropped : ℕ) × EchoOf bytes (echo_of bytes) dropped
-unfolding refusal echo_of
+pub says_read : (bytes : List ℕ) → text_refusal bytes ≡ None → (dropped : ℕ) × EchoOf bytes (echo_of bytes) dropped
+unfolding text_refusal echo_of
 says_read bytes none =
     let line = area_line (first_line (lines bytes)) none in (
       _,
@@ -84,8 +84,8 @@ says_read bytes none =
     )
 
 -- a text that says something is not refused
-pub says_accepted : (bytes : List ℕ) (e : EchoText) (dropped : ℕ) → EchoOf bytes e dropped → refusal bytes ≡ None
-unfolding refusal
+pub says_accepted : (bytes : List ℕ) (e : EchoText) (dropped : ℕ) → EchoOf bytes e dropped → text_refusal bytes ≡ None
+unfolding text_refusal
 says_accepted bytes e dropped h =
     let P : List ℕ → Type 0 = λ tag. is_tag tag ≡ true in
     accepted (first_line (lines bytes)) (record { area = h.area; tag = subst P h.tag h.tag_bytes })
@@ -94,7 +94,7 @@ says_accepted bytes e dropped h =
 pub written_says : (e : EchoText) → IsEcho e → EchoOf (text_of e) e 0
 written_says e h = written_read_back e (text_of e) h (text_is_text e h)
 
-pub written_accepted : (e : EchoText) → IsEcho e → refusal (text_of e) ≡ None
+pub written_accepted : (e : EchoText) → IsEcho e → text_refusal (text_of e) ≡ None
 written_accepted e h = says_accepted (text_of e) e 0 (written_says e h)
 
 pub written_back : (e : EchoText) → IsEcho e → echo_of (text_of e) ≡ e

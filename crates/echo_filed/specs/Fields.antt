@@ -29,28 +29,28 @@ Reads Fits write old new (Ok x) = Fits x × Consumes old new (write x)
 Reads {X} Fits write old new (Err e) = Breaks X Fits write old new e
 
 -- the count of failures rose where the device failed, and only there
-abbrev pub CountsBroken : {A : Type 0} → Result A Broken → ℕ → ℕ → Type 0
-CountsBroken (Err broken.Device) old new = Failed old new
-CountsBroken (Err _) old new = new ≡ old
-CountsBroken (Ok _) old new = new ≡ old
+abbrev pub CountsBreak : {A : Type 0} → Result A Broken → ℕ → ℕ → Type 0
+CountsBreak (Err broken.Device) old new = Failed old new
+CountsBreak (Err _) old new = new ≡ old
+CountsBreak (Ok _) old new = new ≡ old
 
 -- why a buffer was not filled: some first bytes of it came, but not all
-abbrev pub BreaksFixed : List ℕ → Option (List ℕ) → Option (List ℕ) → Broken → Type 0
-BreaksFixed buf old new broken.Cut = FillsFront old new buf × IsAtEnd new
-BreaksFixed buf old new broken.Device = FillsFront old new buf
-BreaksFixed buf old new broken.Memory = Unit {0}
+abbrev pub BreaksFilling : List ℕ → Option (List ℕ) → Option (List ℕ) → Broken → Type 0
+BreaksFilling buf old new broken.Cut = FillsFront old new buf × IsAtEnd new
+BreaksFilling buf old new broken.Device = FillsFront old new buf
+BreaksFilling buf old new broken.Memory = Unit {0}
 
 -- fewer bytes came than a string of this length lacks
-abbrev pub BreaksString : ℕ → Option (List ℕ) → Option (List ℕ) → Broken → Type 0
-BreaksString lacks old new broken.Cut = Came old new (λ came. length came < lacks) × IsAtEnd new
-BreaksString lacks old new broken.Device = Came old new (λ came. length came < lacks)
-BreaksString lacks old new broken.Memory = Unit {0}
+abbrev pub BreaksSized : ℕ → Option (List ℕ) → Option (List ℕ) → Broken → Type 0
+BreaksSized lacks old new broken.Cut = Came old new (λ came. length came < lacks) × IsAtEnd new
+BreaksSized lacks old new broken.Device = Came old new (λ came. length came < lacks)
+BreaksSized lacks old new broken.Memory = Unit {0}
 
 -- some more bytes of a string of this length came behind those that it had
-abbrev pub StepsString : {A : Type 0} → ℕ → List ℕ → List ℕ → Option (List ℕ) → Option (List ℕ) → Result A Broken → Type 0
-StepsString size had has old new (Ok _) =
+abbrev pub StepsSized : {A : Type 0} → ℕ → List ℕ → List ℕ → Option (List ℕ) → Option (List ℕ) → Result A Broken → Type 0
+StepsSized size had has old new (Ok _) =
     (t : List ℕ) × (has ≡ had ++ t) × Consumes old new t × (0 < length t) × (length has ≤ size)
-StepsString size had has old new (Err e) = BreaksString (size - length had) old new e
+StepsSized size had has old new (Err e) = BreaksSized (size - length had) old new e
 
 -- one byte, and numbers of two and four bytes
 abbrev pub IsByte : ℕ → Type 0

@@ -3,7 +3,7 @@ ghost use Rattle.std.specs.Prelude.{◌≡◌, ◌<◌, ◌≤◌, length, take,
 ghost use Rattle.std.specs.Io.KnownBytes.{Consumes};
 ghost use Rattle.echo_packet.specs.Header.{AreBytes, word};
 ghost use Rattle.echo_filed.specs.Stored.{after_length, after_long_length, long};
-ghost use Rattle.echo_filed.specs.Fields.{BreaksFixed, CountsBroken, HasLength, IsByte, IsLong, IsLongString, IsShortString, IsSmall, IsWord, LastFits, Reads, StepsString, address_bytes, itself, last_of, one_byte};
+ghost use Rattle.echo_filed.specs.Fields.{BreaksFilling, CountsBreak, HasLength, IsByte, IsLong, IsLongString, IsShortString, IsSmall, IsWord, LastFits, Reads, StepsSized, address_bytes, itself, last_of, one_byte};
 
 use crate::numbers::{long_of, word_of};
 use echo_addr::{Address, Items};
@@ -55,8 +55,8 @@ fn are_bytes(bytes: &[u8])
 fn read_fixed<R: Source>(reader: &mut R, field: &mut [u8]) -> Result<(), Broken>
     ensures bytes { AreBytes field.new }
     ensures taken { OnOk result (Consumes (R.remaining reader.old) (R.remaining reader.new) field.new) }
-    ensures broken { IfErr result (BreaksFixed field.new (R.remaining reader.old) (R.remaining reader.new)) }
-    ensures device { CountsBroken result (R.failures reader.old) (R.failures reader.new) }
+    ensures broken { IfErr result (BreaksFilling field.new (R.remaining reader.old) (R.remaining reader.new)) }
+    ensures device { CountsBreak result (R.failures reader.old) (R.failures reader.new) }
 {
     let filled = fill(reader, field);
     are_bytes(field);
@@ -72,8 +72,8 @@ fn read_from<R: Source>(reader: &mut R, field: &mut [u8], at: usize) -> Result<(
     requires { at ≤ length field.old }
     ensures front { take at field.new ≡ take at field.old }
     ensures taken { OnOk result (Consumes (R.remaining reader.old) (R.remaining reader.new) (drop at field.new)) }
-    ensures broken { IfErr result (BreaksFixed (drop at field.new) (R.remaining reader.old) (R.remaining reader.new)) }
-    ensures device { CountsBroken result (R.failures reader.old) (R.failures reader.new) }
+    ensures broken { IfErr result (BreaksFilling (drop at field.new) (R.remaining reader.old) (R.remaining reader.new)) }
+    ensures device { CountsBreak result (R.failures reader.old) (R.failures reader.new) }
 {
     read_fixed(reader, &mut field[at..])
 }
@@ -81,7 +81,7 @@ fn read_from<R: Source>(reader: &mut R, field: &mut [u8], at: usize) -> Result<(
 // One byte.
 pub(crate) fn read_byte<R: Source>(reader: &mut R) -> Result<u8, Broken>
     ensures read { Reads IsByte one_byte (R.remaining reader.old) (R.remaining reader.new) result }
-    ensures device { CountsBroken result (R.failures reader.old) (R.failures reader.new) }
+    ensures device { CountsBreak result (R.failures reader.old) (R.failures reader.new) }
 {
     let mut bytes = [0u8; 1];
     read_fixed(reader, &mut bytes)?;
@@ -91,7 +91,7 @@ pub(crate) fn read_byte<R: Source>(reader: &mut R) -> Result<u8, Broken>
 // A number of two bytes.
 fn read_word<R: Source>(reader: &mut R) -> Result<u16, Broken>
     ensures read { Reads IsWord word (R.remaining reader.old) (R.remaining reader.new) result }
-    ensures device { CountsBroken result (R.failures reader.old) (R.failures reader.new) }
+    ensures device { CountsBreak result (R.failures reader.old) (R.failures reader.new) }
 {
     let mut bytes = [0u8; 2];
     read_fixed(reader, &mut bytes)?;
@@ -101,7 +101,7 @@ fn read_word<R: Source>(reader: &mut R) -> Result<u16, Broken>
 /// A number of four bytes.
 pub fn read_long<R: Source>(reader: &mut R) -> Result<u32, Broken>
     ensures read { Reads IsLong long (R.remaining reader.old) (R.remaining reader.new) result }
-    ensures device { CountsBroken result (R.failures reader.old) (R.failures reader.new) }
+    ensures device { CountsBreak result (R.failures reader.old) (R.failures reader.new) }
 {
     let mut bytes = [0u8; 4];
     read_fixed(reader, &mut bytes)?;
@@ -111,7 +111,7 @@ pub fn read_long<R: Source>(reader: &mut R) -> Result<u32, Broken>
 /// Zone, net and node.
 pub(crate) fn read_address<R: Source>(reader: &mut R) -> Result<Address, Broken>
     ensures read { Reads IsSmall address_bytes (R.remaining reader.old) (R.remaining reader.new) result }
-    ensures device { CountsBroken result (R.failures reader.old) (R.failures reader.new) }
+    ensures device { CountsBreak result (R.failures reader.old) (R.failures reader.new) }
 {
     let mut bytes = [0u8; 6];
     read_fixed(reader, &mut bytes)?;
@@ -125,7 +125,7 @@ pub(crate) fn read_address<R: Source>(reader: &mut R) -> Result<Address, Broken>
 /// A DateTime.
 pub(crate) fn read_date<R: Source>(reader: &mut R) -> Result<[u8; 20], Broken>
     ensures read { Reads (HasLength 20) itself (R.remaining reader.old) (R.remaining reader.new) result }
-    ensures device { CountsBroken result (R.failures reader.old) (R.failures reader.new) }
+    ensures device { CountsBreak result (R.failures reader.old) (R.failures reader.new) }
 {
     let mut date = [0u8; 20];
     read_fixed(reader, &mut date)?;
@@ -135,8 +135,8 @@ pub(crate) fn read_date<R: Source>(reader: &mut R) -> Result<[u8; 20], Broken>
 // One more piece of a string that is to have so many bytes.
 fn take_piece<R: Source>(reader: &mut R, string: &mut Vec<u8>, size: usize) -> Result<(), Broken>
     requires { length string.old.items < size }
-    ensures step { StepsString size string.old.items string.new.items (R.remaining reader.old) (R.remaining reader.new) result }
-    ensures device { CountsBroken result (R.failures reader.old) (R.failures reader.new) }
+    ensures step { StepsSized size string.old.items string.new.items (R.remaining reader.old) (R.remaining reader.new) result }
+    ensures device { CountsBreak result (R.failures reader.old) (R.failures reader.new) }
 {
     let had = string.len();
     let step = (size - had).min(STEP);
@@ -148,7 +148,7 @@ fn take_piece<R: Source>(reader: &mut R, string: &mut Vec<u8>, size: usize) -> R
 // So many bytes. Room grows with those that come.
 fn read_string<R: Source>(alloc: Global, reader: &mut R, size: usize) -> Result<Items<u8>, Broken>
     ensures read { Reads (HasLength size) itself (R.remaining reader.old) (R.remaining reader.new) result }
-    ensures device { CountsBroken result (R.failures reader.old) (R.failures reader.new) }
+    ensures device { CountsBreak result (R.failures reader.old) (R.failures reader.new) }
 {
     let mut string = Vec::new(alloc);
     'pieces: while string.len() < size {
@@ -160,7 +160,7 @@ fn read_string<R: Source>(alloc: Global, reader: &mut R, size: usize) -> Result<
 /// Bytes after their length, of one byte.
 pub(crate) fn read_short<R: Source>(alloc: Global, reader: &mut R) -> Result<Items<u8>, Broken>
     ensures read { Reads IsShortString after_length (R.remaining reader.old) (R.remaining reader.new) result }
-    ensures device { CountsBroken result (R.failures reader.old) (R.failures reader.new) }
+    ensures device { CountsBreak result (R.failures reader.old) (R.failures reader.new) }
 {
     let size = read_byte(reader)?;
     read_string(alloc, reader, size as usize)
@@ -169,7 +169,7 @@ pub(crate) fn read_short<R: Source>(alloc: Global, reader: &mut R) -> Result<Ite
 /// Bytes after their length, of four bytes.
 fn read_text<R: Source>(alloc: Global, reader: &mut R) -> Result<Items<u8>, Broken>
     ensures read { Reads IsLongString after_long_length (R.remaining reader.old) (R.remaining reader.new) result }
-    ensures device { CountsBroken result (R.failures reader.old) (R.failures reader.new) }
+    ensures device { CountsBreak result (R.failures reader.old) (R.failures reader.new) }
 {
     let size = read_long(reader)?;
     read_string(alloc, reader, size as usize)
@@ -182,7 +182,7 @@ pub(crate) fn read_last<R: Source>(
     with_tag: bool,
 ) -> Result<(Items<u8>, Items<u8>), Broken>
     ensures read { Reads (LastFits with_tag) (last_of with_tag) (R.remaining reader.old) (R.remaining reader.new) result }
-    ensures device { CountsBroken result (R.failures reader.old) (R.failures reader.new) }
+    ensures device { CountsBreak result (R.failures reader.old) (R.failures reader.new) }
 {
     if with_tag {
         let tag = read_short(alloc, reader)?;

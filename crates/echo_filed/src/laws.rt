@@ -3,7 +3,7 @@
 ghost use Rattle.std.specs.Prelude.{◌≡◌, ◌↔◌, ℕ, List, None, true};
 ghost use Rattle.echo_addr.specs.declared.address.NetNode.{NetNode};
 ghost use Rattle.echo_text.specs.Echo.{EchoOf, EchoText, IsEcho, IsSetOf, TextOf};
-ghost use Rattle.echo_text.specs.Refusal.{refusal};
+ghost use Rattle.echo_text.specs.Refusal.{text_refusal};
 ghost use Rattle.echo_filed.specs.declared.key.Key.{Key};
 ghost use Rattle.echo_filed.specs.Sets.{entry_set};
 ghost use Rattle.echo_filed.specs.Written.{echo_of, text_of};
@@ -31,9 +31,9 @@ pub fn set_law()
 /// What an echomail text says, and what is written, are the functions that the definitions of texts
 /// describe; what is written is read back, no token dropped.
 pub fn text_laws()
-    ensures said { (text : List ℕ) → refusal text ≡ None → (dropped : ℕ) × EchoOf text (echo_of text) dropped }
-    ensures only_said { (text : List ℕ) (e : EchoText) (dropped : ℕ) → EchoOf text e dropped → (refusal text ≡ None) × (echo_of text ≡ e) }
+    ensures said { (text : List ℕ) → text_refusal text ≡ None → (dropped : ℕ) × EchoOf text (echo_of text) dropped }
+    ensures only_said { (text : List ℕ) (e : EchoText) (dropped : ℕ) → EchoOf text e dropped → (text_refusal text ≡ None) × (echo_of text ≡ e) }
     ensures written { (e : EchoText) → IsEcho e → TextOf e (text_of e) }
-    ensures read_back { (e : EchoText) → IsEcho e → (refusal (text_of e) ≡ None) × (echo_of (text_of e) ≡ e) }
+    ensures read_back { (e : EchoText) → IsEcho e → (text_refusal (text_of e) ≡ None) × (echo_of (text_of e) ≡ e) }
     ensures whole { (e : EchoText) → IsEcho e → EchoOf (text_of e) e 0 }
 {}

@@ -20,7 +20,7 @@ mod sending;
 mod stored;
 mod stub;
 
-pub use boxed::Boxed;
+pub use boxed::{Boxed, BoxedLines};
 pub use field::{Broken, read_long};
 pub use filed::Filed;
 pub use key::{Key, by_id};

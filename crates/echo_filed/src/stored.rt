@@ -1,7 +1,7 @@
 //! A message as it stands in a base file, taken from a source.
 ghost use Rattle.std.specs.Prelude.{◌≡◌};
 ghost use Rattle.echo_filed.specs.Stored.{IsStored, has_tag, sender_in, stored_bytes};
-ghost use Rattle.echo_filed.specs.Fields.{CountsBroken, Reads};
+ghost use Rattle.echo_filed.specs.Fields.{CountsBreak, Reads};
 
 use crate::field::{Broken, read_address, read_byte, read_date, read_last, read_short};
 use echo_addr::{Address, Items};
@@ -66,7 +66,7 @@ pub fn read_stored<R: Source>(
     version: Version,
 ) -> Result<StoredMessage, Broken>
     ensures read { Reads (IsStored version) (stored_bytes version) (R.remaining reader.old) (R.remaining reader.new) result }
-    ensures device { CountsBroken result (R.failures reader.old) (R.failures reader.new) }
+    ensures device { CountsBreak result (R.failures reader.old) (R.failures reader.new) }
 {
     let kind = read_byte(reader)?;
     let sender = read_address(reader)?;

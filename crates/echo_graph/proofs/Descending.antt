@@ -2,7 +2,7 @@
 use Rattle.std.proofs.Common.{◌≡◌, ◌≢◌, ◌<◌, ◌≤◌, ◌++◌, ℕ, suc, Bool, IsTrue, Option, Some, List, [], ◌∷◌, length, get_or, refl, sym, ap, ◌∙◌, subst, arith, inl, inr}
 use Rattle.std.proofs.lemmas.Bool.{cases_eq, cases_lt}
 use Rattle.echo_graph.specs.Walk.{Among, Different, Walk, Simple}
-use Rattle.echo_graph.specs.Rows.{links_of, linked, IsGraph}
+use Rattle.echo_graph.specs.Rows.{links_at, linked, IsGraph}
 use Rattle.echo_graph.specs.Levels.{level_of}
 use Rattle.echo_graph.specs.Floods.{Searched}
 use Rattle.echo_graph.specs.Descents.{SmallestAt, Descent}
@@ -106,7 +106,7 @@ FirstWalk-from_descent links b a c levels simple searched rest z m h e last =
     }
 
 -- the first link in a row with this level is the smallest
-pub SmallestAt-here : (rows : List (List ℕ)) (at level k : ℕ) (row : List ℕ) (levels : List (Option ℕ)) → IsGraph rows → row ≡ links_of rows at → k < length row →
+pub SmallestAt-here : (rows : List (List ℕ)) (at level k : ℕ) (row : List ℕ) (levels : List (Option ℕ)) → IsGraph rows → row ≡ links_at rows at → k < length row →
     ((i : ℕ) → i < k → ¬ (level_of levels (get_or row i 0) ≡ Some level)) → level_of levels (get_or row k 0) ≡ Some level → SmallestAt (linked rows) levels at level (get_or row k 0)
 SmallestAt-here rows at level k row levels graph is lt earlier here = record {
   link = row_link rows at k row is lt;

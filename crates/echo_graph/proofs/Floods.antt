@@ -3,7 +3,7 @@ use Rattle.std.proofs.Common.{◌≡◌, ◌≢◌, ◌+◌, ◌<◌, ◌≤◌,
 use Rattle.std.proofs.lemmas.Bool.{cases_eq, cases_lt}
 use Rattle.std.proofs.lemmas.List.{get_or-set_same, get_or-set_other, length-set}
 use Rattle.std.proofs.lemmas.Option.{none-some, same_Some}
-use Rattle.echo_graph.specs.Rows.{links_of, linked, IsGraph}
+use Rattle.echo_graph.specs.Rows.{links_at, linked, IsGraph}
 use Rattle.echo_graph.specs.Levels.{level_of}
 use Rattle.echo_graph.specs.Visits.{Visited}
 use Rattle.echo_graph.specs.Floods.{Flooding, Flooded, Settled}
@@ -41,7 +41,7 @@ Flooding-start links without root old lt apart none =
     }
 
 -- the member at the head, once its links are visited, is settled
-pub Flooding-step : (rows : List (List ℕ)) (without root : ℕ) (old levels new : List (Option ℕ)) (queue longer : List ℕ) (head member level : ℕ) → IsGraph rows → Settled (linked rows) without old → Flooding (linked rows) without root old levels queue head → head < length queue → get_or queue head 0 ≡ member → level_of levels member ≡ Some level → Visited (links_of rows member) (length (links_of rows member)) without (level + 1) levels new queue longer → Flooding (linked rows) without root old new longer (head + 1)
+pub Flooding-step : (rows : List (List ℕ)) (without root : ℕ) (old levels new : List (Option ℕ)) (queue longer : List ℕ) (head member level : ℕ) → IsGraph rows → Settled (linked rows) without old → Flooding (linked rows) without root old levels queue head → head < length queue → get_or queue head 0 ≡ member → level_of levels member ≡ Some level → Visited (links_at rows member) (length (links_at rows member)) without (level + 1) levels new queue longer → Flooding (linked rows) without root old new longer (head + 1)
 Flooding-step rows without root old levels new queue longer head member level graph was f lt at has v =
     let there : level_of levels (get_or queue head 0) ≡ Some level = ap (level_of levels) at ∙ has in
     let unmade : (i : ℕ) → level_of levels i ≡ None → level_of old i ≡ None = λ i none.
@@ -114,7 +114,7 @@ Flooding-step rows without root old levels new queue longer head member level gr
                 let is_head : k ≡ head = omega arith in
                 let is_member : get_or longer k 0 ≡ member = ap (λ j. get_or longer j 0) is_head ∙ (v.front head lt ∙ at) in
                 let same_m : m ≡ level = one_level new member m level (sym (ap (level_of new) is_member) ∙ e) (v.kept member level has) in
-                let row = links_of rows member in
+                let row = links_at rows member in
                 let link_b : IsTrue (linked rows member b) = subst (λ (i : ℕ). IsTrue (linked rows i b)) is_member link in
                 let p = place_of row b link_b in
                 let r = v.reached p.0 p.1 (λ (bad : get_or row p.0 0 ≡ without). apart (sym p.2 ∙ bad)) in

@@ -2,10 +2,10 @@
 use Rattle.std.proofs.Common.{◌<◌, ℕ, IsTrue, List, [], length, refl, sym, subst, arith, inl, inr}
 use Rattle.std.proofs.lemmas.Bool.{cases_lt}
 use Rattle.std.proofs.lemmas.List.{get_or_past}
-use Rattle.echo_graph.specs.Rows.{links_of, linked, IsAscending, IsGraph, EachAnswered}
+use Rattle.echo_graph.specs.Rows.{links_at, linked, IsAscending, IsGraph, EachAnswered}
 use Rattle.echo_graph.proofs.Rows.{linked_within}
 
-pub IsGraph-from_tests : (rows : List (List ℕ)) → ((a : ℕ) → a < length rows → IsAscending (links_of rows a)) → ((a : ℕ) → a < length rows → EachAnswered rows a) → IsGraph rows
+pub IsGraph-from_tests : (rows : List (List ℕ)) → ((a : ℕ) → a < length rows → IsAscending (links_at rows a)) → ((a : ℕ) → a < length rows → EachAnswered rows a) → IsGraph rows
 IsGraph-from_tests rows rising answered = record {
   within = λ a b link. (answered a (linked_within rows a b link) b link).0;
   both_ways = λ a b link. (answered a (linked_within rows a b link) b link).2;

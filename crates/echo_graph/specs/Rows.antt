@@ -3,12 +3,12 @@ use Rattle.std.specs.Prelude.{◌≢◌, ◌==◌, ◌<◌, ℕ, Bool, IsTrue, L
 use Rattle.std.specs.List.{list_any}
 
 -- the links of a member; past the last member there are none
-abbrev pub links_of : List (List ℕ) → ℕ → List ℕ
-links_of rows member = slice_index_or rows member []
+abbrev pub links_at : List (List ℕ) → ℕ → List ℕ
+links_at rows member = slice_index_or rows member []
 
 -- is b among the links of a?
 abbrev pub linked : List (List ℕ) → ℕ → ℕ → Bool
-linked rows a b = list_any (λ link. link == b) (links_of rows a)
+linked rows a b = list_any (λ link. link == b) (links_at rows a)
 
 -- each number is below the next
 abbrev pub IsAscending : List ℕ → Type 0
@@ -19,7 +19,7 @@ pub record IsGraph (rows : List (List ℕ)) : Type 0 where
   pub within : (a b : ℕ) → IsTrue (linked rows a b) → b < length rows
   pub both_ways : (a b : ℕ) → IsTrue (linked rows a b) → IsTrue (linked rows b a)
   pub no_self : (a : ℕ) → ¬ IsTrue (linked rows a a)
-  pub ascending : (a : ℕ) → IsAscending (links_of rows a)
+  pub ascending : (a : ℕ) → IsAscending (links_at rows a)
 
 -- the link from a to b leads to another member, whose row has it too
 abbrev pub Answered : List (List ℕ) → ℕ → ℕ → Type 0

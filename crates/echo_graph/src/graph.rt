@@ -2,7 +2,7 @@
 
 ghost use Rattle.std.specs.Prelude.{◌≡◌, ◌<◌, ◌↔◌, ℕ, List, IsTrue, ◌==◌, length};
 ghost use Rattle.std.specs.List.{list_any};
-ghost use Rattle.echo_graph.specs.Rows.{links_of, linked, IsGraph, IsAscending};
+ghost use Rattle.echo_graph.specs.Rows.{links_at, linked, IsGraph, IsAscending};
 
 use std::marker::Model;
 
@@ -69,7 +69,7 @@ impl Graph {
     /// The links of a member, ascending.
     pub fn links(&self, member: usize) -> &[usize]
         requires { member < length self.now }
-        ensures value { result.now ≡ links_of self.now member }
+        ensures value { result.now ≡ links_at self.now member }
         ensures ascending { IsAscending result.now }
         ensures sound { IsGraph self.now }
     {

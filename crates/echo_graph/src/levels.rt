@@ -1,7 +1,7 @@
 //! A search by levels: how many links a member is away from where the search began.
 
 ghost use Rattle.std.specs.Prelude.{◌≡◌, ◌<◌, ◌≢◌, ℕ, IfOk, None, OnOk, length, vec_len};
-ghost use Rattle.echo_graph.specs.Rows.{links_of, linked, IsGraph};
+ghost use Rattle.echo_graph.specs.Rows.{links_at, linked, IsGraph};
 ghost use Rattle.echo_graph.specs.Levels.{level_of, AreLevels};
 ghost use Rattle.echo_graph.specs.Visits.{Visited};
 ghost use Rattle.echo_graph.specs.Floods.{Flooded, Searched, Settled};
@@ -68,7 +68,7 @@ fn visit(
     requires inside { member < length graph.now }
     requires same_length { vec_len levels.old ≡ length graph.now }
     ensures sound { IsGraph graph.now }
-    ensures visited { let links = links_of graph.now member in
+    ensures visited { let links = links_at graph.now member in
         OnOk result (Visited links (length links) without level levels.old.items levels.new.items queue.old.items queue.new.items) }
 {
     'visiting: for other in graph.links(member) {

@@ -1,7 +1,7 @@
 //! Are rows of links a graph?
 
 ghost use Rattle.std.specs.Prelude.{◌≡◌, ◌≢◌, ◌<◌, ◌↔◌, ℕ, IsTrue, length, slice_index};
-ghost use Rattle.echo_graph.specs.Rows.{links_of, linked, IsAscending, IsGraph, Answered, EachAnswered};
+ghost use Rattle.echo_graph.specs.Rows.{links_at, linked, IsAscending, IsGraph, Answered, EachAnswered};
 
 use crate::graph::{Links, has_link};
 
@@ -15,7 +15,7 @@ pub fn is_graph(rows: &[Links]) -> bool
 
 /// Does each row ascend?
 fn rows_ascend(rows: &[Links]) -> bool
-    ensures { IsTrue result ↔ ((a : ℕ) → a < length rows.now → IsAscending (links_of rows.now a)) }
+    ensures { IsTrue result ↔ ((a : ℕ) → a < length rows.now → IsAscending (links_at rows.now a)) }
 {
     'members: for member in 0..rows.len() {
         if !is_ascending(row_of(rows, member)) {
@@ -39,7 +39,7 @@ fn is_ascending(links: &[usize]) -> bool
 
 /// Does each link lead to another member whose row has it too?
 fn links_are_answered(rows: &[Links]) -> bool
-    requires { (a : ℕ) → a < length rows.now → IsAscending (links_of rows.now a) }
+    requires { (a : ℕ) → a < length rows.now → IsAscending (links_at rows.now a) }
     ensures { IsTrue result ↔ ((a : ℕ) → a < length rows.now → EachAnswered rows.now a) }
 {
     'members: for member in 0..rows.len() {
@@ -53,7 +53,7 @@ fn links_are_answered(rows: &[Links]) -> bool
 /// Does each link of this member lead to another one whose row has it too?
 fn row_is_answered(rows: &[Links], member: usize) -> bool
     requires inside { member < length rows.now }
-    requires ascending { (a : ℕ) → a < length rows.now → IsAscending (links_of rows.now a) }
+    requires ascending { (a : ℕ) → a < length rows.now → IsAscending (links_at rows.now a) }
     ensures { IsTrue result ↔ EachAnswered rows.now member }
 {
     'links: for other in row_of(rows, member) {
@@ -66,7 +66,7 @@ fn row_is_answered(rows: &[Links], member: usize) -> bool
 
 /// Is the link to another member, whose row has it too?
 fn is_answered(rows: &[Links], member: usize, other: usize) -> bool
-    requires { (a : ℕ) → a < length rows.now → IsAscending (links_of rows.now a) }
+    requires { (a : ℕ) → a < length rows.now → IsAscending (links_at rows.now a) }
     ensures { IsTrue result ↔ Answered rows.now member other }
 {
     if other >= rows.len() || other == member {
@@ -78,7 +78,7 @@ fn is_answered(rows: &[Links], member: usize, other: usize) -> bool
 /// The links of this member.
 fn row_of(rows: &[Links], member: usize) -> &[usize]
     requires { member < length rows.now }
-    ensures { result.now ≡ links_of rows.now member }
+    ensures { result.now ≡ links_at rows.now member }
 {
     rows[member].as_slice()
 }

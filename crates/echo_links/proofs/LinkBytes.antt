@@ -16,7 +16,7 @@ use Rattle.echo_addr.specs.Entries.{is_blank, tokens}
 use Rattle.echo_addr.proofs.Outcomes.{address_in-written, outcome-written}
 use Rattle.echo_text.specs.Lines.{is_feed}
 use Rattle.echo_text.specs.Lines.{trimmed, without_front_blanks}
-use Rattle.echo_links.specs.LinkLines.{ended_pieces, file_lines, first_of, is_control_byte, is_skipped, is_space, name_in, without_front_spaces, without_return, without_spaces, words}
+use Rattle.echo_links.specs.LinkLines.{ended_pieces, file_lines, first_of, is_control_byte, is_skipped, is_space_or_tab, name_in, without_front_spaces, without_return, without_spaces, words}
 use Rattle.echo_links.specs.LinkReading.{IsWordOf}
 
 -- the address of a word, as it was read
@@ -115,29 +115,29 @@ no_feed_reverse (b ∷ bytes) h =
     subst NoFeed (sym (reverse-append (b ∷ []) bytes)) (no_feed_append (reverse bytes) (b ∷ []) (no_feed_reverse bytes h.1) (h.0, tt))
 
 -- there a blank of message texts is a blank of link files
-same_blank : (b : ℕ) → is_feed b ≡ false → is_blank b ≡ is_space b
-same_blank b h = ap (λ t. is_space b || t) h ∙ or_false (is_space b)
+same_blank : (b : ℕ) → is_feed b ≡ false → is_blank b ≡ is_space_or_tab b
+same_blank b h = ap (λ t. is_space_or_tab b || t) h ∙ or_false (is_space_or_tab b)
   where
     or_false : (x : Bool) → (x || false) ≡ x
     or_false true = refl
     or_false false = refl
 
-split_same : (bytes : List ℕ) → NoFeed bytes → slice_split is_blank bytes ≡ slice_split is_space bytes
+split_same : (bytes : List ℕ) → NoFeed bytes → slice_split is_blank bytes ≡ slice_split is_space_or_tab bytes
 split_same [] h = refl
 split_same (b ∷ bytes) h =
     ap (λ t. cond t ([] ∷ slice_split is_blank bytes) (onto_first b (slice_split is_blank bytes))) (same_blank b h.0)
-    ∙ ap (λ ps. cond (is_space b) ([] ∷ ps) (onto_first b ps)) (split_same bytes h.1)
+    ∙ ap (λ ps. cond (is_space_or_tab b) ([] ∷ ps) (onto_first b ps)) (split_same bytes h.1)
 
-front_same : (bytes : List ℕ) → NoFeed bytes → prefix_len is_blank bytes ≡ prefix_len is_space bytes
+front_same : (bytes : List ℕ) → NoFeed bytes → prefix_len is_blank bytes ≡ prefix_len is_space_or_tab bytes
 front_same [] h = refl
 front_same (b ∷ bytes) h =
-    ap (λ t. cond t (1 + prefix_len is_blank bytes) 0) (same_blank b h.0) ∙ ap (λ n. cond (is_space b) (1 + n) 0) (front_same bytes h.1)
+    ap (λ t. cond t (1 + prefix_len is_blank bytes) 0) (same_blank b h.0) ∙ ap (λ n. cond (is_space_or_tab b) (1 + n) 0) (front_same bytes h.1)
 
-first_other : (bytes : List ℕ) → NoFeed bytes → position_or_len (λ b. not (is_blank b)) bytes ≡ prefix_len is_space bytes
+first_other : (bytes : List ℕ) → NoFeed bytes → position_or_len (λ b. not (is_blank b)) bytes ≡ prefix_len is_space_or_tab bytes
 first_other [] h = refl
 first_other (b ∷ bytes) h =
     ap (λ t. cond t (1 + position_or_len (λ c. not (is_blank c)) bytes) 0) (twice (is_blank b) ∙ same_blank b h.0)
-    ∙ ap (λ n. cond (is_space b) (1 + n) 0) (first_other bytes h.1)
+    ∙ ap (λ n. cond (is_space_or_tab b) (1 + n) 0) (first_other bytes h.1)
   where
     twice : (x : Bool) → not (not x) ≡ x
     twice true = refl
@@ -155,7 +155,7 @@ trimmed_same bytes h =
     let front : without_front_blanks bytes ≡ without_front_spaces bytes = ap (λ n. drop n bytes) (front_same bytes h) in
     let w = without_front_spaces bytes in
     ap (λ v. take (length v - prefix_len is_blank (reverse v)) v) front
-    ∙ ap (λ n. take (length w - n) w) (front_same (reverse w) (no_feed_reverse w (no_feed_drop (prefix_len is_space bytes) bytes h)))
+    ∙ ap (λ n. take (length w - n) w) (front_same (reverse w) (no_feed_reverse w (no_feed_drop (prefix_len is_space_or_tab bytes) bytes h)))
 
 -- the name of a NAME line
 pub name_trimmed : (line word rest : List ℕ) → NoFeed line → word ≡ codes "NAME" → rest ≡ drop (length word) (drop (position_or_len (λ b. not (is_blank b)) line) line)
@@ -163,19 +163,19 @@ pub name_trimmed : (line word rest : List ℕ) → NoFeed line → word ≡ code
 name_trimmed line word rest h word-is rest-is =
     let same : rest ≡ drop 4 (without_front_spaces line) = rest-is ∙ ap (λ w. drop (length w) (drop (position_or_len (λ b. not (is_blank b)) line) line)) word-is
     ∙ ap (λ n. drop 4 (drop n line)) (first_other line h) in
-    ap trimmed same ∙ trimmed_same (drop 4 (without_front_spaces line)) (no_feed_drop 4 (without_front_spaces line) (no_feed_drop (prefix_len is_space line) line h))
+    ap trimmed same ∙ trimmed_same (drop 4 (without_front_spaces line)) (no_feed_drop 4 (without_front_spaces line) (no_feed_drop (prefix_len is_space_or_tab line) line h))
 
 -- ---- skipped lines have no first word of a kind
 
-space_skipped : (b : ℕ) (line : List ℕ) → is_space b ≡ true → words (b ∷ line) ≡ words line
+space_skipped : (b : ℕ) (line : List ℕ) → is_space_or_tab b ≡ true → words (b ∷ line) ≡ words line
 unfolding words
-space_skipped b line h = ap (filter (λ w. nat_lt 0 (length w))) (cond-true (is_space b) ([] ∷ slice_split is_space line) (onto_first b (slice_split is_space line)) h)
+space_skipped b line h = ap (filter (λ w. nat_lt 0 (length w))) (cond-true (is_space_or_tab b) ([] ∷ slice_split is_space_or_tab line) (onto_first b (slice_split is_space_or_tab line)) h)
 
-blank_words : (line : List ℕ) → list_all is_space line ≡ true → words line ≡ []
+blank_words : (line : List ℕ) → list_all is_space_or_tab line ≡ true → words line ≡ []
 unfolding words
 blank_words [] h = refl
 blank_words (b ∷ line) h =
-    let parts = and_parts (is_space b) (list_all is_space line) h in
+    let parts = and_parts (is_space_or_tab b) (list_all is_space_or_tab line) h in
     space_skipped b line parts.0 ∙ blank_words line parts.1
 
 note_word : (line : List ℕ) → starts_with nat_eq line (codes ";") ≡ true → (more : List ℕ) × (first_of (words line) ≡ 59 ∷ more)
@@ -183,9 +183,9 @@ unfolding words
 note_word [] h = absurd (true≢false (sym h))
 note_word (b ∷ line) h =
     let is : b ≡ 59 = sym (eqb-true 59 b (and_parts (59 == b) _ h).0) in
-    let first = first_of_split is_space line in
-    let split : slice_split is_space (b ∷ line) ≡ (59 ∷ first.first) ∷ first.more =
-    ap (λ c. slice_split is_space (c ∷ line)) is ∙ ap (onto_first 59) first.is in
+    let first = first_of_split is_space_or_tab line in
+    let split : slice_split is_space_or_tab (b ∷ line) ≡ (59 ∷ first.first) ∷ first.more =
+    ap (λ c. slice_split is_space_or_tab (c ∷ line)) is ∙ ap (onto_first 59) first.is in
     let some : 0 < length (59 ∷ first.first) = omega arith in (
       first.first,
       ap (λ ps. first_of (filter (λ w. nat_lt 0 (length w)) ps)) split
@@ -194,7 +194,7 @@ note_word (b ∷ line) h =
 
 -- a skipped line is none of SYSTEM, NAME and AREA
 pub skipped_word : (line : List ℕ) (b : ℕ) (word : List ℕ) → (59 == b) ≡ false → is_skipped line ≡ true → bytes_eq (first_of (words line)) (b ∷ word) ≡ false
-skipped_word line b word other h = elim (cases_Bool (list_all is_space line)) [
+skipped_word line b word other h = elim (cases_Bool (list_all is_space_or_tab line)) [
   | inl blank ↦ ap (λ ws. bytes_eq (first_of ws) (b ∷ word)) (blank_words line blank)
   | inr some ↦
       let note : starts_with nat_eq line (codes ";") ≡ true = sym (ap (λ t. t || starts_with nat_eq line (codes ";")) some) ∙ h in

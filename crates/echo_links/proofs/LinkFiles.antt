@@ -14,7 +14,7 @@ use Rattle.echo_addr.proofs.Outcomes.{AddressOf-from_refusal}
 use Rattle.echo_text.specs.Lines.{is_tag}
 use Rattle.echo_links.specs.declared.fault.LinkFault.TheVariants as fault
 use Rattle.echo_links.specs.Links.{Area, IsArea, IsFile, same_address}
-use Rattle.echo_links.specs.LinkLines.{after_first_of, area_fault, area_in, file_fault, file_lines, file_of, first_fault, first_of, is_area_line, is_control_byte, is_name_line, is_one_address, is_skipped, is_space, is_system_line, line_fault, links_fault, links_in, name_fault, name_in, no_address, read_lines, system_fault, system_in, tag_in, without_front_spaces, words}
+use Rattle.echo_links.specs.LinkLines.{after_first_of, area_fault, area_in, file_fault, file_lines, file_of, first_fault, first_of, is_area_line, is_control_byte, is_name_line, is_one_address, is_skipped, is_space_or_tab, is_system_line, line_fault, links_fault, links_in, name_fault, name_in, no_address, read_lines, system_fault, system_in, tag_in, without_front_spaces, words}
 use Rattle.echo_links.proofs.Addresses.{same_address_decides}
 use Rattle.echo_links.proofs.Plain.{IsLineByte, Plain, plain_drop, plain_if, plain_line, plain_take}
 
@@ -111,9 +111,9 @@ line_plain (b ∷ line) h =
 
 name_plain : (line : List ℕ) → Plain line → Plain (name_in line)
 name_plain line h =
-    let plain : Plain (drop 4 (without_front_spaces line)) = plain_drop 4 (without_front_spaces line) (plain_drop (prefix_len is_space line) line h) in
+    let plain : Plain (drop 4 (without_front_spaces line)) = plain_drop 4 (without_front_spaces line) (plain_drop (prefix_len is_space_or_tab line) line h) in
     plain_take _ (without_front_spaces (drop 4 (without_front_spaces line)))
-    (plain_drop (prefix_len is_space (drop 4 (without_front_spaces line))) (drop 4 (without_front_spaces line)) plain)
+    (plain_drop (prefix_len is_space_or_tab (drop 4 (without_front_spaces line))) (drop 4 (without_front_spaces line)) plain)
 
 -- a line of one kind is of no other
 pub other_word : (w one other : List ℕ) → bytes_eq one other ≡ false → bytes_eq w one ≡ true → bytes_eq w other ≡ false

@@ -11,7 +11,7 @@ use Rattle.echo_links.specs.declared.fault.LinkFault.TheVariants as fault
 use Rattle.echo_links.specs.declared.link_file.reading.Reading.{Reading}
 use Rattle.echo_links.specs.Links.{Area}
 use Rattle.echo_links.specs.LinkLines.{area_in, file_fault, file_lines, file_of, first_fault, is_area_line, is_name_line, is_skipped, is_system_line, line_fault, name_in, no_address, system_in, tag_in}
-use Rattle.echo_links.specs.LinkReading.{Adds, Holds, Knows, areas_of, has_tag, kept, name_of, system_of}
+use Rattle.echo_links.specs.LinkReading.{Adds, Holds, Knows, areas_of, is_area_known, kept, name_of, system_of}
 use Rattle.echo_links.proofs.AreaMaps.{bytes_turned}
 use Rattle.echo_links.proofs.LinkBytes.{no_lines_left, skipped_word}
 use Rattle.echo_links.proofs.LinkTaking.{areas_one, name_one, or_none, system_one}
@@ -110,19 +110,19 @@ module _ (line : List ℕ) where
         ]
   ]
 
-has_tag_append : (all more : List Area) (tag : List ℕ) → has_tag (all ++ more) tag ≡ (has_tag all tag || has_tag more tag)
+has_tag_append : (all more : List Area) (tag : List ℕ) → is_area_known (all ++ more) tag ≡ (is_area_known all tag || is_area_known more tag)
 has_tag_append [] more tag = refl
 has_tag_append (area ∷ all) more tag = elim (cases_Bool (bytes_eq area.tag tag)) [
   | inl is ↦
       ap is_some (cond-true (bytes_eq area.tag tag) (Some area) (find (λ (a : Area). bytes_eq a.tag tag) (all ++ more)) is)
-      ∙ sym (ap (λ o. is_some o || has_tag more tag) (cond-true (bytes_eq area.tag tag) (Some area) (find (λ (a : Area). bytes_eq a.tag tag) all) is))
+      ∙ sym (ap (λ o. is_some o || is_area_known more tag) (cond-true (bytes_eq area.tag tag) (Some area) (find (λ (a : Area). bytes_eq a.tag tag) all) is))
   | inr isnt ↦
       ap is_some (cond-false (bytes_eq area.tag tag) (Some area) (find (λ (a : Area). bytes_eq a.tag tag) (all ++ more)) isnt)
       ∙ has_tag_append all more tag
-      ∙ sym (ap (λ o. is_some o || has_tag more tag) (cond-false (bytes_eq area.tag tag) (Some area) (find (λ (a : Area). bytes_eq a.tag tag) all) isnt))
+      ∙ sym (ap (λ o. is_some o || is_area_known more tag) (cond-false (bytes_eq area.tag tag) (Some area) (find (λ (a : Area). bytes_eq a.tag tag) all) isnt))
 ]
 
-one_tag : (area : Area) (tag : List ℕ) → has_tag (area ∷ []) tag ≡ bytes_eq tag area.tag
+one_tag : (area : Area) (tag : List ℕ) → is_area_known (area ∷ []) tag ≡ bytes_eq tag area.tag
 one_tag area tag = elim (cases_Bool (bytes_eq area.tag tag)) [
   | inl is ↦ ap is_some (cond-true (bytes_eq area.tag tag) (Some area) None is) ∙ sym (bytes_turned tag area.tag ∙ is)
   | inr isnt ↦ ap is_some (cond-false (bytes_eq area.tag tag) (Some area) None isnt) ∙ sym (bytes_turned tag area.tag ∙ isnt)
@@ -143,24 +143,24 @@ knows_more earlier line old new knows adds = record {
       ∙ sym (ap is_some adds.system ∙ some_or old.system (system_of (line ∷ [])));
   name = ap (λ t. is_name_line line || t) knows.name ∙ ap (λ t. t || is_some old.name) (sym (says_name line))
       ∙ sym (ap is_some adds.name ∙ some_or old.name (name_of (line ∷ [])));
-  areas = λ tag. tags tag ∙ sym (ap (λ all. has_tag all tag) (adds.areas ∙ ap (λ all. old.areas ++ all) (says_area line)));
+  areas = λ tag. tags tag ∙ sym (ap (λ all. is_area_known all tag) (adds.areas ∙ ap (λ all. old.areas ++ all) (says_area line)));
 }
   where
     tags : (tag : List ℕ) → list_any (bytes_eq tag) (map tag_in (filter is_area_line (line ∷ earlier)))
-        ≡ has_tag (old.areas ++ cond (is_area_line line) (area_in line ∷ []) []) tag
+        ≡ is_area_known (old.areas ++ cond (is_area_line line) (area_in line ∷ []) []) tag
     tags tag = elim (cases_Bool (is_area_line line)) [
       | inl is ↦
           ap (λ ls. list_any (bytes_eq tag) (map tag_in ls)) (cond-true (is_area_line line) (line ∷ filter is_area_line earlier) (filter is_area_line earlier) is)
           ∙ ap (λ t. bytes_eq tag (tag_in line) || t) (knows.areas tag)
-          ∙ or_turned (bytes_eq tag (tag_in line)) (has_tag old.areas tag)
-          ∙ ap (λ t. has_tag old.areas tag || t) (sym (one_tag (area_in line) tag))
+          ∙ or_turned (bytes_eq tag (tag_in line)) (is_area_known old.areas tag)
+          ∙ ap (λ t. is_area_known old.areas tag || t) (sym (one_tag (area_in line) tag))
           ∙ sym (has_tag_append old.areas (area_in line ∷ []) tag)
-          ∙ sym (ap (λ all. has_tag (old.areas ++ all) tag) (cond-true (is_area_line line) (area_in line ∷ []) [] is))
+          ∙ sym (ap (λ all. is_area_known (old.areas ++ all) tag) (cond-true (is_area_line line) (area_in line ∷ []) [] is))
       | inr isnt ↦
           ap (λ ls. list_any (bytes_eq tag) (map tag_in ls)) (cond-false (is_area_line line) (line ∷ filter is_area_line earlier) (filter is_area_line earlier) isnt)
           ∙ knows.areas tag
-          ∙ sym (ap (λ all. has_tag (old.areas ++ all) tag) (cond-false (is_area_line line) (area_in line ∷ []) [] isnt)
-          ∙ ap (λ all. has_tag all tag) (append-nil old.areas))
+          ∙ sym (ap (λ all. is_area_known (old.areas ++ all) tag) (cond-false (is_area_line line) (area_in line ∷ []) [] isnt)
+          ∙ ap (λ all. is_area_known all tag) (append-nil old.areas))
     ]
 
 -- ---- all lines

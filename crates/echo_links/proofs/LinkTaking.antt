@@ -16,7 +16,7 @@ use Rattle.echo_links.specs.declared.fault.LinkFault.TheVariants as fault
 use Rattle.echo_links.specs.declared.link_file.reading.Reading.{Reading}
 use Rattle.echo_links.specs.Links.{Area, upper}
 use Rattle.echo_links.specs.LinkLines.{after_first_of, area_fault, area_in, first_of, has_word, is_area_line, is_control_byte, is_name_line, is_skipped, is_system_line, line_fault, links_fault, name_fault, name_in, system_fault, system_in, tag_in, words}
-use Rattle.echo_links.specs.LinkReading.{Adds, Knows, TakesLine, area_refusal, areas_of, has_tag, name_of, name_refusal, system_of, system_refusal}
+use Rattle.echo_links.specs.LinkReading.{Adds, Knows, TakesLine, area_refusal, areas_of, is_area_known, name_of, name_refusal, system_of, system_refusal}
 use Rattle.echo_links.proofs.LinkBytes.{name_trimmed, no_feed, tokens_words}
 use Rattle.echo_links.proofs.LinkFiles.{other_word}
 
@@ -242,16 +242,16 @@ module _ (line word rest : List ℕ) (cut : IsCut line word rest) where
 
 module _ (areas : List Area) (number : ℕ) (all : List (List ℕ)) (word : List ℕ) (more : List (List ℕ)) (tag : List ℕ) (cut : all ≡ word ∷ more)
     (good : is_tag (upper word) ≡ true) (tag-is : tag ≡ upper word) where
-  area_begun : area_refusal areas number all ≡ cond (has_tag areas tag) (Some (fault.RepeatedArea number)) (links_fault number [] more)
+  area_begun : area_refusal areas number all ≡ cond (is_area_known areas tag) (Some (fault.RepeatedArea number)) (links_fault number [] more)
   area_begun =
       ap (area_refusal areas number) cut
       ∙ cond-false (not (is_tag (upper word))) (Some (fault.BadTag number)) _ (not_from_true (is_tag (upper word)) good)
-      ∙ ap (λ t. cond (has_tag areas t) (Some (fault.RepeatedArea number)) (links_fault number [] more)) (sym tag-is)
+      ∙ ap (λ t. cond (is_area_known areas t) (Some (fault.RepeatedArea number)) (links_fault number [] more)) (sym tag-is)
 
   -- its tag stands before it
-  pub area_repeated : has_tag areas tag ≡ true → area_refusal areas number all ≡ Some (fault.RepeatedArea number)
-  area_repeated h = area_begun ∙ cond-true (has_tag areas tag) (Some (fault.RepeatedArea number)) (links_fault number [] more) h
+  pub area_repeated : is_area_known areas tag ≡ true → area_refusal areas number all ≡ Some (fault.RepeatedArea number)
+  area_repeated h = area_begun ∙ cond-true (is_area_known areas tag) (Some (fault.RepeatedArea number)) (links_fault number [] more) h
 
   -- or its links do
-  pub area_links : has_tag areas tag ≡ false → area_refusal areas number all ≡ links_fault number [] more
-  area_links h = area_begun ∙ cond-false (has_tag areas tag) (Some (fault.RepeatedArea number)) (links_fault number [] more) h
+  pub area_links : is_area_known areas tag ≡ false → area_refusal areas number all ≡ links_fault number [] more
+  area_links h = area_begun ∙ cond-false (is_area_known areas tag) (Some (fault.RepeatedArea number)) (links_fault number [] more) h

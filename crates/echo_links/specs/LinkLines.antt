@@ -24,12 +24,12 @@ unfoldable pub file_lines : List ℕ → List (List ℕ)
 file_lines bytes = ended_pieces (slice_split is_feed bytes)
 
 -- a blank: 20 or 09
-abbrev pub is_space : ℕ → Bool
-is_space b = (b == 32) || (b == 9)
+abbrev pub is_space_or_tab : ℕ → Bool
+is_space_or_tab b = (b == 32) || (b == 9)
 
 -- blank lines, and lines that begin with `;`
 abbrev pub is_skipped : List ℕ → Bool
-is_skipped line = list_all is_space line || starts_with nat_eq line (codes ";")
+is_skipped line = list_all is_space_or_tab line || starts_with nat_eq line (codes ";")
 
 -- a byte below 20 that is not 09
 abbrev pub is_control_byte : ℕ → Bool
@@ -37,7 +37,7 @@ is_control_byte b = nat_lt b 32 && not (b == 9)
 
 -- what stands between blanks
 unfoldable pub words : List ℕ → List (List ℕ)
-words line = filter (λ word. nat_lt 0 (length word)) (slice_split is_space line)
+words line = filter (λ word. nat_lt 0 (length word)) (slice_split is_space_or_tab line)
 
 -- the first of some words
 abbrev pub first_of : List (List ℕ) → List ℕ
@@ -67,12 +67,12 @@ is_area_line line = has_word (codes "AREA") line
 
 -- bytes without the blanks at the front
 abbrev pub without_front_spaces : List ℕ → List ℕ
-without_front_spaces bytes = drop (prefix_len is_space bytes) bytes
+without_front_spaces bytes = drop (prefix_len is_space_or_tab bytes) bytes
 
 -- and without those at both ends
 abbrev pub without_spaces : List ℕ → List ℕ
 without_spaces bytes =
-    take (length (without_front_spaces bytes) - suffix_len is_space (without_front_spaces bytes)) (without_front_spaces bytes)
+    take (length (without_front_spaces bytes) - suffix_len is_space_or_tab (without_front_spaces bytes)) (without_front_spaces bytes)
 
 -- the address of a SYSTEM line
 abbrev pub system_in : List ℕ → Address

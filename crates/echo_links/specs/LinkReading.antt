@@ -31,14 +31,14 @@ name_refusal repeated number name =
     else None
 
 -- whether an area has the tag
-abbrev pub has_tag : List Area → List ℕ → Bool
-has_tag areas tag = is_some (find (λ area. bytes_eq area.tag tag) areas)
+abbrev pub is_area_known : List Area → List ℕ → Bool
+is_area_known areas tag = is_some (find (λ area. bytes_eq area.tag tag) areas)
 
 -- of an AREA line, of the words after the first, where these areas stand before it
 abbrev pub area_refusal : List Area → ℕ → List (List ℕ) → Option LinkFault
 area_refusal areas number words =
     if not (is_tag (upper (first_of words))) then Some (fault.BadTag number)
-    else if has_tag areas (upper (first_of words)) then Some (fault.RepeatedArea number)
+    else if is_area_known areas (upper (first_of words)) then Some (fault.RepeatedArea number)
     else links_fault number [] (after_first_of words)
 
 -- the lines that are read
@@ -59,7 +59,7 @@ areas_of lines = map area_in (filter is_area_line (kept lines))
 pub record Knows (earlier : List (List ℕ)) (r : Reading) : Type 0 where
   pub system : list_any is_system_line earlier ≡ is_some r.system
   pub name : list_any is_name_line earlier ≡ is_some r.name
-  pub areas : (tag : List ℕ) → list_any (bytes_eq tag) (map tag_in (filter is_area_line earlier)) ≡ has_tag r.areas tag
+  pub areas : (tag : List ℕ) → list_any (bytes_eq tag) (map tag_in (filter is_area_line earlier)) ≡ is_area_known r.areas tag
 
 -- a reader holds what it held and what these lines say
 pub record Adds (lines : List (List ℕ)) (old new : Reading) : Type 0 where
@@ -79,6 +79,6 @@ pub record Holds (lines : List (List ℕ)) (r : Reading) : Type 0 where
   pub areas : r.areas ≡ areas_of lines
 
 -- what taking all lines answers
-abbrev pub Reads : List ℕ → Result Reading LinkFault → Type 0
-Reads bytes (Ok r) = (first_fault [] 1 (file_lines bytes) ≡ None) × Holds (file_lines bytes) r
-Reads bytes (Err refused) = (refused ≡ fault.Memory) ⊎ (first_fault [] 1 (file_lines bytes) ≡ Some refused)
+abbrev pub ReadsLinkFile : List ℕ → Result Reading LinkFault → Type 0
+ReadsLinkFile bytes (Ok r) = (first_fault [] 1 (file_lines bytes) ≡ None) × Holds (file_lines bytes) r
+ReadsLinkFile bytes (Err refused) = (refused ≡ fault.Memory) ⊎ (first_fault [] 1 (file_lines bytes) ≡ Some refused)

@@ -11,7 +11,7 @@ use Rattle.echo_addr.specs.declared.address.Address.{Address}
 use Rattle.echo_links.specs.LinkLines.{no_address}
 use Rattle.echo_filed.specs.Sets.{address_before}
 use Rattle.echo_graph.specs.Walk.{Among, IsAt}
-use Rattle.echo_graph.specs.Rows.{IsAscending, links_of}
+use Rattle.echo_graph.specs.Rows.{IsAscending, links_at}
 use Rattle.echo_graph.proofs.Members.{Among-from_Contains, Contains-from_Among}
 use Rattle.echo_graph.proofs.Rows.{holds_at, place_of}
 use Rattle.echo_net.specs.declared.link.Link.{Link}
@@ -105,14 +105,14 @@ is_row carriers links run system row from ascending members =
 
 -- one more row
 pub one_row_more : (carriers : List Address) (links : List Link) (i : ℕ) (rows : List (List ℕ)) (row : List ℕ) → length rows ≡ i →
-    ((k : ℕ) → k < i → IsRow carriers links (system_at carriers k) (links_of rows k)) → IsRow carriers links (system_at carriers i) row →
-    (length (rows ++ row ∷ []) ≡ i + 1) × ((k : ℕ) → k < i + 1 → IsRow carriers links (system_at carriers k) (links_of (rows ++ row ∷ []) k))
+    ((k : ℕ) → k < i → IsRow carriers links (system_at carriers k) (links_at rows k)) → IsRow carriers links (system_at carriers i) row →
+    (length (rows ++ row ∷ []) ≡ i + 1) × ((k : ℕ) → k < i + 1 → IsRow carriers links (system_at carriers k) (links_at (rows ++ row ∷ []) k))
 one_row_more carriers links i rows row size below here = (
   omega (arith, length-append rows (row ∷ [])),
   λ k lt. elim (cases_lt k i) [
     | inl earlier ↦ subst (IsRow carriers links (system_at carriers k)) (sym (get_or_append_left rows (row ∷ []) [] k (omega arith))) (below k earlier)
     | inr later ↦ (let same : i ≡ k = omega arith in
-        subst (λ (n : ℕ). IsRow carriers links (system_at carriers n) (links_of (rows ++ row ∷ []) n)) same
+        subst (λ (n : ℕ). IsRow carriers links (system_at carriers n) (links_at (rows ++ row ∷ []) n)) same
         (subst (IsRow carriers links (system_at carriers i)) (sym (get_or_at rows row [] [] i size)) here))
   ],
 )

@@ -3,7 +3,7 @@ use Rattle.std.specs.Prelude.{◌≡◌, ◌<◌, ◌==◌, ◌↔◌, ℕ, IsTr
 use Rattle.std.specs.List.{list_any}
 use Rattle.echo_addr.specs.declared.address.Address.{Address}
 use Rattle.echo_links.specs.LinkLines.{no_address}
-use Rattle.echo_graph.specs.Rows.{IsAscending, links_of}
+use Rattle.echo_graph.specs.Rows.{IsAscending, links_at}
 use Rattle.echo_net.specs.declared.link.Link.{Link}
 use Rattle.echo_net.specs.Nets.{link}
 
@@ -20,4 +20,4 @@ pub record IsRow (carriers : List Address) (links : List Link) (system : Address
 -- each carrier has its row
 pub record AreRows (carriers : List Address) (links : List Link) (rows : List (List ℕ)) : Type 0 where
   pub same_length : length rows ≡ length carriers
-  pub each : (i : ℕ) → i < length carriers → IsRow carriers links (system_at carriers i) (links_of rows i)
+  pub each : (i : ℕ) → i < length carriers → IsRow carriers links (system_at carriers i) (links_at rows i)

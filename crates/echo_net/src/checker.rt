@@ -28,7 +28,7 @@ use std::alloc::{AllocError, Global};
 /// A `No` says the first thing that is wrong, in the order of `NetFault`, with the smallest addresses.
 ///
 /// Takes about the time of sorting the links, but for a net whose only fault is a loop: to name it
-/// takes a search for each end of each link.
+/// takes up to one search of the net for each link of each system.
 pub fn check(alloc: Global, files: &[LinkFile], tag: &[u8]) -> Result<Verdict, AllocError>
     ensures tidy { IfOk result (λ verdict. IsYes verdict ↔ Tidy files.now tag.now) }
     ensures counted { IfOk result (λ verdict. IfYes verdict (λ systems links.

@@ -26,13 +26,13 @@ last_five line = drop (length line - 5) line
 abbrev pub before_five : List ℕ → List ℕ
 before_five line = take (length line - 5) line
 
-abbrev pub without_spaces : List ℕ → List ℕ
-without_spaces bytes = take (length bytes - suffix_len is_space bytes) bytes
+abbrev pub without_back_spaces : List ℕ → List ℕ
+without_back_spaces bytes = take (length bytes - suffix_len is_space bytes) bytes
 
 -- whether a line ends with a colon, blanks 20 and five decimal digits
 abbrev pub states_crc : List ℕ → Bool
 states_crc line =
-    nat_le 5 (length line) && all_ascii_digits (last_five line) && ends_with_byte 58 (without_spaces (before_five line))
+    nat_le 5 (length line) && all_ascii_digits (last_five line) && ends_with_byte 58 (without_back_spaces (before_five line))
 
 -- the number that the five digits write
 abbrev pub stated_crc : List ℕ → ℕ

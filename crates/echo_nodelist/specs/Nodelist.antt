@@ -47,13 +47,13 @@ pub record FaultIn (raws : List (List ℕ)) (fault : NodeFault) : Type 0 where
   pub faulty : line_outcome (reverse lines) raw ≡ Err fault
 
 -- the same of a nodelist
-abbrev pub FaultOf : List ℕ → NodeFault → Type 0
-FaultOf bytes fault = FaultIn (node_lines bytes) fault
+abbrev pub ListFaultOf : List ℕ → NodeFault → Type 0
+ListFaultOf bytes fault = FaultIn (node_lines bytes) fault
 
 -- a reader's answer: the lines, the first fault, or want of memory
-abbrev pub Answers : List ℕ → Result (List Line) NodeFault → Type 0
-Answers bytes (Ok lines) = NodelistOf bytes lines
-Answers bytes (Err fault) = FaultOf bytes fault ⊎ (fault ≡ Memory)
+abbrev pub ListAnswered : List ℕ → Result (List Line) NodeFault → Type 0
+ListAnswered bytes (Ok lines) = NodelistOf bytes lines
+ListAnswered bytes (Err fault) = ListFaultOf bytes fault ⊎ (fault ≡ Memory)
 
 -- what was to be answered, or want of memory
 abbrev pub Gives : {A : Type 0} → Result A NodeFault → Result A NodeFault → Type 0

@@ -2,14 +2,12 @@
 use Rattle.std.specs.Prelude.{ℕ, ◌==◌, Bool, List, map}
 use Rattle.std.specs.List.{before_first, slice_split}
 use Rattle.std.specs.Io.BufRead.{strip_last}
+pub use Rattle.echo_addr.specs.Pieces.{is_feed}
 use Rattle.echo_addr.specs.Pieces.{without_empty_last}
 
--- 1A, which ends the file, 0A, which ends a line, and the comma between fields
+-- 1A, which ends the file, and the comma between fields; 0A ends a line
 abbrev pub is_end : ℕ → Bool
 is_end b = b == 26
-
-abbrev pub is_feed : ℕ → Bool
-is_feed b = b == 10
 
 abbrev pub is_comma : ℕ → Bool
 is_comma b = b == 44

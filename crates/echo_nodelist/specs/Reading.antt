@@ -11,6 +11,6 @@ abbrev pub IsInStep : Reading → Type 0
 IsInStep r = Follows r.lines.items r.addresses.items r.place
 
 -- the lines were read, or the first fault among them
-abbrev pub Reads : List (List ℕ) → Result Reading NodeFault → Type 0
-Reads raws (Ok r) = AreRead (reverse raws) (reverse r.lines.items) × IsInStep r
-Reads raws (Err fault) = FaultIn raws fault ⊎ (fault ≡ Memory)
+abbrev pub ReadsLines : List (List ℕ) → Result Reading NodeFault → Type 0
+ReadsLines raws (Ok r) = AreRead (reverse raws) (reverse r.lines.items) × IsInStep r
+ReadsLines raws (Err fault) = FaultIn raws fault ⊎ (fault ≡ Memory)

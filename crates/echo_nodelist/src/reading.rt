@@ -2,7 +2,7 @@ ghost use Rattle.std.specs.Prelude.{◌≡◌, ◌+◌, ◌⊎◌, [], ◌∷◌
 ghost use Rattle.echo_nodelist.specs.declared.fault.NodeFault.TheVariants.{Memory};
 ghost use Rattle.echo_nodelist.specs.Raw.{lines_of};
 ghost use Rattle.echo_nodelist.specs.Nodelist.{placed};
-ghost use Rattle.echo_nodelist.specs.Reading.{IsInStep, Reads};
+ghost use Rattle.echo_nodelist.specs.Reading.{IsInStep, ReadsLines};
 
 use crate::cutting::split_line;
 use crate::fault::NodeFault;
@@ -38,7 +38,7 @@ impl Reading {
 
 /// The lines of the text.
 pub(crate) fn read_lines(alloc: Global, text: &[u8]) -> Result<Reading, NodeFault>
-    ensures { Reads (lines_of text.now) result }
+    ensures { ReadsLines (lines_of text.now) result }
 {
     let mut reading = Reading {
         lines: Vec::new(alloc),

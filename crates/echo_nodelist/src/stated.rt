@@ -1,7 +1,7 @@
 ghost use Rattle.std.specs.Prelude.{◌≡◌, ◌≤◌, ◌↔◌, false, length, IsNone, IfSome};
 ghost use Rattle.std.specs.List.{after_first, before_first, suffix_len};
 ghost use Rattle.echo_nodelist.specs.Raw.{is_feed};
-ghost use Rattle.echo_nodelist.specs.CrcLine.{crc_line_of, is_space, states_crc, stated_crc, without_spaces};
+ghost use Rattle.echo_nodelist.specs.CrcLine.{crc_line_of, is_space, states_crc, stated_crc, without_back_spaces};
 
 use crate::crc::crc16;
 use crate::cutting::{before_end, cut, without_return};
@@ -67,7 +67,7 @@ fn stated_number(line: &[u8]) -> Option<u32>
 
 /// The bytes without the blanks 20 at their end.
 fn without_spaces(bytes: &[u8]) -> &[u8]
-    ensures { result.now ≡ without_spaces bytes.now }
+    ensures { result.now ≡ without_back_spaces bytes.now }
 {
     &bytes[..bytes.len() - spaces(bytes)]
 }

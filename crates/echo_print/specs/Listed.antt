@@ -31,14 +31,14 @@ keyword_word Node = codes "Node"
 keyword_word k = keyword_text k
 
 -- the first field after the number
-abbrev pub name_of : List (List ℕ) → List ℕ
-name_of [] = []
-name_of (name ∷ fields) = name
+abbrev pub first_field : List (List ℕ) → List ℕ
+first_field [] = []
+first_field (name ∷ fields) = name
 
 -- the line of an entry with this address; a Note has none
-abbrev pub entry_text : Address → Line → List ℕ
-entry_text a (Note text) = []
-entry_text a (Entry k n fields) = (address_text a ++ codes " ") ++ escaped_line (keyword_word k) (name_of fields)
+abbrev pub listed_entry : Address → Line → List ℕ
+listed_entry a (Note text) = []
+listed_entry a (Entry k n fields) = (address_text a ++ codes " ") ++ escaped_line (keyword_word k) (first_field fields)
 
 -- the line at an index, and none past the end
 abbrev pub line_at : List Line → ℕ → Line
@@ -47,11 +47,11 @@ line_at lines i = slice_index_or lines i (Note [])
 -- what is printed of a line, by its address if it has one
 abbrev pub addressed_text : Option Address → Line → List ℕ
 addressed_text None line = []
-addressed_text (Some a) line = entry_text a line
+addressed_text (Some a) line = listed_entry a line
 
 -- the lines of the entries among so many lines from the first on
-abbrev pub entries_text : List Line → ℕ → List ℕ
-entries_text lines count = flat_map (λ i. addressed_text (address_at lines i) (line_at lines i)) (range_with_len 0 count)
+abbrev pub listed_entries : List Line → ℕ → List ℕ
+listed_entries lines count = flat_map (λ i. addressed_text (address_at lines i) (line_at lines i)) (range_with_len 0 count)
 
 abbrev pub is_entry : Line → Bool
 is_entry (Note text) = false
@@ -68,11 +68,11 @@ line_number number = codes "line " ++ (decimal number ++ codes " ")
 -- the line of the entry at the index, counted from 1, or that there is none with the address
 abbrev pub found_text : List Line → Address → Option ℕ → List ℕ
 found_text lines a None = codes "not listed " ++ (address_text a ++ codes "\n")
-found_text lines a (Some i) = line_number (i + 1) ++ entry_text a (line_at lines i)
+found_text lines a (Some i) = line_number (i + 1) ++ listed_entry a (line_at lines i)
 
 -- the lines after that on the checksum: of each entry and their number, or of the first one with the address
 abbrev pub RestListed : Option Address → List Line → List ℕ → Type 0
-RestListed None lines text = text ≡ entries_text lines (length lines) ++ total_line lines
+RestListed None lines text = text ≡ listed_entries lines (length lines) ++ total_line lines
 RestListed (Some a) lines text = (found : Option ℕ) × Finds lines a found × (text ≡ found_text lines a found)
 
 -- all lines of a nodelist that states this of its checksum

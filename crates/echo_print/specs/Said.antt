@@ -3,7 +3,7 @@ use Rattle.std.specs.Prelude.{◌≡◌, ℕ, List, [], ◌++◌, length, codes,
 use Rattle.echo_text.specs.declared.fault.TextFault.{TextFault}
 use Rattle.echo_text.specs.declared.fault.TextFault.TheVariants.{BadTag, NotEcho}
 use Rattle.echo_text.specs.Echo.{EchoOf, EchoText, msgid_of, origin_of, reply_of, tear_of}
-use Rattle.echo_text.specs.Refusal.{refusal}
+use Rattle.echo_text.specs.Refusal.{text_refusal}
 use Rattle.echo_print.specs.Escaped.{escaped_line}
 
 -- the line of the tag, which is printed as it stands
@@ -37,7 +37,7 @@ pub record IsEchoShown (text lines : List ℕ) : Type 0 where
   pub said : EchoOf text echo dropped
   pub whole : lines ≡ echo_lines echo dropped
 
--- the lines of a text to which this refusal applies, if any
+-- the lines of a text to which this text_refusal applies, if any
 abbrev pub LinesFor : Option TextFault → List ℕ → List ℕ → Type 0
 LinesFor None text lines = IsEchoShown text lines
 LinesFor (Some NotEcho) text lines = lines ≡ codes "not echomail\n"
@@ -46,4 +46,4 @@ LinesFor (Some _) text lines = ⊥
 
 -- the lines of a text: of what it says as echomail, or why it is none
 abbrev pub TextShown : List ℕ → List ℕ → Type 0
-TextShown text lines = LinesFor (refusal text) text lines
+TextShown text lines = LinesFor (text_refusal text) text lines

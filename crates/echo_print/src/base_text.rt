@@ -1,23 +1,15 @@
 //! The lines of the messages of a base.
-ghost use Rattle.std.specs.Prelude.{◌≡◌, ◌==◌, ◌&&◌, [], ◌∷◌, ◌++◌, codes, decimal, length, OnOk, bytes_eq};
-ghost use Rattle.std.specs.Cmp.Lexicographic.{pointwise};
+ghost use Rattle.std.specs.Prelude.{◌≡◌, ◌++◌, codes, decimal, OnOk};
 ghost use Rattle.std.specs.List.{flat_map};
-ghost use Rattle.echo_filed.specs.Filed.{id_line};
-ghost use Rattle.echo_filed.specs.Stubs.{is_stub_with};
-ghost use Rattle.echo_text.specs.Echo.{msgid_of};
-ghost use Rattle.echo_text.specs.Lines.{msgid_word};
 ghost use Rattle.echo_print.specs.BaseListed.{echo_text, fields_text, head_text, is_purged, mark_text, message_text, origin_text, total_text};
 ghost use Rattle.echo_print.specs.Escaped.{escaped_line};
 
 use crate::escape::{push_escaped, written};
 use echo_addr::Address;
-use echo_filed::Filed;
+use echo_filed::{Filed, is_stub};
 use echo_text::{Echo, Lines, split_line};
 use std::alloc::AllocError;
 use std::io::Write;
-
-/// What the line of an id begins with (FTS-0009).
-const ID_LINE: &[u8] = b"\x01MSGID: ";
 
 /// Adds the lines of the message with this index in its base: its head, which says that it waits where the
 /// index is not below `cursor`, DateTime, names and subject, its kept lines, and how many entries SEEN-BY
@@ -96,41 +88,7 @@ fn mark(waits: bool, short: bool) -> &'static [u8]
 fn is_purged(message: &Filed) -> bool
     ensures { result ≡ is_purged message.now }
 {
-    let echo = &message.echo;
-    match echo.msgid() {
-        None => false,
-        Some(id) => is_id_alone(echo, id),
-    }
-}
-
-// Whether there is nothing beside the line that carries the id.
-fn is_id_alone(echo: &Echo, id: &[u8]) -> bool
-    ensures { result ≡ (pointwise bytes_eq echo.now.kept (id_line msgid_word id.now ∷ [])
-        && ((length echo.now.seen == 0) && (length echo.now.path == 0))) }
-{
-    is_line_of(&echo.kept, id) && echo.seen.is_empty() && echo.path.is_empty()
-}
-
-// Whether the lines are the one that carries the id.
-fn is_line_of(kept: &Lines, id: &[u8]) -> bool
-    ensures { result ≡ pointwise bytes_eq kept.now (id_line msgid_word id.now ∷ []) }
-{
-    let text = kept.as_text();
-    if text.is_empty() {
-        return false;
-    }
-    let (line, rest) = split_line(text);
-    if !rest.is_empty() {
-        return false;
-    }
-    is_id_line(line, id)
-}
-
-// Whether the line is the one that carries the id.
-fn is_id_line(line: &[u8], id: &[u8]) -> bool
-    ensures { result ≡ bytes_eq line.now (id_line msgid_word id.now) }
-{
-    line.strip_prefix(ID_LINE) == Some(id)
+    message.echo.msgid().is_some() && is_stub(message)
 }
 
 // Adds DateTime, names and subject.

@@ -26,5 +26,5 @@ pub use picture_text::push_picture;
 pub use replay_text::push_world;
 pub use said::push_echo;
 pub use show_text::{push_end, push_fields, push_header};
-pub use told::{push_posted, push_purged, push_sent, push_tally};
+pub use told::{MOST_TALLY, push_posted, push_purged, push_sent, push_tally};
 pub use verdict_text::{push_absences, push_verdict};

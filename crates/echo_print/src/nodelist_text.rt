@@ -2,7 +2,7 @@
 ghost use Rattle.std.specs.Prelude.{◌≡◌, ◌++◌, ◌<◌, codes, length, OnOk, Some};
 ghost use Rattle.std.specs.List.{count_by};
 ghost use Rattle.echo_addr.specs.Address.{address_text};
-ghost use Rattle.echo_print.specs.Listed.{RestListed, crc_text, entry_text, found_text, is_entry, keyword_word, line_number, mismatch_line, name_of, total_line};
+ghost use Rattle.echo_print.specs.Listed.{RestListed, crc_text, listed_entry, found_text, is_entry, keyword_word, line_number, mismatch_line, first_field, total_line};
 ghost use Rattle.echo_print.specs.Pushed.{Pushes};
 
 use crate::escape::{push_escaped, written};
@@ -92,7 +92,7 @@ fn is_entry(line: &Line) -> bool
 
 /// Adds the line of an entry: its address, keyword and name. A Note has none.
 pub fn push_entry(lines: &mut Vec<u8>, address: Address, line: &Line) -> Result<(), AllocError>
-    ensures { OnOk result (lines.new.items ≡ lines.old.items ++ entry_text address line.now) }
+    ensures { OnOk result (lines.new.items ≡ lines.old.items ++ listed_entry address line.now) }
 {
     match line {
         Line::Note(_) => Ok(()),
@@ -116,7 +116,7 @@ fn push_address(lines: &mut Vec<u8>, address: Address) -> Result<(), AllocError>
 
 // The name of a system, the first of its fields.
 fn name_of(fields: &[Items<u8>]) -> &[u8]
-    ensures { result.now ≡ name_of fields.now }
+    ensures { result.now ≡ first_field fields.now }
 {
     match fields.first() {
         Some(name) => name.as_slice(),

@@ -50,8 +50,10 @@ pub fn push_purged(lines: &mut Vec<u8>, count: u64) -> Result<(), AllocError>
     written(writeln!(lines, "purged {count}"))
 }
 
-/// Adds the line of what became of the messages of a packet. It has at most 170 bytes, for which there is
-/// to be room.
+/// How many bytes the line of what became of the messages of a packet has at most.
+pub const MOST_TALLY: usize = 170;
+
+/// Adds the line of what became of the messages of a packet. There is to be room for `MOST_TALLY` bytes.
 pub fn push_tally(lines: &mut Vec<u8>, tally: Tally)
     requires { vec_len lines.old + 170 ≤ vec_capacity lines.old }
     ensures { lines.new.items ≡ lines.old.items ++ tally_line tally }

@@ -18,7 +18,7 @@ use Rattle.echo_steps.specs.Purging.{PurgeStep}
 use Rattle.echo_steps.specs.Scanning.{ScanStep}
 use Rattle.echo_steps.specs.SystemState.{SystemState, state_with}
 use Rattle.echo_run.specs.Run.{change, nth}
-use Rattle.echo_replay.specs.Worlds.{Exported, Fits, ScanFits, WorldState, addresses, after_posting, after_scan, after_toss, arrived, made, made_by, scanned_world, with_change}
+use Rattle.echo_replay.specs.Worlds.{Exported, Fits, ScanFits, WorldState, own_addresses, after_posting, after_scan, after_toss, arrived, made, made_by, scanned_world, with_change}
 use Rattle.echo_replay.proofs.Exports.{nth-slice_get}
 
 -- past the end nothing changes
@@ -83,8 +83,8 @@ scan-file o stamp (Ok packets) n h = ap (λ (s : SystemState). s.file) h.2
 scan-file o stamp (Err scan_fault.BadStamp) n h = ap (λ (s : SystemState). s.file) h.1
 scan-file o stamp (Err scan_fault.Memory) n h = ap (λ (s : SystemState). s.file) h.1
 
--- the addresses stay where one system changes and its link file stays
-pub set-addresses : (ss : List SystemState) (i : ℕ) (s d : SystemState) → s.file ≡ (get_or ss i d).file → addresses (set ss i s) ≡ addresses ss
+-- the own_addresses stay where one system changes and its link file stays
+pub set-addresses : (ss : List SystemState) (i : ℕ) (s d : SystemState) → s.file ≡ (get_or ss i d).file → own_addresses (set ss i s) ≡ own_addresses ss
 set-addresses ss i s d e = map-set_same (λ (x : SystemState). x.file.system) ss i s d (ap (λ (f : LinkFile). f.system) e)
 
 -- an index past the systems changes nothing
@@ -104,9 +104,9 @@ with_set systems packets world i f s t d view h there new =
 -- and its address stays
 pub addresses_stay : (systems : List SystemState) (packets : List Exported) (world : WorldState) (i : ℕ) (s t d : SystemState)
     → record { systems = systems; packets = packets } ≡ world → t ≡ get_or systems i d → s.file ≡ t.file
-    → addresses (set systems i s) ≡ addresses world.systems
+    → own_addresses (set systems i s) ≡ own_addresses world.systems
 addresses_stay systems packets world i s t d view there same =
-    set-addresses systems i s d (same ∙ ap (λ (x : SystemState). x.file) there) ∙ ap (λ (w : WorldState). addresses w.systems) view
+    set-addresses systems i s d (same ∙ ap (λ (x : SystemState). x.file) there) ∙ ap (λ (w : WorldState). own_addresses w.systems) view
 
 -- the item that was read is the one of its index
 pub nth-read : {X : Type 0} (xs : List X) (i : ℕ) (x : X) → i < length xs → x ≡ get_or xs i x → nth i xs ≡ Some x

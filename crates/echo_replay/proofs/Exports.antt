@@ -10,7 +10,7 @@ use Rattle.echo_graph.specs.Walk.{Among}
 use Rattle.echo_steps.specs.declared.packet.Packet.{Packet}
 use Rattle.echo_run.specs.Run.{change, destination, nth, with_index}
 use Rattle.echo_run.specs.World.{missing}
-use Rattle.echo_replay.specs.Worlds.{Exported, Fits, arrived, encoded, exported, exported_from, made}
+use Rattle.echo_replay.specs.Worlds.{Exported, Fits, arrived, encoded, exported_packet, exported_from, made}
 
 -- the item of an index, by either name
 pub nth-slice_get : {X : Type 0} (i : ℕ) (xs : List X) → slice_get xs i ≡ nth i xs
@@ -42,7 +42,7 @@ pub exported-missing : (delivered : List ℕ) (k : ℕ) (ps : List Packet) → c
 exported-missing delivered k [] = refl
 exported-missing delivered k (p ∷ ps) =
     let came = list_any (λ d. d == k) delivered in
-    sum_by-cons (λ (e : Exported). cond (not e.came) 1 0) (exported delivered k p) (exported_from delivered (k + 1) ps)
+    sum_by-cons (λ (e : Exported). cond (not e.came) 1 0) (exported_packet delivered k p) (exported_from delivered (k + 1) ps)
     ∙ ap (λ (n : ℕ). n + count_by (λ e. not e.came) (exported_from delivered (k + 1) ps)) (turned came)
     ∙ ap (λ (n : ℕ). cond came 0 1 + n) (exported-missing delivered (k + 1) ps)
 
@@ -51,7 +51,7 @@ pub exported-append : (delivered : List ℕ) (k : ℕ) (ps qs : List Packet) →
 exported-append delivered k [] qs = let e : k ≡ k + 0 = omega arith in ap (λ (n : ℕ). exported_from delivered n qs) e
 exported-append delivered k (p ∷ ps) qs =
     let e : (k + 1) + length ps ≡ k + suc (length ps) = omega arith in
-    ap (λ (es : List Exported). exported delivered k p ∷ es)
+    ap (λ (es : List Exported). exported_packet delivered k p ∷ es)
     (exported-append delivered (k + 1) ps qs ∙ ap (λ (n : ℕ). exported_from delivered (k + 1) ps ++ exported_from delivered n qs) e)
 
 -- an index past all that were delivered is none of them
@@ -123,13 +123,13 @@ below-with delivered n most below less k among = elim (cases_Bool (list_any (λ 
     by (inl e) = omega (arith, e)
     by (inr there) = below k there
 
--- the packet of an index, as it was exported
-pub exported-nth : (delivered : List ℕ) (k i : ℕ) (ps : List Packet) → nth i (exported_from delivered k ps) ≡ option_map (exported delivered (k + i)) (nth i ps)
+-- the packet of an index, as it was exported_packet
+pub exported-nth : (delivered : List ℕ) (k i : ℕ) (ps : List Packet) → nth i (exported_from delivered k ps) ≡ option_map (exported_packet delivered (k + i)) (nth i ps)
 exported-nth delivered k i [] = refl
-exported-nth delivered k zero (p ∷ ps) = let e : k ≡ k + zero = omega arith in λ j. Some (exported delivered (e j) p)
+exported-nth delivered k zero (p ∷ ps) = let e : k ≡ k + zero = omega arith in λ j. Some (exported_packet delivered (e j) p)
 exported-nth delivered k (suc i) (p ∷ ps) =
     let e : (k + 1) + i ≡ k + suc i = omega arith in
-    exported-nth delivered (k + 1) i ps ∙ λ j. option_map (exported delivered (e j)) (nth i ps)
+    exported-nth delivered (k + 1) i ps ∙ λ j. option_map (exported_packet delivered (e j)) (nth i ps)
 
 -- an index within a list has an item, and one past its end has none
 pub nth-within : {X : Type 0} (i : ℕ) (xs : List X) → i < length xs → (x : X) × (nth i xs ≡ Some x)

@@ -19,12 +19,12 @@ use Rattle.echo_steps.specs.SystemState.{SystemState, state_at_first, state_with
 use Rattle.echo_steps.specs.Posting.{posting}
 use Rattle.echo_steps.specs.Scanning.{scanned}
 use Rattle.echo_steps.specs.Stamps.{is_stamp}
-use Rattle.echo_steps.specs.Tossing.{origin_of, tossed, tossing}
+use Rattle.echo_steps.specs.Tossing.{sender_of, tossed, tossing}
 use Rattle.echo_run.specs.Event.{run_event}
 use Rattle.echo_run.specs.declared.event.Event.{Event}
 use Rattle.echo_run.proofs.LaterSystems.{after-append}
 use Rattle.echo_run.specs.Run.{Run, System, after_event, change, changing, coming, delivery, destination, filing, fresh, nth, posting_at, purging_at, receiver, run_of, scanning, scanning_at, start, taking, tossing_at}
-use Rattle.echo_replay.specs.Worlds.{Exported, Fits, IsRun, ScanFits, WorldState, addresses, after_posting, after_purge, after_scan, after_toss, arrived, encoded, exported, exported_from, first_at, made, made_by, scanned_world, state_of, with_change, world_after}
+use Rattle.echo_replay.specs.Worlds.{Exported, Fits, IsRun, ScanFits, WorldState, own_addresses, after_posting, after_purge, after_scan, after_toss, arrived, encoded, exported_packet, exported_from, first_at, made, made_by, scanned_world, state_of, with_change, world_after}
 use Rattle.echo_replay.proofs.Changes.{read-nth}
 use Rattle.echo_replay.proofs.Exports.{below-with, exported-append, exported-came, exported-made, exported-nth, nth-map, nth-past, nth-within, within-nth}
 
@@ -73,8 +73,8 @@ state-tossing sender (m ∷ ms) s = by (tossing s.file s.base sender m) (state-t
 
 state-taking : (p : Packet) (s : System) → state_of (taking p (length p.messages) s) ≡ after_toss p (state_of s)
 state-taking p s =
-    ap (λ (ms : List Message). state_of (tossing_at (origin_of s.file p.header) ms s)) (take_all (length p.messages) p.messages whole)
-    ∙ state-tossing (origin_of s.file p.header) p.messages s
+    ap (λ (ms : List Message). state_of (tossing_at (sender_of s.file p.header) ms s)) (take_all (length p.messages) p.messages whole)
+    ∙ state-tossing (sender_of s.file p.header) p.messages s
   where
     whole : length p.messages ≤ length p.messages
     whole = omega arith
@@ -188,8 +188,8 @@ delivered-run world run k p is there =
           (subst Q (sym (nth-past (receiver run p) run.systems past)) is)
     ]
 
--- the addresses at first
-pub addresses-first : (files : List LinkFile) → addresses (map state_at_first files) ≡ map (λ f. f.system) files
+-- the own_addresses at first
+pub addresses-first : (files : List LinkFile) → own_addresses (map state_at_first files) ≡ map (λ f. f.system) files
 addresses-first [] = refl
 addresses-first (f ∷ files) = ap (λ (all : List Address). f.system ∷ all) (addresses-first files)
 
@@ -223,7 +223,7 @@ pub record LedTo (world : WorldState) (k : ℕ) (p : Packet) (i : ℕ) : Type 0 
   pub comes : record { systems = change i (after_toss p) world.systems; packets = change k arrived world.packets } ≡ world_after world k p
 
 pub led-to : (world : WorldState) (k : ℕ) (p : Packet) (i : ℕ) (to : Address) → to ≡ destination p
-    → i ≡ position_or_len (λ b. same_address b to) (addresses world.systems) → i < length (addresses world.systems) → LedTo world k p i
+    → i ≡ position_or_len (λ b. same_address b to) (own_addresses world.systems) → i < length (own_addresses world.systems) → LedTo world k p i
 led-to world k p i to whom place within =
     let first : i ≡ first_at world (destination p) =
     place ∙ first-map (λ (b : Address). same_address b to) (λ (s : SystemState). s.file.system) world.systems ∙ ap (first_at world) whom in
@@ -245,9 +245,9 @@ led-to world k p i to whom place within =
 
 -- or to none: the packet comes nowhere
 pub led-nowhere : (world : WorldState) (k : ℕ) (p : Packet) (to : Address) → to ≡ destination p
-    → position_or_len (λ b. same_address b to) (addresses world.systems) ≡ length (addresses world.systems) → world ≡ world_after world k p
+    → position_or_len (λ b. same_address b to) (own_addresses world.systems) ≡ length (own_addresses world.systems) → world ≡ world_after world k p
 led-nowhere world k p to whom none =
-    let first : position_or_len (λ b. same_address b to) (addresses world.systems) ≡ first_at world (destination p) =
+    let first : position_or_len (λ b. same_address b to) (own_addresses world.systems) ≡ first_at world (destination p) =
     first-map (λ (b : Address). same_address b to) (λ (s : SystemState). s.file.system) world.systems ∙ ap (first_at world) whom in
     let past : length world.systems ≤ first_at world (destination p) = omega (arith, none, first, length-map world.systems (λ (s : SystemState). s.file.system)) in
     let come : WorldState = record { systems = change (first_at world (destination p)) (after_toss p) world.systems; packets = change k arrived world.packets } in
@@ -259,15 +259,15 @@ pub delivery-run : (world new : WorldState) (run : Run) (k : ℕ) → IsRun worl
     → IsRun new (delivery run k (nth k run.packets))
 delivery-run world new run k is none some = by (nth k run.packets) refl
   where
-    here : nth k world.packets ≡ option_map (exported run.delivered (0 + k)) (nth k run.packets)
+    here : nth k world.packets ≡ option_map (exported_packet run.delivered (0 + k)) (nth k run.packets)
     here = ap (nth k) is.packets ∙ exported-nth run.delivered 0 k run.packets
 
     by : (o : Option Packet) → nth k run.packets ≡ o → IsRun new (delivery run k o)
     by None e =
         let W : WorldState → Type 0 = λ w. IsRun w run in
-        subst W (sym (none (here ∙ ap (option_map (exported run.delivered (0 + k))) e))) is
+        subst W (sym (none (here ∙ ap (option_map (exported_packet run.delivered (0 + k))) e))) is
     by (Some p) e =
         let W : WorldState → Type 0 = λ w. IsRun w (delivery run k (Some p)) in
-        let there = here ∙ ap (option_map (exported run.delivered (0 + k))) e in
+        let there = here ∙ ap (option_map (exported_packet run.delivered (0 + k))) e in
         let fits = subst Fits (read-nth run.packets k p p e) (is.fit k p (within-nth k run.packets p e)) in
         subst W (sym (some p fits (list_any (λ d. d == 0 + k) run.delivered) there)) (delivered-run world run k p is e)

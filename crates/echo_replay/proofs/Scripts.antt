@@ -10,18 +10,18 @@ use Rattle.echo_links.proofs.LinkBytes.{no_lines_left}
 use Rattle.echo_run.specs.declared.event.Event.{Event}
 use Rattle.echo_replay.specs.declared.script.ScriptFault.{ScriptFault}
 use Rattle.echo_replay.specs.declared.script.ScriptFault.TheVariants as fault
-use Rattle.echo_replay.specs.Script.{ScriptOf, event_in, events_in, events_of, first_fault, line_fault, script_fault}
+use Rattle.echo_replay.specs.Script.{ScriptOf, event_in, events_in, events_of, first_script_fault, script_line_fault, script_fault}
 
 -- ---- one line
 
 module _ (number : ℕ) (line : List ℕ) where
-  pub skipped_fault : is_skipped line ≡ true → line_fault number line ≡ None
+  pub skipped_fault : is_skipped line ≡ true → script_line_fault number line ≡ None
   skipped_fault h = ap (λ b. cond b None (cond (is_some (event_in line)) None (Some (fault.Line number)))) h
 
   pub skipped_events : is_skipped line ≡ true → events_in (line ∷ []) ≡ []
   skipped_events h = ap (λ b. filter_map event_in (cond (not b) (line ∷ []) [])) h
 
-  pub event_fault : (event : Event) → is_skipped line ≡ false → event_in line ≡ Some event → line_fault number line ≡ None
+  pub event_fault : (event : Event) → is_skipped line ≡ false → event_in line ≡ Some event → script_line_fault number line ≡ None
   event_fault event h is =
       ap (λ b. cond b None (cond (is_some (event_in line)) None (Some (fault.Line number)))) h
       ∙ ap (λ (o : Option Event). cond (is_some o) None (Some (fault.Line number))) is
@@ -29,7 +29,7 @@ module _ (number : ℕ) (line : List ℕ) where
   pub event_events : (event : Event) → is_skipped line ≡ false → event_in line ≡ Some event → events_in (line ∷ []) ≡ event ∷ []
   event_events event h is = ap (λ b. filter_map event_in (cond (not b) (line ∷ []) [])) h ∙ ap (λ (o : Option Event). cons_option o []) is
 
-  pub other_fault : is_skipped line ≡ false → event_in line ≡ None → line_fault number line ≡ Some (fault.Line number)
+  pub other_fault : is_skipped line ≡ false → event_in line ≡ None → script_line_fault number line ≡ Some (fault.Line number)
   other_fault h is =
       ap (λ b. cond b None (cond (is_some (event_in line)) None (Some (fault.Line number)))) h
       ∙ ap (λ (o : Option Event). cond (is_some o) None (Some (fault.Line number))) is
@@ -38,7 +38,7 @@ module _ (number : ℕ) (line : List ℕ) where
 
 -- these events were read, and these bytes are left
 pub record LinesTaken (bytes : List ℕ) (number : ℕ) (rest : List ℕ) (events : List Event) : Type 0 where
-  pub faults : first_fault 1 (file_lines bytes) ≡ first_fault (number + 1) (file_lines rest)
+  pub faults : first_script_fault 1 (file_lines bytes) ≡ first_script_fault (number + 1) (file_lines rest)
   pub whole : events_in (file_lines bytes) ≡ events ++ events_in (file_lines rest)
 
 pub lines_begun : (bytes : List ℕ) → LinesTaken bytes 0 bytes []
@@ -51,21 +51,21 @@ events_next line later =
 
 module _ (bytes rest line after : List ℕ) (number : ℕ) (events : List Event) (h : LinesTaken bytes number rest events) (next : file_lines rest ≡ line ∷ file_lines after) where
   -- one more line
-  pub lines_more : (new : List Event) → line_fault (number + 1) line ≡ None → new ≡ events ++ events_in (line ∷ []) → LinesTaken bytes (number + 1) after new
+  pub lines_more : (new : List Event) → script_line_fault (number + 1) line ≡ None → new ≡ events ++ events_in (line ∷ []) → LinesTaken bytes (number + 1) after new
   lines_more new fine is = record {
-    faults = h.faults ∙ ap (first_fault (number + 1)) next
-        ∙ ap (λ (o : Option ScriptFault). option_or o (first_fault (number + 1 + 1) (file_lines after))) fine;
+    faults = h.faults ∙ ap (first_script_fault (number + 1)) next
+        ∙ ap (λ (o : Option ScriptFault). option_or o (first_script_fault (number + 1 + 1) (file_lines after))) fine;
     whole = h.whole ∙ ap (λ ls. events ++ events_in ls) next ∙ ap (λ es. events ++ es) (events_next line (file_lines after))
         ∙ sym (append_assoc events (events_in (line ∷ [])) (events_in (file_lines after)))
         ∙ ap (λ es. es ++ events_in (file_lines after)) (sym is);
   }
 
   -- one of another form
-  pub lines_other : (refused : ScriptFault) → line_fault (number + 1) line ≡ Some refused → script_fault bytes ≡ Some refused
+  pub lines_other : (refused : ScriptFault) → script_line_fault (number + 1) line ≡ Some refused → script_fault bytes ≡ Some refused
   unfolding script_fault
   lines_other refused bad =
-      h.faults ∙ ap (first_fault (number + 1)) next
-      ∙ ap (λ (o : Option ScriptFault). option_or o (first_fault (number + 1 + 1) (file_lines after))) bad
+      h.faults ∙ ap (first_script_fault (number + 1)) next
+      ∙ ap (λ (o : Option ScriptFault). option_or o (first_script_fault (number + 1 + 1) (file_lines after))) bad
 
 -- no bytes are left
 pub lines_done : (bytes : List ℕ) (number : ℕ) (rest : List ℕ) (events : List Event) → LinesTaken bytes number rest events → rest ≡ []
@@ -73,7 +73,7 @@ pub lines_done : (bytes : List ℕ) (number : ℕ) (rest : List ℕ) (events : L
 unfolding script_fault events_of
 lines_done bytes number rest events h nothing =
     let none : file_lines rest ≡ [] = ap file_lines nothing ∙ no_lines_left in (
-      h.faults ∙ ap (first_fault (number + 1)) none,
+      h.faults ∙ ap (first_script_fault (number + 1)) none,
       sym (h.whole ∙ ap (λ ls. events ++ events_in ls) none ∙ append-nil events),
     )
 

@@ -9,7 +9,7 @@ use Rattle.echo_addr.specs.Entries.{is_blank, tokens}
 use Rattle.echo_links.specs.LinkLines.{after_first_of, first_of, is_control_byte}
 use Rattle.echo_run.specs.declared.event.Event.{Event}
 use Rattle.echo_run.specs.declared.event.Event.TheVariants.{Deliver, Post, Purge, Scan}
-use Rattle.echo_replay.specs.Script.{after_word, draft_of, event_in, event_of, index_in, moment, number_in, only_index, posting_in, posting_of, posting_with, serial_in}
+use Rattle.echo_replay.specs.Script.{after_first_word, draft_of, event_in, event_of, index_in, moment, number_in, only_index, posting_in, posting_of, posting_with, serial_in}
 
 -- ---- an index
 
@@ -64,51 +64,51 @@ pub record Cut (bytes word rest : List ℕ) : Type 0 where
   pub words_are : tokens bytes ≡ word ∷ tokens rest
   pub after : rest ≡ drop (length word) (drop (position_or_len (λ b. not (is_blank b)) bytes) bytes)
 
-pub rest_is : (bytes word rest : List ℕ) → Cut bytes word rest → after_word bytes ≡ rest
-unfolding after_word
+pub rest_is : (bytes word rest : List ℕ) → Cut bytes word rest → after_first_word bytes ≡ rest
+unfolding after_first_word
 rest_is bytes word rest cut =
     ap (λ ws. drop (length (first_of ws)) (drop (position_or_len (λ b. not (is_blank b)) bytes) bytes)) cut.words_are ∙ sym cut.after
 
 pub no_words : (rest : List ℕ) → tokens rest ≡ [] → posting_in rest ≡ None
 unfolding posting_in
-no_words rest h = ap (λ ws. posting_of ws (drop 1 (after_word (after_word (after_word rest))))) h
+no_words rest h = ap (λ ws. posting_of ws (drop 1 (after_first_word (after_first_word (after_first_word rest))))) h
 
 pub one_word : (rest word after : List ℕ) → Cut rest word after → tokens after ≡ [] → posting_in rest ≡ None
 unfolding posting_in
-one_word rest word after cut h = ap (λ ws. posting_of ws (drop 1 (after_word (after_word (after_word rest))))) (cut.words_are ∙ ap (λ ws. word ∷ ws) h)
+one_word rest word after cut h = ap (λ ws. posting_of ws (drop 1 (after_first_word (after_first_word (after_first_word rest))))) (cut.words_are ∙ ap (λ ws. word ∷ ws) h)
 
 pub two_words : (rest word after tag later : List ℕ) → Cut rest word after → Cut after tag later → tokens later ≡ [] → posting_in rest ≡ None
 unfolding posting_in
 two_words rest word after tag later cut next h =
-    ap (λ ws. posting_of ws (drop 1 (after_word (after_word (after_word rest))))) (cut.words_are ∙ ap (λ ws. word ∷ ws) (next.words_are ∙ ap (λ ws. tag ∷ ws) h))
+    ap (λ ws. posting_of ws (drop 1 (after_first_word (after_first_word (after_first_word rest))))) (cut.words_are ∙ ap (λ ws. word ∷ ws) (next.words_are ∙ ap (λ ws. tag ∷ ws) h))
 
 pub three_words : (rest word after tag later digits last : List ℕ) → Cut rest word after → Cut after tag later → Cut later digits last
     → posting_in rest ≡ posting_with (index_in word) tag digits (serial_in digits) (drop 1 last)
 unfolding posting_in
 three_words rest word after tag later digits last cut next third =
-    ap (λ ws. posting_of ws (drop 1 (after_word (after_word (after_word rest)))))
+    ap (λ ws. posting_of ws (drop 1 (after_first_word (after_first_word (after_first_word rest)))))
     (cut.words_are ∙ ap (λ ws. word ∷ ws) (next.words_are ∙ ap (λ ws. tag ∷ ws) third.words_are))
-    ∙ ap (λ r. posting_with (index_in word) tag digits (serial_in digits) (drop 1 (after_word (after_word r)))) (rest_is rest word after cut)
-    ∙ ap (λ r. posting_with (index_in word) tag digits (serial_in digits) (drop 1 (after_word r))) (rest_is after tag later next)
+    ∙ ap (λ r. posting_with (index_in word) tag digits (serial_in digits) (drop 1 (after_first_word (after_first_word r)))) (rest_is rest word after cut)
+    ∙ ap (λ r. posting_with (index_in word) tag digits (serial_in digits) (drop 1 (after_first_word r))) (rest_is after tag later next)
     ∙ ap (λ r. posting_with (index_in word) tag digits (serial_in digits) (drop 1 r)) (rest_is later digits last third)
 
 -- ---- an event
 
 pub control_event : (line : List ℕ) → list_any is_control_byte line ≡ true → event_in line ≡ None
 unfolding event_in
-control_event line h = cond-true (list_any is_control_byte line) None (event_of (first_of (tokens line)) (after_word line) (after_first_of (tokens line))) h
+control_event line h = cond-true (list_any is_control_byte line) None (event_of (first_of (tokens line)) (after_first_word line) (after_first_of (tokens line))) h
 
 pub wordless_event : (line : List ℕ) → list_any is_control_byte line ≡ false → tokens line ≡ [] → event_in line ≡ None
 unfolding event_in
 wordless_event line plain h =
-    cond-false (list_any is_control_byte line) None (event_of (first_of (tokens line)) (after_word line) (after_first_of (tokens line))) plain
-    ∙ ap (λ ws. event_of (first_of ws) (after_word line) (after_first_of ws)) h
+    cond-false (list_any is_control_byte line) None (event_of (first_of (tokens line)) (after_first_word line) (after_first_of (tokens line))) plain
+    ∙ ap (λ ws. event_of (first_of ws) (after_first_word line) (after_first_of ws)) h
 
 pub worded_event : (line word rest : List ℕ) → list_any is_control_byte line ≡ false → Cut line word rest → event_in line ≡ event_of word rest (tokens rest)
 unfolding event_in
 worded_event line word rest plain cut =
-    cond-false (list_any is_control_byte line) None (event_of (first_of (tokens line)) (after_word line) (after_first_of (tokens line))) plain
-    ∙ ap (λ ws. event_of (first_of ws) (after_word line) (after_first_of ws)) cut.words_are
+    cond-false (list_any is_control_byte line) None (event_of (first_of (tokens line)) (after_first_word line) (after_first_of (tokens line))) plain
+    ∙ ap (λ ws. event_of (first_of ws) (after_first_word line) (after_first_of ws)) cut.words_are
     ∙ ap (λ r. event_of word r (tokens rest)) (rest_is line word rest cut)
 
 module _ (word rest : List ℕ) (more : List (List ℕ)) where

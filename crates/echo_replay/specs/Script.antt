@@ -30,8 +30,8 @@ unfoldable pub serial_in : List ℕ → Option ℕ
 serial_in word = if length word == 8 && not (list_any is_ascii_uppercase word) then number_in 16 word else None
 
 -- what stands after the first word of a line, which has no 0A
-unfoldable pub after_word : List ℕ → List ℕ
-after_word line = drop (length (first_of (tokens line))) (drop (position_or_len (λ b. not (is_blank b)) line) line)
+unfoldable pub after_first_word : List ℕ → List ℕ
+after_first_word line = drop (length (first_of (tokens line))) (drop (position_or_len (λ b. not (is_blank b)) line) line)
 
 -- what is posted: the body, to all, from the operator, with the serial's digits as subject and no reply
 abbrev pub draft_of : List ℕ → List ℕ → Draft
@@ -49,7 +49,7 @@ posting_of _ body = None
 
 -- what stands after the word POST: the body is the rest of the line after the serial and one blank
 unfoldable pub posting_in : List ℕ → Option Event
-posting_in rest = posting_of (tokens rest) (drop 1 (after_word (after_word (after_word rest))))
+posting_in rest = posting_of (tokens rest) (drop 1 (after_first_word (after_first_word (after_first_word rest))))
 
 -- the index that stands alone
 abbrev pub only_index : List (List ℕ) → Option ℕ
@@ -69,16 +69,16 @@ event_of word rest more =
 unfoldable pub event_in : List ℕ → Option Event
 event_in line =
     if list_any is_control_byte line then None
-    else event_of (first_of (tokens line)) (after_word line) (after_first_of (tokens line))
+    else event_of (first_of (tokens line)) (after_first_word line) (after_first_of (tokens line))
 
 -- a line that is neither skipped nor an event, of this number
-abbrev pub line_fault : ℕ → List ℕ → Option ScriptFault
-line_fault number line = if is_skipped line then None else if is_some (event_in line) then None else Some (fault.Line number)
+abbrev pub script_line_fault : ℕ → List ℕ → Option ScriptFault
+script_line_fault number line = if is_skipped line then None else if is_some (event_in line) then None else Some (fault.Line number)
 
 -- the first such line, where the first of the lines has this number
-abbrev pub first_fault : ℕ → List (List ℕ) → Option ScriptFault
-first_fault number [] = None
-first_fault number (line ∷ later) = option_or (line_fault number line) (first_fault (number + 1) later)
+abbrev pub first_script_fault : ℕ → List (List ℕ) → Option ScriptFault
+first_script_fault number [] = None
+first_script_fault number (line ∷ later) = option_or (script_line_fault number line) (first_script_fault (number + 1) later)
 
 -- the events of lines, one a line that is not skipped
 abbrev pub events_in : List (List ℕ) → List Event
@@ -86,7 +86,7 @@ events_in lines = filter_map event_in (filter (λ line. not (is_skipped line)) l
 
 -- the first line of a script that is of another form
 unfoldable pub script_fault : List ℕ → Option ScriptFault
-script_fault bytes = first_fault 1 (file_lines bytes)
+script_fault bytes = first_script_fault 1 (file_lines bytes)
 
 -- the events of a script
 unfoldable pub events_of : List ℕ → List Event

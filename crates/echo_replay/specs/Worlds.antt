@@ -16,10 +16,10 @@ use Rattle.echo_steps.specs.Posting.{posting}
 use Rattle.echo_steps.specs.Purging.{purged}
 use Rattle.echo_steps.specs.Scanning.{scanned}
 use Rattle.echo_steps.specs.Stamps.{is_stamp}
-use Rattle.echo_steps.specs.Tossing.{origin_of, tossed}
+use Rattle.echo_steps.specs.Tossing.{sender_of, tossed}
 use Rattle.echo_run.specs.Run.{Run, System, change, destination, nth}
 
--- an exported packet: its bytes, whom it is for, and whether it came
+-- an exported_packet packet: its bytes, whom it is for, and whether it came
 pub record Exported : Type 0 where
   pub bytes : List ℕ
   pub to : Address
@@ -39,13 +39,13 @@ abbrev pub encoded : Packet → List ℕ
 encoded packet = packet_bytes packet.header packet.messages
 
 -- a packet, and whether its index is among those that were delivered
-abbrev pub exported : List ℕ → ℕ → Packet → Exported
-exported delivered k packet = record { bytes = encoded packet; to = destination packet; came = list_any (λ d. d == k) delivered }
+abbrev pub exported_packet : List ℕ → ℕ → Packet → Exported
+exported_packet delivered k packet = record { bytes = encoded packet; to = destination packet; came = list_any (λ d. d == k) delivered }
 
 -- packets, of which the first has this index
 abbrev pub exported_from : List ℕ → ℕ → List Packet → List Exported
 exported_from delivered k [] = []
-exported_from delivered k (packet ∷ later) = exported delivered k packet ∷ exported_from delivered (k + 1) later
+exported_from delivered k (packet ∷ later) = exported_packet delivered k packet ∷ exported_from delivered (k + 1) later
 
 -- a packet that was just made
 abbrev pub made : Packet → Exported
@@ -83,12 +83,12 @@ IsFirst found passes systems =
     MatchOption found (position_or_len passes systems ≡ length systems) (λ i. (i ≡ position_or_len passes systems) × (i < length systems))
 
 -- the entries lead from each address to the first of the systems that has it
-abbrev pub Leads : List (Address × ℕ) → List Address → Type 0
-Leads entries systems = (a : Address) → IsFirst (lookup (λ k. same_address a k) entries) (λ b. same_address b a) systems
+abbrev pub LeadsToFirst : List (Address × ℕ) → List Address → Type 0
+LeadsToFirst entries systems = (a : Address) → IsFirst (lookup (λ k. same_address a k) entries) (λ b. same_address b a) systems
 
--- the own addresses of the systems
-abbrev pub addresses : List SystemState → List Address
-addresses ss = map (λ s. s.file.system) ss
+-- the own own_addresses of the systems
+abbrev pub own_addresses : List SystemState → List Address
+own_addresses ss = map (λ s. s.file.system) ss
 
 -- one system changes
 abbrev pub with_change : WorldState → ℕ → (SystemState → SystemState) → WorldState
@@ -125,7 +125,7 @@ ScanFits stamp (Some s) = All Fits (made_by stamp s)
 
 -- a system after the toss of a packet
 abbrev pub after_toss : Packet → SystemState → SystemState
-after_toss packet s = record { file = s.file; base = tossed s.file s.base (origin_of s.file packet.header) packet.messages; cursor = s.cursor }
+after_toss packet s = record { file = s.file; base = tossed s.file s.base (sender_of s.file packet.header) packet.messages; cursor = s.cursor }
 
 -- a packet that came
 abbrev pub arrived : Exported → Exported

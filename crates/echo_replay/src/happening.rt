@@ -8,7 +8,7 @@ ghost use Rattle.echo_run.specs.Event.{run_event};
 ghost use Rattle.echo_run.specs.Run.{Run, after_event, change, destination, nth};
 ghost use Rattle.echo_steps.specs.declared.packet.Packet.{Packet};
 ghost use Rattle.echo_steps.specs.SystemState.{SystemState};
-ghost use Rattle.echo_replay.specs.Worlds.{Fits, IsRun, Leads, ScanFits, addresses, after_posting, after_purge, after_scan, after_toss, arrived, encoded, made, made_by, scanned_world, with_change, world_after};
+ghost use Rattle.echo_replay.specs.Worlds.{Fits, IsRun, LeadsToFirst, ScanFits, own_addresses, after_posting, after_purge, after_scan, after_toss, arrived, encoded, made, made_by, scanned_world, with_change, world_after};
 
 use crate::receivers::Receivers;
 use crate::world::{Exported, Hashing, World};
@@ -26,8 +26,8 @@ pub(crate) fn happen(
     world: &mut World,
     event: &Event,
 ) -> Result<(), AllocError>
-    requires { Leads receivers.now.first.entries (addresses world.old.systems) }
-    ensures addresses { addresses world.new.systems ≡ addresses world.old.systems }
+    requires { LeadsToFirst receivers.now.first.entries (own_addresses world.old.systems) }
+    ensures own_addresses { own_addresses world.new.systems ≡ own_addresses world.old.systems }
     ensures run { OnOk result ((run : Run) → IsRun world.old run → IsRun world.new (after_event run (run_event event.now))) }
 {
     match event {
@@ -53,7 +53,7 @@ fn post(
     serial: u32,
     stamp: Stamp,
 ) -> Result<(), AllocError>
-    ensures addresses { addresses world.new.systems ≡ addresses world.old.systems }
+    ensures own_addresses { own_addresses world.new.systems ≡ own_addresses world.old.systems }
     ensures posted { OnOk result (world.new ≡ with_change world.old system (after_posting tag.now draft.now serial stamp)) }
 {
     if system >= world.systems.len() {
@@ -97,7 +97,7 @@ fn unless_memory(fault: PostFault) -> Result<(), AllocError>
 
 // A system is purged.
 fn purge(world: &mut World, system: usize) -> Result<(), AllocError>
-    ensures addresses { addresses world.new.systems ≡ addresses world.old.systems }
+    ensures own_addresses { own_addresses world.new.systems ≡ own_addresses world.old.systems }
     ensures purged { OnOk result (world.new ≡ with_change world.old system after_purge) }
 {
     if system >= world.systems.len() {
@@ -117,7 +117,7 @@ fn purge_at(tosser: &mut Tosser<Hashing>) -> Result<(), AllocError>
 
 // A system scans: its packets go last.
 fn scan(alloc: Global, world: &mut World, system: usize, stamp: Stamp) -> Result<(), AllocError>
-    ensures addresses { addresses world.new.systems ≡ addresses world.old.systems }
+    ensures own_addresses { own_addresses world.new.systems ≡ own_addresses world.old.systems }
     ensures scanned { OnOk result (world.new ≡ scanned_world world.old system stamp (nth system world.old.systems)) }
     ensures fit { OnOk result (ScanFits stamp (nth system world.old.systems)) }
 {
@@ -188,8 +188,8 @@ fn destination_in(header: &Header) -> Address
 
 // A packet comes to the first system of its destination, where there is one.
 fn deliver(receivers: &Receivers, world: &mut World, packet: usize) -> Result<(), AllocError>
-    requires { Leads receivers.now.first.entries (addresses world.old.systems) }
-    ensures addresses { addresses world.new.systems ≡ addresses world.old.systems }
+    requires { LeadsToFirst receivers.now.first.entries (own_addresses world.old.systems) }
+    ensures own_addresses { own_addresses world.new.systems ≡ own_addresses world.old.systems }
     ensures none { OnOk result (nth packet world.old.packets ≡ None → world.new ≡ world.old) }
     ensures came { OnOk result ((p : Packet) → Fits p → (came : Bool) → nth packet world.old.packets ≡ Some (record { bytes = encoded p; to = destination p; came = came }) →
         world.new ≡ world_after world.old packet p) }
@@ -208,7 +208,7 @@ fn deliver(receivers: &Receivers, world: &mut World, packet: usize) -> Result<()
 fn arrive(world: &mut World, packet: usize, system: usize) -> Result<(), AllocError>
     requires packet { packet < length world.old.packets }
     requires system { system < length world.old.systems }
-    ensures addresses { addresses world.new.systems ≡ addresses world.old.systems }
+    ensures own_addresses { own_addresses world.new.systems ≡ own_addresses world.old.systems }
     ensures came { OnOk result ((p : Packet) → Fits p → (came : Bool) → nth packet world.old.packets ≡ Some (record { bytes = encoded p; to = destination p; came = came }) →
         (s : SystemState) → nth system world.old.systems ≡ Some s → destination p ≡ s.file.system →
         world.new ≡ record { systems = change system (after_toss p) world.old.systems; packets = change packet arrived world.old.packets }) }

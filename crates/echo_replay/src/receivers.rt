@@ -4,7 +4,7 @@ ghost use Rattle.std.specs.Prelude.{◌≡◌, ◌++◌, ◌∷◌, [], List, No
 ghost use Rattle.std.specs.Map.{lookup};
 ghost use Rattle.echo_addr.specs.declared.address.Address.{Address};
 ghost use Rattle.echo_links.specs.Links.{same_address};
-ghost use Rattle.echo_replay.specs.Worlds.{IsFirst, Leads};
+ghost use Rattle.echo_replay.specs.Worlds.{IsFirst, LeadsToFirst};
 
 use echo_addr::Address;
 use echo_links::LinkFile;
@@ -20,7 +20,7 @@ pub(crate) struct Receivers {
 impl Receivers {
     /// The systems of these files.
     pub(crate) fn new(alloc: Global, files: &[LinkFile]) -> Result<Receivers, AllocError>
-        ensures { IfOk result (λ r. Leads r.first.entries (map (λ f. f.system) files.now)) }
+        ensures { IfOk result (λ r. LeadsToFirst r.first.entries (map (λ f. f.system) files.now)) }
     {
         let mut first = IndexMap::new(alloc);
         for (i, file) in files.iter().enumerate() {
@@ -31,7 +31,7 @@ impl Receivers {
 
     /// The first system of the address.
     pub(crate) fn of(&self, to: Address) -> Option<usize>
-        ensures { (systems : List Address) → Leads self.now.first.entries systems → IsFirst result (λ b. same_address b to) systems }
+        ensures { (systems : List Address) → LeadsToFirst self.now.first.entries systems → IsFirst result (λ b. same_address b to) systems }
     {
         self.first.get(&to).copied()
     }
@@ -43,7 +43,7 @@ fn note_system(
     system: Address,
     i: usize,
 ) -> Result<(), AllocError>
-    ensures { OnOk result ((earlier : List Address) → length earlier ≡ i → Leads first.old.entries earlier → Leads first.new.entries (earlier ++ system ∷ [])) }
+    ensures { OnOk result ((earlier : List Address) → length earlier ≡ i → LeadsToFirst first.old.entries earlier → LeadsToFirst first.new.entries (earlier ++ system ∷ [])) }
 {
     if first.contains_key(&system) {
         return Ok(());

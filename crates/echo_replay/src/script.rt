@@ -8,7 +8,7 @@ ghost use Rattle.echo_run.specs.declared.event.Event.{Event};
 ghost use Rattle.echo_run.specs.declared.event.Event.TheVariants.{Deliver, Purge, Scan};
 ghost use Rattle.echo_replay.specs.declared.script.ScriptFault.{ScriptFault};
 ghost use Rattle.echo_replay.specs.declared.script.ScriptFault.TheVariants as script;
-ghost use Rattle.echo_replay.specs.Script.{ScriptOf, draft_of, event_in, events_in, index_in, line_fault, moment, number_in, only_index, posting_in, serial_in};
+ghost use Rattle.echo_replay.specs.Script.{ScriptOf, draft_of, event_in, events_in, index_in, script_line_fault, moment, number_in, only_index, posting_in, serial_in};
 
 use echo_addr::{Items, next_token};
 use echo_links::{has_control_byte, is_skipped, split_line};
@@ -112,8 +112,8 @@ fn take_line(
     line: &[u8],
 ) -> Result<(), ScriptFault>
     ensures { MatchResult result
-        (λ _. (line_fault number line.now ≡ None) × (events.new.items ≡ events.old.items ++ events_in (line.now ∷ [])))
-        (λ fault. (fault ≡ script.Memory) ⊎ (line_fault number line.now ≡ Some fault)) }
+        (λ _. (script_line_fault number line.now ≡ None) × (events.new.items ≡ events.old.items ++ events_in (line.now ∷ [])))
+        (λ fault. (fault ≡ script.Memory) ⊎ (script_line_fault number line.now ≡ Some fault)) }
 {
     if is_skipped(line) {
         return Ok(());

@@ -10,7 +10,7 @@ use Rattle.echo_graph.specs.Walk.{Among, Different}
 use Rattle.echo_graph.proofs.Members.{Among-at, Among-append_left, Among-append_right}
 use Rattle.echo_packet.specs.Message.{Message}
 use Rattle.echo_text.specs.Echo.{EchoText, IsEcho, msgid_of}
-use Rattle.echo_text.specs.Refusal.{refusal}
+use Rattle.echo_text.specs.Refusal.{text_refusal}
 use Rattle.echo_text.specs.declared.fault.TextFault.{TextFault}
 use Rattle.echo_steps.specs.declared.stamp.Stamp.{Stamp}
 use Rattle.echo_links.specs.Links.{LinkFile, is_link, links_of, same_address}
@@ -69,7 +69,7 @@ module _ (laws : Laws) (file : LinkFile) where
 
   module _ (fits : IsFile file) where
     received-copy : (address : Address) (m : Filed) → IsEcho m.echo →
-        (is_none (refusal (copy_to file address m).text) ≡ true) × (received file.system (copy_to file address m) ≡ copied file m)
+        (is_none (text_refusal (copy_to file address m).text) ≡ true) × (received file.system (copy_to file address m) ≡ copied file m)
     unfolding copy_to received copied
     received-copy address m echo =
         let read = laws.read_back (exported file m.echo) (laws.exported_text file m.echo fits echo) in
@@ -84,7 +84,7 @@ module _ (laws : Laws) (file : LinkFile) where
         (ap (λ (o : Option TextFault). is_none o) read.0, ap with_echo read.1)
 
     abbrev echomail : Message → Bool
-    echomail packed = is_none (refusal packed.text)
+    echomail packed = is_none (text_refusal packed.text)
 
     all_copied : (address : Address) (ms : List Filed) → ((m : Filed) → Among m ms → IsEcho m.echo) →
         map (received file.system) (filter echomail (map (copy_to file address) ms)) ≡ map (copied file) ms

@@ -8,12 +8,12 @@ use Rattle.echo_graph.specs.Walk.{Among}
 use Rattle.echo_graph.proofs.Members.{Among-append_left, Among-append_right}
 use Rattle.echo_packet.specs.Message.{Message}
 use Rattle.echo_text.specs.Echo.{IsEcho}
-use Rattle.echo_text.specs.Refusal.{refusal}
+use Rattle.echo_text.specs.Refusal.{text_refusal}
 use Rattle.echo_steps.specs.declared.packet.Packet.{Packet}
 use Rattle.echo_links.specs.Links.{LinkFile, has_area, is_link}
 use Rattle.echo_filed.specs.declared.key.Key.{Key}
 use Rattle.echo_filed.specs.Filed.{Filed, key_of}
-use Rattle.echo_steps.specs.Tossing.{received, tossing, origin_of}
+use Rattle.echo_steps.specs.Tossing.{received, tossing, sender_of}
 use Rattle.echo_filed.specs.Written.{echo_of}
 use Rattle.echo_run.specs.Run.{System, Run, filing, tossing_at, destination, with_index}
 use Rattle.echo_run.specs.Orderly.{copies, origin}
@@ -50,7 +50,7 @@ unfolding received
 received-sender sender q = refl
 
 -- the sender of a packet of a system in range
-pub origin-is : (file : LinkFile) (p : Packet) → PacketOk p → origin_of file p.header ≡ origin p
+pub origin-is : (file : LinkFile) (p : Packet) → PacketOk p → sender_of file p.header ≡ origin p
 origin-is file p ok =
     let with_zone : ℕ → Address = λ z. record { zone = z; net = p.header.orig_net; node = p.header.orig_node } in
     ap with_zone (cond-false (p.header.orig_zone == 0) file.system.zone p.header.orig_zone (ne_eqb p.header.orig_zone 0 ok.zone))
@@ -58,7 +58,7 @@ origin-is file p ok =
 module _ (laws : Laws) where
   -- a message of an area that is there, from a link, is known or filed
   pub tossed-arrives : (sender : Address) (ms : List Message) (s : System) → SystemOk s →
-      ((r : Message) → Among r ms → (refusal r.text ≡ None) × IsEcho (echo_of r.text)) → (q : Message) → Among q ms →
+      ((r : Message) → Among r ms → (text_refusal r.text ≡ None) × IsEcho (echo_of r.text)) → (q : Message) → Among q ms →
       has_area s.file (received sender q).echo.tag ≡ true → is_link s.file (received sender q).echo.tag sender ≡ true →
       HasKey (key_of (received sender q)) (tossing_at sender ms s).history
   tossed-arrives sender [] s ok read q h has link = absurd h
@@ -93,8 +93,8 @@ module _ (watch : Watch) (run : Run)
   around z = with_systems run (before ++ z ∷ after)
 
   copy-in : (q : Message) → Among q p.messages → Among (received (origin p) q) (copies p)
-  copy-in q h = Among-map_to (received (origin p)) q (filter (λ packed. is_none (refusal packed.text)) p.messages)
-      (Among-filter_to (λ packed. is_none (refusal packed.text)) q p.messages h (ap (λ (o : Option _). is_none o) (ok_p.messages q h).0))
+  copy-in q h = Among-map_to (received (origin p)) q (filter (λ packed. is_none (text_refusal packed.text)) p.messages)
+      (Among-filter_to (λ packed. is_none (text_refusal packed.text)) q p.messages h (ap (λ (o : Option _). is_none o) (ok_p.messages q h).0))
 
   -- what a toss may file
   may-file : (sender : Address) → sender ≡ origin p → (q : Message) → Among q p.messages →
@@ -135,10 +135,10 @@ module _ (watch : Watch) (run : Run)
   pub all-known : (s : System) → NoneAt (address_of s) before → address_of s ≡ destination p → SystemOk s →
       map (λ (t : System). t.file) (before ++ s ∷ after) ≡ files → Watched watch (around s) →
       (c : Filed) → Among c (parcel_of of p).copies →
-      HasKey (key_of c) (tossing_at (origin_of s.file p.header) p.messages s).history
+      HasKey (key_of c) (tossing_at (sender_of s.file p.header) p.messages s).history
   all-known s none here ok same_files inv c h =
       let (i, t) = Among-filter_from (chosen of) c (copies p) h in
-      let sender = origin_of s.file p.header in
+      let sender = sender_of s.file p.header in
       elim (watch.lasts.arrives (view_of of (around s)) inv (parcel_of of p) (Among-map_to (parcel_of of) p run.packets in_run) c h) [
         | inl known ↦ (let P : Address → Type 0 = λ a. Has parts (key_of c) (held (view_of of (around s)) a) in
             tossing-has (key_of c) sender p.messages s (has-from_view watch run before s after none (key_of c) (subst P (sym here) known)))
@@ -149,16 +149,16 @@ module _ (watch : Watch) (run : Run)
       ]
     where
       from_link : Among c (copies p) → c.echo.tag ≡ tag → (from : Address) → c.sender ≡ Some from → is_link s.file tag from ≡ true →
-          HasKey (key_of c) (tossing_at (origin_of s.file p.header) p.messages s).history
+          HasKey (key_of c) (tossing_at (sender_of s.file p.header) p.messages s).history
       from_link i same_tag from is_sender link =
-          let (q, j, e) = Among-map_from (received (origin p)) c (filter (λ packed. is_none (refusal packed.text)) p.messages) i in
-          let (k, read) = Among-filter_from (λ packed. is_none (refusal packed.text)) q p.messages j in
+          let (q, j, e) = Among-map_from (received (origin p)) c (filter (λ packed. is_none (text_refusal packed.text)) p.messages) i in
+          let (k, read) = Among-filter_from (λ packed. is_none (text_refusal packed.text)) q p.messages j in
           let is_origin : from ≡ origin p = some_same (sym is_sender ∙ (ap (λ (n : Filed). n.sender) e ∙ received-sender (origin p) q)) in
           let tag_q : (received (origin p) q).echo.tag ≡ tag = ap (λ (n : Filed). n.echo.tag) (sym e) ∙ same_tag in
           let link_q : is_link s.file (received (origin p) q).echo.tag (origin p) ≡ true =
           ap (λ (g : List ℕ). is_link s.file g (origin p)) tag_q ∙ (ap (λ (a : Address). is_link s.file tag a) (sym is_origin) ∙ link) in
           let arrived = tossed-arrives laws (origin p) p.messages s ok ok_p.messages q k (link-has_area s.file (received (origin p) q).echo.tag (origin p) link_q) link_q in
-          let Q : Filed → Type 0 = λ n. HasKey (key_of n) (tossing_at (origin_of s.file p.header) p.messages s).history in
+          let Q : Filed → Type 0 = λ n. HasKey (key_of n) (tossing_at (sender_of s.file p.header) p.messages s).history in
           let R : Address → Type 0 = λ a. HasKey (key_of (received (origin p) q)) (tossing_at a p.messages s).history in
           subst Q (sym e) (subst R (sym (origin-is s.file p ok_p)) arrived)
 

@@ -11,7 +11,7 @@ use Rattle.echo_filed.specs.Filed.{Filed}
 use Rattle.echo_steps.specs.Posting.{posting}
 use Rattle.echo_steps.specs.Scanning.{scanned}
 use Rattle.echo_steps.specs.Stamps.{is_stamp}
-use Rattle.echo_steps.specs.Tossing.{origin_of, tossing}
+use Rattle.echo_steps.specs.Tossing.{sender_of, tossing}
 use Rattle.echo_run.specs.Event.{RunEvent, Posting, Scanning, Delivery, PartDelivery, Purging}
 use Rattle.echo_run.specs.Run.{System, Run, after_event, change, coming, delivery, filing, fresh, nth, part_delivery, posting_at, purging_at, receiver, run_of, scanning, scanning_at, start, taking, tossing_at}
 use Rattle.echo_run.proofs.Lists.{Among-map_from, change-all}
@@ -30,7 +30,7 @@ module _ (P : System → Type 0) (filed : (s : System) (o : Option Filed) → P 
       tosses sender ms (filing s (tossing s.file s.base sender q)) (filed s (tossing s.file s.base sender q) at)
 
   takes : (p : Packet) (messages : ℕ) (s : System) → P s → P (taking p messages s)
-  takes p messages s at = tosses (origin_of s.file p.header) (take messages p.messages) s at
+  takes p messages s at = tosses (sender_of s.file p.header) (take messages p.messages) s at
 
   scanning-each : (run : Run) (i : ℕ) (stamp : Stamp) (found : Option System) → Each run → Each (scanning run i stamp found)
   scanning-each run i stamp None each = each

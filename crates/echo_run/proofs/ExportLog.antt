@@ -15,7 +15,7 @@ use Rattle.echo_filed.specs.Filed.{Filed, key_of, same_key}
 use Rattle.echo_steps.specs.Posting.{posting}
 use Rattle.echo_steps.specs.Scanning.{goes_to, scanned, targets}
 use Rattle.echo_steps.specs.Stamps.{is_stamp}
-use Rattle.echo_steps.specs.Tossing.{origin_of, tossing}
+use Rattle.echo_steps.specs.Tossing.{sender_of, tossing}
 use Rattle.echo_run.specs.Event.{RunEvent, Posting, Scanning, Delivery, PartDelivery, Purging}
 use Rattle.echo_run.specs.Run.{System, Run, after_event, after_events, change, coming, delivery, destination, filing, fresh, nth, part_delivery, posting_at, purging_at, receiver, run_of, scanning, scanning_at, start, taking, tossing_at, with_index}
 use Rattle.echo_run.specs.Orderly.{copies, count, origin, sent_count}
@@ -296,7 +296,7 @@ module _ (laws : Laws) where
       scans false = quiet run n all (idle-logged run n all logged)
 
   taking-done : (p : Packet) (messages : ℕ) (s : System) → Within s → SameDone s (taking p messages s)
-  taking-done p messages s fits = tossing-done (origin_of s.file p.header) (take messages p.messages) s fits
+  taking-done p messages s fits = tossing-done (sender_of s.file p.header) (take messages p.messages) s fits
 
   delivery-logged : (run : Run) (n : ℕ) (all : List Export) → RunOk run → Logged run n all → (k : ℕ) (found : Option Packet) →
       Logged (delivery run k found) (n + 1) all

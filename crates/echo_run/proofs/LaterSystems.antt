@@ -11,7 +11,7 @@ use Rattle.echo_filed.specs.Filed.{Filed}
 use Rattle.echo_steps.specs.Posting.{posting}
 use Rattle.echo_steps.specs.Scanning.{scanned}
 use Rattle.echo_steps.specs.Stamps.{is_stamp}
-use Rattle.echo_steps.specs.Tossing.{origin_of, tossing}
+use Rattle.echo_steps.specs.Tossing.{sender_of, tossing}
 use Rattle.echo_run.specs.Event.{RunEvent, Posting, Scanning, Delivery, PartDelivery, Purging}
 use Rattle.echo_run.specs.Run.{IsLater, System, Run, after_event, after_events, change, coming, delivery, filing, nth, part_delivery, posting_at, purging_at, receiver, run_of, scanning, scanning_at, start, taking, tossing_at}
 use Rattle.echo_run.proofs.TosserPremises.{Laws}
@@ -43,7 +43,7 @@ tossing-later sender (q ∷ ms) s =
     later-still s next (tossing_at sender ms next) (filing-later s (tossing s.file s.base sender q)) (tossing-later sender ms next)
 
 taking-later : (p : Packet) (messages : ℕ) (s : System) → IsLater s (taking p messages s)
-taking-later p messages s = tossing-later (origin_of s.file p.header) (take messages p.messages) s
+taking-later p messages s = tossing-later (sender_of s.file p.header) (take messages p.messages) s
 
 -- what became of the system of an index
 abbrev Lasts : List System → List System → Type 0

@@ -5,14 +5,14 @@ use Rattle.echo_addr.specs.declared.address.Address.{Address}
 use Rattle.echo_graph.specs.Walk.{Among}
 use Rattle.echo_graph.proofs.Members.{Among-append_left, Among-append_cases}
 use Rattle.echo_packet.specs.Message.{Message}
-use Rattle.echo_text.specs.Refusal.{refusal}
+use Rattle.echo_text.specs.Refusal.{text_refusal}
 use Rattle.echo_steps.specs.declared.packet.Packet.{Packet}
 use Rattle.echo_steps.specs.declared.draft.Draft.{Draft}
 use Rattle.echo_steps.specs.declared.stamp.Stamp.{Stamp}
 use Rattle.echo_links.specs.Links.{LinkFile}
 use Rattle.echo_filed.specs.Filed.{Filed, key_of}
 use Rattle.echo_steps.specs.Posting.{posted, posting}
-use Rattle.echo_steps.specs.Tossing.{received, tossing, origin_of}
+use Rattle.echo_steps.specs.Tossing.{received, tossing, sender_of}
 use Rattle.echo_steps.specs.Scanning.{goes_to, scanned}
 use Rattle.echo_run.specs.Run.{System, Run, fresh, filing, posting_at, tossing_at, scanning_at, purging_at, nth, change, receiver, changing, scanning, taking, coming, delivery, part_delivery, after_event, after_events, run_of, start}
 use Rattle.echo_run.specs.Event.{RunEvent, Posting, Scanning, Delivery, PartDelivery, Purging}
@@ -147,17 +147,17 @@ module _ (laws : Laws) where
       ]
 
   taking-new : (run : Run) → Traced run → RunOk run → (p : Packet) → Among p run.packets → (n : ℕ) (t : System) (m : Filed) →
-      Among m (tossing_at (origin_of t.file p.header) (take n p.messages) t).history → Among m t.history ⊎ Origin run.systems m
+      Among m (tossing_at (sender_of t.file p.header) (take n p.messages) t).history → Among m t.history ⊎ Origin run.systems m
   taking-new run traced ok p h n t m j =
-      elim (tossing-new (origin_of t.file p.header) (take n p.messages) t m j) [
+      elim (tossing-new (sender_of t.file p.header) (take n p.messages) t m j) [
         | inl old ↦ inl old
         | inr new ↦ (let (q, i, e) = new in
             let ok_p = ok.packets p h in
             let in_p = Among-take n q p.messages i in
             let from : m ≡ received (origin p) q = e ∙ ap (λ (a : Address). received a q) (origin-is t.file p ok_p) in
             let P : Filed → Type 0 = λ c. Origin run.systems c in
-            let copy : Among (received (origin p) q) (copies p) = Among-map_to (received (origin p)) q (filter (λ packed. is_none (refusal packed.text)) p.messages)
-            (Among-filter_to (λ packed. is_none (refusal packed.text)) q p.messages in_p (ap (λ (o : Option _). is_none o) (ok_p.messages q in_p).0)) in
+            let copy : Among (received (origin p) q) (copies p) = Among-map_to (received (origin p)) q (filter (λ packed. is_none (text_refusal packed.text)) p.messages)
+            (Among-filter_to (λ packed. is_none (text_refusal packed.text)) q p.messages in_p (ap (λ (o : Option _). is_none o) (ok_p.messages q in_p).0)) in
             inr (subst P (sym from) (traced.packets p h (received (origin p) q) copy)))
       ]
 
@@ -177,7 +177,7 @@ module _ (laws : Laws) where
       ])
     where
       keeps : Keeps (taking p n)
-      keeps s m j = tossing-kept (origin_of s.file p.header) (take n p.messages) s m j
+      keeps s m j = tossing-kept (sender_of s.file p.header) (take n p.messages) s m j
 
   delivery-traced : (run : Run) → Traced run → RunOk run → (k : ℕ) (found : Option Packet) → ((p : Packet) → found ≡ Some p → Among p run.packets) →
       Traced (delivery run k found)

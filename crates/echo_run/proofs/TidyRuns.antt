@@ -14,7 +14,7 @@ use Rattle.echo_filed.specs.Filed.{Filed, key_of}
 use Rattle.echo_text.specs.Ids.{id_of}
 use Rattle.echo_links.specs.Links.{upper}
 use Rattle.echo_steps.specs.Posting.{posted, posting}
-use Rattle.echo_steps.specs.Tossing.{origin_of}
+use Rattle.echo_steps.specs.Tossing.{sender_of}
 use Rattle.echo_steps.specs.Scanning.{scanned}
 use Rattle.echo_steps.specs.Stamps.{is_stamp}
 use Rattle.echo_run.specs.Event.{RunEvent, Posting, Scanning, Delivery, PartDelivery, Purging}
@@ -65,7 +65,7 @@ scanning-files run i stamp (Some s) = scans (is_stamp stamp)
     scans false = refl
 
 taking-file : (p : Packet) (n : ℕ) (s : System) → (taking p n s).file ≡ s.file
-taking-file p n s = tossing-file (origin_of s.file p.header) (take n p.messages) s
+taking-file p n s = tossing-file (sender_of s.file p.header) (take n p.messages) s
 
 coming-files : (run : Run) (k : ℕ) (p : Packet) (found : Option System) → files_of (coming run k p found) ≡ files_of run
 coming-files run k p None = refl
@@ -209,7 +209,7 @@ module _ (watch : Watch) where
   taking-watched : (run : Run) → State run → (p : Packet) → Among p run.packets → (n : ℕ) → (s : System) (at : Place run (receiver run p) s) →
       address_of s ≡ destination p → Watched watch (with_systems run (at.split.before ++ taking p n s ∷ at.split.after))
   taking-watched run state p h n s at here =
-      delivered.tossing-keeps watch run at.split.before at.split.after p (state.ok.packets p h) h (origin_of s.file p.header)
+      delivered.tossing-keeps watch run at.split.before at.split.after p (state.ok.packets p h) h (sender_of s.file p.header)
       (origin-is s.file p (state.ok.packets p h)) (take n p.messages) (λ q i. Among-take n q p.messages i) s at.none here at.ok at.watched
 
   part-watched : (run : Run) → State run → (n : ℕ) (found : Option Packet) → ((p : Packet) → found ≡ Some p → Among p run.packets) →
@@ -247,14 +247,14 @@ module _ (watch : Watch) where
       z = taking p (length p.messages) s
 
       same : address_of z ≡ address_of s
-      same = ap (λ (f : LinkFile). f.system) (tossing-file (origin_of s.file p.header) (take (length p.messages) p.messages) s)
+      same = ap (λ (f : LinkFile). f.system) (tossing-file (sender_of s.file p.header) (take (length p.messages) p.messages) s)
 
       none_z : NoneAt (address_of z) at.split.before
       none_z = let P : Address → Type 0 = λ a. NoneAt a at.split.before in subst P (sym same) at.none
 
       known : (c : Filed) → Among c (parcel_of of p).copies → HasKey (key_of c) z.history
       known c i =
-          let P : List Message → Type 0 = λ ms. HasKey (key_of c) (tossing_at (origin_of s.file p.header) ms s).history in
+          let P : List Message → Type 0 = λ ms. HasKey (key_of c) (tossing_at (sender_of s.file p.header) ms s).history in
           subst P (sym (take_all (length p.messages) p.messages (omega arith)))
           (delivered.all-known watch run at.split.before at.split.after p ok_p h s at.none here at.ok at.files_around at.watched c i)
 

@@ -4,7 +4,7 @@ use Rattle.std.specs.Prelude.{Bool, true, false, not, ◌||◌, ◌==◌, length
 use Rattle.std.specs.List.{list_any}
 use Rattle.echo_addr.specs.declared.address.Address.{Address}
 use Rattle.echo_packet.specs.Message.{Message}
-use Rattle.echo_text.specs.Refusal.{refusal}
+use Rattle.echo_text.specs.Refusal.{text_refusal}
 use Rattle.echo_text.specs.declared.fault.TextFault.{TextFault}
 use Rattle.echo_text.specs.declared.fault.TextFault.TheVariants as text
 use Rattle.echo_steps.specs.declared.draft.Draft.{Draft}
@@ -109,14 +109,14 @@ pub record Filing (file : LinkFile) (base : List Filed) (sender : Address) (pack
 
 pub record NotFiling (file : LinkFile) (base : List Filed) (sender : Address) (packed : Message) : Type 0 where
   pub not_filed : tossing file base sender packed ≡ None
-  pub known : refusal packed.text ≡ None → has_area file (received sender packed).echo.tag ≡ true →
+  pub known : text_refusal packed.text ≡ None → has_area file (received sender packed).echo.tag ≡ true →
       is_link file (received sender packed).echo.tag sender ≡ true → is_known base (key_of (received sender packed)) ≡ true
 
 pub tossing-cases : (file : LinkFile) (base : List Filed) (sender : Address) (packed : Message) →
     NotFiling file base sender packed ⊎ Filing file base sender packed
 unfolding tossing toss_outcome
 tossing-cases file base sender packed =
-    elim (filed_after file base sender (received sender packed) (refusal packed.text)) [
+    elim (filed_after file base sender (received sender packed) (text_refusal packed.text)) [
       | inl none ↦ inl (record { not_filed = none.0; known = λ h _ _. absurd (none.1 h) })
       | inr read ↦ elim read.1 [
         | inl none ↦ inl (record { not_filed = none.0; known = λ _ has link. none.1 has link })

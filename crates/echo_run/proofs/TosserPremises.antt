@@ -5,7 +5,7 @@ use Rattle.echo_addr.specs.declared.address.NetNode.{NetNode}
 use Rattle.echo_addr.specs.Address.{IsAddress}
 use Rattle.echo_graph.specs.Walk.{Among, Different}
 use Rattle.echo_text.specs.Echo.{EchoText, IsEcho}
-use Rattle.echo_text.specs.Refusal.{refusal}
+use Rattle.echo_text.specs.Refusal.{text_refusal}
 use Rattle.echo_steps.specs.declared.draft.Draft.{Draft}
 use Rattle.echo_steps.specs.declared.stamp.Stamp.{Stamp}
 use Rattle.echo_links.specs.Links.{LinkFile, same_address}
@@ -32,7 +32,7 @@ pub record Laws : Type 0 where
   pub posted_text : (file : LinkFile) (base : List Filed) (tag : List ℕ) (draft : Draft) (serial : ℕ) (stamp : Stamp) → IsFile file →
       post_refusal file base tag draft serial stamp ≡ None → IsEcho (posted file tag draft serial stamp).echo
   pub exported_text : (file : LinkFile) (e : EchoText) → IsFile file → IsEcho e → IsEcho (exported file e)
-  pub read_back : (e : EchoText) → IsEcho e → (refusal (text_of e) ≡ None) × (echo_of (text_of e) ≡ e)
+  pub read_back : (e : EchoText) → IsEcho e → (text_refusal (text_of e) ≡ None) × (echo_of (text_of e) ≡ e)
   pub ids : (a b : Address) (serial other : ℕ) → IsAddress a → IsAddress b → id_of a serial ≡ id_of b other → a ≡ b
   pub set_only : (n : NetNode) (all : List NetNode) → Among n (entry_set all) → Among n all
   pub set_all : (n : NetNode) (all : List NetNode) → Among n all → Among n (entry_set all)

@@ -7,7 +7,7 @@ use Rattle.echo_graph.specs.Walk.{Among}
 use Rattle.echo_graph.proofs.Members.{Among-append_cases}
 use Rattle.echo_packet.specs.Message.{Message}
 use Rattle.echo_text.specs.Echo.{EchoText, IsEcho}
-use Rattle.echo_text.specs.Refusal.{refusal}
+use Rattle.echo_text.specs.Refusal.{text_refusal}
 use Rattle.echo_steps.specs.declared.packet.Packet.{Packet}
 use Rattle.echo_steps.specs.declared.draft.Draft.{Draft}
 use Rattle.echo_steps.specs.declared.stamp.Stamp.{Stamp}
@@ -19,7 +19,7 @@ use Rattle.echo_base.specs.Base.{is_known}
 use Rattle.echo_text.specs.Ids.{id_of}
 use Rattle.echo_links.specs.Links.{upper}
 use Rattle.echo_steps.specs.Posting.{posted, posting, has_id}
-use Rattle.echo_steps.specs.Tossing.{received, tossing, origin_of}
+use Rattle.echo_steps.specs.Tossing.{received, tossing, sender_of}
 use Rattle.echo_steps.specs.Scanning.{scanned, packets_of, packet_to, header_to, copy_to, exported, recipients, goes_to}
 use Rattle.echo_steps.specs.Stamps.{is_stamp}
 use Rattle.echo_filed.specs.Written.{echo_of}
@@ -36,7 +36,7 @@ use Rattle.echo_run.proofs.Bases.{Kept-count, Kept-scanned, Kept-purged, Kept-wa
 -- of a packet at any time
 pub record PacketOk (p : Packet) : Type 0 where
   pub zone : p.header.orig_zone ≢ 0
-  pub messages : (q : Message) → Among q p.messages → (refusal q.text ≡ None) × IsEcho (echo_of q.text)
+  pub messages : (q : Message) → Among q p.messages → (text_refusal q.text ≡ None) × IsEcho (echo_of q.text)
 
 pub record RunOk (run : Run) : Type 0 where
   pub systems : (s : System) → Among s run.systems → SystemOk s
@@ -115,7 +115,7 @@ module _ (laws : Laws) where
       ok.valid m (Among-drop s.cursor m s.history (subst P (Kept-waiting s.cursor s.base s.history ok.kept) h))
 
   copy-ok : (file : LinkFile) (address : Address) (m : Filed) → IsFile file → IsEcho m.echo →
-      (refusal (copy_to file address m).text ≡ None) × IsEcho (echo_of (copy_to file address m).text)
+      (text_refusal (copy_to file address m).text ≡ None) × IsEcho (echo_of (copy_to file address m).text)
   unfolding copy_to
   copy-ok file address m fits echo =
       let valid = laws.exported_text file m.echo fits echo in
@@ -130,7 +130,7 @@ module _ (laws : Laws) where
     zone = (let least = fits.address.zone in λ e. absurd (omega (arith, least, e)));
     messages = λ q h.
         let (m, i, e) = Among-map_from (copy_to file address) q (filter (goes_to file address) waiting) h in
-        let P : Message → Type 0 = λ r. (refusal r.text ≡ None) × IsEcho (echo_of r.text) in
+        let P : Message → Type 0 = λ r. (text_refusal r.text ≡ None) × IsEcho (echo_of r.text) in
         subst P (sym e) (copy-ok file address m fits (valid m (Among-filter_from (goes_to file address) m waiting i).0));
   }
 
@@ -149,7 +149,7 @@ module _ (laws : Laws) where
   changing-ok run i f keeps ok = record { systems = change-all (λ s. SystemOk s) i f keeps run.systems ok.systems; packets = ok.packets }
 
   taking-ok : (p : Packet) → PacketOk p → (n : ℕ) (s : System) → SystemOk s → SystemOk (taking p n s)
-  taking-ok p ok n s at_s = tossing-ok (origin_of s.file p.header) (take n p.messages) s at_s (λ q h. (ok.messages q (Among-take n q p.messages h)).1)
+  taking-ok p ok n s at_s = tossing-ok (sender_of s.file p.header) (take n p.messages) s at_s (λ q h. (ok.messages q (Among-take n q p.messages h)).1)
 
   scanning-step : (run : Run) (i : ℕ) (stamp : Stamp) (found : Option System) → ((s : System) → found ≡ Some s → SystemOk s) →
       RunOk run → RunOk (scanning run i stamp found)

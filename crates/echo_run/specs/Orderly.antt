@@ -1,7 +1,7 @@
 -- What a run is to keep of an area.
 use Rattle.std.specs.Prelude.{◌≡◌, ◌≢◌, ◌⊎◌, ℕ, ◌+◌, ◌≤◌, IsTrue, List, [], ◌∷◌, ◌++◌, map, filter, length, drop, is_none, None, if◌then◌else◌}
 use Rattle.echo_addr.specs.declared.address.Address.{Address}
-use Rattle.echo_text.specs.Refusal.{refusal}
+use Rattle.echo_text.specs.Refusal.{text_refusal}
 use Rattle.echo_graph.specs.Walk.{Among}
 use Rattle.echo_steps.specs.declared.packet.Packet.{Packet}
 use Rattle.echo_links.specs.Links.{has_area, same_address}
@@ -28,7 +28,7 @@ origin packet = record { zone = packet.header.orig_zone; net = packet.header.ori
 
 -- the echomail messages of a packet, as they are filed
 abbrev pub copies : Packet → List Filed
-copies packet = map (received (origin packet)) (filter (λ packed. is_none (refusal packed.text)) packet.messages)
+copies packet = map (received (origin packet)) (filter (λ packed. is_none (text_refusal packed.text)) packet.messages)
 
 -- how many messages with the key stand in the packets to an address
 abbrev pub sent_count : Address → Key → List Packet → ℕ

@@ -9,7 +9,7 @@ use Rattle.echo_steps.specs.declared.draft.Draft.{Draft}
 use Rattle.echo_links.specs.Links.{LinkFile, same_address}
 use Rattle.echo_filed.specs.Filed.{Filed}
 use Rattle.echo_steps.specs.Posting.{posting}
-use Rattle.echo_steps.specs.Tossing.{tossing, origin_of}
+use Rattle.echo_steps.specs.Tossing.{tossing, sender_of}
 use Rattle.echo_steps.specs.Scanning.{scanned}
 use Rattle.echo_steps.specs.Stamps.{is_stamp}
 use Rattle.echo_steps.specs.Purging.{purged}
@@ -99,7 +99,7 @@ scanning run i stamp (Some s) =
 
 -- a system tosses the first messages of a packet
 abbrev pub taking : Packet → ℕ → System → System
-taking packet messages s = tossing_at (origin_of s.file packet.header) (take messages packet.messages) s
+taking packet messages s = tossing_at (sender_of s.file packet.header) (take messages packet.messages) s
 
 -- the index is one of them: there once, however often it comes
 abbrev pub with_index : ℕ → List ℕ → List ℕ

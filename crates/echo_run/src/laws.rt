@@ -8,7 +8,7 @@ ghost use Rattle.echo_links.specs.Links.{LinkFile};
 ghost use Rattle.echo_filed.specs.declared.key.Key.{Key};
 ghost use Rattle.echo_filed.specs.Filed.{Filed, key_of};
 ghost use Rattle.echo_packet.specs.Message.{Message};
-ghost use Rattle.echo_text.specs.Refusal.{refusal};
+ghost use Rattle.echo_text.specs.Refusal.{text_refusal};
 ghost use Rattle.echo_steps.specs.declared.packet.Packet.{Packet};
 ghost use Rattle.echo_steps.specs.Scanning.{targets};
 ghost use Rattle.echo_steps.specs.Tossing.{received};
@@ -103,7 +103,7 @@ pub fn each_message_was_posted()
 /// all their messages.
 pub fn packets_hold_echomail()
     ensures accepted { (files : List LinkFile) → FilesFit files → (events : List RunEvent) →
-        (packet : Packet) → Among packet (run_of files events).packets → (packed : Message) → Among packed packet.messages → refusal packed.text ≡ None }
+        (packet : Packet) → Among packet (run_of files events).packets → (packed : Message) → Among packed packet.messages → text_refusal packed.text ≡ None }
     ensures copies { (files : List LinkFile) → FilesFit files → (events : List RunEvent) →
         (packet : Packet) → Among packet (run_of files events).packets → copies packet ≡ map (received (origin packet)) packet.messages }
 {}

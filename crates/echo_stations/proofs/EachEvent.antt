@@ -8,7 +8,7 @@ use Rattle.echo_run.specs.Event.{Posting, Purging, RunEvent, Scanning}
 use Rattle.echo_run.specs.Run.{Run, System, after_events, fresh, start}
 use Rattle.echo_run.proofs.LaterSystems.{after-append}
 use Rattle.echo_commands.specs.Given.{AreLinkFiles}
-use Rattle.echo_commands.specs.Posted.{draft_of}
+use Rattle.echo_commands.specs.Posted.{draft_given}
 use Rattle.echo_stations.specs.Agreement.{Agrees, AreEventsOf, EventIsEvents, EventsAreARun, HasFiles, file_address, own_address}
 use Rattle.echo_stations.specs.Commands.{Command, CommandEvent, Happen, Leads, Post, Purge, Scan, Toss}
 use Rattle.echo_stations.specs.Nets.{Net, Paired, first_net, new_station}
@@ -22,7 +22,7 @@ use Rattle.echo_stations.proofs.Places.{addresses-stay}
 led : (command : Command) (net new : Net) (i : ℕ) (run : Run) → Different (map own_address run.systems) → Agrees net run → Leads command net i new
     → (events : List RunEvent) × AreEventsOf command i events × Agrees new (after_events run events)
 led (Post words body) net new i run apart agrees leads =
-    (Posting i words.tag.now (draft_of words body) words.serial words.stamp ∷ [], refl, post-agrees words body net new i run agrees leads)
+    (Posting i words.tag.now (draft_given words body) words.serial words.stamp ∷ [], refl, post-agrees words body net new i run agrees leads)
 led (Scan stamp) net new i run apart agrees leads = (Scanning i stamp ∷ [], refl, scan-agrees stamp net new i run agrees leads)
 led Purge net new i run apart agrees leads = (Purging i ∷ [], refl, purge-agrees net new i run agrees leads)
 led (Toss indexes) net new i run apart agrees leads = toss-agrees indexes net new i run apart agrees leads

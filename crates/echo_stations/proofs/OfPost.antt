@@ -17,7 +17,7 @@ use Rattle.echo_run.specs.Run.{Run, System, after_event, filing, posting_at}
 use Rattle.echo_run.proofs.Lists.{nth-among, some_same}
 use Rattle.echo_commands.specs.declared.leaving.Files.{Files}
 use Rattle.echo_commands.specs.declared.posting.NewMessage.{NewMessage}
-use Rattle.echo_commands.specs.Posted.{base_after, draft_of, refusal_of}
+use Rattle.echo_commands.specs.Posted.{base_after, draft_given, refusal_given}
 use Rattle.echo_stations.specs.Agreement.{Agrees, HasFiles, HasPosting}
 use Rattle.echo_stations.specs.Commands.{Posts}
 use Rattle.echo_stations.specs.Nets.{Net, with_base}
@@ -46,10 +46,10 @@ filing-lengthens o s m h = by (o s)
     by (Some x) = Among-append_left m s.history (x ∷ []) h
 
 module _ (words : NewMessage) (body : List ℕ) (net new : Net) (i : ℕ) (run : Run) (agrees : Agrees net run) (posts : Posts words body net i new) where
-  pub post-agrees : Agrees new (after_event run (Posting i words.tag.now (draft_of words body) words.serial words.stamp))
+  pub post-agrees : Agrees new (after_event run (Posting i words.tag.now (draft_given words body) words.serial words.stamp))
   post-agrees =
       let tag = words.tag.now in
-      let draft = draft_of words body in
+      let draft = draft_given words body in
       let serial = words.serial in
       let stamp = words.stamp in
       let base = posts.base in
@@ -57,7 +57,7 @@ module _ (words : NewMessage) (body : List ℕ) (net new : Net) (i : ℕ) (run :
       let answered = left _ posts.done base posts.answer posts.leaves.base in
       let right = answered.so.0.0 in
       let same : right.system ≡ state_of s = called-on posts.station s posts.call right.system has answered.so.0.1 right.given in
-      let allowed = subst (λ (x : SystemState). refusal_of x words body ≡ None) same right.allowed in
+      let allowed = subst (λ (x : SystemState). refusal_given x words body ≡ None) same right.allowed in
       let m = posted s.file tag draft serial stamp in
       let written : base ≡ saved_bytes (base_after right.system words body) right.system.cursor =
       some_same (sym posts.leaves.base ∙ ap (λ (f : Files). f.base) (answered.are ∙ right.left)) in

@@ -16,10 +16,10 @@ use Rattle.echo_run.specs.Run.{Run, System, after_event, change, nth, scanning, 
 use Rattle.echo_run.proofs.Lists.{nth-among, some_same}
 use Rattle.echo_commands.specs.declared.leaving.Files.{Files}
 use Rattle.echo_commands.specs.declared.leaving.PacketFile.{PacketFile}
-use Rattle.echo_commands.specs.Scanned.{file_of}
+use Rattle.echo_commands.specs.Scanned.{file_sent}
 use Rattle.echo_stations.specs.Agreement.{Agrees, HasFiles, IsPacketFile}
 use Rattle.echo_stations.specs.Commands.{Scans}
-use Rattle.echo_stations.specs.Nets.{Net, Paired, bytes_of, with_base, with_files}
+use Rattle.echo_stations.specs.Nets.{Net, Paired, bytes_of, with_base, with_left}
 use Rattle.echo_stations.proofs.BaseFiles.{file-fits, kept-base, saved-file, state_of}
 use Rattle.echo_stations.proofs.Leavings.{called-on, left}
 use Rattle.echo_stations.proofs.Packets.{scanned-fit}
@@ -62,15 +62,15 @@ scan-agrees stamp net new i run agrees scans =
     let saved : base ≡ saved_bytes s.base (length s.base) = subst (λ (x : SystemState). base ≡ saved_bytes x.base (length x.base)) same written in
     let counted : is_countable s.base (length s.base) ≡ true =
     subst (λ (x : SystemState). is_countable x.base (length x.base) ≡ true) same right.countable in
-    let made : scans.done.files.packets ≡ map (file_of s.cursor) ps =
-    ap (λ (f : Files). f.packets) (answered.are ∙ right.left) ∙ ap (λ (x : SystemState). map (file_of x.cursor) (scanned x.file x.base x.cursor stamp)) same in
+    let made : scans.done.files.packets ≡ map (file_sent s.cursor) ps =
+    ap (λ (f : Files). f.packets) (answered.are ∙ right.left) ∙ ap (λ (x : SystemState). map (file_sent x.cursor) (scanned x.file x.base x.cursor stamp)) same in
     let B : List PacketFile → Type 0 = λ files. AllByRecursion (λ (f : PacketFile). AreBytes f.bytes) files in
     let was = kept-base scans.station.base s.base s.cursor has.base in
     let fit = scanned-fit s.file s.base s.cursor stamp s.cursor (file-fits scans.station.links s.file has.links) was (subst B made scans.leaves.packet_bytes) in
     let Q : List PacketFile → Type 0 = λ files. Paired IsPacketFile (map bytes_of files) ps in
     let now : HasFiles (with_base base scans.station) (scanning_at s) =
     record { links = has.links; base = saved-file base s.base (length s.base) saved scans.leaves.base_bytes (all-scanned s.base s.cursor was) counted } in
-    let later : Agrees (with_files net i scans.done.files.packets base) (scanned_run run i stamp s) = record {
+    let later : Agrees (with_left net i scans.done.files.packets base) (scanned_run run i stamp s) = record {
       stations = paired-put HasFiles i (with_base base) scanning_at scans.station s net.stations run.systems agrees.stations scans.there there now;
       packets = paired-append IsPacketFile net.packets (map bytes_of scans.done.files.packets) run.packets ps agrees.packets (subst Q (sym made) fit);
       delivered = agrees.delivered;
@@ -79,4 +79,4 @@ scan-agrees stamp net new i run agrees scans =
           (λ z at x owned. agrees.only_postings z (nth-among i z run.systems at) x (record { filed = owned.filed; own = owned.own }));
     } in
     subst (λ (n : Net). Agrees n (after_event run (Scanning i stamp))) (sym scans.becomes)
-    (subst (Agrees (with_files net i scans.done.files.packets base)) (sym (is-scanned run i stamp s there right.moment)) later)
+    (subst (Agrees (with_left net i scans.done.files.packets base)) (sym (is-scanned run i stamp s there right.moment)) later)

@@ -26,7 +26,7 @@ use Rattle.echo_steps.specs.Scanning.{copy_to, exported, goes_to, header_to, pac
 use Rattle.echo_steps.proofs.Copies.{exported_is_echo, links_are_addresses}
 use Rattle.echo_steps.proofs.Encoding.{IsWhole, written_packet}
 use Rattle.echo_commands.specs.declared.leaving.PacketFile.{PacketFile}
-use Rattle.echo_commands.specs.Scanned.{file_of}
+use Rattle.echo_commands.specs.Scanned.{file_sent}
 use Rattle.echo_stations.specs.Agreement.{IsPacketFile}
 use Rattle.echo_stations.specs.Nets.{Paired, bytes_of}
 
@@ -148,7 +148,7 @@ packet-fits file stamp waiting address fits to all bytes =
 -- all packets
 packets-fit : (file : LinkFile) (stamp : Stamp) (waiting : List Filed) (n : ℕ) → IsFile file → AllByRecursion IsFiled waiting → (addresses : List Address)
     → AllByRecursion IsAddress addresses → (let ps = map (packet_to file stamp waiting) addresses in
-    AllByRecursion (λ (f : PacketFile). AreBytes f.bytes) (map (file_of n) ps) → Paired IsPacketFile (map bytes_of (map (file_of n) ps)) ps)
+    AllByRecursion (λ (f : PacketFile). AreBytes f.bytes) (map (file_sent n) ps) → Paired IsPacketFile (map bytes_of (map (file_sent n) ps)) ps)
 packets-fit file stamp waiting n fits all [] to bytes = tt
 packets-fit file stamp waiting n fits all (a ∷ addresses) to bytes =
     (packet-fits file stamp waiting a fits to.0 all bytes.0, packets-fit file stamp waiting n fits all addresses to.1 bytes.1)
@@ -169,8 +169,8 @@ recipients-are file fits ms = set_all address_before IsAddress (flat_map (target
 
 -- the packets of a scan
 pub scanned-fit : (file : LinkFile) (base : List Filed) (cursor : ℕ) (stamp : Stamp) (n : ℕ) → IsFile file → IsBase base cursor
-    → AllByRecursion (λ (f : PacketFile). AreBytes f.bytes) (map (file_of n) (scanned file base cursor stamp))
-    → Paired IsPacketFile (map bytes_of (map (file_of n) (scanned file base cursor stamp))) (scanned file base cursor stamp)
+    → AllByRecursion (λ (f : PacketFile). AreBytes f.bytes) (map (file_sent n) (scanned file base cursor stamp))
+    → Paired IsPacketFile (map bytes_of (map (file_sent n) (scanned file base cursor stamp))) (scanned file base cursor stamp)
 unfolding scanned packets_of
 scanned-fit file base cursor stamp n fits is bytes =
     packets-fit file stamp (drop cursor base) n fits (all-drop IsFiled cursor base is.each) (recipients file (drop cursor base)) (recipients-are file fits (drop cursor base)) bytes

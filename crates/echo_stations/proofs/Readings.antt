@@ -10,7 +10,7 @@ use Rattle.echo_packet.specs.Message.{AreMessages, IsMessage, Message, messages_
 use Rattle.echo_packet.specs.Packet.{PacketOf}
 use Rattle.echo_steps.specs.declared.packet.Packet.{Packet}
 use Rattle.echo_steps.specs.SystemState.{SystemState}
-use Rattle.echo_steps.specs.Tossing.{origin_of, tossed}
+use Rattle.echo_steps.specs.Tossing.{sender_of, tossed}
 use Rattle.echo_toss.specs.declared.fault.TossCause.{TossCause}
 use Rattle.echo_toss.specs.declared.fault.TossCause.TheVariants as stop
 use Rattle.echo_toss.specs.declared.fault.TossFault.{TossFault}
@@ -83,7 +83,7 @@ front-packet a b h k ms all bytes is begins =
 
 -- the system after the toss of messages of a sender
 abbrev pub after_messages : SystemState → Packet → List Message → SystemState
-after_messages old p ms = record { file = old.file; base = tossed old.file old.base (origin_of old.file p.header) ms; cursor = old.cursor }
+after_messages old p ms = record { file = old.file; base = tossed old.file old.base (sender_of old.file p.header) ms; cursor = old.cursor }
 
 -- the packet is for the system, which tossed these of its messages
 pub record TossedThese (p : Packet) (ms : List Message) (old new : SystemState) : Type 0 where
@@ -101,11 +101,11 @@ TossedSo p old new (Ok tally) = TossedThese p p.messages old new
 TossedSo p old new (Err fault) = (new ≡ old) ⊎ TossedFront p old new
 
 these-of : (p : Packet) (header : Header) (all ms : List Message) (old new : SystemState) (tally : Tally) → header ≡ p.header → all ≡ ms → IsForUs old header
-    → HasTossed (origin_of old.file header) all old tally new → TossedThese p ms old new
+    → HasTossed (sender_of old.file header) all old tally new → TossedThese p ms old new
 these-of p header all ms old new tally same_header same_messages for_us done = record {
   for_us = subst (IsForUs old) same_header for_us;
   state = done.state
-      ∙ (λ i. record { file = old.file; base = tossed old.file old.base (origin_of old.file (same_header i)) (same_messages i); cursor = old.cursor });
+      ∙ (λ i. record { file = old.file; base = tossed old.file old.base (sender_of old.file (same_header i)) (same_messages i); cursor = old.cursor });
 }
 
 whole : (p : Packet) (bytes : List ℕ) (rest : Option (List ℕ)) (old new : SystemState) (tally : Tally) → IsPacketFile bytes p

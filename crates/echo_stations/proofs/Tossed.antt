@@ -12,7 +12,7 @@ use Rattle.echo_filed.specs.Filed.{Filed, HasSmallSender}
 use Rattle.echo_base.specs.Base.{IsBase}
 use Rattle.echo_steps.specs.declared.packet.Packet.{Packet}
 use Rattle.echo_steps.specs.SystemState.{SystemState}
-use Rattle.echo_steps.specs.Tossing.{destination_of, origin_of, received, tossed, tossing, zone_of}
+use Rattle.echo_steps.specs.Tossing.{destination_of, sender_of, received, tossed, tossing, zone_of}
 use Rattle.echo_steps.proofs.Received.{tossing_received}
 use Rattle.echo_steps.proofs.Kept.{tossing_keeps}
 use Rattle.echo_run.specs.Run.{System, destination, filing, taking, tossing_at}
@@ -39,7 +39,7 @@ tossing-state sender (m ∷ ms) s = by (tossing s.file s.base sender m) (tossing
     by (Some x) later = later (filing s (Some x))
 
 pub taking-state : (p : Packet) (n : ℕ) (s : System) → state_of (taking p n s) ≡ after_messages (state_of s) p (take n p.messages)
-taking-state p n s = tossing-state (origin_of s.file p.header) (take n p.messages) s
+taking-state p n s = tossing-state (sender_of s.file p.header) (take n p.messages) s
 
 -- its history is longer
 tossing-longer : (sender : Address) (ms : List Message) (s : System) (m : Filed) → Among m s.history → Among m (tossing_at sender ms s).history
@@ -48,7 +48,7 @@ tossing-longer sender (q ∷ ms) s m h =
     tossing-longer sender ms (filing s (tossing s.file s.base sender q)) m (filing-lengthens (λ x. tossing x.file x.base sender q) s m h)
 
 pub taking-longer : (p : Packet) (n : ℕ) (s : System) → Lengthens (taking p n) s
-taking-longer p n s m h = tossing-longer (origin_of s.file p.header) (take n p.messages) s m h
+taking-longer p n s m h = tossing-longer (sender_of s.file p.header) (take n p.messages) s m h
 
 -- what it posted it had posted before
 filing-posted : (s : System) (o : Option Filed) (m : Filed) → ((x : Filed) → o ≡ Some x → x.sender ≡ None → ⊥) → HasPosting m (filing s o) → HasPosting m s
@@ -73,7 +73,7 @@ tossing-posted sender (q ∷ ms) s m has =
     (tossing-posted sender ms (filing s (tossing s.file s.base sender q)) m has)
 
 pub taking-posted : (p : Packet) (n : ℕ) (s : System) (m : Filed) → HasPosting m (taking p n s) → HasPosting m s
-taking-posted p n s m has = tossing-posted (origin_of s.file p.header) (take n p.messages) s m has
+taking-posted p n s m has = tossing-posted (sender_of s.file p.header) (take n p.messages) s m has
 
 -- a base stays a base
 tossed-base : (most : ℕ) (file : LinkFile) (sender : Address) → HasSmallSender (Some sender) → (ms : List Message) → AllByRecursion (IsMessage most) ms
@@ -100,10 +100,10 @@ pub taking-base : (p : Packet) (bytes : List ℕ) (n : ℕ) (s : System) → IsP
     → IsBase (taking p n s).base (taking p n s).cursor
 taking-base p bytes n s is fits base =
     let header = is.packet.header in
-    let small : HasSmallSender (Some (origin_of s.file p.header)) = (small-zone s.file p.header.orig_zone fits header.orig_zone, header.orig_net, header.orig_node) in
+    let small : HasSmallSender (Some (sender_of s.file p.header)) = (small-zone s.file p.header.orig_zone fits header.orig_zone, header.orig_net, header.orig_node) in
     let each = all-take (IsMessage (length bytes)) n p.messages is.packet.messages.each in
     let B : SystemState → Type 0 = λ x. IsBase x.base x.cursor in
-    subst B (sym (taking-state p n s)) (tossed-base (length bytes) s.file (origin_of s.file p.header) small (take n p.messages) each s.base s.cursor base)
+    subst B (sym (taking-state p n s)) (tossed-base (length bytes) s.file (sender_of s.file p.header) small (take n p.messages) each s.base s.cursor base)
 
 -- whom a packet is for
 pub named-by : (file : LinkFile) (p : Packet) → p.header.dest_zone ≢ 0 → destination_of file p.header ≡ destination p

@@ -13,7 +13,7 @@ use Rattle.echo_steps.specs.declared.packet.Packet.{Packet}
 use Rattle.echo_run.specs.Event.{Delivery, PartDelivery, Posting, Purging, RunEvent, Scanning}
 use Rattle.echo_run.specs.Run.{Run, System, after_events, run_of}
 use Rattle.echo_commands.specs.Given.{AreLinkFiles}
-use Rattle.echo_commands.specs.Posted.{draft_of}
+use Rattle.echo_commands.specs.Posted.{draft_given}
 use Rattle.echo_stations.specs.Commands.{Command, CommandEvent, Happen, Happens, Post, Purge, Scan, Toss}
 use Rattle.echo_stations.specs.Nets.{Net, Paired, Station, first_net}
 
@@ -75,7 +75,7 @@ AreTossesOf (k ∷ later) events = (first : List RunEvent) × (rest : List RunEv
 
 -- the events of a run that a command which leaves files is: one posting, one scan, one purge, or the tosses of its packets
 abbrev pub AreEventsOf : Command → ℕ → List RunEvent → Type 0
-AreEventsOf (Post words body) i events = events ≡ Posting i words.tag.now (draft_of words body) words.serial words.stamp ∷ []
+AreEventsOf (Post words body) i events = events ≡ Posting i words.tag.now (draft_given words body) words.serial words.stamp ∷ []
 AreEventsOf (Scan stamp) i events = events ≡ Scanning i stamp ∷ []
 AreEventsOf Purge i events = events ≡ Purging i ∷ []
 AreEventsOf (Toss indexes) i events = AreTossesOf indexes events

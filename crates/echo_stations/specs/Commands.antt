@@ -12,12 +12,12 @@ use Rattle.echo_commands.specs.declared.leaving.Done.{Done}
 use Rattle.echo_commands.specs.declared.leaving.Files.{Files}
 use Rattle.echo_commands.specs.declared.posting.NewMessage.{NewMessage}
 use Rattle.echo_commands.specs.Files.{Leaves}
-use Rattle.echo_commands.specs.Posted.{PostAnswers, draft_of}
+use Rattle.echo_commands.specs.Posted.{PostAnswers, draft_given}
 use Rattle.echo_commands.specs.Purged.{PurgeAnswers}
 use Rattle.echo_commands.specs.Scanned.{ScanAnswers}
 use Rattle.echo_commands.specs.Coming.{Coming, Fails, Holds, Unknown}
 use Rattle.echo_commands.specs.Tossed.{IsTossed}
-use Rattle.echo_stations.specs.Nets.{Net, Paired, Station, with_files, with_posting, with_tossed}
+use Rattle.echo_stations.specs.Nets.{Net, Paired, Station, with_left, with_posting, with_tossed}
 
 -- A call of a command on the files of a station: what it was handed, which is these files unless the reading of
 -- files stopped, and standard output before and after it, with how often that failed.
@@ -48,7 +48,7 @@ pub record Posts (words : NewMessage) (body : List ℕ) (net : Net) (i : ℕ) (n
   pub leaves : LeavesBase done.files base
   pub file : LinkFile
   pub of_links : LinksOf station.links (Ok file)
-  pub becomes : new ≡ with_posting net i base (posted file words.tag.now (draft_of words body) words.serial words.stamp)
+  pub becomes : new ≡ with_posting net i base (posted file words.tag.now (draft_given words body) words.serial words.stamp)
 
 -- `scan` leaves packet files and a base file, and these are put in place
 pub record Scans (stamp : Stamp) (net : Net) (i : ℕ) (new : Net) : Type 0 where
@@ -59,7 +59,7 @@ pub record Scans (stamp : Stamp) (net : Net) (i : ℕ) (new : Net) : Type 0 wher
   pub answer : Leaves (ScanAnswers stamp call.links call.base call.stopped call.old call.new call.before call.after) done
   pub base : List ℕ
   pub leaves : LeavesBase done.files base
-  pub becomes : new ≡ with_files net i done.files.packets base
+  pub becomes : new ≡ with_left net i done.files.packets base
 
 -- `purge` leaves a base file, and this is put in place
 pub record Purges (net : Net) (i : ℕ) (new : Net) : Type 0 where
@@ -70,7 +70,7 @@ pub record Purges (net : Net) (i : ℕ) (new : Net) : Type 0 where
   pub answer : Leaves (PurgeAnswers call.links call.base call.stopped call.old call.new call.before call.after) done
   pub base : List ℕ
   pub leaves : LeavesBase done.files base
-  pub becomes : new ≡ with_files net i [] base
+  pub becomes : new ≡ with_left net i [] base
 
 -- what is known of a reader: the bytes that are still to come, and how often its device failed
 pub record Reader : Type 0 where

@@ -45,8 +45,8 @@ with_indexes [] delivered = delivered
 with_indexes (k ∷ later) delivered = with_indexes later (with_index k delivered)
 
 -- what a command left stands: its packet files behind the others, and its base file at the station of the index
-abbrev pub with_files : Net → ℕ → List PacketFile → List ℕ → Net
-with_files net i packets base = record {
+abbrev pub with_left : Net → ℕ → List PacketFile → List ℕ → Net
+with_left net i packets base = record {
   stations = change i (with_base base) net.stations;
   packets = net.packets ++ map bytes_of packets;
   delivered = net.delivered;

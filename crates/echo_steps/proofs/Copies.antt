@@ -9,7 +9,7 @@ use Rattle.echo_addr.specs.declared.address.NetNode.{NetNode}
 use Rattle.echo_addr.specs.Address.{IsAddress, net_node_of}
 use Rattle.echo_addr.specs.ShortLines.{IsNetNode}
 use Rattle.echo_text.specs.Echo.{EchoText, IsEcho, msgid_of}
-use Rattle.echo_text.specs.Refusal.{refusal}
+use Rattle.echo_text.specs.Refusal.{text_refusal}
 use Rattle.echo_filed.specs.Sets.{entry_before, entry_set}
 use Rattle.echo_filed.specs.Written.{echo_of, text_of}
 use Rattle.echo_steps.specs.declared.stamp.Stamp.{Stamp}
@@ -68,7 +68,7 @@ exported_is_echo file h e is =
     }
 
 -- a copy is echomail, and says what was exported
-pub copy_accepted : (file : LinkFile) (to : Address) (m : Filed) → IsFile file → IsEcho m.echo → refusal ((copy_to file to m).text) ≡ None
+pub copy_accepted : (file : LinkFile) (to : Address) (m : Filed) → IsFile file → IsEcho m.echo → text_refusal ((copy_to file to m).text) ≡ None
 unfolding copy_to
 copy_accepted file to m h is = written_accepted (exported file m.echo) (exported_is_echo file h m.echo is)
 
@@ -121,10 +121,10 @@ any_of (x ∷ xs) = (tt, any_of xs)
 
 -- each text of the packets is accepted
 pub scanned_accepted : (file : LinkFile) (base : List Filed) (cursor : ℕ) (stamp : Stamp) → IsFile file → IsBase base cursor
-    → AllByRecursion (λ packet. AllByRecursion (λ packed. refusal packed.text ≡ None) packet.messages) (scanned file base cursor stamp)
+    → AllByRecursion (λ packet. AllByRecursion (λ packed. text_refusal packed.text ≡ None) packet.messages) (scanned file base cursor stamp)
 unfolding scanned packets_of packet_to
 scanned_accepted file base cursor stamp h is =
-    all_made (λ address. Unit {0}) (λ packet. AllByRecursion (λ packed. refusal packed.text ≡ None) packet.messages) (packet_to file stamp (drop cursor base))
-    (λ address any. all_made IsFiled (λ packed. refusal packed.text ≡ None) (copy_to file address) (λ m filed. copy_accepted file address m h filed.is_echo)
+    all_made (λ address. Unit {0}) (λ packet. AllByRecursion (λ packed. text_refusal packed.text ≡ None) packet.messages) (packet_to file stamp (drop cursor base))
+    (λ address any. all_made IsFiled (λ packed. text_refusal packed.text ≡ None) (copy_to file address) (λ m filed. copy_accepted file address m h filed.is_echo)
     (filter (goes_to file address) (drop cursor base)) (all_filter IsFiled (goes_to file address) (drop cursor base) (all_later IsFiled cursor base is.each)))
     (recipients file (drop cursor base)) (any_of (recipients file (drop cursor base)))

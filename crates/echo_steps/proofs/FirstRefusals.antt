@@ -1,4 +1,4 @@
--- The refusal of a posting, and the outcome of a toss, are the first that apply.
+-- The text_refusal of a posting, and the outcome of a toss, are the first that apply.
 use Rattle.std.proofs.Common.{◌≡◌, ℕ, ◌==◌, ◌||◌, ◌↔◌, Bool, true, false, cond, not, List, length, refl, sym, ap, subst, ◌∙◌, Option, Some, None}
 use Rattle.std.specs.List.{list_any}
 use Rattle.echo_addr.specs.declared.address.Address.{Address}
@@ -6,7 +6,7 @@ use Rattle.echo_packet.specs.Message.{Message}
 use Rattle.echo_text.specs.declared.fault.TextFault.{TextFault}
 use Rattle.echo_text.specs.declared.fault.TextFault.TheVariants as text
 use Rattle.echo_text.specs.Lines.{area_tag, first_line, is_area, is_tag, lines}
-use Rattle.echo_text.specs.Refusal.{refusal}
+use Rattle.echo_text.specs.Refusal.{text_refusal}
 use Rattle.echo_text.specs.Ids.{id_of, is_id}
 use Rattle.echo_steps.specs.declared.draft.Draft.{Draft}
 use Rattle.echo_steps.specs.declared.stamp.Stamp.{Stamp}
@@ -84,7 +84,7 @@ of_first file base tag draft serial stamp fault.BadReply h = h
 of_first file base tag draft serial stamp fault.KnownSerial h = h
 of_first file base tag draft serial stamp fault.Memory h = h
 
--- the refusal of a posting is the first that applies
+-- the text_refusal of a posting is the first that applies
 pub refusal_first : (file : LinkFile) (base : List Filed) (tag : List ℕ) (draft : Draft) (serial : ℕ) (stamp : Stamp) (f : PostFault)
     → (post_refusal file base tag draft serial stamp ≡ Some f) ↔ IsFirstRefusal file base tag draft serial stamp f
 unfolding post_refusal
@@ -114,8 +114,8 @@ two_refusals false tagged = tt
 two_refusals true false = tt
 two_refusals true true = tt
 
-of_text : (bytes : List ℕ) → IsOfText (refusal bytes)
-unfolding refusal
+of_text : (bytes : List ℕ) → IsOfText (text_refusal bytes)
+unfolding text_refusal
 of_text bytes = two_refusals (is_area (first_line (lines bytes))) (is_tag (area_tag (first_line (lines bytes))))
 
 -- the outcomes of a message whose text is echomail, in order
@@ -155,7 +155,7 @@ first_outcome refused area link known outcome.Known h = λ i. after_refusal (h.0
 first_outcome refused area link known outcome.Filed h = λ i. after_refusal (h.0 i) (outcomes_chain (h.1 i) (h.2 i) (h.3 i))
 
 to_outcome : (file : LinkFile) (base : List Filed) (from : Address) (packed : Message) (o : Outcome)
-    → FirstOutcome (refusal packed.text) (has_area file (echo_of packed.text).tag) (is_link file (echo_of packed.text).tag from) (is_known base (key_of (received from packed))) o
+    → FirstOutcome (text_refusal packed.text) (has_area file (echo_of packed.text).tag) (is_link file (echo_of packed.text).tag from) (is_known base (key_of (received from packed))) o
     → IsOutcome file base from packed o
 to_outcome file base from packed outcome.NotEcho h = h
 to_outcome file base from packed outcome.BadTag h = h
@@ -165,7 +165,7 @@ to_outcome file base from packed outcome.Known h = h
 to_outcome file base from packed outcome.Filed h = record { text = h.0; area = h.1; link = h.2; new = h.3 }
 
 of_outcome : (file : LinkFile) (base : List Filed) (from : Address) (packed : Message) (o : Outcome) → IsOutcome file base from packed o
-    → FirstOutcome (refusal packed.text) (has_area file (echo_of packed.text).tag) (is_link file (echo_of packed.text).tag from) (is_known base (key_of (received from packed))) o
+    → FirstOutcome (text_refusal packed.text) (has_area file (echo_of packed.text).tag) (is_link file (echo_of packed.text).tag from) (is_known base (key_of (received from packed))) o
 of_outcome file base from packed outcome.NotEcho h = h
 of_outcome file base from packed outcome.BadTag h = h
 of_outcome file base from packed outcome.NoArea h = h
@@ -189,7 +189,7 @@ pub outcome_is_first : (file : LinkFile) (base : List Filed) (from : Address) (p
     → (toss_outcome file base from packed ≡ o) ↔ IsOutcome file base from packed o
 unfolding toss_outcome
 outcome_is_first file base from packed o =
-    let spelled = one_spelling file base from packed (refusal packed.text) in (
-      λ h. to_outcome file base from packed o (outcome_first (refusal packed.text) _ _ _ o (of_text packed.text) (sym spelled ∙ h)),
-      λ h. spelled ∙ first_outcome (refusal packed.text) _ _ _ o (of_outcome file base from packed o h),
+    let spelled = one_spelling file base from packed (text_refusal packed.text) in (
+      λ h. to_outcome file base from packed o (outcome_first (text_refusal packed.text) _ _ _ o (of_text packed.text) (sym spelled ∙ h)),
+      λ h. spelled ∙ first_outcome (text_refusal packed.text) _ _ _ o (of_outcome file base from packed o h),
     )

@@ -7,7 +7,7 @@ use Rattle.std.proofs.lemmas.List.{length-append, length-drop, length-take}
 use Rattle.echo_addr.specs.declared.address.Address.{Address}
 use Rattle.echo_packet.specs.Message.{IsMessage, Message, max_name, max_subject}
 use Rattle.echo_text.specs.Ids.{id_of, is_zero}
-use Rattle.echo_text.specs.Refusal.{refusal}
+use Rattle.echo_text.specs.Refusal.{text_refusal}
 use Rattle.echo_steps.specs.declared.draft.Draft.{Draft}
 use Rattle.echo_filed.specs.declared.key.Key.TheVariants.{ById}
 use Rattle.echo_steps.specs.declared.stamp.Stamp.{Stamp}
@@ -89,7 +89,7 @@ posting_keeps file base cursor tag draft serial stamp m h is e =
     let P : Filed → Type 0 = λ x. IsBase (base ++ x ∷ []) cursor in
     subst P (sym p.is) (one_more base cursor (posted file tag draft serial stamp) is (posted_filed file base tag draft serial stamp h p.allowed) (posted_new file base tag draft serial stamp h p.allowed))
 
-pub received_filed : (most : ℕ) (sender : Address) (packed : Message) → HasSmallSender (Some sender) → IsMessage most packed → refusal packed.text ≡ None
+pub received_filed : (most : ℕ) (sender : Address) (packed : Message) → HasSmallSender (Some sender) → IsMessage most packed → text_refusal packed.text ≡ None
     → IsFiled (received sender packed)
 unfolding received
 received_filed most sender packed small is text =

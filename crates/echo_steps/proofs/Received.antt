@@ -5,7 +5,7 @@ use Rattle.echo_addr.specs.declared.address.Address.{Address}
 use Rattle.echo_packet.specs.Message.{Message}
 use Rattle.echo_text.specs.declared.fault.TextFault.{TextFault}
 use Rattle.echo_text.specs.declared.fault.TextFault.TheVariants as text
-use Rattle.echo_text.specs.Refusal.{refusal}
+use Rattle.echo_text.specs.Refusal.{text_refusal}
 use Rattle.echo_steps.specs.declared.outcome.Outcome.{Outcome}
 use Rattle.echo_steps.specs.declared.outcome.Outcome.TheVariants as outcome
 use Rattle.echo_links.specs.Links.{LinkFile, has_area, is_link}
@@ -54,7 +54,7 @@ pub tossing_received : (file : LinkFile) (base : List Filed) (sender : Address) 
 unfolding tossing toss_outcome received
 tossing_received file base sender packed m h =
     let filed = some_filed (toss_outcome file base sender packed) (received sender packed) m h in
-    let after = after_text file base sender (received sender packed) (refusal packed.text) filed.0 in
+    let after = after_text file base sender (received sender packed) (text_refusal packed.text) filed.0 in
     let to = to_file file base sender (received sender packed) after.1 in
     (record { text = after.0; area = to.area; link = to.link; new = to.new }, filed.1)
 

@@ -5,7 +5,7 @@ use Rattle.echo_packet.specs.declared.header.Header.{Header}
 use Rattle.echo_packet.specs.Message.{Message}
 use Rattle.echo_text.specs.declared.fault.TextFault.{TextFault}
 use Rattle.echo_text.specs.declared.fault.TextFault.TheVariants as text
-use Rattle.echo_text.specs.Refusal.{refusal}
+use Rattle.echo_text.specs.Refusal.{text_refusal}
 use Rattle.echo_steps.specs.declared.outcome.Outcome.{Outcome}
 use Rattle.echo_steps.specs.declared.outcome.Outcome.TheVariants as outcome
 use Rattle.echo_links.specs.Links.{LinkFile, has_area, is_link}
@@ -42,7 +42,7 @@ outcome_after file base sender m (Some refused) = outcome.BadTag
 -- what becomes of a message: the first outcome that applies
 unfoldable pub toss_outcome : LinkFile → List Filed → Address → Message → Outcome
 toss_outcome file base sender packed =
-    outcome_after file base sender (received sender packed) (refusal packed.text)
+    outcome_after file base sender (received sender packed) (text_refusal packed.text)
 
 -- the message, where it is to be filed
 abbrev pub where_filed : Outcome → Filed → Option Filed
@@ -55,20 +55,20 @@ tossing file base sender packed = where_filed (toss_outcome file base sender pac
 
 -- a message is to be filed: its text is echomail of an area that is there, from a link, and not known
 pub record IsToBeFiled (file : LinkFile) (base : List Filed) (from : Address) (packed : Message) : Type 0 where
-  pub text : refusal packed.text ≡ None
+  pub text : text_refusal packed.text ≡ None
   pub area : has_area file (echo_of packed.text).tag ≡ true
   pub link : is_link file (echo_of packed.text).tag from ≡ true
   pub new : is_known base (key_of (received from packed)) ≡ false
 
 -- this is what becomes of a message, and no outcome before it applies
 abbrev pub IsOutcome : LinkFile → List Filed → Address → Message → Outcome → Type 0
-IsOutcome file base from packed outcome.NotEcho = refusal packed.text ≡ Some text.NotEcho
-IsOutcome file base from packed outcome.BadTag = refusal packed.text ≡ Some text.BadTag
-IsOutcome file base from packed outcome.NoArea = (refusal packed.text ≡ None) × (has_area file (echo_of packed.text).tag ≡ false)
+IsOutcome file base from packed outcome.NotEcho = text_refusal packed.text ≡ Some text.NotEcho
+IsOutcome file base from packed outcome.BadTag = text_refusal packed.text ≡ Some text.BadTag
+IsOutcome file base from packed outcome.NoArea = (text_refusal packed.text ≡ None) × (has_area file (echo_of packed.text).tag ≡ false)
 IsOutcome file base from packed outcome.NotLinked =
-    (refusal packed.text ≡ None) × (has_area file (echo_of packed.text).tag ≡ true) × (is_link file (echo_of packed.text).tag from ≡ false)
+    (text_refusal packed.text ≡ None) × (has_area file (echo_of packed.text).tag ≡ true) × (is_link file (echo_of packed.text).tag from ≡ false)
 IsOutcome file base from packed outcome.Known =
-    (refusal packed.text ≡ None) × (has_area file (echo_of packed.text).tag ≡ true) × (is_link file (echo_of packed.text).tag from ≡ true)
+    (text_refusal packed.text ≡ None) × (has_area file (echo_of packed.text).tag ≡ true) × (is_link file (echo_of packed.text).tag from ≡ true)
     × (is_known base (key_of (received from packed)) ≡ true)
 IsOutcome file base from packed outcome.Filed = IsToBeFiled file base from packed
 
@@ -96,8 +96,8 @@ abbrev pub zone_of : LinkFile → ℕ → ℕ
 zone_of file zone = if zone == 0 then file.system.zone else zone
 
 -- who sent a packet
-abbrev pub origin_of : LinkFile → Header → Address
-origin_of file header = record { zone = zone_of file header.orig_zone; net = header.orig_net; node = header.orig_node }
+abbrev pub sender_of : LinkFile → Header → Address
+sender_of file header = record { zone = zone_of file header.orig_zone; net = header.orig_net; node = header.orig_node }
 
 -- whom a packet is for
 abbrev pub destination_of : LinkFile → Header → Address

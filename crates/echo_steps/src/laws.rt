@@ -5,7 +5,7 @@ ghost use Rattle.std.specs.List.{AllByRecursion, list_any};
 ghost use Rattle.echo_addr.specs.declared.address.Address.{Address};
 ghost use Rattle.echo_packet.specs.Message.{IsMessage, Message};
 ghost use Rattle.echo_text.specs.Echo.{IsEcho, msgid_of};
-ghost use Rattle.echo_text.specs.Refusal.{refusal};
+ghost use Rattle.echo_text.specs.Refusal.{text_refusal};
 ghost use Rattle.echo_steps.specs.declared.draft.Draft.{Draft};
 ghost use Rattle.echo_steps.specs.declared.fault.PostFault.{PostFault};
 ghost use Rattle.echo_steps.specs.declared.outcome.Outcome.{Outcome};
@@ -23,7 +23,7 @@ ghost use Rattle.echo_steps.specs.Purging.{purged};
 /// message.
 pub fn copy_laws()
     ensures echo { (file : LinkFile) (m : Filed) → IsFile file → IsEcho m.echo → IsEcho (exported file m.echo) }
-    ensures accepted { (file : LinkFile) (to : Address) (m : Filed) → IsFile file → IsEcho m.echo → refusal ((copy_to file to m).text) ≡ None }
+    ensures accepted { (file : LinkFile) (to : Address) (m : Filed) → IsFile file → IsEcho m.echo → text_refusal ((copy_to file to m).text) ≡ None }
     ensures read_back { (file : LinkFile) (from to : Address) (m : Filed) → IsFile file → IsEcho m.echo →
         received from (copy_to file to m) ≡ record { sender = Some from; date = m.date; to_name = m.to_name; from_name = m.from_name; subject = m.subject; echo = exported file m.echo } }
     ensures keep_keys { (file : LinkFile) (from to : Address) (m : Filed) → IsFile file → IsEcho m.echo → key_of (received from (copy_to file to m)) ≡ key_of m }
@@ -67,7 +67,7 @@ pub fn toss_law()
 /// No text that a scan exports is refused where it is tossed.
 pub fn scan_law()
     ensures { (file : LinkFile) (base : List Filed) (cursor : ℕ) (stamp : Stamp) → IsFile file → IsBase base cursor →
-        AllByRecursion (λ packet. AllByRecursion (λ packed. refusal packed.text ≡ None) packet.messages) (scanned file base cursor stamp) }
+        AllByRecursion (λ packet. AllByRecursion (λ packed. text_refusal packed.text ≡ None) packet.messages) (scanned file base cursor stamp) }
 {}
 
 /// A base stays a base where a posting or a toss files a message, and where it is purged.

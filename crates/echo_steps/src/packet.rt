@@ -3,7 +3,7 @@ ghost use Rattle.echo_packet.specs.Packet.{PacketOf};
 
 use echo_addr::Items;
 use echo_device::Watched;
-use echo_packet::{Header, Packed, PacketWriter};
+use echo_packet::{HEADER_BYTES, Header, Packed, PacketWriter};
 use std::alloc::{AllocError, Global};
 
 /// A packet for one address: its header and its messages in order.
@@ -13,8 +13,8 @@ pub struct Packet {
     pub messages: Items<Packed>,
 }
 
-// The bytes of a packet beside its messages.
-const AROUND: usize = 60;
+// The bytes of a packet beside its messages: the header, and 00 00.
+const AROUND: usize = HEADER_BYTES + 2;
 
 // The bytes of a message beside its strings, the 00 after each among them.
 const FIXED: usize = 38;

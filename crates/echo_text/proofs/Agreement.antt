@@ -3,18 +3,18 @@ use Rattle.std.proofs.Common.{◌≡◌, ℕ, List, ◌⊎◌, Some, Result, Ok,
 use Rattle.echo_text.specs.declared.fault.TextFault.{TextFault}
 use Rattle.echo_text.specs.declared.fault.TextFault.TheVariants.{Memory}
 use Rattle.echo_text.specs.Echo.{EchoText, IsEcho, TextOf}
-use Rattle.echo_text.specs.Refusal.{Answers, refusal}
+use Rattle.echo_text.specs.Refusal.{TextAnswers, text_refusal}
 use Rattle.echo_text.proofs.OneReading.{one_answer}
 use Rattle.echo_text.proofs.SaidAfter.{not_refused}
 use Rattle.echo_text.proofs.Written.{written_read_back}
 
 -- whoever reads it answers what it was written for
-pub written_is_read : (e : EchoText) (text : List ℕ) (r : Result (EchoText × ℕ) TextFault) → IsEcho e → TextOf e text → Answers text r
+pub written_is_read : (e : EchoText) (text : List ℕ) (r : Result (EchoText × ℕ) TextFault) → IsEcho e → TextOf e text → TextAnswers text r
     → (r ≡ Ok (e, 0)) ⊎ (r ≡ Err Memory)
 written_is_read e text r h w answers = one_answer text e 0 r (written_read_back e text h w) answers
 
--- whoever reads a refused text answers the refusal
-pub refused_is_answered : (text : List ℕ) (fault : TextFault) (r : Result (EchoText × ℕ) TextFault) → refusal text ≡ Some fault → Answers text r → r ≡ Err fault
+-- whoever reads a refused text answers the text_refusal
+pub refused_is_answered : (text : List ℕ) (fault : TextFault) (r : Result (EchoText × ℕ) TextFault) → text_refusal text ≡ Some fault → TextAnswers text r → r ≡ Err fault
 refused_is_answered text fault (Ok read) is answers = let none = not_refused text read.0 read.1 answers in absurd cc
 refused_is_answered text fault (Err other) is answers = elim answers [
   | inl refused ↦ let same : Some other ≡ Some fault = sym refused ∙ is in cc
@@ -22,7 +22,7 @@ refused_is_answered text fault (Err other) is answers = elim answers [
 ]
 
 -- any two readers answer the same, unless one lacks memory
-pub readers_agree : (text : List ℕ) (r s : Result (EchoText × ℕ) TextFault) → Answers text r → Answers text s
+pub readers_agree : (text : List ℕ) (r s : Result (EchoText × ℕ) TextFault) → TextAnswers text r → TextAnswers text s
     → (r ≡ s) ⊎ ((r ≡ Err Memory) ⊎ (s ≡ Err Memory))
 readers_agree text (Ok read) s h k = elim (one_answer text read.0 read.1 s h k) [
   | inl same ↦ inl (sym same)

@@ -8,7 +8,7 @@ use Rattle.std.proofs.lemmas.Grind.{flat_map-append}
 use Rattle.std.proofs.lemmas.List.{append-nil, append_assoc, append_cancel_left, length-append, nil_from_length, take_all, take_more}
 use Rattle.std.proofs.lemmas.List.Elements.{All-append, All-cons, All-filter, All-from_recursion, All-nil, recursion_from_All}
 use Rattle.echo_text.specs.Lines.{is_return, lines}
-use Rattle.echo_text.specs.Echo.{IsEnded, ended}
+use Rattle.echo_text.specs.Echo.{HasEndedLines, ended}
 use Rattle.echo_text.proofs.TextLines.{IsPiece, lines_last, lines_nil, lines_of_ended}
 
 -- a text cut up: lines with their 0D, and what stands behind the last 0D
@@ -77,14 +77,14 @@ pub lines_back : (some : List (List ℕ)) → AllByRecursion IsPiece some → li
 lines_back some pieces =
     ap lines (sym (append-nil (flat_map ended some))) ∙ lines_of_ended some [] pieces ∙ ap (λ ls. some ++ ls) lines_nil ∙ append-nil some
 
-pub put_together : (some : List (List ℕ)) → AllByRecursion IsPiece some → IsEnded (flat_map ended some)
+pub put_together : (some : List (List ℕ)) → AllByRecursion IsPiece some → HasEndedLines (flat_map ended some)
 put_together some pieces = ap (flat_map ended) (lines_back some pieces)
 
 -- what follows such bytes
-pub lines_behind : (front rest : List ℕ) → IsEnded front → lines (front ++ rest) ≡ lines front ++ lines rest
+pub lines_behind : (front rest : List ℕ) → HasEndedLines front → lines (front ++ rest) ≡ lines front ++ lines rest
 lines_behind front rest h = ap (λ t. lines (t ++ rest)) (sym h) ∙ lines_of_ended (lines front) rest (pieces_of_lines front)
 
-pub ended_rest : (front rest : List ℕ) → IsEnded front → IsEnded (front ++ rest) → IsEnded rest
+pub ended_rest : (front rest : List ℕ) → HasEndedLines front → HasEndedLines (front ++ rest) → HasEndedLines rest
 ended_rest front rest h all =
     append_cancel_left front (flat_map ended (lines rest)) rest
     (ap (λ t. t ++ flat_map ended (lines rest)) (sym h)
@@ -98,15 +98,15 @@ ended_last whole last =
     ∙ ap (λ t. flat_map ended whole ++ t) (append-nil (ended last))
     ∙ sym (append_assoc (flat_map ended whole) last (13 ∷ []))
 
-pub nothing_is_ended : IsEnded []
+pub nothing_is_ended : HasEndedLines []
 nothing_is_ended = ap (flat_map ended) lines_nil
 
 -- bytes with 0D at their end
-pub ended_by_return : (front : List ℕ) → IsEnded (front ++ 13 ∷ [])
+pub ended_by_return : (front : List ℕ) → HasEndedLines (front ++ 13 ∷ [])
 ended_by_return front =
     let c = cut_of front in
     let is : front ++ 13 ∷ [] ≡ flat_map ended (c.whole ++ c.last ∷ []) = ap (λ t. t ++ 13 ∷ []) c.is ∙ sym (ended_last c.whole c.last) in
-    let P : List ℕ → Type 0 = IsEnded in
+    let P : List ℕ → Type 0 = HasEndedLines in
     subst P (sym is) (put_together (c.whole ++ c.last ∷ []) (pieces_append c.whole (c.last ∷ []) c.pieces (c.piece, tt)))
 
 -- bytes with another at their end
@@ -133,19 +133,19 @@ ended_or_not text true some is =
     let whole : text ≡ take (length text - 1) text ++ 13 ∷ [] =
     with_last text some ∙ ap (λ x. take (length text - 1) text ++ x ∷ []) (eqb-true (get_or text (length text - 1) 0) 13 is)
     in
-    let P : List ℕ → Type 0 = IsEnded in
+    let P : List ℕ → Type 0 = HasEndedLines in
     subst P (sym whole) (ended_by_return (take (length text - 1) text))
 ended_or_not text false some is =
     let whole = with_last text some in
     let P : List ℕ → Type 0 = λ t. flat_map ended (lines t) ≡ t ++ 13 ∷ [] in
     subst P (sym whole) (lacks_return (take (length text - 1) text) (get_or text (length text - 1) 0) is)
 
-pub ended_if_empty : (text : List ℕ) → length text ≡ 0 → IsEnded text
-ended_if_empty text none = let P : List ℕ → Type 0 = IsEnded in subst P (sym (nil_from_length text none)) nothing_is_ended
+pub ended_if_empty : (text : List ℕ) → length text ≡ 0 → HasEndedLines text
+ended_if_empty text none = let P : List ℕ → Type 0 = HasEndedLines in subst P (sym (nil_from_length text none)) nothing_is_ended
 
 -- lines of a text and others of its lines, put together behind one another
 pub record PutTogether (text : List ℕ) (some : List (List ℕ)) : Type 0 where
-  pub ended_is : IsEnded text
+  pub ended_is : HasEndedLines text
   pub lines_are : lines text ≡ some
 
 pub whole_text : (text : List ℕ) (some : List (List ℕ)) → text ≡ flat_map ended some → AllByRecursion IsPiece some → PutTogether text some
@@ -168,7 +168,7 @@ same_test true b there back = sym (there refl)
 same_test false false there back = refl
 same_test false true there back = let is = back refl in absurd cc
 
-pub same_lines : (s t : List ℕ) → IsEnded s → IsEnded t → bytes_eq s t ≡ pointwise bytes_eq (lines s) (lines t)
+pub same_lines : (s t : List ℕ) → HasEndedLines s → HasEndedLines t → bytes_eq s t ≡ pointwise bytes_eq (lines s) (lines t)
 same_lines s t h k =
     same_test (bytes_eq s t) (pointwise bytes_eq (lines s) (lines t))
     (λ is. (pointwise_decides bytes_decides (lines s) (lines t)).1 (ap lines ((bytes_decides s t).0 is)))

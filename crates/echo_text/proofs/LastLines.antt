@@ -6,7 +6,7 @@ use Rattle.std.proofs.lemmas.List.Elements.{All-append, All-cons, All-from_get_o
 use Rattle.memchr.specs.Find.{IsLastByte, is_byte}
 use Rattle.echo_text.specs.Lines.{first_line, is_return, lines}
 use Rattle.echo_text.specs.Tail.{body, is_tail_line, tail}
-use Rattle.echo_text.specs.Echo.{IsEnded}
+use Rattle.echo_text.specs.Echo.{HasEndedLines}
 use Rattle.echo_text.proofs.EndedLines.{ended_by_return, ended_rest, lines_behind, nothing_is_ended, with_last}
 use Rattle.echo_text.proofs.Tails.{all_tail, body_before, body_none, tail_behind, tail_whole}
 use Rattle.echo_text.proofs.TextLines.{IsPiece, lines_cut, lines_last, lines_nil}
@@ -36,7 +36,7 @@ one_line_of text some front =
 -- the last line starts at this place
 pub record Starts (text : List ℕ) (at : ℕ) : Type 0 where
   pub within : at < length text
-  pub before : IsEnded (take at text)
+  pub before : HasEndedLines (take at text)
   pub last : lines (drop at text) ≡ first_line (lines (drop at text)) ∷ []
 
 -- no line ends from there up to the last byte
@@ -55,7 +55,7 @@ start_found text k some found =
     let size : length (take (length text - 1) text) ≡ length text - 1 = length-take-le (length text - 1) text (omega arith) in
     let high : k < length text - 1 = omega (arith, found.0.high) in
     let is : get_or text k 0 ≡ 13 = sym (get_or-take (length text - 1) text k 0 high) ∙ eqb-true (get_or (take (length text - 1) text) k 0) 13 found.1 in
-    let P : List ℕ → Type 0 = IsEnded in
+    let P : List ℕ → Type 0 = HasEndedLines in
     record {
       within = omega arith;
       before = subst P (sym (take_more text k 0 (omega arith) ∙ ap (λ b. take k text ++ b ∷ []) is)) (ended_by_return (take k text));
@@ -79,7 +79,7 @@ start_first text some none =
 pub record EndsIn (text : List ℕ) (n : ℕ) : Type 0 where
   pub within : n ≤ length text
   pub tails : all_tail (lines (drop n text)) ≡ true
-  pub apart : IsEnded (take n text) ⊎ (drop n text ≡ [])
+  pub apart : HasEndedLines (take n text) ⊎ (drop n text ≡ [])
 
 pub ends_at_end : (text : List ℕ) → EndsIn text (length text)
 ends_at_end text =
@@ -87,7 +87,7 @@ ends_at_end text =
     record { within = omega arith; tails = ap (λ t. all_tail (lines t)) none ∙ ap all_tail lines_nil; apart = inr none }
 
 -- two parts of a text
-apart_lines : (front rest : List ℕ) → IsEnded front ⊎ (rest ≡ []) → lines (front ++ rest) ≡ lines front ++ lines rest
+apart_lines : (front rest : List ℕ) → HasEndedLines front ⊎ (rest ≡ []) → lines (front ++ rest) ≡ lines front ++ lines rest
 apart_lines front rest (inl h) = lines_behind front rest h
 apart_lines front rest (inr none) =
     ap (λ t. lines (front ++ t)) none ∙ ap lines (append-nil front) ∙ sym (ap (λ t. lines front ++ lines t) none ∙ ap (λ ls. lines front ++ ls) lines_nil ∙ append-nil (lines front))
@@ -116,10 +116,10 @@ module _ (text : List ℕ) (n at : ℕ) (h : EndsIn text n) (s : Starts (take n 
       ∙ ap (λ t. t ++ drop n text) (sym (take-append-drop at (take n text)) ∙ ap (λ t. t ++ drop at (take n text)) taken)
       ∙ append_assoc (take at text) (drop at (take n text)) (drop n text))
 
-  last_apart : IsEnded (drop at (take n text)) ⊎ (drop n text ≡ [])
+  last_apart : HasEndedLines (drop at (take n text)) ⊎ (drop n text ≡ [])
   last_apart = elim h.apart [
     | inl whole ↦
-        let P : List ℕ → Type 0 = IsEnded in
+        let P : List ℕ → Type 0 = HasEndedLines in
         inl (ended_rest (take at (take n text)) (drop at (take n text)) s.before (subst P (sym (take-append-drop at (take n text))) whole))
     | inr none ↦ inr none
   ]
@@ -130,7 +130,7 @@ module _ (text : List ℕ) (n at : ℕ) (h : EndsIn text n) (s : Starts (take n 
 
   pub ends_earlier : is_tail_line (first_line (lines (drop at (take n text)))) ≡ true → EndsIn text at
   ends_earlier is =
-      let P : List ℕ → Type 0 = IsEnded in
+      let P : List ℕ → Type 0 = HasEndedLines in
       record {
         within = omega (arith, below, h.within);
         tails = ap all_tail later ∙ and_from (is_tail_line (first_line (lines (drop at (take n text))))) (all_tail (lines (drop n text))) is h.tails;

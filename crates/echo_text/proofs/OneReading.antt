@@ -9,7 +9,7 @@ use Rattle.echo_text.specs.declared.fault.TextFault.{TextFault}
 use Rattle.echo_text.specs.declared.fault.TextFault.TheVariants.{Memory}
 use Rattle.echo_text.specs.Lines.{area_word}
 use Rattle.echo_text.specs.Echo.{EchoOf, EchoText, HasNoZero, IsSetOf, TextOf, ended}
-use Rattle.echo_text.specs.Refusal.{Answers}
+use Rattle.echo_text.specs.Refusal.{TextAnswers}
 use Rattle.echo_text.proofs.PutTogether.{same_parts}
 use Rattle.echo_text.proofs.Reread.{read_is_echo}
 use Rattle.echo_text.proofs.SaidAfter.{not_refused}
@@ -89,7 +89,7 @@ one_echo text e f m n h k =
 pub one_count : (text : List ℕ) (e f : EchoText) (m n : ℕ) → EchoOf text e m → EchoOf text f n → m ≡ n
 one_count text e f m n h k = h.dropped_tokens ∙ sym k.dropped_tokens
 
-pub one_answer : (text : List ℕ) (e : EchoText) (d : ℕ) (r : Result (EchoText × ℕ) TextFault) → EchoOf text e d → Answers text r
+pub one_answer : (text : List ℕ) (e : EchoText) (d : ℕ) (r : Result (EchoText × ℕ) TextFault) → EchoOf text e d → TextAnswers text r
     → (r ≡ Ok (e, d)) ⊎ (r ≡ Err Memory)
 one_answer text e d (Ok read) h answers =
     inl (ap (λ f. Ok (f, read.1)) (one_echo text read.0 e read.1 d answers h) ∙ ap (λ n. Ok (e, n)) (one_count text read.0 e read.1 d answers h))

@@ -10,7 +10,7 @@ use Rattle.echo_text.specs.declared.fault.TextFault.TheVariants.{BadTag, Memory,
 use Rattle.echo_text.specs.Lines.{area_tag, first_line, is_area, is_tag, later_lines, lines}
 use Rattle.echo_text.specs.Tail.{all_dropped, all_entries, body, is_kept_control, kept_of, lists_of, path_lists, seen_lists, tail}
 use Rattle.echo_text.specs.Echo.{EchoOf, EchoText, IsSetOf, Says}
-use Rattle.echo_text.specs.Refusal.{Answers, refusal, refusal_of}
+use Rattle.echo_text.specs.Refusal.{TextAnswers, text_refusal, refusal_of}
 use Rattle.echo_text.proofs.Bounds.{dropped_of_text}
 
 -- the counts of dropped tokens fit
@@ -66,8 +66,8 @@ read_text_is text first rest tag kept seen path d f l none t says =
       dropped_tokens = later.dropped_tokens;
     }
 
-pub refusal_is : (text first : List ℕ) (r : Option TextFault) → first ≡ first_line (lines text) → refusal_of first ≡ r → refusal text ≡ r
-unfolding refusal
+pub refusal_is : (text first : List ℕ) (r : Option TextFault) → first ≡ first_line (lines text) → refusal_of first ≡ r → text_refusal text ≡ r
+unfolding text_refusal
 refusal_is text first r f is = ap refusal_of (sym f) ∙ is
 
 -- the same under other names
@@ -80,19 +80,19 @@ says_same later kept kept' seen seen' path path' d h k s p = record {
   dropped_tokens = h.dropped_tokens;
 }
 
--- a reader that answers the refusal, and one that lacks memory
+-- a reader that answers the text_refusal, and one that lacks memory
 pub answers_refusal : (text : List ℕ) (fault : TextFault) (r : Result (EchoText × ℕ) TextFault) → IsErrAnd r (λ e. e ≡ fault)
-    → refusal text ≡ Some fault → Answers text r
+    → text_refusal text ≡ Some fault → TextAnswers text r
 answers_refusal text fault (Ok read) h is = absurd h
 answers_refusal text fault (Err e) h is = inl (is ∙ ap Some (sym h))
 
-pub answers_memory : (text : List ℕ) (r : Result (EchoText × ℕ) TextFault) → IsErrAnd r (λ e. e ≡ Memory) → refusal text ≡ None → Answers text r
+pub answers_memory : (text : List ℕ) (r : Result (EchoText × ℕ) TextFault) → IsErrAnd r (λ e. e ≡ Memory) → text_refusal text ≡ None → TextAnswers text r
 answers_memory text (Ok read) h is = absurd h
 answers_memory text (Err e) h is = inr (is, h)
 
 -- a text that says something is not refused
-pub not_refused : (text : List ℕ) (e : EchoText) (d : ℕ) → EchoOf text e d → refusal text ≡ None
-unfolding refusal
+pub not_refused : (text : List ℕ) (e : EchoText) (d : ℕ) → EchoOf text e d → text_refusal text ≡ None
+unfolding text_refusal
 not_refused text e d h =
     let first = first_line (lines text) in
     ap (λ x. cond (not x) (Some NotEcho) (cond (not (is_tag (area_tag first))) (Some BadTag) None)) h.area

@@ -58,8 +58,8 @@ abbrev pub ended : List ℕ → List ℕ
 ended line = line ++ 13 ∷ []
 
 -- each line of the bytes has its 0D, the last one too
-abbrev pub IsEnded : List ℕ → Type 0
-IsEnded bytes = flat_map ended (lines bytes) ≡ bytes
+abbrev pub HasEndedLines : List ℕ → Type 0
+HasEndedLines bytes = flat_map ended (lines bytes) ≡ bytes
 
 -- the bytes are the text written for e: AREA line, kept lines, SEEN-BY lines, PATH lines
 pub record TextOf (e : EchoText) (bytes : List ℕ) : Type 0 where

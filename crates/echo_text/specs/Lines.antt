@@ -4,15 +4,12 @@ use Rattle.std.specs.Char.{to_ascii_uppercase}
 use Rattle.std.specs.List.{slice_split, prefix_len, suffix_len, starts_with, list_all}
 use Rattle.std.specs.Int.{is_in_range}
 use Rattle.echo_addr.specs.Entries.{is_blank}
-pub use Rattle.echo_addr.specs.Pieces.{without_empty_last}
+pub use Rattle.echo_addr.specs.Pieces.{is_feed, without_empty_last}
 use Rattle.echo_addr.specs.ShortLines.{path_prefix, seen_prefix}
 
--- 0D, which ends a line, and 0A
+-- 0D, which ends a line
 abbrev pub is_return : ℕ → Bool
 is_return b = b == 13
-
-abbrev pub is_feed : ℕ → Bool
-is_feed b = b == 10
 
 -- the lines of a text: the pieces between 0D bytes, without an empty last piece
 unfoldable pub lines : List ℕ → List (List ℕ)

@@ -5,18 +5,18 @@ use Rattle.echo_text.specs.declared.fault.TextFault.TheVariants.{BadTag, Memory,
 use Rattle.echo_text.specs.Lines.{area_tag, first_line, is_area, is_tag, lines}
 use Rattle.echo_text.specs.Echo.{EchoText, EchoOf}
 
--- the first refusal that applies to a text with this first line
+-- the first text_refusal that applies to a text with this first line
 abbrev pub refusal_of : List ℕ → Option TextFault
 refusal_of first =
     if not (is_area first) then Some NotEcho
     else if not (is_tag (area_tag first)) then Some BadTag
     else None
 
--- the first refusal that applies to the text
-unfoldable pub refusal : List ℕ → Option TextFault
-refusal text = refusal_of (first_line (lines text))
+-- the first text_refusal that applies to the text
+unfoldable pub text_refusal : List ℕ → Option TextFault
+text_refusal text = refusal_of (first_line (lines text))
 
--- a reader's answer: what the text says, the refusal that applies, or want of memory where none applies
-abbrev pub Answers : List ℕ → Result (EchoText × ℕ) TextFault → Type 0
-Answers text (Ok read) = EchoOf text read.0 read.1
-Answers text (Err fault) = (refusal text ≡ Some fault) ⊎ ((refusal text ≡ None) × (fault ≡ Memory))
+-- a reader's answer: what the text says, the text_refusal that applies, or want of memory where none applies
+abbrev pub TextAnswers : List ℕ → Result (EchoText × ℕ) TextFault → Type 0
+TextAnswers text (Ok read) = EchoOf text read.0 read.1
+TextAnswers text (Err fault) = (text_refusal text ≡ Some fault) ⊎ ((text_refusal text ≡ None) × (fault ≡ Memory))

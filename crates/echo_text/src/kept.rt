@@ -19,22 +19,22 @@ impl Model for Lines {
     ghost Value = { List (List ℕ) };
 
     ghost use Rattle.echo_text.specs.Lines.{lines};
-    ghost use Rattle.echo_text.specs.Echo.{IsEnded};
+    ghost use Rattle.echo_text.specs.Echo.{HasEndedLines};
 
     ghost view = { λ l. lines l.text };
 
-    ghost invariant = { λ l. IsEnded l.text };
+    ghost invariant = { λ l. HasEndedLines l.text };
 }
 
 impl Lines {
     ghost use Rattle.std.specs.Prelude.{◌≡◌, IfOk};
     ghost use Rattle.std.specs.List.{flat_map};
     ghost use Rattle.echo_text.specs.Lines.{lines};
-    ghost use Rattle.echo_text.specs.Echo.{IsEnded, ended};
+    ghost use Rattle.echo_text.specs.Echo.{HasEndedLines, ended};
 
     /// The lines of the text, each of which has its 0D.
     pub fn of_text(text: Vec<u8>) -> Lines
-        requires { IsEnded text.items }
+        requires { HasEndedLines text.items }
         ensures { result ≡ lines text.items }
     {
         Lines {

@@ -5,7 +5,7 @@ ghost use Rattle.echo_text.specs.declared.fault.TextFault.{TextFault};
 ghost use Rattle.echo_text.specs.declared.fault.TextFault.TheVariants.{Memory};
 ghost use Rattle.echo_text.specs.Echo.{EchoOf, EchoText, HasNoZero, IsEcho, TextOf};
 ghost use Rattle.echo_text.specs.Lines.{begins, is_origin, is_tear, msgid_word, reply_word};
-ghost use Rattle.echo_text.specs.Refusal.{Answers, refusal};
+ghost use Rattle.echo_text.specs.Refusal.{TextAnswers, text_refusal};
 ghost use Rattle.echo_text.specs.Tail.{kept_of};
 
 /// A text that was written is read back as what it was written for, no token dropped.
@@ -17,17 +17,17 @@ pub fn written_text_read_back()
 /// dropped, or want of memory.
 pub fn written_text_is_read()
     ensures no_zero { (e : EchoText) (text : List ℕ) → IsEcho e → TextOf e text → HasNoZero text }
-    ensures read { (e : EchoText) (text : List ℕ) (r : Result (EchoText × ℕ) TextFault) → IsEcho e → TextOf e text → Answers text r → (r ≡ Ok (e, 0)) ⊎ (r ≡ Err Memory) }
+    ensures read { (e : EchoText) (text : List ℕ) (r : Result (EchoText × ℕ) TextFault) → IsEcho e → TextOf e text → TextAnswers text r → (r ≡ Ok (e, 0)) ⊎ (r ≡ Err Memory) }
 {}
 
 /// Where a refusal applies to a text, whoever reads it answers that refusal.
 pub fn refusals_are_answered()
-    ensures { (text : List ℕ) (fault : TextFault) (r : Result (EchoText × ℕ) TextFault) → refusal text ≡ Some fault → Answers text r → r ≡ Err fault }
+    ensures { (text : List ℕ) (fault : TextFault) (r : Result (EchoText × ℕ) TextFault) → text_refusal text ≡ Some fault → TextAnswers text r → r ≡ Err fault }
 {}
 
 /// Any two readers, as `read_text` and `view_text`, answer the same of a text, unless one lacked memory.
 pub fn readers_agree()
-    ensures { (text : List ℕ) (r s : Result (EchoText × ℕ) TextFault) → Answers text r → Answers text s → (r ≡ s) ⊎ ((r ≡ Err Memory) ⊎ (s ≡ Err Memory)) }
+    ensures { (text : List ℕ) (r s : Result (EchoText × ℕ) TextFault) → TextAnswers text r → TextAnswers text s → (r ≡ s) ⊎ ((r ≡ Err Memory) ⊎ (s ≡ Err Memory)) }
 {}
 
 /// MSGID, REPLY, tear and origin lines are kept as they stand, all of them and in order, wherever they
@@ -45,7 +45,7 @@ pub fn kept_as_they_stand()
 pub fn one_reading()
     ensures echo { (text : List ℕ) (e : EchoText) (d : ℕ) → HasNoZero text → EchoOf text e d → IsEcho e }
     ensures same { (text : List ℕ) (e f : EchoText) (m n : ℕ) → EchoOf text e m → EchoOf text f n → (e ≡ f) × (m ≡ n) }
-    ensures only { (text : List ℕ) (e : EchoText) (d : ℕ) (r : Result (EchoText × ℕ) TextFault) → EchoOf text e d → Answers text r → (r ≡ Ok (e, d)) ⊎ (r ≡ Err Memory) }
+    ensures only { (text : List ℕ) (e : EchoText) (d : ℕ) (r : Result (EchoText × ℕ) TextFault) → EchoOf text e d → TextAnswers text r → (r ≡ Ok (e, d)) ⊎ (r ≡ Err Memory) }
 {}
 
 /// An echo has one text, and what was read and written once is written again as itself.

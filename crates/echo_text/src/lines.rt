@@ -1,7 +1,7 @@
 ghost use Rattle.std.specs.Prelude.{◌≡◌, ◌+◌, ◌<◌, ◌≤◌, [], ◌∷◌, ◌++◌, length, take, drop, if◌then◌else◌, OnOk};
 ghost use Rattle.std.specs.List.{flat_map};
 ghost use Rattle.echo_text.specs.Lines.{first_line, later_lines, lines};
-ghost use Rattle.echo_text.specs.Echo.{IsEnded, ended};
+ghost use Rattle.echo_text.specs.Echo.{HasEndedLines, ended};
 
 use memchr::{memchr, memrchr};
 use std::alloc::AllocError;
@@ -27,7 +27,7 @@ pub fn split_line(text: &[u8]) -> (&[u8], &[u8])
 pub(crate) fn last_line_start(text: &[u8]) -> usize
     requires { 0 < length text.now }
     ensures within { result < length text.now }
-    ensures before { IsEnded (take result text.now) }
+    ensures before { HasEndedLines (take result text.now) }
     ensures last { lines (drop result text.now) ≡ first_line (lines (drop result text.now)) ∷ [] }
 {
     match memrchr(RETURN, &text[..text.len() - 1]) {

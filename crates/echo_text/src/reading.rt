@@ -1,7 +1,7 @@
 ghost use Rattle.std.specs.Prelude.{IfOk};
 ghost use Rattle.echo_text.specs.Echo.{HasNoZero, Says};
 ghost use Rattle.echo_text.specs.Lines.{lines};
-ghost use Rattle.echo_text.specs.Refusal.{Answers};
+ghost use Rattle.echo_text.specs.Refusal.{TextAnswers};
 
 use crate::area::{in_upper_case, tag_of};
 use crate::echo::{Echo, EchoView};
@@ -18,7 +18,7 @@ use std::alloc::{AllocError, Global};
 /// The kept lines are slices of the text.
 pub fn view_text<'a>(alloc: Global, text: &'a [u8]) -> Result<(EchoView<'a>, usize), TextFault>
     requires { HasNoZero text.now }
-    ensures { Answers text.now result }
+    ensures { TextAnswers text.now result }
 {
     let (first, rest) = split_line(text);
     let raw = tag_of(first)?;
@@ -36,7 +36,7 @@ pub fn view_text<'a>(alloc: Global, text: &'a [u8]) -> Result<(EchoView<'a>, usi
 /// What the text says, as `view_text` does, with lines of its own.
 pub fn read_text(alloc: Global, text: &[u8]) -> Result<(Echo, usize), TextFault>
     requires { HasNoZero text.now }
-    ensures { Answers text.now result }
+    ensures { TextAnswers text.now result }
 {
     let (view, dropped) = view_text(alloc, text)?;
     let echo = view.into_echo(alloc)?;

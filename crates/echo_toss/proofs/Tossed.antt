@@ -5,7 +5,7 @@ use Rattle.echo_packet.specs.Message.{Message}
 use Rattle.echo_text.specs.declared.fault.TextFault.{TextFault}
 use Rattle.echo_text.specs.declared.fault.TextFault.TheVariants as text
 use Rattle.echo_text.specs.Echo.{EchoOf, EchoText}
-use Rattle.echo_text.specs.Refusal.{refusal}
+use Rattle.echo_text.specs.Refusal.{text_refusal}
 use Rattle.echo_links.specs.Links.{LinkFile, has_area, is_link}
 use Rattle.echo_filed.specs.Filed.{Filed, key_of}
 use Rattle.echo_filed.specs.Written.{echo_of}
@@ -27,14 +27,14 @@ not_filed file sender packed o none is = λ base.
     let same : toss_outcome file base sender packed ≡ o = (outcome_is_first file base sender packed o).1 (is base) in
     (sym same, sym (ap (λ x. where_filed x (received sender packed)) same ∙ none (received sender packed)))
 
-pub no_echo : (file : LinkFile) (sender : Address) (packed : Message) → refusal packed.text ≡ Some text.NotEcho → IsUnwanted file sender packed outcome.NotEcho
+pub no_echo : (file : LinkFile) (sender : Address) (packed : Message) → text_refusal packed.text ≡ Some text.NotEcho → IsUnwanted file sender packed outcome.NotEcho
 no_echo file sender packed h = not_filed file sender packed outcome.NotEcho (λ m. refl) (λ base. h)
 
-pub bad_tag : (file : LinkFile) (sender : Address) (packed : Message) → refusal packed.text ≡ Some text.BadTag → IsUnwanted file sender packed outcome.BadTag
+pub bad_tag : (file : LinkFile) (sender : Address) (packed : Message) → text_refusal packed.text ≡ Some text.BadTag → IsUnwanted file sender packed outcome.BadTag
 bad_tag file sender packed h = not_filed file sender packed outcome.BadTag (λ m. refl) (λ base. h)
 
 -- what the text says
-pub text_said : (packed : Message) (e : EchoText) (dropped : ℕ) → EchoOf packed.text e dropped → (refusal packed.text ≡ None) × (e ≡ echo_of packed.text)
+pub text_said : (packed : Message) (e : EchoText) (dropped : ℕ) → EchoOf packed.text e dropped → (text_refusal packed.text ≡ None) × (e ≡ echo_of packed.text)
 text_said packed e dropped h = (says_accepted packed.text e dropped h, sym (says_one packed.text e dropped h))
 
 -- the link file refuses it, or not
@@ -52,7 +52,7 @@ accepted true true h = (refl, refl)
 accepted true false h = absurd (cc)
 accepted false link h = absurd (cc)
 
-pub link_refused : (file : LinkFile) (sender : Address) (packed : Message) (e : EchoText) (o : Outcome) → refusal packed.text ≡ None → e ≡ echo_of packed.text
+pub link_refused : (file : LinkFile) (sender : Address) (packed : Message) (e : EchoText) (o : Outcome) → text_refusal packed.text ≡ None → e ≡ echo_of packed.text
     → refused_by file e.tag sender ≡ Some o → IsUnwanted file sender packed o
 link_refused file sender packed e o none said h =
     let P : Outcome → Type 0 = λ x. IsUnwanted file sender packed x in
@@ -121,9 +121,9 @@ step_new s t sender packed key m h file base cursor = (h.answer, state_grown s t
 
 -- why a text is refused
 pub refused_text : (packed : Message) (bytes : List ℕ) (f : TextFault) → bytes ≡ packed.text → (f ≡ text.Memory → ⊥)
-    → (refusal bytes ≡ Some f) ⊎ ((refusal bytes ≡ None) × (f ≡ text.Memory)) → refusal packed.text ≡ Some f
+    → (text_refusal bytes ≡ Some f) ⊎ ((text_refusal bytes ≡ None) × (f ≡ text.Memory)) → text_refusal packed.text ≡ Some f
 refused_text packed bytes f is other h =
-    let P : List ℕ → Type 0 = λ t. refusal t ≡ Some f in
+    let P : List ℕ → Type 0 = λ t. text_refusal t ≡ Some f in
     subst P is (elim h [ inl refused ↦ refused | inr memory ↦ absurd (other memory.1) ])
 
 -- the key of what is received

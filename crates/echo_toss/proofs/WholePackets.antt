@@ -14,7 +14,7 @@ use Rattle.echo_packet.specs.Packet.{PacketOf, packet_bytes}
 use Rattle.echo_packet.specs.Reader.{FrontFault}
 use Rattle.echo_packet.proofs.Outcome.{only_one}
 use Rattle.echo_steps.specs.SystemState.{SystemState}
-use Rattle.echo_steps.specs.Tossing.{destination_of, origin_of}
+use Rattle.echo_steps.specs.Tossing.{destination_of, sender_of}
 use Rattle.echo_toss.specs.declared.tally.Tally.{Tally}
 use Rattle.echo_toss.specs.declared.fault.TossCause.{TossCause}
 use Rattle.echo_toss.specs.declared.fault.TossCause.TheVariants as stop
@@ -96,7 +96,7 @@ no_fault limits h ms all bytes rest f is wrong =
 
 front_part : (limits : Limits) (header : Header) (ms : List Message) (bytes rest : List ℕ) (after : Option (List ℕ)) (old new : SystemState) (tally : Tally) (cause : TossCause)
     → PacketOf limits header ms bytes → IsForUs old header → TossesPart limits old (Some (bytes ++ rest)) after tally cause new → CountsCause cause 0 0
-    → WholeStep old (origin_of old.file header) ms (Err (record { tally = tally; cause = cause })) new
+    → WholeStep old (sender_of old.file header) ms (Err (record { tally = tally; cause = cause })) new
 front_part limits header ms bytes rest None old new tally (stop.NotForUs a) is for_us step counts = absurd step.bytes.1
 front_part limits header ms bytes rest (Some left) old new tally (stop.NotForUs a) is for_us step counts =
     let same : bytes ++ rest ≡ header_bytes step.header ++ left = step.bytes.1 ∙ ap (λ t. t ++ left) step.bytes.2.1 in
@@ -113,8 +113,8 @@ front_part limits header ms bytes rest after old new tally stop.Memory is for_us
       (
         first.0,
         first.1,
-        subst (λ all. HasTossed (origin_of old.file header) all old tally new) first.2
-            (subst (λ h. HasTossed (origin_of old.file h) step.messages old tally new) one.0 step.done),
+        subst (λ all. HasTossed (sender_of old.file header) all old tally new) first.2
+            (subst (λ h. HasTossed (sender_of old.file h) step.messages old tally new) one.0 step.done),
       ),
     )
 front_part limits header ms bytes rest after old new tally (stop.Packet f) is for_us step counts =
@@ -126,11 +126,11 @@ front_part limits header ms bytes rest after old new tally (stop.Packet f) is fo
 
 pub whole_packet : (limits : Limits) (header : Header) (ms : List Message) (bytes rest : List ℕ) (after : Option (List ℕ)) (old new : SystemState) (result : Result Tally TossFault)
     → PacketOf limits header ms bytes → IsForUs old header → PacketStep limits old (Some (bytes ++ rest)) after result new → CountsToss result 0 0
-    → WholeStep old (origin_of old.file header) ms result new
+    → WholeStep old (sender_of old.file header) ms result new
 whole_packet limits header ms bytes rest after old new (Ok tally) is for_us step counts =
     let same = same_toss limits header ms bytes rest after old new tally is step in
-    subst (λ all. HasTossed (origin_of old.file header) all old tally new) same.same_messages
-    (subst (λ h. HasTossed (origin_of old.file h) step.messages old tally new) same.same_header step.done)
+    subst (λ all. HasTossed (sender_of old.file header) all old tally new) same.same_messages
+    (subst (λ h. HasTossed (sender_of old.file h) step.messages old tally new) same.same_header step.done)
 whole_packet limits header ms bytes rest after old new (Err f) is for_us step counts =
     front_part limits header ms bytes rest after old new f.tally f.cause is for_us step counts
 

@@ -14,7 +14,7 @@ use Rattle.echo_packet.specs.Next.{FailsInMessage, NextFault}
 use Rattle.echo_packet.specs.Reader.{FrontFault}
 use Rattle.echo_links.specs.Links.{LinkFile}
 use Rattle.echo_steps.specs.SystemState.{SystemState}
-use Rattle.echo_steps.specs.Tossing.{destination_of, origin_of}
+use Rattle.echo_steps.specs.Tossing.{destination_of, sender_of}
 use Rattle.echo_toss.specs.declared.tally.Tally.{Tally}
 use Rattle.echo_toss.specs.declared.fault.TossCause.{TossCause}
 use Rattle.echo_toss.specs.declared.fault.TossCause.TheVariants as stop
@@ -26,7 +26,7 @@ pub record IsOpened (file : LinkFile) (before after : Option (List ℕ)) (sender
   pub is_header : IsHeader header
   pub bytes : Consumes before after (header_bytes header)
   pub for_us : destination_of file header ≡ file.system
-  pub origin : sender ≡ origin_of file header
+  pub origin : sender ≡ sender_of file header
 
 -- the reader lost a header, of a packet that is for another system
 pub record IsRefused (file : LinkFile) (before after : Option (List ℕ)) (destination : Address) : Type 0 where

@@ -13,7 +13,7 @@ use Rattle.echo_packet.specs.Fault.{FaultOf}
 use Rattle.echo_packet.specs.Field.{Came, FailsInField, IsShort}
 use Rattle.echo_packet.specs.Reader.{FrontFault}
 use Rattle.echo_steps.specs.SystemState.{SystemState}
-use Rattle.echo_steps.specs.Tossing.{destination_of, origin_of, outcomes, tossed}
+use Rattle.echo_steps.specs.Tossing.{destination_of, sender_of, outcomes, tossed}
 use Rattle.echo_toss.specs.declared.tally.Tally.{Tally}
 use Rattle.echo_toss.specs.declared.fault.TossCause.{TossCause}
 use Rattle.echo_toss.specs.declared.fault.TossCause.TheVariants as stop
@@ -52,7 +52,7 @@ pub record TossesAll (limits : Limits) (old : SystemState) (before after : Optio
   pub messages : List Message
   pub bytes : Came before after (PacketOf limits header messages)
   pub for_us : IsForUs old header
-  pub done : HasTossed (origin_of old.file header) messages old tally new
+  pub done : HasTossed (sender_of old.file header) messages old tally new
 
 -- the bytes of the reader begin with the header of a packet for this system and with messages within the limits, and these were tossed
 pub record TossesSome (limits : Limits) (old : SystemState) (before : Option (List ℕ)) (tally : Tally) (new : SystemState) : Type 0 where
@@ -60,7 +60,7 @@ pub record TossesSome (limits : Limits) (old : SystemState) (before : Option (Li
   pub messages : List Message
   pub begins : IfSome before (BeginsWith limits header messages)
   pub for_us : IsForUs old header
-  pub done : HasTossed (origin_of old.file header) messages old tally new
+  pub done : HasTossed (sender_of old.file header) messages old tally new
 
 -- the bytes that the reader lost are a header, whose destination is not this system, and nothing was tossed
 pub record IsForOther (old : SystemState) (before after : Option (List ℕ)) (tally : Tally) (destination : Address) (new : SystemState) : Type 0 where

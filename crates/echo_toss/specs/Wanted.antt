@@ -3,7 +3,7 @@ use Rattle.std.specs.Prelude.{◌≡◌, false, ℕ, not, List, if◌then◌else
 use Rattle.echo_addr.specs.declared.address.Address.{Address}
 use Rattle.echo_packet.specs.Message.{Message}
 use Rattle.echo_text.specs.Echo.{EchoText}
-use Rattle.echo_text.specs.Refusal.{refusal}
+use Rattle.echo_text.specs.Refusal.{text_refusal}
 use Rattle.echo_links.specs.Links.{LinkFile, has_area, is_link}
 use Rattle.echo_filed.specs.Filed.{Filed, key_of}
 use Rattle.echo_filed.specs.declared.key.Key.{Key}
@@ -26,7 +26,7 @@ refused_by file tag sender =
 
 -- the text is echomail that says e, of an area that the sender links
 pub record IsWanted (file : LinkFile) (sender : Address) (packed : Message) (e : EchoText) : Type 0 where
-  pub text : refusal packed.text ≡ None
+  pub text : text_refusal packed.text ≡ None
   pub said : e ≡ echo_of packed.text
   pub allowed : refused_by file e.tag sender ≡ None
 

@@ -7,7 +7,7 @@ ghost use Rattle.echo_packet.specs.Header.{IsHeader, header_bytes};
 ghost use Rattle.echo_packet.specs.Message.{Message};
 ghost use Rattle.echo_packet.specs.Packet.{PacketOf};
 ghost use Rattle.echo_steps.specs.SystemState.{SystemState};
-ghost use Rattle.echo_steps.specs.Tossing.{destination_of, origin_of};
+ghost use Rattle.echo_steps.specs.Tossing.{destination_of, sender_of};
 ghost use Rattle.echo_toss.specs.declared.fault.TossCause.TheVariants as stop;
 ghost use Rattle.echo_toss.specs.declared.fault.TossFault.{TossFault};
 ghost use Rattle.echo_toss.specs.declared.tally.Tally.{Tally};
@@ -19,7 +19,7 @@ pub fn packet_laws()
     // At the system that the packet is for it is the toss of its messages, in order; want of memory comes behind the first of them.
     ensures whole { (limits : Limits) (header : Header) (ms : List Message) (bytes rest : List ℕ) (after : Option (List ℕ)) (old new : SystemState) (result : Result Tally TossFault) →
         PacketOf limits header ms bytes → IsForUs old header → PacketStep limits old (Some (bytes ++ rest)) after result new → CountsToss result 0 0 →
-        WholeStep old (origin_of old.file header) ms result new }
+        WholeStep old (sender_of old.file header) ms result new }
     // Where all messages were tossed, just its bytes were taken.
     ensures taken { (limits : Limits) (header : Header) (ms : List Message) (bytes rest : List ℕ) (after : Option (List ℕ)) (old new : SystemState) (tally : Tally) →
         PacketOf limits header ms bytes → PacketStep limits old (Some (bytes ++ rest)) after (Ok tally) new → after ≡ Some rest }

@@ -1,6 +1,6 @@
 //! Whether a received message is wanted, and the message that is filed for it.
 ghost use Rattle.std.specs.Prelude.{◌≡◌, None, IfOk};
-ghost use Rattle.echo_text.specs.Refusal.{refusal};
+ghost use Rattle.echo_text.specs.Refusal.{text_refusal};
 ghost use Rattle.echo_addr.specs.declared.address.Address.{Address as System};
 ghost use Rattle.echo_filed.specs.Filed.{key_of};
 ghost use Rattle.echo_filed.specs.Written.{echo_of};
@@ -81,7 +81,7 @@ pub(crate) fn received(
     packed: &Packed,
     view: EchoView<'_>,
 ) -> Result<Filed, AllocError>
-    requires echomail { refusal packed.now.text ≡ None }
+    requires echomail { text_refusal packed.now.text ≡ None }
     requires said { view ≡ echo_of packed.now.text }
     ensures { IfOk result (λ m. m ≡ received sender packed.now) }
 {

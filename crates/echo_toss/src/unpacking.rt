@@ -1,6 +1,6 @@
 //! Whole packets: the header, then message by message.
 ghost use Rattle.std.specs.Prelude.{◌≡◌, [], MatchResult};
-ghost use Rattle.echo_steps.specs.Tossing.{destination_of, origin_of, zone_of};
+ghost use Rattle.echo_steps.specs.Tossing.{destination_of, sender_of, zone_of};
 ghost use Rattle.echo_toss.specs.Tallies.{tally_of};
 ghost use Rattle.echo_toss.specs.Unpacked.{CountsToss, PacketStep};
 ghost use Rattle.echo_toss.specs.Messages.{CountsStop, IsOpened, IsUnopened, TossesMessages};
@@ -91,7 +91,7 @@ fn destination_of(links: &LinkFile, header: &Header) -> Address
 
 // Who sent the packet.
 fn origin_of(links: &LinkFile, header: &Header) -> Address
-    ensures { result ≡ origin_of links.now header.now }
+    ensures { result ≡ sender_of links.now header.now }
 {
     Address {
         zone: zone_of(links, header.orig_zone),

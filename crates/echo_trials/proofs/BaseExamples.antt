@@ -6,7 +6,7 @@ use Rattle.echo_text.specs.Lines.{after_word, begins, lines, trimmed}
 use Rattle.echo_text.specs.Tail.{kept_of, path_lists, seen_lists}
 use Rattle.echo_text.specs.Echo.{msgid_of}
 use Rattle.echo_text.specs.Ids.{id_of}
-use Rattle.echo_text.specs.Refusal.{refusal}
+use Rattle.echo_text.specs.Refusal.{text_refusal}
 use Rattle.echo_filed.specs.Sets.{entry_set}
 use Rattle.echo_base.specs.declared.fault.BaseFault.TheVariants as fault
 use Rattle.echo_steps.specs.Stamps.{date_of}
@@ -120,7 +120,7 @@ stored_size version kind small_kind = size_with version kind 0 text_bytes small_
 
 -- a base of version 1 says the same message
 first_version : BaseOf (first_posting ∷ []) 0 (codes "ECHOBAS1" ++ (small 0 ++ (small 1 ++ whole_bytes 0)))
-unfolding head_bytes stored_bytes is_damaged message_in echo_of refusal lines begins after_word trimmed kept_of seen_lists path_lists entry_set entries tokens pair_of text_of short_lines is_stub msgid_of posted posted_lines id_of digits date_of
+unfolding head_bytes stored_bytes is_damaged message_in echo_of text_refusal lines begins after_word trimmed kept_of seen_lists path_lists entry_set entries tokens pair_of text_of short_lines is_stub msgid_of posted posted_lines id_of digits date_of
 first_version = record {
   version = First;
   all = stored 0 ∷ [];
@@ -169,7 +169,7 @@ cut_before_judged = record {
 
 -- a message that is sound by itself
 sound_message : is_damaged Second 0 [] (stored 0) ≡ false
-unfolding is_damaged message_in echo_of refusal lines begins after_word trimmed kept_of seen_lists path_lists entry_set entries tokens pair_of text_of short_lines
+unfolding is_damaged message_in echo_of text_refusal lines begins after_word trimmed kept_of seen_lists path_lists entry_set entries tokens pair_of text_of short_lines
 sound_message = refl
 
 -- F3 of both versions
@@ -182,12 +182,12 @@ unfolding is_damaged
 zero_in_name = refl
 
 no_echomail : is_damaged Second 0 [] (record (stored 0) { last = codes "Hello" }) ≡ true
-unfolding is_damaged refusal lines begins after_word trimmed
+unfolding is_damaged text_refusal lines begins after_word trimmed
 no_echomail = refl
 
 -- received from 0:0/0 is no damage
 received_from_nobody : is_damaged Second 0 [] (stored 1) ≡ false
-unfolding is_damaged message_in echo_of refusal lines begins after_word trimmed kept_of seen_lists path_lists entry_set entries tokens pair_of text_of short_lines
+unfolding is_damaged message_in echo_of text_refusal lines begins after_word trimmed kept_of seen_lists path_lists entry_set entries tokens pair_of text_of short_lines
 received_from_nobody = refl
 
 -- F3 of version 2
@@ -232,17 +232,17 @@ abbrev of_id : ℕ → List ℕ → Stored
 of_id kind line = record (stored kind) { last = codes "AREA:TEST" ++ 13 ∷ (1 ∷ line ++ 13 ∷ []) }
 
 long_before_cursor : is_damaged Second 1 [] (of_id 1 (codes "MSGID: x")) ≡ true
-unfolding is_damaged message_in echo_of refusal lines begins after_word trimmed kept_of seen_lists path_lists entry_set entries tokens pair_of text_of short_lines is_stub msgid_of
+unfolding is_damaged message_in echo_of text_refusal lines begins after_word trimmed kept_of seen_lists path_lists entry_set entries tokens pair_of text_of short_lines is_stub msgid_of
 long_before_cursor = refl
 
 long_at_cursor : is_damaged Second 0 [] (of_id 1 (codes "MSGID: x")) ≡ false
-unfolding is_damaged message_in echo_of refusal lines begins after_word trimmed kept_of seen_lists path_lists entry_set entries tokens pair_of text_of short_lines is_stub msgid_of
+unfolding is_damaged message_in echo_of text_refusal lines begins after_word trimmed kept_of seen_lists path_lists entry_set entries tokens pair_of text_of short_lines is_stub msgid_of
 long_at_cursor = refl
 
 no_blank_before_id : is_damaged Second 1 [] (of_id 1 (codes "MSGID:x")) ≡ false
-unfolding is_damaged message_in echo_of refusal lines begins after_word trimmed kept_of seen_lists path_lists entry_set entries tokens pair_of text_of short_lines is_stub msgid_of
+unfolding is_damaged message_in echo_of text_refusal lines begins after_word trimmed kept_of seen_lists path_lists entry_set entries tokens pair_of text_of short_lines is_stub msgid_of
 no_blank_before_id = refl
 
 long_of_first_version : is_damaged First 1 [] (of_id 0 (codes "MSGID: x")) ≡ false
-unfolding is_damaged message_in echo_of refusal lines begins after_word trimmed kept_of seen_lists path_lists entry_set entries tokens pair_of text_of short_lines is_stub msgid_of
+unfolding is_damaged message_in echo_of text_refusal lines begins after_word trimmed kept_of seen_lists path_lists entry_set entries tokens pair_of text_of short_lines is_stub msgid_of
 long_of_first_version = refl

@@ -7,7 +7,7 @@ use Rattle.echo_text.specs.Lines.{after_word, begins, lines, trimmed}
 use Rattle.echo_text.specs.Tail.{kept_of, path_lists, seen_lists}
 use Rattle.echo_text.specs.Echo.{msgid_of}
 use Rattle.echo_text.specs.Ids.{id_of}
-use Rattle.echo_text.specs.Refusal.{refusal}
+use Rattle.echo_text.specs.Refusal.{text_refusal}
 use Rattle.echo_steps.specs.declared.draft.Draft.{Draft}
 use Rattle.echo_steps.specs.declared.outcome.Outcome.TheVariants as outcome
 use Rattle.echo_filed.specs.Sets.{entry_set}
@@ -71,11 +71,11 @@ unfolding copy_to posted posted_lines id_of trimmed lines digits exported links_
 copied_body = refl
 
 filed_body : tossing second_file [] (system 1) body_copy ≡ Some body_received
-unfolding tossing toss_outcome received refusal echo_of lines begins after_word trimmed kept_of seen_lists path_lists entry_set entries tokens pair_of links_of key_of msgid_of
+unfolding tossing toss_outcome received text_refusal echo_of lines begins after_word trimmed kept_of seen_lists path_lists entry_set entries tokens pair_of links_of key_of msgid_of
 filed_body = refl
 
 body_twice : outcomes second_file [] (system 1) (body_copy ∷ (body_copy ∷ [])) ≡ outcome.Filed ∷ (outcome.Known ∷ [])
-unfolding toss_outcome tossing received refusal echo_of lines begins after_word trimmed kept_of seen_lists path_lists entry_set entries tokens pair_of links_of key_of msgid_of
+unfolding toss_outcome tossing received text_refusal echo_of lines begins after_word trimmed kept_of seen_lists path_lists entry_set entries tokens pair_of links_of key_of msgid_of
 body_twice = refl
 
 -- and the last one too, with the same lines
@@ -96,5 +96,5 @@ body_kept_last = refl
 
 body_last : outcomes third_file [] (system 2) (copy_to second_file (system 3) body_received ∷ (copy_to second_file (system 3) body_received ∷ [])) ≡
     outcome.Filed ∷ (outcome.Known ∷ [])
-unfolding copy_to exported links_of entry_set short_lines text_of digits toss_outcome tossing received refusal echo_of lines begins after_word trimmed kept_of seen_lists path_lists entries tokens pair_of key_of msgid_of
+unfolding copy_to exported links_of entry_set short_lines text_of digits toss_outcome tossing received text_refusal echo_of lines begins after_word trimmed kept_of seen_lists path_lists entries tokens pair_of key_of msgid_of
 body_last = refl

@@ -9,7 +9,7 @@ use Rattle.echo_text.specs.Lines.{lines, trimmed, begins, after_word}
 use Rattle.echo_text.specs.Tail.{kept_of, path_lists, seen_lists}
 use Rattle.echo_text.specs.Echo.{msgid_of}
 use Rattle.echo_text.specs.Ids.{id_of}
-use Rattle.echo_text.specs.Refusal.{refusal}
+use Rattle.echo_text.specs.Refusal.{text_refusal}
 use Rattle.echo_links.specs.Links.{LinkFile, links_of}
 use Rattle.echo_filed.specs.declared.key.Key.{Key}
 use Rattle.echo_filed.specs.declared.key.Key.TheVariants.{ById}
@@ -141,7 +141,7 @@ record Epochs : Type 0 where
   and_settled : is_settled begun_anew ≡ true
 
 epochs : Epochs
-unfolding posted posted_lines posting post_refusal id_of trimmed lines digits date_of scanned packets_of recipients packet_to targets links_of address_set header_to copy_to exported entry_set text_of short_lines received toss_outcome tossing refusal echo_of kept_of path_lists seen_lists begins after_word entries tokens pair_of key_of msgid_of
+unfolding posted posted_lines posting post_refusal id_of trimmed lines digits date_of scanned packets_of recipients packet_to targets links_of address_set header_to copy_to exported entry_set text_of short_lines received toss_outcome tossing text_refusal echo_of kept_of path_lists seen_lists begins after_word entries tokens pair_of key_of msgid_of
 epochs = record {
   first_stays = refl;
   second_came = refl;

@@ -19,7 +19,7 @@ use Rattle.echo_links.specs.Links.{LinkFile, links_of}
 use Rattle.echo_filed.specs.Written.{echo_of, short_lines, text_of}
 use Rattle.echo_filed.specs.Filed.{Filed}
 use Rattle.echo_steps.specs.Posting.{posted, posted_lines}
-use Rattle.echo_steps.specs.Tossing.{destination_of, origin_of, received}
+use Rattle.echo_steps.specs.Tossing.{destination_of, sender_of, received}
 use Rattle.echo_steps.specs.Scanning.{copy_to, exported, header_to, packet_to, packets_of, recipients, scanned, targets}
 
 abbrev pub system : ℕ → Address
@@ -190,7 +190,7 @@ second_packet_size = refl
 abbrev pub header_without_zones : Header
 header_without_zones = record (header_to first_file stamp (system 2)) { orig_zone = 0; dest_zone = 0 }
 
-origin_first : origin_of second_file header_without_zones ≡ system 1
+origin_first : sender_of second_file header_without_zones ≡ system 1
 unfolding header_to
 origin_first = refl
 

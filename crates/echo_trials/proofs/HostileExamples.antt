@@ -7,7 +7,7 @@ use Rattle.echo_text.specs.Lines.{after_word, begins, lines, trimmed}
 use Rattle.echo_text.specs.Tail.{kept_of, path_lists, seen_lists}
 use Rattle.echo_text.specs.Echo.{msgid_of}
 use Rattle.echo_text.specs.Ids.{id_of}
-use Rattle.echo_text.specs.Refusal.{refusal}
+use Rattle.echo_text.specs.Refusal.{text_refusal}
 use Rattle.echo_filed.specs.Sets.{entry_set}
 use Rattle.echo_base.specs.declared.fault.BaseFault.TheVariants as fault
 use Rattle.echo_steps.specs.Stamps.{date_of}
@@ -93,7 +93,7 @@ abbrev small_letter_bytes : List ℕ
 small_letter_bytes = fields_bytes 0 ++ (small 78 ++ small_letter_text)
 
 small_letter_in_tag : (version : Version) → LoadOf (base_of version 0 1 small_letter_bytes) (Err (fault.Damaged 0))
-unfolding head_bytes stored_bytes is_damaged echo_of refusal lines begins after_word trimmed kept_of seen_lists path_lists entry_set entries tokens pair_of text_of short_lines
+unfolding head_bytes stored_bytes is_damaged echo_of text_refusal lines begins after_word trimmed kept_of seen_lists path_lists entry_set entries tokens pair_of text_of short_lines
 small_letter_in_tag First = first_damaged First small_letter (base_of First 0 1 small_letter_bytes) (size_with First 0 0 small_letter_text (lit< tt) (lit< tt) (lit< tt)) refl refl
 small_letter_in_tag Second = first_damaged Second small_letter (base_of Second 0 1 small_letter_bytes) (size_with Second 0 0 small_letter_text (lit< tt) (lit< tt) (lit< tt)) refl refl
 
@@ -122,7 +122,7 @@ second_damaged version bytes sound damaged whole = record {
 }
 
 message_twice : (version : Version) → LoadOf (base_of version 0 2 (whole_bytes 0 ++ whole_bytes 0)) (Err (fault.Damaged 1))
-unfolding head_bytes stored_bytes is_damaged message_in echo_of refusal lines begins after_word trimmed kept_of seen_lists path_lists entry_set entries tokens pair_of text_of short_lines key_of msgid_of
+unfolding head_bytes stored_bytes is_damaged message_in echo_of text_refusal lines begins after_word trimmed kept_of seen_lists path_lists entry_set entries tokens pair_of text_of short_lines key_of msgid_of
 message_twice First = second_damaged First (base_of First 0 2 (whole_bytes 0 ++ whole_bytes 0)) refl refl refl
 message_twice Second = second_damaged Second (base_of Second 0 2 (whole_bytes 0 ++ whole_bytes 0)) refl refl refl
 
@@ -175,6 +175,6 @@ abbrev five_more_bytes : Version → List ℕ
 five_more_bytes version = base_of version 0 1 (whole_bytes 0 ++ codes "hello")
 
 five_more : (version : Version) → LoadOf (five_more_bytes version) (Ok (first_posting ∷ [], 0, 136))
-unfolding head_bytes stored_bytes is_damaged message_in echo_of refusal lines begins after_word trimmed kept_of seen_lists path_lists entry_set entries tokens pair_of text_of short_lines posted posted_lines id_of digits date_of
+unfolding head_bytes stored_bytes is_damaged message_in echo_of text_refusal lines begins after_word trimmed kept_of seen_lists path_lists entry_set entries tokens pair_of text_of short_lines posted posted_lines id_of digits date_of
 five_more First = (lit≤ tt, posting_base First (base_of First 0 1 (whole_bytes 0)) refl refl refl)
 five_more Second = (lit≤ tt, posting_base Second (base_of Second 0 1 (whole_bytes 0)) refl refl refl)

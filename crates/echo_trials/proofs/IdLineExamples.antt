@@ -4,7 +4,7 @@ use Rattle.echo_addr.specs.Entries.{entries, pair_of, tokens}
 use Rattle.echo_text.specs.Lines.{after_word, begins, lines, trimmed}
 use Rattle.echo_text.specs.Tail.{kept_of, path_lists, seen_lists}
 use Rattle.echo_text.specs.Echo.{msgid_of}
-use Rattle.echo_text.specs.Refusal.{refusal}
+use Rattle.echo_text.specs.Refusal.{text_refusal}
 use Rattle.echo_filed.specs.Sets.{entry_set}
 use Rattle.echo_filed.specs.Written.{echo_of, short_lines, text_of}
 use Rattle.echo_filed.specs.Filed.{Filed}
@@ -79,7 +79,7 @@ line_text = codes "AREA:TEST" ++ 13 ∷ (blank_line ++ 13 ∷ [])
 
 posted_in_first : BaseOf (posted_line ∷ []) 1
     (codes "ECHOBAS1" ++ (small 1 ++ (small 1 ++ (0 ∷ (no_sender ++ (date_bytes ++ (3 ∷ codes "All" ++ (3 ∷ codes "Ann" ++ (2 ∷ codes "Hi" ++ (small 20 ++ line_text))))))))))
-unfolding head_bytes stored_bytes is_damaged message_in echo_of refusal lines begins after_word trimmed kept_of seen_lists path_lists entry_set entries tokens pair_of text_of short_lines
+unfolding head_bytes stored_bytes is_damaged message_in echo_of text_refusal lines begins after_word trimmed kept_of seen_lists path_lists entry_set entries tokens pair_of text_of short_lines
 posted_in_first = record {
   version = First;
   all = stored_with 0 0 line_text ∷ [];

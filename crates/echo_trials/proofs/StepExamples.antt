@@ -6,7 +6,7 @@ use Rattle.echo_text.specs.Lines.{after_word, begins, lines, trimmed}
 use Rattle.echo_text.specs.Tail.{kept_of, path_lists, seen_lists}
 use Rattle.echo_text.specs.Echo.{msgid_of}
 use Rattle.echo_text.specs.Ids.{id_of}
-use Rattle.echo_text.specs.Refusal.{refusal}
+use Rattle.echo_text.specs.Refusal.{text_refusal}
 use Rattle.echo_steps.specs.declared.fault.PostFault.TheVariants as post
 use Rattle.echo_steps.specs.declared.fault.ScanFault.TheVariants as scan
 use Rattle.echo_steps.specs.declared.outcome.Outcome.TheVariants as outcome
@@ -42,11 +42,11 @@ post_wants_memory = (inr refl, refl)
 
 -- a toss files a message once
 toss_files : TossStep {E = Unit {0}} (at second_file [] 0) (system 1) first_copy (Ok outcome.Filed) (at second_file (first_received ∷ []) 0)
-unfolding tossing toss_outcome received refusal echo_of lines begins after_word trimmed kept_of seen_lists path_lists entry_set entries tokens pair_of links_of key_of msgid_of
+unfolding tossing toss_outcome received text_refusal echo_of lines begins after_word trimmed kept_of seen_lists path_lists entry_set entries tokens pair_of links_of key_of msgid_of
 toss_files = (refl, refl)
 
 toss_knows : TossStep {E = Unit {0}} (at second_file (first_received ∷ []) 0) (system 1) first_copy (Ok outcome.Known) (at second_file (first_received ∷ []) 0)
-unfolding tossing toss_outcome received refusal echo_of lines begins after_word trimmed kept_of seen_lists path_lists entry_set entries tokens pair_of links_of key_of msgid_of
+unfolding tossing toss_outcome received text_refusal echo_of lines begins after_word trimmed kept_of seen_lists path_lists entry_set entries tokens pair_of links_of key_of msgid_of
 toss_knows = (refl, refl)
 
 -- a scan sets the cursor to the end; with a bad stamp it leaves it

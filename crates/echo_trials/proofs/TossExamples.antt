@@ -5,13 +5,13 @@ use Rattle.echo_packet.specs.Message.{Message}
 use Rattle.echo_text.specs.Lines.{after_word, begins, lines, trimmed}
 use Rattle.echo_text.specs.Tail.{kept_of, path_lists, seen_lists}
 use Rattle.echo_text.specs.Echo.{msgid_of}
-use Rattle.echo_text.specs.Refusal.{refusal}
+use Rattle.echo_text.specs.Refusal.{text_refusal}
 use Rattle.echo_steps.specs.declared.outcome.Outcome.TheVariants as outcome
 use Rattle.echo_links.specs.Links.{LinkFile, links_of}
 use Rattle.echo_filed.specs.Sets.{entry_set}
 use Rattle.echo_filed.specs.Written.{echo_of}
 use Rattle.echo_filed.specs.Filed.{key_of}
-use Rattle.echo_steps.specs.Tossing.{destination_of, origin_of, outcomes, received, toss_outcome, tossed, tossing}
+use Rattle.echo_steps.specs.Tossing.{destination_of, sender_of, outcomes, received, toss_outcome, tossed, tossing}
 use Rattle.echo_steps.specs.Scanning.{header_to, targets}
 use Rattle.echo_trials.proofs.Examples.{first_copy, first_file, first_received, header_without_zones, second_file, stamp, system}
 
@@ -32,57 +32,57 @@ id_line = 1 ∷ codes "MSGID: x 1" ++ 13 ∷ []
 
 -- one id in two areas
 two_areas : outcomes file [] (system 1) (in_area (codes "TEST") id_line ∷ (in_area (codes "OTHER") id_line ∷ [])) ≡ outcome.Filed ∷ (outcome.Filed ∷ [])
-unfolding toss_outcome tossing received refusal echo_of lines begins after_word trimmed kept_of seen_lists path_lists entry_set entries tokens pair_of links_of key_of msgid_of
+unfolding toss_outcome tossing received text_refusal echo_of lines begins after_word trimmed kept_of seen_lists path_lists entry_set entries tokens pair_of links_of key_of msgid_of
 two_areas = refl
 
 -- no id: the content tells
 no_id_twice : outcomes file [] (system 1) (in_area (codes "TEST") (codes "Hello") ∷ (in_area (codes "TEST") (codes "Hello") ∷ (in_area (codes "TEST") (codes "Hallo") ∷ []))) ≡
     outcome.Filed ∷ (outcome.Known ∷ (outcome.Filed ∷ []))
-unfolding toss_outcome tossing received refusal echo_of lines begins after_word trimmed kept_of seen_lists path_lists entry_set entries tokens pair_of links_of key_of msgid_of
+unfolding toss_outcome tossing received text_refusal echo_of lines begins after_word trimmed kept_of seen_lists path_lists entry_set entries tokens pair_of links_of key_of msgid_of
 no_id_twice = refl
 
 -- the same id with another text is known; it is not filed, and what was filed stays
 id_tells : tossed file (tossed file [] (system 1) (in_area (codes "TEST") id_line ∷ [])) (system 1) (in_area (codes "TEST") (id_line ++ codes "Hello") ∷ []) ≡
     tossed file [] (system 1) (in_area (codes "TEST") id_line ∷ [])
-unfolding toss_outcome tossing received refusal echo_of lines begins after_word trimmed kept_of seen_lists path_lists entry_set entries tokens pair_of links_of key_of msgid_of
+unfolding toss_outcome tossing received text_refusal echo_of lines begins after_word trimmed kept_of seen_lists path_lists entry_set entries tokens pair_of links_of key_of msgid_of
 id_tells = refl
 
 not_linked : toss_outcome file [] (system 4) (in_area (codes "TEST") id_line) ≡ outcome.NotLinked
-unfolding toss_outcome received refusal echo_of lines begins after_word trimmed kept_of seen_lists path_lists entry_set entries tokens pair_of links_of
+unfolding toss_outcome received text_refusal echo_of lines begins after_word trimmed kept_of seen_lists path_lists entry_set entries tokens pair_of links_of
 not_linked = refl
 
 strange_origin : toss_outcome file [] (system 40000) (in_area (codes "TEST") id_line) ≡ outcome.NotLinked
-unfolding toss_outcome received refusal echo_of lines begins after_word trimmed kept_of seen_lists path_lists entry_set entries tokens pair_of links_of
+unfolding toss_outcome received text_refusal echo_of lines begins after_word trimmed kept_of seen_lists path_lists entry_set entries tokens pair_of links_of
 strange_origin = refl
 
 -- no area before no link
 no_area : toss_outcome file [] (system 4) (in_area (codes "NONE") id_line) ≡ outcome.NoArea
-unfolding toss_outcome received refusal echo_of lines begins after_word trimmed kept_of seen_lists path_lists entry_set entries tokens pair_of links_of
+unfolding toss_outcome received text_refusal echo_of lines begins after_word trimmed kept_of seen_lists path_lists entry_set entries tokens pair_of links_of
 no_area = refl
 
 not_echo : toss_outcome file [] (system 1) (with_text (codes "Hello")) ≡ outcome.NotEcho
-unfolding toss_outcome received refusal echo_of lines begins after_word trimmed
+unfolding toss_outcome received text_refusal echo_of lines begins after_word trimmed
 not_echo = refl
 
 bad_tag : toss_outcome file [] (system 1) (with_text (codes "AREA:")) ≡ outcome.BadTag
-unfolding toss_outcome received refusal echo_of lines begins after_word trimmed
+unfolding toss_outcome received text_refusal echo_of lines begins after_word trimmed
 bad_tag = refl
 
 blank_tag : toss_outcome file [] (system 1) (with_text (codes "AREA: " ++ 10 ∷ (13 ∷ []))) ≡ outcome.BadTag
-unfolding toss_outcome received refusal echo_of lines begins after_word trimmed
+unfolding toss_outcome received text_refusal echo_of lines begins after_word trimmed
 blank_tag = refl
 
 -- not linked before known
 known_not_linked : toss_outcome file (first_received ∷ []) (system 4) first_copy ≡ outcome.NotLinked
-unfolding toss_outcome received refusal echo_of lines begins after_word trimmed kept_of seen_lists path_lists entry_set entries tokens pair_of links_of
+unfolding toss_outcome received text_refusal echo_of lines begins after_word trimmed kept_of seen_lists path_lists entry_set entries tokens pair_of links_of
 known_not_linked = refl
 
 known : toss_outcome file (first_received ∷ []) (system 1) first_copy ≡ outcome.Known
-unfolding toss_outcome received refusal echo_of lines begins after_word trimmed kept_of seen_lists path_lists entry_set entries tokens pair_of links_of key_of msgid_of
+unfolding toss_outcome received text_refusal echo_of lines begins after_word trimmed kept_of seen_lists path_lists entry_set entries tokens pair_of links_of key_of msgid_of
 known = refl
 
 filed : tossing file [] (system 1) first_copy ≡ Some first_received
-unfolding tossing toss_outcome received refusal echo_of lines begins after_word trimmed kept_of seen_lists path_lists entry_set entries tokens pair_of links_of key_of msgid_of
+unfolding tossing toss_outcome received text_refusal echo_of lines begins after_word trimmed kept_of seen_lists path_lists entry_set entries tokens pair_of links_of key_of msgid_of
 filed = refl
 
 -- neither the sender nor who stands in SEEN-BY is a target
@@ -106,15 +106,15 @@ other_zone_destination : destination_of other_zone header_without_zones ≡ othe
 unfolding header_to
 other_zone_destination = refl
 
-other_zone_filed : tossing other_zone [] (origin_of other_zone header_without_zones) first_copy ≡
+other_zone_filed : tossing other_zone [] (sender_of other_zone header_without_zones) first_copy ≡
     Some (record first_received { sender = Some (record { zone = 2; net = 10; node = 1 }) })
-unfolding header_to tossing toss_outcome received refusal echo_of lines begins after_word trimmed kept_of seen_lists path_lists entry_set entries tokens pair_of links_of key_of msgid_of
+unfolding header_to tossing toss_outcome received text_refusal echo_of lines begins after_word trimmed kept_of seen_lists path_lists entry_set entries tokens pair_of links_of key_of msgid_of
 other_zone_filed = refl
 
 -- a system that links only the third one
 abbrev third_only : LinkFile
 third_only = record second_file { areas = record { tag = codes "TEST"; links = system 3 ∷ [] } ∷ [] }
 
-third_only_not_linked : toss_outcome third_only [] (origin_of third_only (header_to first_file stamp (system 2))) first_copy ≡ outcome.NotLinked
-unfolding header_to toss_outcome received refusal echo_of lines begins after_word trimmed kept_of seen_lists path_lists entry_set entries tokens pair_of links_of
+third_only_not_linked : toss_outcome third_only [] (sender_of third_only (header_to first_file stamp (system 2))) first_copy ≡ outcome.NotLinked
+unfolding header_to toss_outcome received text_refusal echo_of lines begins after_word trimmed kept_of seen_lists path_lists entry_set entries tokens pair_of links_of
 third_only_not_linked = refl

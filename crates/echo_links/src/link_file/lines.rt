@@ -1,6 +1,6 @@
 ghost use Rattle.std.specs.Prelude.{◌≡◌, ◌<◌, ◌∷◌, length};
 ghost use Rattle.std.specs.List.{list_all, list_any};
-ghost use Rattle.echo_links.specs.LinkLines.{file_lines, is_control_byte, is_skipped, is_space, without_return};
+ghost use Rattle.echo_links.specs.LinkLines.{file_lines, is_control_byte, is_skipped, is_space_or_tab, without_return};
 
 use memchr::memchr;
 
@@ -36,7 +36,7 @@ pub fn is_skipped(line: &[u8]) -> bool
 
 /// Whether there is nothing but blanks.
 fn is_blank(line: &[u8]) -> bool
-    ensures { result ≡ list_all is_space line.now }
+    ensures { result ≡ list_all is_space_or_tab line.now }
 {
     line.iter().all(|b| is_space(*b))
 }
@@ -50,7 +50,7 @@ pub fn has_control_byte(line: &[u8]) -> bool
 
 /// Whether words are separated at the byte.
 fn is_space(byte: u8) -> bool
-    ensures { result ≡ is_space byte }
+    ensures { result ≡ is_space_or_tab byte }
 {
     byte == b' ' || byte == b'\t'
 }

@@ -5,7 +5,7 @@ ghost use Rattle.echo_text.specs.Lines.{trimmed};
 ghost use Rattle.echo_links.specs.declared.fault.LinkFault.TheVariants as link;
 ghost use Rattle.echo_links.specs.Links.{upper};
 ghost use Rattle.echo_links.specs.LinkLines.{after_first_of, first_of};
-ghost use Rattle.echo_links.specs.LinkReading.{Knows, Reads, TakesLine, area_refusal, name_refusal, system_refusal};
+ghost use Rattle.echo_links.specs.LinkReading.{Knows, ReadsLinkFile, TakesLine, area_refusal, name_refusal, system_refusal};
 
 use super::addresses::{links_in, system_in};
 use super::areas::Areas;
@@ -120,7 +120,7 @@ impl Reading {
 
 /// What the lines of a link file say, each line read once.
 pub(super) fn read_lines(alloc: Global, bytes: &[u8]) -> Result<Reading, LinkFault>
-    ensures { Reads bytes.now result }
+    ensures { ReadsLinkFile bytes.now result }
 {
     let mut reading = Reading {
         system: None,

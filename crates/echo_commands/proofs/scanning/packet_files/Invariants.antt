@@ -1,11 +1,11 @@
 -- The files and the lines of the packets so far are there.
 use Rattle.std.proofs.Common.{◌≡◌, ◌++◌, map, take}
 use Rattle.std.specs.List.{flat_map}
-use Rattle.echo_commands.specs.Scanned.{file_of, line_of}
+use Rattle.echo_commands.specs.Scanned.{file_sent, line_sent}
 use Rattle.echo_commands.proofs.scanning.packet_files.Given as goal
 
 abbrev pub invariant-packets : goal.invariant-packets
 invariant-packets l = record {
-  files : l.files.items ≡ map (file_of l.before) (take l.packet-index l.packets);
-  lines : l.lines.items ≡ l.initial.lines.items ++ flat_map line_of (take l.packet-index l.packets);
+  files : l.files.items ≡ map (file_sent l.before) (take l.packet-index l.packets);
+  lines : l.lines.items ≡ l.initial.lines.items ++ flat_map line_sent (take l.packet-index l.packets);
 }

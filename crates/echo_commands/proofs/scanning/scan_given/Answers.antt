@@ -2,7 +2,7 @@ use Rattle.std.proofs.Common.{◌≡◌, ◌-◌, ◌++◌, ℕ, List, map, Some
 use Rattle.std.specs.List.{flat_map}
 use Rattle.echo_steps.specs.declared.packet.Packet.{Packet}
 use Rattle.echo_commands.specs.declared.leaving.PacketFile.{PacketFile}
-use Rattle.echo_commands.specs.Scanned.{file_of, line_of}
+use Rattle.echo_commands.specs.Scanned.{file_sent, line_sent}
 use Rattle.std.proofs.lemmas.Result.{err_from_is_err_and}
 use Rattle.echo_commands.proofs.Stationed.{scan_refused, scan_unsaved, was_scanned}
 use Rattle.echo_commands.proofs.scanning.scan_given.Goals as goal
@@ -33,8 +33,8 @@ pub returns : goal.returns
 returns g c =
     let same = c.deref.ensures.value in
     let before : ℕ = c.filed.result - c.waiting.result in
-    let sent = subst (λ (ps : List Packet). c.in_ok-files.files.items ≡ map (file_of before) ps) same c.in_ok-files.ensures.files in
-    let told = subst (λ (ps : List Packet). c.packet_files.new.lines.items ≡ c.new-lines.result.items ++ flat_map line_of ps) same c.in_ok-files.ensures.lines in (
+    let sent = subst (λ (ps : List Packet). c.in_ok-files.files.items ≡ map (file_sent before) ps) same c.in_ok-files.ensures.files in
+    let told = subst (λ (ps : List Packet). c.packet_files.new.lines.items ≡ c.new-lines.result.items ++ flat_map line_sent ps) same c.in_ok-files.ensures.lines in (
       (
         was_scanned c.args.stamp c.args.links.now _ c.in_ok-system.system c.scan.new.self c.in_ok-packets.packets.items c.in_ok-files.files.items c.filed.result c.waiting.result
             before c.in_ok-base.base _ _ _ _ _ c.in_ok-system.ensures.ok c.filed.ensures.base c.filed.ensures.count c.waiting.ensures refl c.in_ok-packets.ensures

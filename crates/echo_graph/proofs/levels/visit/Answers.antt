@@ -1,6 +1,6 @@
 use Rattle.std.proofs.Common.{◌≡◌, ◌<◌, ℕ, length, ◌+◌, false, List, Option, None, Some, get_or, not, set, is_some, sym, ◌∙◌, ap, subst, refl, arith}
 use Rattle.std.proofs.lemmas.List.{get_or_read}
-use Rattle.echo_graph.specs.Rows.{links_of, IsGraph}
+use Rattle.echo_graph.specs.Rows.{links_at, IsGraph}
 use Rattle.echo_graph.specs.Levels.{level_of}
 use Rattle.echo_graph.specs.Visits.{Visited}
 use Rattle.echo_graph.proofs.Rows.{holds_at}
@@ -9,9 +9,9 @@ use Rattle.echo_graph.proofs.levels.visit.Goals as goal
 use Rattle.echo_graph.proofs.levels.visit.Goals.{then-other-without+then-is_none+in_ok-push, else-other-without, else-other-without-via-then-other-without+else-is_none, else-other-without-via-else-other-without}
 
 -- a link of a graph is a member
-link_inside : (rows : List (List ℕ)) (member k : ℕ) (links : List ℕ) → IsGraph rows → links ≡ links_of rows member → k < length links → get_or links k 0 < length rows
+link_inside : (rows : List (List ℕ)) (member k : ℕ) (links : List ℕ) → IsGraph rows → links ≡ links_at rows member → k < length links → get_or links k 0 < length rows
 link_inside rows member k links graph is lt =
-    graph.within member (get_or links k 0) (holds_at (links_of rows member) (get_or links k 0) k (subst (λ (row : List ℕ). k < length row) is lt) (ap (λ (row : List ℕ). get_or row k 0) (sym is)))
+    graph.within member (get_or links k 0) (holds_at (links_at rows member) (get_or links k 0) k (subst (λ (row : List ℕ). k < length row) is lt) (ap (λ (row : List ℕ). get_or row k 0) (sym is)))
 
 pub index-requires : goal.index-requires
 index-requires c =

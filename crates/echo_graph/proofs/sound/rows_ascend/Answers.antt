@@ -1,6 +1,6 @@
 use Rattle.std.proofs.Common.{sym, subst, below_more}
 use Rattle.std.proofs.lemmas.Bool.{both_ways, false≢true}
-use Rattle.echo_graph.specs.Rows.{links_of, IsAscending}
+use Rattle.echo_graph.specs.Rows.{links_at, IsAscending}
 use Rattle.echo_graph.proofs.sound.rows_ascend.Goals as goal
 
 pub returns-then-not-is_ascending : goal.returns-then-not-is_ascending
@@ -13,4 +13,4 @@ returns-then-not-is_ascending c = (
 
 pub members-preserved : goal.members-preserved
 members-preserved c =
-    below_more (λ a. IsAscending (links_of c.args.rows.now a)) c.members.member c.members.invariant (subst IsAscending c.row_of.ensures (c.is_ascending.ensures.0 c.if-not-is_ascending.false))
+    below_more (λ a. IsAscending (links_at c.args.rows.now a)) c.members.member c.members.invariant (subst IsAscending c.row_of.ensures (c.is_ascending.ensures.0 c.if-not-is_ascending.false))

@@ -1,6 +1,6 @@
 use Rattle.std.proofs.Common.{◌≡◌, ◌<◌, ◌+◌, ◌++◌, ◌∷◌, [], ℕ, List, length, sym, subst, ap, ◌∙◌}
 use Rattle.echo_addr.specs.declared.address.Address.{Address}
-use Rattle.echo_graph.specs.Rows.{links_of}
+use Rattle.echo_graph.specs.Rows.{links_at}
 use Rattle.echo_net.specs.declared.link.Link.{Link}
 use Rattle.echo_net.specs.Rows.{IsRow, system_at}
 use Rattle.echo_net.proofs.Runs.{is_row, one_row_more}
@@ -21,5 +21,5 @@ carriers-preserved c =
     let more = one_row_more carriers links i c.carriers.rows.items row c.carriers.invariant.size c.carriers.invariant.each here in
     record {
       size = ap length is ∙ more.0;
-      each = subst (λ (rows : List (List ℕ)). (k : ℕ) → k < i + 1 → IsRow carriers links (system_at carriers k) (links_of rows k)) (sym is) more.1;
+      each = subst (λ (rows : List (List ℕ)). (k : ℕ) → k < i + 1 → IsRow carriers links (system_at carriers k) (links_at rows k)) (sym is) more.1;
     }

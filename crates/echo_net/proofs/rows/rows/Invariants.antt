@@ -1,10 +1,10 @@
 use Rattle.std.proofs.Common.{◌≡◌, ◌<◌, ℕ, length}
-use Rattle.echo_graph.specs.Rows.{links_of}
+use Rattle.echo_graph.specs.Rows.{links_at}
 use Rattle.echo_net.specs.Rows.{IsRow, system_at}
 use Rattle.echo_net.proofs.rows.rows.Given as goal
 
 abbrev pub invariant-carriers : goal.invariant-carriers
 invariant-carriers l = record {
   size : length l.rows.items ≡ l.system-index;
-  each : (k : ℕ) → k < l.system-index → IsRow l.carriers l.links (system_at l.carriers k) (links_of l.rows.items k);
+  each : (k : ℕ) → k < l.system-index → IsRow l.carriers l.links (system_at l.carriers k) (links_at l.rows.items k);
 }

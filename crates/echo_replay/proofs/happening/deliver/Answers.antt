@@ -1,7 +1,7 @@
 use Rattle.std.proofs.Common.{◌≡◌, ◌∙◌, Some, sym, ap, subst}
 use Rattle.std.proofs.lemmas.Result.{on_ok_weaker}
 use Rattle.echo_run.specs.Run.{destination, nth}
-use Rattle.echo_replay.specs.Worlds.{Exported, WorldState, addresses, encoded}
+use Rattle.echo_replay.specs.Worlds.{Exported, WorldState, own_addresses, encoded}
 use Rattle.echo_replay.proofs.Changes.{read-nth}
 use Rattle.echo_replay.proofs.Runs.{led-nowhere, led-to}
 use Rattle.echo_replay.proofs.happening.deliver.Goals as goal
@@ -15,7 +15,7 @@ returns-in-Some-clause-came c =
     let packet_is : c.index.result.now ≡ e =
     c.index.ensures ∙ read-nth c.world.inside.packets.items c.args.packet e c.index.result.now (subst N (sym c.world.view_is) there) in
     let whom = ap (λ (x : Exported). x.to) (c.behind-world.view_is ∙ packet_is) in
-    let found = c.in-Some.ensures (addresses c.args.world.now.systems) c.requires in
+    let found = c.in-Some.ensures (own_addresses c.args.world.now.systems) c.requires in
     let led = led-to c.args.world.now c.args.packet p c.in-Some.system c.behind-world.inside.to whom found.0 found.1 in
     arrives p fits came there led.system led.there led.has ∙ led.comes)
     c.arrive.ensures.came
@@ -27,4 +27,4 @@ returns-in-None-clause-came c = λ p fits came there.
     let packet_is : c.index.result.now ≡ e =
     c.index.ensures ∙ read-nth c.world.inside.packets.items c.args.packet e c.index.result.now (subst N (sym c.world.view_is) there) in
     let whom = ap (λ (x : Exported). x.to) (c.behind-world.view_is ∙ packet_is) in
-    led-nowhere c.args.world.now c.args.packet p c.behind-world.inside.to whom (c.in-None.ensures (addresses c.args.world.now.systems) c.requires)
+    led-nowhere c.args.world.now c.args.packet p c.behind-world.inside.to whom (c.in-None.ensures (own_addresses c.args.world.now.systems) c.requires)

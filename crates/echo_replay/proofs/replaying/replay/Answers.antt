@@ -4,17 +4,17 @@ use Rattle.echo_addr.specs.declared.address.Address.{Address}
 use Rattle.echo_run.specs.Event.{run_event}
 use Rattle.echo_run.specs.declared.event.Event.{Event}
 use Rattle.echo_run.specs.Run.{Run, run_of}
-use Rattle.echo_replay.specs.Worlds.{IsRun, Leads, WorldState, addresses}
+use Rattle.echo_replay.specs.Worlds.{IsRun, LeadsToFirst, WorldState, own_addresses}
 use Rattle.echo_replay.proofs.Runs.{addresses-first, event-more, first-run}
 use Rattle.echo_replay.proofs.replaying.replay.Goals as goal
 
 pub events-init : goal.events-init
 events-init c =
-    let A : List Address → Type 0 = λ all. Leads c.in_ok-receivers.receivers.first.entries all in
+    let A : List Address → Type 0 = λ all. LeadsToFirst c.in_ok-receivers.receivers.first.entries all in
     let W : WorldState → Type 0 = λ w. IsRun w (run_of c.args.files.items []) in
     record {
       leads = subst A
-          (sym (ap addresses c.in_ok-systems.ensures ∙ addresses-first c.args.files.items ∙ ap (map (λ f. f.system)) (sym c.deref.ensures.value)))
+          (sym (ap own_addresses c.in_ok-systems.ensures ∙ addresses-first c.args.files.items ∙ ap (map (λ f. f.system)) (sym c.deref.ensures.value)))
           c.in_ok-receivers.ensures;
       run = subst W
           (sym (λ i. record { systems = c.in_ok-systems.ensures i; packets = c.new-2.ensures.items i }))
@@ -24,7 +24,7 @@ events-init c =
 pub events-preserved : goal.events-preserved
 events-preserved c =
     let before = c.events.invariant in
-    let A : List Address → Type 0 = λ all. Leads c.in_ok-receivers.receivers.first.entries all in
+    let A : List Address → Type 0 = λ all. LeadsToFirst c.in_ok-receivers.receivers.first.entries all in
     let R : Run → Type 0 = λ run. IsRun c.happen.new.world run in
     record {
       leads = subst A (sym c.in_ok-happen.ensures.addresses) before.leads;

@@ -1,7 +1,7 @@
 use Rattle.std.proofs.Common.{List, ap}
 use Rattle.std.specs.Prelude.{Option, is_none, map}
 use Rattle.echo_packet.specs.Message.{Message}
-use Rattle.echo_text.specs.Refusal.{refusal}
+use Rattle.echo_text.specs.Refusal.{text_refusal}
 use Rattle.echo_text.specs.declared.fault.TextFault.{TextFault}
 use Rattle.echo_steps.specs.Tossing.{received}
 use Rattle.echo_run.specs.Orderly.{origin}
@@ -14,6 +14,6 @@ pub returns : goal.returns
 returns c = record {
   accepted = λ files fit events p h q i. (((run-ok the_laws files fit events).packets p h).messages q i).0;
   copies = λ files fit events p h.
-      ap (λ (qs : List Message). map (received (origin p)) qs) (filter-all (λ (q : Message). is_none (refusal q.text)) p.messages (λ q i.
+      ap (λ (qs : List Message). map (received (origin p)) qs) (filter-all (λ (q : Message). is_none (text_refusal q.text)) p.messages (λ q i.
       ap (λ (o : Option TextFault). is_none o) (((run-ok the_laws files fit events).packets p h).messages q i).0));
 }

@@ -1,7 +1,7 @@
 use Rattle.std.proofs.Common.{◌∙◌, ap, inl, inr, sym}
 use Rattle.std.proofs.lemmas.Result.{err_from_is_err_and}
 use Rattle.echo_addr.specs.Entries.{tokens}
-use Rattle.echo_links.specs.LinkReading.{has_tag}
+use Rattle.echo_links.specs.LinkReading.{is_area_known}
 use Rattle.echo_links.proofs.LinkTaking.{area_links, area_repeated}
 use Rattle.echo_links.proofs.link_file.reading.Reading.take_area.Goals as goal
 
@@ -9,7 +9,7 @@ pub returns-then-has : goal.returns-then-has
 returns-then-has c =
     inr (area_repeated c.args.self.now.areas c.args.number (tokens c.args.rest.now) c.in-Some.word.now (tokens c.in-Some.after.now) c.in_ok-tag.tag.items
     c.in-Some.ensures.token (sym c.is_tag.ensures ∙ c.if-not-is_tag.false) c.in_ok-tag.ensures
-    (ap (has_tag c.args.self.now.areas) (sym c.deref.ensures.value) ∙ sym c.has.ensures ∙ c.if-has.true))
+    (ap (is_area_known c.args.self.now.areas) (sym c.deref.ensures.value) ∙ sym c.has.ensures ∙ c.if-has.true))
 
 pub returns-in_err-links : goal.returns-in_err-links
 returns-in_err-links c =
@@ -19,5 +19,5 @@ returns-in_err-links c =
       | inr h ↦
           inr (area_links c.args.self.now.areas c.args.number (tokens c.args.rest.now) c.in-Some.word.now (tokens c.in-Some.after.now) c.in_ok-tag.tag.items
           c.in-Some.ensures.token (sym c.is_tag.ensures ∙ c.if-not-is_tag.false) c.in_ok-tag.ensures
-          (ap (has_tag c.args.self.now.areas) (sym c.deref.ensures.value) ∙ sym c.has.ensures ∙ c.if-has.false) ∙ h)
+          (ap (is_area_known c.args.self.now.areas) (sym c.deref.ensures.value) ∙ sym c.has.ensures ∙ c.if-has.false) ∙ h)
     ])
