@@ -22,6 +22,7 @@ each trials/kills.sh
 each trials/crowds.sh
 each trials/full_disk.sh
 each trials/devices.sh
+each trials/pieces.sh
 each trials/refusals.sh
 each trials/valgrind.sh
 each python3 trials/stations.py 300 "$(nproc)"

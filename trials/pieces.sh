@@ -1,0 +1,40 @@
+#!/usr/bin/env bash
+# Lets each read and write of several bytes move one byte in turn, in one run of each command, and then all
+# of them, by calls that are loaded before the C library's (pieces.c, which needs a C compiler). Each run
+# ends as with whole reads and writes: its status, what it printed, the base and the packets.
+set -eu
+cd "$(dirname "$0")/.."
+. trials/setting.sh
+command -v cc > /dev/null || { echo "pieces: there is no C compiler"; exit 0; }
+cc -O2 -shared -fPIC -o "$work/pieces.so" trials/pieces.c
+cd "$work"
+. "$top/trials/commands.sh"
+
+# Runs a command with these calls shortened, and sets its status.
+run() {
+  start "$1"
+  status=0
+  echo Hello | SHORTENED=$2 CALLS=calls LD_PRELOAD=./pieces.so "$program" $(words_of "$1") > said 2> fault ||
+    status=$?
+}
+
+# Runs it and holds it against the run with whole calls.
+try_with() {
+  run "$1" "$2"
+  expect "$1, call $2: status" [ $status = "$wanted" ]
+  expect "$1, call $2: all is done" all_done
+  expect "$1, call $2: no fault" [ ! -s fault ]
+}
+
+make_story 200 100 200
+for command in $commands; do
+  run $command 0
+  keep_wanted
+  calls=$(cat calls)
+  expect "$command: it reads or writes" [ "$calls" -gt 0 ]
+  for ((number = 1; number <= calls; number++)); do try_with $command $number; done
+  try_with $command all
+  expect "$command: all were shortened" [ "$(cat calls)" -gt "$calls" ]
+  echo "$command: $calls calls shortened"
+done
+finish pieces
