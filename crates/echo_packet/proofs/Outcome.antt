@@ -11,7 +11,7 @@ use Rattle.echo_packet.specs.Header.{IsHeader, word, number_at, header_bytes, he
 use Rattle.echo_packet.specs.Message.{Message, Part, IsMessage, AreMessages, before, message_bytes, messages_bytes}
 use Rattle.echo_packet.specs.Packet.{packet_bytes, PacketOf}
 use Rattle.echo_packet.specs.Fault.{AtField, IsCut, IsLongField, IsLongText, IsOtherNumber, IsOneTooMany, place_of}
-use Rattle.echo_packet.specs.Answer.{Answer, PacketAnswers, Describes}
+use Rattle.echo_packet.specs.Answer.{Answer, AnswersAsDescribed, Describes}
 use Rattle.echo_packet.specs.Next.{AtPart, NextFault}
 use Rattle.echo_packet.specs.Run.{IsOfCall}
 use Rattle.echo_packet.proofs.Headers.{header_of-header_bytes, length-header_bytes, number_at-header_bytes}
@@ -203,7 +203,7 @@ only_one limits bs (Err (fault.Write n)) d = absurd d.1
 only_one limits bs (Err (fault.BadField n)) d = absurd d.1
 
 -- where the answer is so of the bytes, it is whatever is so of them
-pub answers-one : (limits : Limits) (bs : List ℕ) (given other : Answer) → IsJudged limits bs given → Describes limits bs other → PacketAnswers given other
+pub answers-one : (limits : Limits) (bs : List ℕ) (given other : Answer) → IsJudged limits bs given → Describes limits bs other → AnswersAsDescribed given other
 answers-one limits bs given (Ok found) (inl memory) d = inl memory
 answers-one limits bs given (Ok found) (inr is) d = inr (only_one limits bs given is ∙ sym (only_one limits bs (Ok found) d))
 answers-one limits bs given (Err f) (inl memory) d = inl memory

@@ -28,6 +28,6 @@ Describes limits bs (Ok found) = (found.2 ≤ length bs) × PacketOf limits foun
 Describes limits bs (Err f) = (ms : List Message) × FaultOf bs limits ms f
 
 -- the call answered just this, unless memory ran out
-abbrev pub PacketAnswers : Answer → Answer → Type 0
-PacketAnswers given (Ok found) = (given ≡ Err fault.Memory) ⊎ (given ≡ Ok found)
-PacketAnswers given (Err f) = (given ≡ Err fault.Memory) ⊎ (given ≡ Err f)
+abbrev pub AnswersAsDescribed : Answer → Answer → Type 0
+AnswersAsDescribed given (Ok found) = (given ≡ Err fault.Memory) ⊎ (given ≡ Ok found)
+AnswersAsDescribed given (Err f) = (given ≡ Err fault.Memory) ⊎ (given ≡ Err f)

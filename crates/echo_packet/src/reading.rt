@@ -1,5 +1,5 @@
 ghost use Rattle.std.specs.Prelude.{◌≡◌, ◌⊎◌, Err};
-ghost use Rattle.echo_packet.specs.Answer.{Answer, PacketAnswers, Describes, answered};
+ghost use Rattle.echo_packet.specs.Answer.{Answer, AnswersAsDescribed, Describes, answered};
 ghost use Rattle.echo_packet.specs.declared.fault.PacketFault.TheVariants.{Memory};
 
 use crate::fault::PacketFault;
@@ -19,7 +19,7 @@ pub fn read_packet(
     // What it answers is so of the bytes.
     ensures judged { (answered result ≡ Err Memory) ⊎ Describes limits bytes.now (answered result) }
     // What is so of the bytes, it answers.
-    ensures only { (other : Answer) → Describes limits bytes.now other → PacketAnswers (answered result) other }
+    ensures only { (other : Answer) → Describes limits bytes.now other → AnswersAsDescribed (answered result) other }
 {
     read_messages(alloc, bytes, limits)
 }
