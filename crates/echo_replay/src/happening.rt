@@ -27,7 +27,7 @@ pub(crate) fn happen(
     event: &Event,
 ) -> Result<(), AllocError>
     requires { LeadsToFirst receivers.now.first.entries (own_addresses world.old.systems) }
-    ensures own_addresses { own_addresses world.new.systems ≡ own_addresses world.old.systems }
+    ensures addresses { own_addresses world.new.systems ≡ own_addresses world.old.systems }
     ensures run { OnOk result ((run : Run) → IsRun world.old run → IsRun world.new (after_event run (run_event event.now))) }
 {
     match event {
@@ -53,7 +53,7 @@ fn post(
     serial: u32,
     stamp: Stamp,
 ) -> Result<(), AllocError>
-    ensures own_addresses { own_addresses world.new.systems ≡ own_addresses world.old.systems }
+    ensures addresses { own_addresses world.new.systems ≡ own_addresses world.old.systems }
     ensures posted { OnOk result (world.new ≡ with_change world.old system (after_posting tag.now draft.now serial stamp)) }
 {
     if system >= world.systems.len() {
@@ -97,7 +97,7 @@ fn unless_memory(fault: PostFault) -> Result<(), AllocError>
 
 // A system is purged.
 fn purge(world: &mut World, system: usize) -> Result<(), AllocError>
-    ensures own_addresses { own_addresses world.new.systems ≡ own_addresses world.old.systems }
+    ensures addresses { own_addresses world.new.systems ≡ own_addresses world.old.systems }
     ensures purged { OnOk result (world.new ≡ with_change world.old system after_purge) }
 {
     if system >= world.systems.len() {
@@ -117,7 +117,7 @@ fn purge_at(tosser: &mut Tosser<Hashing>) -> Result<(), AllocError>
 
 // A system scans: its packets go last.
 fn scan(alloc: Global, world: &mut World, system: usize, stamp: Stamp) -> Result<(), AllocError>
-    ensures own_addresses { own_addresses world.new.systems ≡ own_addresses world.old.systems }
+    ensures addresses { own_addresses world.new.systems ≡ own_addresses world.old.systems }
     ensures scanned { OnOk result (world.new ≡ scanned_world world.old system stamp (nth system world.old.systems)) }
     ensures fit { OnOk result (ScanFits stamp (nth system world.old.systems)) }
 {
@@ -189,7 +189,7 @@ fn destination_in(header: &Header) -> Address
 // A packet comes to the first system of its destination, where there is one.
 fn deliver(receivers: &Receivers, world: &mut World, packet: usize) -> Result<(), AllocError>
     requires { LeadsToFirst receivers.now.first.entries (own_addresses world.old.systems) }
-    ensures own_addresses { own_addresses world.new.systems ≡ own_addresses world.old.systems }
+    ensures addresses { own_addresses world.new.systems ≡ own_addresses world.old.systems }
     ensures none { OnOk result (nth packet world.old.packets ≡ None → world.new ≡ world.old) }
     ensures came { OnOk result ((p : Packet) → Fits p → (came : Bool) → nth packet world.old.packets ≡ Some (record { bytes = encoded p; to = destination p; came = came }) →
         world.new ≡ world_after world.old packet p) }
@@ -208,7 +208,7 @@ fn deliver(receivers: &Receivers, world: &mut World, packet: usize) -> Result<()
 fn arrive(world: &mut World, packet: usize, system: usize) -> Result<(), AllocError>
     requires packet { packet < length world.old.packets }
     requires system { system < length world.old.systems }
-    ensures own_addresses { own_addresses world.new.systems ≡ own_addresses world.old.systems }
+    ensures addresses { own_addresses world.new.systems ≡ own_addresses world.old.systems }
     ensures came { OnOk result ((p : Packet) → Fits p → (came : Bool) → nth packet world.old.packets ≡ Some (record { bytes = encoded p; to = destination p; came = came }) →
         (s : SystemState) → nth system world.old.systems ≡ Some s → destination p ≡ s.file.system →
         world.new ≡ record { systems = change system (after_toss p) world.old.systems; packets = change packet arrived world.old.packets }) }
