@@ -14,6 +14,7 @@ work=$(mktemp -d "${3:-${TMPDIR:-/tmp}}/echonet-peer.XXXXXX")
 trap 'rm -rf "$work"' EXIT
 command -v crashmail > /dev/null || { echo "crashmail is not installed"; exit 1; }
 size=1050 few=100 areas=100
+known=$((count < 60000 ? count : 60000))
 stamp=2026-07-03T12:34:56
 make_file() { python3 "$top/trials/make.py" "$@"; }
 cd "$work"
@@ -141,19 +142,19 @@ scan_too() {
   cat others last > own.times
 }
 
-# The same packet again. The bases are those that the last round of new messages left.
+# A packet again whose messages both know. CrashMail remembers no more than 65,536.
 known_messages() {
   configure "$2" 1:10/2 TEST
-  peer_toss new.pkt > said 2>&1
+  peer_toss known.pkt > said 2>&1
   configure_own 1:10/2 TEST
-  "$program" toss own/links own/base new.pkt > said
+  "$program" toss own/links own/base known.pkt > said
   for round in $(seq "$rounds"); do
-    timed peer.times peer_toss new.pkt
-    timed_own toss own/links own/base new.pkt
+    timed peer.times peer_toss known.pkt
+    timed_own toss own/links own/base known.pkt
   done
-  want_count "$(peer_count "$2")" "$count" CrashMail
-  want_count "$(own_count)" "$count" echonet
-  row "$1" "$count"
+  want_count "$(peer_count "$2")" "$known" CrashMail
+  want_count "$(own_count)" "$known" echonet
+  row "$1" "$known"
 }
 
 # A hundred packets of a hundred messages, each tossed by a run of its own, on top of a large base of a
@@ -193,6 +194,7 @@ small_packets() {
 }
 
 make_file packet 0 "$count" $size > new.pkt
+make_file packet 0 "$known" $size > known.pkt
 echo "$count messages, $(wc -c < new.pkt) bytes, $rounds rounds"
 begin=$(now); cat new.pkt | cksum > /dev/null; end=$(now)
 echo "$count $begin $end" | awk '{ printf "%-44s %9.0f /s\n", "cksum of the packet", $1 * 1e9 / ($3 - $2) }'
