@@ -28,7 +28,7 @@ each trials/valgrind.sh
 each python3 trials/stations.py 300 "$(nproc)"
 each python3 trials/hostile.py "$inputs" "$(nproc)"
 each python3 trials/nets.py
-each python3 trials/grown.py "$size"
+each python3 trials/grown.py "$size" $((($(nproc) + 1) / 2))
 echo "== in all"
 cat "$told"
 exit $status

@@ -1,8 +1,9 @@
 """Tries grown inputs: each at two sizes, of which one is twice the other. Each run ends by itself in
 order, takes at most so much memory for each byte of its input, and at most 2.5 times the processor time
 at twice the size. Words: the greater size of the inputs that have no smaller limit, in bytes
-(64,000,000), and a piece of a row's name, where only some rows are to be tried.
+(64,000,000), how many rows to try at once (1), and a piece of a row's name, where only some are to be.
 """
+import multiprocessing
 import os
 import shutil
 import subprocess
@@ -117,17 +118,25 @@ def try_row(row, folder):
     return not wrong
 
 
+def try_numbered(number, size, folder):
+    """Tries the row of this number, in a folder of its process's own."""
+    return try_row(list(rows(size))[number], os.path.join(folder, str(os.getpid())))
+
+
 def main(words):
     """Makes one input, or tries the rows."""
     if words[:1] == ["--make"]:
         command, name, size, folder = words[1:]
         make_input(next(row for row in rows(10**9) if (row.command, row.name) == (command, name)), int(size), folder)
         return 0
-    size, piece = (words + ["64000000", ""][len(words):])[:2]
+    size, jobs, piece = (words + ["64000000", "1", ""][len(words):])[:3]
     folder = tempfile.mkdtemp(prefix="echonet-trials.", dir="/dev/shm" if os.path.isdir("/dev/shm") else None)
     started = time.time()
     try:
-        held = [try_row(row, folder) for row in rows(int(size)) if piece in row.command + " " + row.name]
+        wanted = [(number, int(size), folder) for number, row in enumerate(rows(int(size)))
+                  if piece in row.command + " " + row.name]
+        with multiprocessing.Pool(int(jobs)) as pool:
+            held = pool.starmap(try_numbered, wanted, 1)
     finally:
         shutil.rmtree(folder)
     print("%.0f s" % (time.time() - started))
