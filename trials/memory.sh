@@ -38,7 +38,7 @@ for test in "${tests[@]}"; do
       passed=$((passed + 1))
     elif [[ $test != *::refused::* ]] && grep -qE 'error: .*(Memory|AllocError|AllocFailed|out of memory)' "$work/told"; then
       memory=$((memory + 1))
-    elif [[ $test != *::refused::* ]] && [ $status != 124 ] && grep -qE '^assertion' "$work/told"; then
+    elif [[ $test != *::refused::* ]] && [ $status != 124 ] && grep -qE '^(assertion|error: |test stopped at)' "$work/told"; then
       stopped=$((stopped + 1))
     else
       wrong=$((wrong + 1))
