@@ -1,5 +1,5 @@
-# What devices.sh and refusals.sh share: a run of each command, and how one is to have ended that met a
-# failure. They source it in their own folder, after setting.sh.
+# What devices.sh, refusals.sh and pieces.sh share: a run of each command, and how one is to have ended that
+# met a failure. They source it in their own folder, after setting.sh.
 commands="show nodelist check picture replay post toss scan purge list"
 
 make_file links 1:10/1 TEST 1:10/2 1:10/3 1:10/4 > one.links
@@ -34,6 +34,21 @@ start() {
   rm -rf out base base.new
   mkdir out
   case $1 in scan) cp tossed.base base ;; *) cp old.base base ;; esac
+}
+
+# Makes what is loaded in front of the C library of trials/NAME.c. Without a C compiler the trial ends.
+make_loaded() {
+  command -v cc > /dev/null || { echo "$1: there is no C compiler"; exit 0; }
+  cc -O2 -shared -fPIC -o "$1.so" "$top/trials/$1.c"
+}
+
+# Runs a command behind it, with these calls chosen (counting.h), and sets its status. Words: the library,
+# the command, the number of a call or `all`.
+run_behind() {
+  start "$2"
+  status=0
+  { echo Hello | CHOSEN=$3 COUNTED=counted LD_PRELOAD=./$1.so "$program" $(words_of "$2") > said 2> fault ||
+    status=$?; } 2> /dev/null
 }
 
 # Keeps what a command left that met no failure.

@@ -96,19 +96,13 @@ def is_orderly(status, fault):
     return status in (0, 1) and count == "0" or status in (2, 3) and count == "1" and line.startswith("echonet: ")
 
 
-def steady_ratio(row, folder):
-    """The ratio for twice the size, from the best of three runs at the size and at a quarter of it."""
-    best = [min(measure(row, size, folder)[1] for _ in range(3)) for size in (row.size, row.size // 4)]
-    return (best[0] / best[1]) ** 0.5
-
-
 def try_row(row, folder):
     """Tries a row, prints its line, and answers whether all held."""
     whole = measure(row, row.size, folder)
     status, seconds, kilobytes, fault = whole
     ratio = seconds / measure(row, row.size // 2, folder)[1] if seconds > LEAST_SECONDS else 0.0
     if ratio > MOST_RATIO:
-        ratio = steady_ratio(row, folder)
+        ratio = running.steady_ratio(lambda size: (size, measure(row, size, folder)[1]), row.size)
     most = LEAST_KILOBYTES + MOST_BYTES[row.command] * row.size / 1024
     wrong = [what for what, it in (("not in order", not is_orderly(status, fault)), ("not linear", ratio > MOST_RATIO),
                                    ("too much memory", kilobytes > most)) if it]

@@ -117,29 +117,27 @@ def measure(make, count, command, folder):
     return size, ended, said.decode()
 
 
-def steady_ratio(make, count, command, folder):
-    """The ratio for twice the size, from the best of three runs at the size and at a quarter of it."""
-    runs = [[measure(make, number, command, folder) for _ in range(3)] for number in (count, count // 4)]
-    (size, seconds), (part, least) = [(some[0][0], min(ended[1] for _, ended, _ in some)) for some in runs]
-    return 2 * (seconds / least * part / size) ** 0.5
-
-
 def try_net(row, command, count, folder):
     """Tries a net, prints its line, and answers whether all held."""
     name, make, verdict = row
     most = MOST_RATIO
     if name == KNOWN_AS_SLOW:
         count, most = count // 5, SLOW_RATIO
+
+    def timed(count):
+        size, ended, _ = measure(make, count, command, folder)
+        return size, ended[1]
+
     size, (status, seconds, kilobytes, fault), said = measure(make, count, command, folder)
     wrong = [] if status == (0 if verdict.startswith("yes") else 1) and fault.startswith("0 lines") else ["not in order"]
     if command == "check" and not said.startswith(verdict):
         wrong.append("another verdict")
     ratio = 0.0
     if seconds > LEAST_SECONDS:
-        half, ended, _ = measure(make, count // 2, command, folder)
-        ratio = seconds / ended[1] * 2 * half / size
+        half, shorter = timed(count // 2)
+        ratio = seconds / shorter * 2 * half / size
     if ratio > most:
-        ratio = steady_ratio(make, count, command, folder)
+        ratio = running.steady_ratio(timed, count)
     if ratio > most:
         wrong.append("not linear")
     print("%-8s %-22s %9d bytes  status %d  %7.2f s  ratio %4.2f  %8d kB  %s %s" % (

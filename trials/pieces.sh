@@ -5,22 +5,13 @@
 set -eu
 cd "$(dirname "$0")/.."
 . trials/setting.sh
-command -v cc > /dev/null || { echo "pieces: there is no C compiler"; exit 0; }
-cc -O2 -shared -fPIC -o "$work/pieces.so" trials/pieces.c
 cd "$work"
 . "$top/trials/commands.sh"
-
-# Runs a command with these calls shortened, and sets its status.
-run() {
-  start "$1"
-  status=0
-  echo Hello | SHORTENED=$2 CALLS=calls LD_PRELOAD=./pieces.so "$program" $(words_of "$1") > said 2> fault ||
-    status=$?
-}
+make_loaded pieces
 
 # Runs it and holds it against the run with whole calls.
 try_with() {
-  run "$1" "$2"
+  run_behind pieces "$1" "$2"
   expect "$1, call $2: status" [ $status = "$wanted" ]
   expect "$1, call $2: all is done" all_done
   expect "$1, call $2: no fault" [ ! -s fault ]
@@ -28,13 +19,13 @@ try_with() {
 
 make_story 200 100 200
 for command in $commands; do
-  run $command 0
+  run_behind pieces $command 0
   keep_wanted
-  calls=$(cat calls)
+  calls=$(cat counted)
   expect "$command: it reads or writes" [ "$calls" -gt 0 ]
   for ((number = 1; number <= calls; number++)); do try_with $command $number; done
   try_with $command all
-  expect "$command: all were shortened" [ "$(cat calls)" -gt "$calls" ]
+  expect "$command: all were shortened" [ "$(cat counted)" -gt "$calls" ]
   echo "$command: $calls calls shortened"
 done
 finish pieces

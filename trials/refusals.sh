@@ -7,18 +7,9 @@
 set -eu
 cd "$(dirname "$0")/.."
 . trials/setting.sh
-command -v cc > /dev/null || { echo "refusals: there is no C compiler"; exit 0; }
-cc -O2 -shared -fPIC -o "$work/refuse.so" trials/refuse.c
 cd "$work"
 . "$top/trials/commands.sh"
-
-# Runs a command with the growth of this number refused, and sets its status.
-run() {
-  start "$1"
-  status=0
-  { echo Hello | REFUSED=$2 GROWTHS=growths LD_PRELOAD=./refuse.so "$program" $(words_of "$1") > said 2> fault ||
-    status=$?; } 2> /dev/null
-}
+make_loaded refuse
 
 make_story 8 4 200
 for number in 1 2 3; do
@@ -28,12 +19,12 @@ parts="part.1 part.2 part.3"
 for command in $commands; do
   tried=0
   refused=0
-  run $command 0
+  run_behind refuse $command 0
   keep_wanted
-  growths=$(cat growths)
+  growths=$(cat counted)
   expect "$command: it takes memory" [ "$growths" -gt 0 ]
   for ((number = 1; number <= growths; number++)); do
-    run $command $number
+    run_behind refuse $command $number
     judge $command "growth $number of $growths"
   done
   echo "$command: $tried growths refused, of which $refused ended it with a fault"

@@ -80,6 +80,14 @@ def measured(words, given=None, most_seconds=600):
     return int(status), float(seconds), int(kilobytes), fault
 
 
+def steady_ratio(run, size):
+    """How many times the processor time is at twice the bytes, from the best of three runs at a size and at
+    a quarter of it. `run` runs at a size, and answers the bytes of the input and the seconds."""
+    runs = [[run(some) for _ in range(3)] for some in (size, size // 4)]
+    (whole, longer), (part, shorter) = [(some[0][0], min(seconds for _, seconds in some)) for some in runs]
+    return 2 * (longer / shorter * part / whole) ** 0.5
+
+
 def main(words):
     """Runs the words, without its output, and prints a line: its status, seconds of processor time and in
     all, kilobytes, and its fault."""

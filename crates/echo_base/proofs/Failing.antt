@@ -20,7 +20,7 @@ use Rattle.echo_base.specs.declared.fault.BaseFault.{BaseFault}
 use Rattle.echo_base.specs.declared.fault.BaseFault.TheVariants as fault
 use Rattle.echo_base.specs.Base.{Base}
 use Rattle.echo_base.specs.BaseFile.{AreSound, BaseFaultOf, BaseOf, Begins, IsDamagedAt, LoadOf, Loaded, head_bytes, is_damaged, magic}
-use Rattle.echo_base.specs.Loading.{AnswersLoad, FailsToLoad, LoadFault, TakesAll, TakesBase, TakesDamaged, TakesHead, TakesMessage, TakesNext, told_behind}
+use Rattle.echo_base.specs.Loading.{AnswersLoad, FailsToLoad, LoadFault, TakesAll, TakesBase, TakesDamaged, TakesHead, TakesStored, TakesNextStored, told_behind}
 use Rattle.echo_base.proofs.Loading.{only_outcome, say_more, sound_more}
 
 if_any : {X : Type 0} (o : Option X) → IfSome o (λ _. Unit {0})
@@ -70,7 +70,7 @@ pub record HasTaken (version : Version) (cursor : ℕ) (messages : List Filed) (
 
 -- one more
 pub taken_more : (version : Version) (cursor : ℕ) (messages messages' : List Filed) (a b c : Option (List ℕ)) → HasTaken version cursor messages a b
-    → TakesNext version cursor messages messages' b c → HasTaken version cursor messages' a c
+    → TakesNextStored version cursor messages messages' b c → HasTaken version cursor messages' a c
 taken_more version cursor messages messages' a b c so next =
     let s = next.next in
     let P : List Filed → Type 0 = λ l. is_damaged version cursor l s ≡ false in
@@ -149,7 +149,7 @@ message_damaged version cursor number n messages a b c d fits within more many h
 -- a message behind sound ones was not taken
 pub message_fails : (version : Version) (cursor number : ℕ) (messages messages' : List Filed) (a b c d : Option (List ℕ)) (told : BaseFault) → number < 2 ^ 32 → cursor ≤ number
     → length messages < number → Consumes a b (head_bytes version cursor number) → HasTaken version cursor messages b c
-    → TakesMessage {A = Unit {0}} version cursor messages messages' c d (Err told) → FailsToLoad a d told
+    → TakesStored {A = Unit {0}} version cursor messages messages' c d (Err told) → FailsToLoad a d told
 message_fails version cursor number messages messages' a b c d (fault.Truncated n) fits within more head so h =
     let many = h.0 in
     cut_fails n (head_bytes version cursor number ++ flat_map (stored_bytes version) so.all) a c d broken.Cut

@@ -98,7 +98,7 @@ ReadsHead old new (Ok head) = TakesHead head old new
 ReadsHead old new (Err told) = FailsToLoad old new told
 
 -- a message came that may stand next, and was put at the end
-pub record TakesNext (version : Version) (cursor : ℕ) (base base' : List Filed) (old new : Option (List ℕ)) : Type 0 where
+pub record TakesNextStored (version : Version) (cursor : ℕ) (base base' : List Filed) (old new : Option (List ℕ)) : Type 0 where
   pub next : Stored
   pub size : IsStored version next
   pub sound : is_damaged version cursor base next ≡ false
@@ -113,13 +113,13 @@ pub record TakesDamaged (version : Version) (cursor : ℕ) (base : List Filed) (
   pub took : Consumes old new (stored_bytes version next)
 
 -- what was taken behind the messages of the base
-abbrev pub TakesMessage : {A : Type 0} → Version → ℕ → List Filed → List Filed → Option (List ℕ) → Option (List ℕ) → Result A BaseFault → Type 0
-TakesMessage version cursor base base' old new (Ok _) = TakesNext version cursor base base' old new
-TakesMessage version cursor base base' old new (Err (fault.Truncated n)) = (n ≡ length base) × Came old new (StopsIn version) × IsAtEnd new
-TakesMessage version cursor base base' old new (Err (fault.Damaged n)) = (n ≡ length base) × TakesDamaged version cursor base old new
-TakesMessage version cursor base base' old new (Err fault.Read) = Came old new (StopsIn version)
-TakesMessage version cursor base base' old new (Err fault.Memory) = Unit {0}
-TakesMessage version cursor base base' old new (Err _) = ⊥
+abbrev pub TakesStored : {A : Type 0} → Version → ℕ → List Filed → List Filed → Option (List ℕ) → Option (List ℕ) → Result A BaseFault → Type 0
+TakesStored version cursor base base' old new (Ok _) = TakesNextStored version cursor base base' old new
+TakesStored version cursor base base' old new (Err (fault.Truncated n)) = (n ≡ length base) × Came old new (StopsIn version) × IsAtEnd new
+TakesStored version cursor base base' old new (Err (fault.Damaged n)) = (n ≡ length base) × TakesDamaged version cursor base old new
+TakesStored version cursor base base' old new (Err fault.Read) = Came old new (StopsIn version)
+TakesStored version cursor base base' old new (Err fault.Memory) = Unit {0}
+TakesStored version cursor base base' old new (Err _) = ⊥
 
 -- behind the head of a base file all messages were taken, and they are the base's
 pub record TakesAll (head : Head) (base : Base) (old new : Option (List ℕ)) : Type 0 where
@@ -131,13 +131,13 @@ pub record TakesAll (head : Head) (base : Base) (old new : Option (List ℕ)) : 
   pub messages : base.messages ≡ map (message_in head.version) all
 
 -- why they were not: these messages came, and then one that was cut or is damaged
-abbrev pub FailsBehind : Head → Option (List ℕ) → Option (List ℕ) → BaseFault → Type 0
-FailsBehind head old new told =
+abbrev pub FailsBehindHead : Head → Option (List ℕ) → Option (List ℕ) → BaseFault → Type 0
+FailsBehindHead head old new told =
     (old' : Option (List ℕ)) → Consumes old' old (head_bytes head.version head.cursor head.number) → head.number < 2 ^ 32 → head.cursor ≤ head.number → FailsToLoad old' new told
 
 abbrev pub TakesMessages : {A : Type 0} → Head → Base → Option (List ℕ) → Option (List ℕ) → Result A BaseFault → Type 0
 TakesMessages head base old new (Ok _) = TakesAll head base old new
-TakesMessages head base old new (Err told) = FailsBehind head old new told
+TakesMessages head base old new (Err told) = FailsBehindHead head old new told
 
 -- just the bytes of this base were taken
 abbrev pub TakesBase : List Filed → ℕ → Option (List ℕ) → Option (List ℕ) → Type 0

@@ -28,7 +28,7 @@ use Rattle.echo_commands.specs.declared.status.Status.TheVariants.{Good}
 use Rattle.echo_commands.specs.Status.{base_status, link_status, node_status, packet_status, post_status, scan_status, status_of, text_status}
 use Rattle.echo_commands.specs.Ended.{status_at}
 use Rattle.echo_print.specs.Checked.{CheckShown}
-use Rattle.echo_commands.specs.Checking.{CheckAnswers, IsChecked, IsVerdict, RunsAreOrderly, verdict_status}
+use Rattle.echo_commands.specs.Checking.{CheckAnswers, IsChecked, IsCheckVerdict, RunsAreOrderly, verdict_status}
 use Rattle.echo_commands.specs.Given.{AreLinkFiles, IsNodelistGiven}
 use Rattle.echo_print.specs.Pushed.{Pushes}
 
@@ -53,11 +53,11 @@ went none lines more a b nothing whole out = subst (Appends a b) (whole ∙ ap (
 -- the verdict on link files that were read is printed
 pub was_checked : (nodelist : Option (List ℕ)) (list : Option (List Line)) (tag t : List ℕ) (inputs : List (List ℕ)) (files : List LinkFile) (verdict : Verdict)
     (none lines : List ℕ) (status : Status) (a b : Option (List ℕ)) → IsNodelistGiven nodelist list → AreLinkFiles inputs files → t ≡ upper tag
-    → IsVerdict files t verdict → (IsYes verdict → RunsAreOrderly files t) → none ≡ [] → Pushes (CheckShown files t list verdict) none lines → Appends a b lines
+    → IsCheckVerdict files t verdict → (IsYes verdict → RunsAreOrderly files t) → none ≡ [] → Pushes (CheckShown files t list verdict) none lines → Appends a b lines
     → status ≡ verdict_status verdict → IsChecked nodelist tag inputs a b status
 was_checked nodelist list tag t inputs files verdict none lines status a b is_list are raised judged runs nothing pushed out ended =
     let same : files ≡ files = refl in
-    let judged_upper : IsVerdict files (upper tag) verdict = of_same (λ f u. IsVerdict f u verdict) files files t (upper tag) same raised judged in
+    let judged_upper : IsCheckVerdict files (upper tag) verdict = of_same (λ f u. IsCheckVerdict f u verdict) files files t (upper tag) same raised judged in
     record {
       files = files;
       are_files = are;

@@ -13,13 +13,13 @@ use Rattle.echo_nodelist.specs.declared.line.Line.TheVariants.{Note}
 use Rattle.echo_nodelist.specs.declared.stated.CrcLine.{CrcLine}
 use Rattle.echo_nodelist.specs.Back.{address_at}
 use Rattle.echo_nodelist.specs.CrcLine.{crc_line_of}
-use Rattle.echo_nodelist.specs.Nodelist.{ListAnswered, NodelistOf}
+use Rattle.echo_nodelist.specs.Nodelist.{NodelistAnswered, NodelistOf}
 use Rattle.echo_commands.specs.declared.fault.Fault.TheVariants.{Nodelist}
 use Rattle.echo_commands.specs.declared.status.Status.{Status}
 use Rattle.echo_commands.specs.Ended.{IsWantOfMemory}
 use Rattle.echo_commands.specs.Listing.{NodelistAnswers, crc_status}
 use Rattle.echo_print.specs.Listed.{Listed, RestListed, addressed_text, crc_text, listed_entries, line_at}
-use Rattle.echo_commands.specs.Written.{Writes}
+use Rattle.echo_commands.specs.Written.{WritesLines}
 use Rattle.echo_commands.proofs.Pushed.{all_written}
 
 same_map : (xs : List ℕ) → map (λ x. x) xs ≡ xs
@@ -39,8 +39,8 @@ entries_more lines n =
     ∙ ap (λ t. listed_entries lines n ++ t) (append-nil (text n))
 
 -- the line on the checksum, and then the others
-pub listed_lines : (find : Option Address) (lines : List Line) (stated : CrcLine) (a b c : Option (List ℕ)) → Appends a b (crc_text stated) → Writes (RestListed find lines) b c
-    → Writes (Listed find lines stated) a c
+pub listed_lines : (find : Option Address) (lines : List Line) (stated : CrcLine) (a b c : Option (List ℕ)) → Appends a b (crc_text stated) → WritesLines (RestListed find lines) b c
+    → WritesLines (Listed find lines stated) a c
 listed_lines find lines stated a b c first rest = record {
   lines = crc_text stated ++ rest.lines;
   are = record { rest = rest.lines; listed = rest.are; whole = refl };
@@ -48,21 +48,21 @@ listed_lines find lines stated a b c first rest = record {
 }
 
 -- the input is no nodelist
-pub read_refused : (find : Option Address) (input : List ℕ) (old : Option (List ℕ)) (n : ℕ) (f : NodeFault) → ListAnswered input (Err f)
+pub read_refused : (find : Option Address) (input : List ℕ) (old : Option (List ℕ)) (n : ℕ) (f : NodeFault) → NodelistAnswered input (Err f)
     → NodelistAnswers find input old old n n (Err (Nodelist f))
 read_refused find input old n f (inl wrong) = inr (record { why = f; is = refl; of_lines = wrong; nothing = refl }, refl)
 read_refused find input old n f (inr memory) = inl (inr (subst (λ x. IsWantOfMemory (Nodelist x)) (sym memory) tt, refl))
 
 -- all lines of a nodelist went out
 pub list_printed : (find : Option Address) (input none rest : List ℕ) (lines : List Line) (stated : CrcLine) (status : Status) (a b c : Option (List ℕ)) (x y z : ℕ)
-    → NodelistOf input lines → stated ≡ crc_line_of input → none ≡ [] → Writes (Listed find lines stated) (append_known a none) (append_known b rest)
+    → NodelistOf input lines → stated ≡ crc_line_of input → none ≡ [] → WritesLines (Listed find lines stated) (append_known a none) (append_known b rest)
     → Appends b c rest → status ≡ crc_status stated → y ≡ x → z ≡ y → NodelistAnswers find input a c x z (Ok status)
 list_printed find input none rest lines stated status a b c x y z is agreed nothing printed went ended first second = (
   record {
     lines = lines;
     is_nodelist = is;
-    printed = subst (λ s. Writes (Listed find lines s) a c) agreed
-        (all_written _ a b c rest (subst (λ l. Writes (Listed find lines stated) (append_known a l) (append_known b rest)) nothing printed) went);
+    printed = subst (λ s. WritesLines (Listed find lines s) a c) agreed
+        (all_written _ a b c rest (subst (λ l. WritesLines (Listed find lines stated) (append_known a l) (append_known b rest)) nothing printed) went);
     checked = ended ∙ ap crc_status agreed;
   },
   second ∙ first,

@@ -24,7 +24,7 @@ use Rattle.echo_commands.specs.Ended.{IsWantOfMemory}
 use Rattle.echo_commands.specs.Showing.{IsBroken, PacketAnswers}
 use Rattle.echo_commands.specs.Showing.{IsPrinted, show_limits}
 use Rattle.echo_print.specs.Shown.{MessageShown, MessagesShown, header_lines, end_line}
-use Rattle.echo_commands.specs.Written.{Writes}
+use Rattle.echo_commands.specs.Written.{WritesLines}
 
 -- the header and the messages that were given are printed, and the next one begins at this place
 pub record HasPrinted (bytes rest : List ℕ) (header : Header) (own : Limits) (given at : ℕ) (next : Stage) (old new : Option (List ℕ)) (count place : ℕ) : Type 0 where
@@ -90,7 +90,7 @@ pub message_printed : (bytes rest after : List ℕ) (h new_h : Header) (own new_
     → (before : HasPrinted bytes rest h own given at next old mid count place)
     → HasGiven show_limits bytes (before.messages ++ m ∷ []) after new_h new_own new_given new_at new_next
     → new_h ≡ h → new_count ≡ count + 1 → new_given ≡ given + 1 → new_place ≡ new_at → length bytes < 2 ^ 64
-    → Writes (MessageShown new_count place m) mid new
+    → WritesLines (MessageShown new_count place m) mid new
     → HasPrinted bytes after new_h new_own new_given new_at new_next old new new_count new_place
 message_printed bytes rest after h new_h own new_own given new_given at new_at next new_next old mid new count new_count place new_place m before so same counted gave here small line =
     let ms = before.messages in

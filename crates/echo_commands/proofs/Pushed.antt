@@ -3,7 +3,7 @@ use Rattle.std.proofs.Common.{◌≡◌, ℕ, List, [], ◌++◌, Option, Some, 
 use Rattle.std.specs.Io.KnownBytes.{Appends, Keeps, append_known}
 use Rattle.std.proofs.KnownBytes.{Appends-kept, Keeps-refl, append_known-grown}
 use Rattle.echo_print.specs.Pushed.{Pushes}
-use Rattle.echo_commands.specs.Written.{Writes}
+use Rattle.echo_commands.specs.Written.{WritesLines}
 
 -- lines of one kind, and then of another
 pub then_lines : (P Q R : List ℕ → Type 0) (old mid new : List ℕ) → ((a b : List ℕ) → P a → Q b → R (a ++ b)) → Pushes P old mid → Pushes Q mid new → Pushes R old new
@@ -14,7 +14,7 @@ then_lines P Q R old mid new join first second = record {
 }
 
 -- what is added to the lines kept back is written
-pub kept_back : (P : List ℕ → Type 0) (out : Option (List ℕ)) (old new : List ℕ) → Pushes P old new → Writes P (append_known out old) (append_known out new)
+pub kept_back : (P : List ℕ → Type 0) (out : Option (List ℕ)) (old new : List ℕ) → Pushes P old new → WritesLines P (append_known out old) (append_known out new)
 kept_back P out old new pushed = record {
   lines = pushed.lines;
   are = pushed.are;
@@ -22,7 +22,7 @@ kept_back P out old new pushed = record {
 }
 
 -- lines that were passed on stay written
-pub still_written : (P : List ℕ → Type 0) (a b c : Option (List ℕ)) → Writes P a b → Keeps b c → Writes P a c
+pub still_written : (P : List ℕ → Type 0) (a b c : Option (List ℕ)) → WritesLines P a b → Keeps b c → WritesLines P a c
 still_written P a b c wrote kept = record {
   lines = wrote.lines;
   are = wrote.are;
@@ -37,7 +37,7 @@ sent_out (Some x) (Some y) None rest lines p q = absurd q
 sent_out (Some x) (Some y) (Some z) rest lines p q = q ∙ p ∙ ap (λ t. t ++ lines) (append-nil x)
 
 -- all lines are written once those kept back went out
-pub all_written : (P : List ℕ → Type 0) (a b c : Option (List ℕ)) (rest : List ℕ) → Writes P (append_known a []) (append_known b rest) → Appends b c rest → Writes P a c
+pub all_written : (P : List ℕ → Type 0) (a b c : Option (List ℕ)) (rest : List ℕ) → WritesLines P (append_known a []) (append_known b rest) → Appends b c rest → WritesLines P a c
 all_written P a b c rest wrote went = record {
   lines = wrote.lines;
   are = wrote.are;

@@ -8,7 +8,7 @@ use Rattle.echo_run.proofs.TidyRuns.{along, event-files, fresh-files}
 use Rattle.std.specs.Io.KnownBytes.{Appends}
 use Rattle.echo_run.specs.declared.event.Event.{Event}
 use Rattle.echo_replay.specs.Script.{ScriptOf}
-use Rattle.echo_replay.specs.Worlds.{IsRun, WorldState}
+use Rattle.echo_replay.specs.Worlds.{IsWorldOf, WorldState}
 use Rattle.echo_commands.specs.declared.status.Status.{Status}
 use Rattle.echo_commands.specs.declared.status.Status.TheVariants.{Good}
 use Rattle.echo_commands.specs.Given.{AreLinkFiles}
@@ -27,12 +27,12 @@ run_length files events = sym (length-map (run_of files events).systems (λ (s :
 -- what was replayed is printed
 pub was_replayed : (script : List ℕ) (inputs : List (List ℕ)) (events es : List Event) (files : List LinkFile) (world : WorldState) (systems : ℕ)
     (none lines : List ℕ) (a b : Option (List ℕ)) (status : Status) → ScriptOf script (Ok events) → AreLinkFiles inputs files → es ≡ events → systems ≡ length files
-    → IsRun world (run_of files (map run_event es)) → none ≡ []
-    → ((run : Run) → IsRun world run → length run.systems ≡ systems → lines ≡ none ++ replay_lines (map (λ (s : System). s.file) run.systems) run)
+    → IsWorldOf world (run_of files (map run_event es)) → none ≡ []
+    → ((run : Run) → IsWorldOf world run → length run.systems ≡ systems → lines ≡ none ++ replay_lines (map (λ (s : System). s.file) run.systems) run)
     → Appends a b lines → status ≡ Good → IsReplayed script inputs a b status
 was_replayed script inputs events es files world systems none lines a b status script-of are same many is nothing pushed out good =
     let run : Run = run_of files (map run_event events) in
-    let is-run : IsRun world run = subst (λ (e : List Event). IsRun world (run_of files (map run_event e))) same is in
+    let is-run : IsWorldOf world run = subst (λ (e : List Event). IsWorldOf world (run_of files (map run_event e))) same is in
     record {
       events = events;
       are_events = script-of;

@@ -15,7 +15,7 @@ use Rattle.echo_commands.specs.declared.status.Status.{Status}
 use Rattle.echo_commands.specs.declared.status.Status.TheVariants.{Good, Differs}
 use Rattle.echo_commands.specs.Ended.{Answers}
 use Rattle.echo_commands.specs.Given.{AreLinkFiles, IsFirstFaultGiven, IsNodelistGiven}
-use Rattle.echo_commands.specs.Written.{Writes}
+use Rattle.echo_commands.specs.Written.{WritesLines}
 use Rattle.echo_print.specs.Checked.{CheckShown}
 
 -- 1 for a no
@@ -25,7 +25,7 @@ verdict_status (No fault) = Differs
 
 -- the verdict on an area: yes exactly where it is tidy, with its numbers of carriers and of linked pairs; a no
 -- names the first thing that is wrong
-pub record IsVerdict (files : List LinkFile) (tag : List ℕ) (verdict : Verdict) : Type 0 where
+pub record IsCheckVerdict (files : List LinkFile) (tag : List ℕ) (verdict : Verdict) : Type 0 where
   pub tidy : IsYes verdict ↔ Tidy files tag
   pub counted : IfYes verdict (λ systems links. (systems ≡ carrier_count files tag) × (links ≡ linked_pairs files tag))
   pub first : IfNo verdict (IsFirstFault files tag)
@@ -41,8 +41,8 @@ pub record IsChecked (nodelist : Option (List ℕ)) (tag : List ℕ) (inputs : L
   pub list : Option (List Line)
   pub is_list : IsNodelistGiven nodelist list
   pub verdict : Verdict
-  pub is_verdict : IsVerdict files (upper tag) verdict
-  pub printed : Writes (CheckShown files (upper tag) list verdict) old new
+  pub is_verdict : IsCheckVerdict files (upper tag) verdict
+  pub printed : WritesLines (CheckShown files (upper tag) list verdict) old new
   pub status_is : status ≡ verdict_status verdict
   pub tidy : (status ≡ Good) ↔ Tidy files (upper tag)
   pub orderly : status ≡ Good → RunsAreOrderly files (upper tag)

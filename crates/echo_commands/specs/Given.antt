@@ -5,7 +5,7 @@ use Rattle.echo_links.specs.Links.{LinkFile}
 use Rattle.echo_links.specs.LinkLines.{LinksOf}
 use Rattle.echo_nodelist.specs.declared.fault.NodeFault.{NodeFault}
 use Rattle.echo_nodelist.specs.declared.line.Line.{Line}
-use Rattle.echo_nodelist.specs.Nodelist.{ListFaultOf, NodelistOf}
+use Rattle.echo_nodelist.specs.Nodelist.{NodelistFaultOf, NodelistOf}
 use Rattle.echo_commands.specs.declared.fault.Fault.{Fault}
 use Rattle.echo_commands.specs.declared.fault.Fault.TheVariants.{Link, Nodelist}
 
@@ -36,7 +36,7 @@ IsNodelistGiven _ _ = ⊥
 -- the first faulty line of the nodelist that was given has the fault
 abbrev pub IsNodelistFault : Option (List ℕ) → Fault → Type 0
 IsNodelistFault None fault = ⊥
-IsNodelistFault (Some bytes) fault = (why : NodeFault) × (fault ≡ Nodelist why) × ListFaultOf bytes why
+IsNodelistFault (Some bytes) fault = (why : NodeFault) × (fault ≡ Nodelist why) × NodelistFaultOf bytes why
 
 -- the first fault of a nodelist and link files, in this order, and of the reading of files that stopped after them
 abbrev pub IsFirstFaultGiven : Option (List ℕ) → List (List ℕ) → Option Fault → Fault → Type 0

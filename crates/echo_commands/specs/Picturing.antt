@@ -9,7 +9,7 @@ use Rattle.echo_net.specs.Drawn.{IsDrawing}
 use Rattle.echo_commands.specs.declared.fault.Fault.{Fault}
 use Rattle.echo_commands.specs.declared.status.Status.{Status}
 use Rattle.echo_commands.specs.declared.status.Status.TheVariants.{Good}
-use Rattle.echo_commands.specs.Checking.{IsVerdict, verdict_status}
+use Rattle.echo_commands.specs.Checking.{IsCheckVerdict, verdict_status}
 use Rattle.echo_commands.specs.Ended.{Answers}
 use Rattle.echo_commands.specs.Given.{AreLinkFiles, IsFirstFaultGiven}
 use Rattle.echo_print.specs.Pictured.{picture_lines}
@@ -19,7 +19,7 @@ pub record IsPictured (tag : List ℕ) (inputs : List (List ℕ)) (old new : Opt
   pub files : List LinkFile
   pub are_files : AreLinkFiles inputs files
   pub verdict : Verdict
-  pub is_verdict : IsVerdict files (upper tag) verdict
+  pub is_verdict : IsCheckVerdict files (upper tag) verdict
   pub drawing : Drawing
   pub is_drawing : IsDrawing files (upper tag) verdict drawing
   pub printed : Appends old new (picture_lines (upper tag) verdict drawing)

@@ -16,7 +16,7 @@ use Rattle.echo_commands.specs.Ended.{Answers}
 use Rattle.echo_packet.specs.declared.limits.Limits.{Limits}
 use Rattle.echo_packet.specs.Packet.{PacketOf}
 use Rattle.echo_print.specs.Shown.{MessagesShown, Shown, header_lines}
-use Rattle.echo_commands.specs.Written.{Writes}
+use Rattle.echo_commands.specs.Written.{WritesLines}
 
 -- a byte that lays out hexadecimal text: a blank, a tab or a part of a line end
 abbrev pub is_layout : ℕ → Bool
@@ -42,7 +42,7 @@ pub record IsPrinted (bytes : List ℕ) (old new : Option (List ℕ)) : Type 0 w
   pub size : ℕ
   pub room : size ≤ length bytes
   pub packet : PacketOf show_limits header messages (take size bytes)
-  pub printed : Writes (Shown header messages size) old new
+  pub printed : WritesLines (Shown header messages size) old new
 
 -- the same of the bytes that the input stands for
 abbrev pub IsShown : Bool → List ℕ → Option (List ℕ) → Option (List ℕ) → Type 0
@@ -68,7 +68,7 @@ pub record IsBroken (bytes : List ℕ) (old new : Option (List ℕ)) (fault : Fa
   pub is : fault ≡ Packet why
   pub messages : List Message
   pub of_bytes : FaultOf bytes show_limits messages why
-  pub printed : Writes (ShownBefore bytes why messages) old new
+  pub printed : WritesLines (ShownBefore bytes why messages) old new
 
 -- the packet at the front of the bytes is printed
 pub record IsGood (bytes : List ℕ) (old new : Option (List ℕ)) (status : Status) : Type 0 where

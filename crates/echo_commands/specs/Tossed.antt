@@ -22,7 +22,7 @@ pub record TossesOpened {R : Type 0} (remaining : R → Option (List ℕ)) (fail
   pub packet : TossesPacket old (remaining reader) (remaining left) (failures reader) (failures left) stopped new
 
 -- a file cannot be used, and the run is as before
-pub record IsUnopened {R : Type 0} (remaining : R → Option (List ℕ)) (file : Coming) (old : TossRun) (stopped : Option Fault) (new : TossRun) : Type 0 where
+pub record LeavesUnopened {R : Type 0} (remaining : R → Option (List ℕ)) (file : Coming) (old : TossRun) (stopped : Option Fault) (new : TossRun) : Type 0 where
   pub fault : Fault
   pub is : stopped ≡ Some fault
   pub cannot : Opens remaining file (Err fault)
@@ -31,7 +31,7 @@ pub record IsUnopened {R : Type 0} (remaining : R → Option (List ℕ)) (file :
 -- one packet file is tossed, or stops the run
 abbrev pub TossesFile : {R : Type 0} → (R → Option (List ℕ)) → (R → ℕ) → Coming → TossRun → Option Fault → TossRun → Type 0
 TossesFile remaining failures file old stopped new =
-    TossesOpened remaining failures file old stopped new ⊎ IsUnopened remaining file old stopped new
+    TossesOpened remaining failures file old stopped new ⊎ LeavesUnopened remaining file old stopped new
 
 -- Packet files are tossed in order, each from where the one before ended, up to the first fault; those behind it are left unopened.
 abbrev pub TossesEach : {R : Type 0} → (R → Option (List ℕ)) → (R → ℕ) → List Coming → TossRun → Option Fault → List Coming → TossRun → Type 0

@@ -5,7 +5,7 @@ ghost use Rattle.echo_commands.specs.declared.fault.Fault.TheVariants.{BadAddres
 ghost use Rattle.echo_commands.specs.Ended.{Ends, Stops};
 ghost use Rattle.echo_commands.specs.Listing.{NodelistAnswers, crc_status};
 ghost use Rattle.echo_print.specs.Listed.{Listed, RestListed, addressed_text};
-ghost use Rattle.echo_commands.specs.Written.{Writes};
+ghost use Rattle.echo_commands.specs.Written.{WritesLines};
 
 use crate::fault::Fault;
 use crate::printing::{pass_on, print_rest};
@@ -75,7 +75,7 @@ fn print_list<'a, W: Sink>(
     lines: &mut Vec<u8>,
     out: &mut W,
 ) -> Result<(), Fault<'a>>
-    ensures lines { OnOk result (Writes (Listed find list.now stated) (append_known (W.contents out.old) lines.old.items) (append_known (W.contents out.new) lines.new.items)) }
+    ensures lines { OnOk result (WritesLines (Listed find list.now stated) (append_known (W.contents out.old) lines.old.items) (append_known (W.contents out.new) lines.new.items)) }
     ensures ok { OnOk result (W.failures out.new ≡ W.failures out.old) }
     ensures err { IfErr result (Stops (W.failures out.old) (W.failures out.new)) }
 {
@@ -110,7 +110,7 @@ fn print_entries<'a, W: Sink>(
     lines: &mut Vec<u8>,
     out: &mut W,
 ) -> Result<(), Fault<'a>>
-    ensures lines { OnOk result (Writes (RestListed None list.now) (append_known (W.contents out.old) lines.old.items) (append_known (W.contents out.new) lines.new.items)) }
+    ensures lines { OnOk result (WritesLines (RestListed None list.now) (append_known (W.contents out.old) lines.old.items) (append_known (W.contents out.new) lines.new.items)) }
     ensures ok { OnOk result (W.failures out.new ≡ W.failures out.old) }
     ensures err { IfErr result (Stops (W.failures out.old) (W.failures out.new)) }
 {

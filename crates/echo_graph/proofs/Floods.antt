@@ -6,7 +6,7 @@ use Rattle.std.proofs.lemmas.Option.{none-some, same_Some}
 use Rattle.echo_graph.specs.Rows.{links_at, linked, IsGraph}
 use Rattle.echo_graph.specs.Levels.{level_of}
 use Rattle.echo_graph.specs.Visits.{Visited}
-use Rattle.echo_graph.specs.Floods.{Flooding, Flooded, Settled}
+use Rattle.echo_graph.specs.Floods.{Flooding, Flooded, IsSettledFlood}
 use Rattle.echo_graph.proofs.Rows.{place_of}
 use Rattle.echo_graph.proofs.Visits.{level_cases}
 
@@ -41,7 +41,7 @@ Flooding-start links without root old lt apart none =
     }
 
 -- the member at the head, once its links are visited, is settled
-pub Flooding-step : (rows : List (List ℕ)) (without root : ℕ) (old levels new : List (Option ℕ)) (queue longer : List ℕ) (head member level : ℕ) → IsGraph rows → Settled (linked rows) without old → Flooding (linked rows) without root old levels queue head → head < length queue → get_or queue head 0 ≡ member → level_of levels member ≡ Some level → Visited (links_at rows member) (length (links_at rows member)) without (level + 1) levels new queue longer → Flooding (linked rows) without root old new longer (head + 1)
+pub Flooding-step : (rows : List (List ℕ)) (without root : ℕ) (old levels new : List (Option ℕ)) (queue longer : List ℕ) (head member level : ℕ) → IsGraph rows → IsSettledFlood (linked rows) without old → Flooding (linked rows) without root old levels queue head → head < length queue → get_or queue head 0 ≡ member → level_of levels member ≡ Some level → Visited (links_at rows member) (length (links_at rows member)) without (level + 1) levels new queue longer → Flooding (linked rows) without root old new longer (head + 1)
 Flooding-step rows without root old levels new queue longer head member level graph was f lt at has v =
     let there : level_of levels (get_or queue head 0) ≡ Some level = ap (level_of levels) at ∙ has in
     let unmade : (i : ℕ) → level_of levels i ≡ None → level_of old i ≡ None = λ i none.
@@ -161,7 +161,7 @@ Flooding-step rows without root old levels new queue longer head member level gr
     }
 
 -- once the whole queue is settled, the search is done
-pub Flooded-end : (links : ℕ → ℕ → Bool) (without root : ℕ) (old levels : List (Option ℕ)) (queue : List ℕ) (head : ℕ) → Settled links without old → Flooding links without root old levels queue head → length queue ≤ head → Flooded links without root old levels
+pub Flooded-end : (links : ℕ → ℕ → Bool) (without root : ℕ) (old levels : List (Option ℕ)) (queue : List ℕ) (head : ℕ) → IsSettledFlood links without old → Flooding links without root old levels queue head → length queue ≤ head → Flooded links without root old levels
 Flooded-end links without root old levels queue head was f done = record {
   same_length = f.same_length;
   rooted = f.rooted;

@@ -5,7 +5,7 @@ use Rattle.std.proofs.lemmas.Option.{none-some}
 use Rattle.echo_graph.specs.Walk.{Walk, Reaches}
 use Rattle.echo_graph.specs.Rows.{linked, IsGraph}
 use Rattle.echo_graph.specs.Levels.{level_of}
-use Rattle.echo_graph.specs.Floods.{Flooded, Settled}
+use Rattle.echo_graph.specs.Floods.{Flooded, IsSettledFlood}
 use Rattle.echo_graph.specs.Forest.{IsForest}
 use Rattle.echo_graph.proofs.Walks.{Reaches-sym}
 use Rattle.echo_graph.proofs.PinchSearch.{Simple-from_graph}
@@ -32,7 +32,7 @@ IsForest-passed links members root m levels f has = record {
 }
 
 -- with a member's level go levels of all that it reaches
-levels_reached : (rows : List (List ℕ)) (levels : List (Option ℕ)) → IsGraph rows → Settled (linked rows) (length rows) levels → (rest : List ℕ) (a b m : ℕ) → Walk (linked rows) a rest b → level_of levels a ≡ Some m → (n : ℕ) × (level_of levels b ≡ Some n)
+levels_reached : (rows : List (List ℕ)) (levels : List (Option ℕ)) → IsGraph rows → IsSettledFlood (linked rows) (length rows) levels → (rest : List ℕ) (a b m : ℕ) → Walk (linked rows) a rest b → level_of levels a ≡ Some m → (n : ℕ) × (level_of levels b ≡ Some n)
 levels_reached rows levels graph settled [] a b m same e = (m, ap (level_of levels) (sym same) ∙ e)
 levels_reached rows levels graph settled (c ∷ rest) a b m walk e =
     let inside = graph.within a c walk.0 in

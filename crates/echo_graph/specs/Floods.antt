@@ -3,8 +3,8 @@ use Rattle.std.specs.Prelude.{◌≡◌, ◌≢◌, ◌+◌, ◌<◌, ◌≤◌,
 use Rattle.echo_graph.specs.Levels.{level_of}
 
 -- around a member with a level each link, but the one that is left out, has a level at most one higher
-abbrev pub Settled : (ℕ → ℕ → Bool) → ℕ → List (Option ℕ) → Type 0
-Settled linked without levels =
+abbrev pub IsSettledFlood : (ℕ → ℕ → Bool) → ℕ → List (Option ℕ) → Type 0
+IsSettledFlood linked without levels =
     (a b m : ℕ) → level_of levels a ≡ Some m → IsTrue (linked a b) → b ≢ without → (n : ℕ) × (level_of levels b ≡ Some n) × (n ≤ m + 1)
 
 -- a member with a level is the root, or has a link one level lower
@@ -30,10 +30,10 @@ pub record Flooded (linked : ℕ → ℕ → Bool) (without root : ℕ) (old lev
   pub rooted : level_of levels root ≡ Some 0
   pub kept : (i m : ℕ) → level_of old i ≡ Some m → level_of levels i ≡ Some m
   pub made : (i m : ℕ) → level_of levels i ≡ Some m → (level_of old i ≡ Some m) ⊎ Stepped linked without root levels i m
-  pub settled : Settled linked without levels
+  pub settled : IsSettledFlood linked without levels
 
 -- the levels of one search alone
 pub record Searched (linked : ℕ → ℕ → Bool) (without root : ℕ) (levels : List (Option ℕ)) : Type 0 where
   pub rooted : level_of levels root ≡ Some 0
   pub stepped : (i m : ℕ) → level_of levels i ≡ Some m → Stepped linked without root levels i m
-  pub settled : Settled linked without levels
+  pub settled : IsSettledFlood linked without levels

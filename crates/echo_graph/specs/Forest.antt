@@ -2,13 +2,13 @@
 use Rattle.std.specs.Prelude.{◌≡◌, ◌≢◌, ◌<◌, ◌≤◌, ◌⊎◌, ℕ, suc, Bool, IsTrue, Option, Some, None, List, slice_index_or}
 use Rattle.echo_graph.specs.Walk.{Reaches}
 use Rattle.echo_graph.specs.Levels.{level_of}
-use Rattle.echo_graph.specs.Floods.{Settled}
+use Rattle.echo_graph.specs.Floods.{IsSettledFlood}
 
 -- the members before `upto` have levels, which begin at one root for all that a walk joins
 pub record IsForest (linked : ℕ → ℕ → Bool) (members upto : ℕ) (levels : List (Option ℕ)) : Type 0 where
   pub all : (a : ℕ) → a < upto → (m : ℕ) × (level_of levels a ≡ Some m)
   pub lower : (a m : ℕ) → level_of levels a ≡ Some (suc m) → (b : ℕ) × IsTrue (linked a b) × (level_of levels b ≡ Some m)
-  pub near : Settled linked members levels
+  pub near : IsSettledFlood linked members levels
   pub one_root : (a b : ℕ) → level_of levels a ≡ Some 0 → level_of levels b ≡ Some 0 → Reaches linked a b → a ≡ b
 
 -- the parent of a member, where it has one

@@ -39,5 +39,5 @@ pub record FirstHere (linked : ℕ → ℕ → Bool) (b a c : ℕ) : Type 0 wher
   pub first : (d f : ℕ) → IsPinch linked b d f → (a < d) ⊎ ((a ≡ d) × ((c < f) ⊎ (c ≡ f)))
 
 -- some link of b after a is not linked with it
-abbrev pub HasUnlinked : (ℕ → ℕ → Bool) → ℕ → ℕ → Type 0
-HasUnlinked linked b a = (c : ℕ) × IsTrue (linked b c) × (a < c) × ¬ IsTrue (linked a c)
+abbrev pub HasUnlinkedAfter : (ℕ → ℕ → Bool) → ℕ → ℕ → Type 0
+HasUnlinkedAfter linked b a = (c : ℕ) × IsTrue (linked b c) × (a < c) × ¬ IsTrue (linked a c)

@@ -4,7 +4,7 @@ ghost use Rattle.std.specs.Prelude.{◌≡◌, ◌<◌, ◌≢◌, ℕ, IfOk, No
 ghost use Rattle.echo_graph.specs.Rows.{links_at, linked, IsGraph};
 ghost use Rattle.echo_graph.specs.Levels.{level_of, AreLevels};
 ghost use Rattle.echo_graph.specs.Visits.{Visited};
-ghost use Rattle.echo_graph.specs.Floods.{Flooded, Searched, Settled};
+ghost use Rattle.echo_graph.specs.Floods.{Flooded, Searched, IsSettledFlood};
 
 use crate::graph::Graph;
 use std::alloc::{AllocError, Global};
@@ -40,7 +40,7 @@ pub fn flood(
     requires inside { root < length graph.now }
     requires apart { root ≢ without }
     requires none { level_of levels.old.items root ≡ None }
-    requires settled { Settled (linked graph.now) without levels.old.items }
+    requires settled { IsSettledFlood (linked graph.now) without levels.old.items }
     ensures { OnOk result (Flooded (linked graph.now) without root levels.old.items levels.new.items) }
 {
     let mut queue = Vec::new(alloc);

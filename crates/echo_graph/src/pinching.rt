@@ -3,7 +3,7 @@
 ghost use Rattle.std.specs.Prelude.{◌≡◌, ◌≢◌, ◌<◌, ◌↔◌, ℕ, IsTrue, IfOk, MatchOption, None, length};
 ghost use Rattle.echo_graph.specs.Rows.{linked, IsGraph};
 ghost use Rattle.echo_graph.specs.Levels.{level_of, AreLevels};
-ghost use Rattle.echo_graph.specs.Pinches.{IsPinch, FirstPinch, FirstOther, FirstHere, HasUnlinked};
+ghost use Rattle.echo_graph.specs.Pinches.{IsPinch, FirstPinch, FirstOther, FirstHere, HasUnlinkedAfter};
 
 use crate::graph::Graph;
 use crate::levels::levels_around;
@@ -85,7 +85,7 @@ fn first_around(
 fn has_unlinked(graph: &Graph, at: usize, one: usize) -> bool
     requires inside { at < length graph.now }
     requires within { one < length graph.now }
-    ensures { IsTrue result ↔ HasUnlinked (linked graph.now) at one }
+    ensures { IsTrue result ↔ HasUnlinkedAfter (linked graph.now) at one }
 {
     'others: for other in graph.links(at) {
         if one < *other && !graph.is_linked(one, *other) {

@@ -4,7 +4,7 @@ use Rattle.std.proofs.lemmas.List.{append_assoc, reverse-append, reverse-reverse
 use Rattle.echo_nodelist.specs.declared.line.Line.{Line}
 use Rattle.echo_nodelist.specs.declared.fault.NodeFault.{NodeFault}
 use Rattle.echo_nodelist.specs.Raw.{node_lines}
-use Rattle.echo_nodelist.specs.Nodelist.{AreRead, ListFaultOf, NodelistOf, line_outcome}
+use Rattle.echo_nodelist.specs.Nodelist.{AreRead, NodelistFaultOf, NodelistOf, line_outcome}
 
 same_read : (raws : List (List ℕ)) (some others : List Line) → AreRead raws some → AreRead raws others → some ≡ others
 same_read [] [] [] s o = refl
@@ -49,7 +49,7 @@ front_faulty front raw later lines earlier fault read good faulty =
     let both : Ok b.line ≡ Err fault = sym b.said ∙ ap (λ ls. line_outcome ls raw) same ∙ faulty in
     absurd cc
 
-pub none_faulty : (bytes : List ℕ) (lines : List Line) (fault : NodeFault) → NodelistOf bytes lines → ListFaultOf bytes fault → ⊥
+pub none_faulty : (bytes : List ℕ) (lines : List Line) (fault : NodeFault) → NodelistOf bytes lines → NodelistFaultOf bytes fault → ⊥
 none_faulty bytes lines fault read faulty =
     front_faulty faulty.front faulty.raw faulty.later (reverse lines) (reverse faulty.lines) fault
     (subst (λ rs. AreRead (reverse rs) (reverse lines)) faulty.pieces read) faulty.good faulty.faulty
@@ -74,7 +74,7 @@ places (f ∷ first) (s ∷ second) a b xs ys is =
     onward head (earlier m e) = earlier m (ap (λ l. l ∷ second) (sym head) ∙ ap (λ ls. f ∷ ls) e)
     onward head (later m e) = later m (ap (λ l. l ∷ first) head ∙ ap (λ ls. s ∷ ls) e)
 
-pub same_fault : (bytes : List ℕ) (one other : NodeFault) → ListFaultOf bytes one → ListFaultOf bytes other → one ≡ other
+pub same_fault : (bytes : List ℕ) (one other : NodeFault) → NodelistFaultOf bytes one → NodelistFaultOf bytes other → one ≡ other
 same_fault bytes one other f g = by (places f.front g.front f.raw g.raw f.later g.later (sym f.pieces ∙ g.pieces))
   where
     by : Places f.front f.raw g.front g.raw → one ≡ other

@@ -47,13 +47,13 @@ pub record FaultIn (raws : List (List ℕ)) (fault : NodeFault) : Type 0 where
   pub faulty : line_outcome (reverse lines) raw ≡ Err fault
 
 -- the same of a nodelist
-abbrev pub ListFaultOf : List ℕ → NodeFault → Type 0
-ListFaultOf bytes fault = FaultIn (node_lines bytes) fault
+abbrev pub NodelistFaultOf : List ℕ → NodeFault → Type 0
+NodelistFaultOf bytes fault = FaultIn (node_lines bytes) fault
 
 -- a reader's answer: the lines, the first fault, or want of memory
-abbrev pub ListAnswered : List ℕ → Result (List Line) NodeFault → Type 0
-ListAnswered bytes (Ok lines) = NodelistOf bytes lines
-ListAnswered bytes (Err fault) = ListFaultOf bytes fault ⊎ (fault ≡ Memory)
+abbrev pub NodelistAnswered : List ℕ → Result (List Line) NodeFault → Type 0
+NodelistAnswered bytes (Ok lines) = NodelistOf bytes lines
+NodelistAnswered bytes (Err fault) = NodelistFaultOf bytes fault ⊎ (fault ≡ Memory)
 
 -- what was to be answered, or want of memory
 abbrev pub Gives : {A : Type 0} → Result A NodeFault → Result A NodeFault → Type 0

@@ -3,7 +3,7 @@
 ghost use Rattle.std.specs.Prelude.{◌≡◌, ℕ, List};
 ghost use Rattle.echo_nodelist.specs.declared.fault.NodeFault.{NodeFault};
 ghost use Rattle.echo_nodelist.specs.declared.line.Line.{Line};
-ghost use Rattle.echo_nodelist.specs.Nodelist.{ListFaultOf, IsNodelist, NodelistOf};
+ghost use Rattle.echo_nodelist.specs.Nodelist.{NodelistFaultOf, IsNodelist, NodelistOf};
 ghost use Rattle.echo_nodelist.specs.Written.{nodelist_text};
 
 /// What is written of a nodelist is that nodelist, and bytes that were read keep the rules.
@@ -15,6 +15,6 @@ pub fn written_nodelist_read_back()
 /// Bytes are one nodelist at most, have one first fault at most, and never both.
 pub fn one_nodelist()
     ensures same { (bytes : List ℕ) (some others : List Line) → NodelistOf bytes some → NodelistOf bytes others → some ≡ others }
-    ensures fault { (bytes : List ℕ) (one other : NodeFault) → ListFaultOf bytes one → ListFaultOf bytes other → one ≡ other }
-    ensures faulty { (bytes : List ℕ) (lines : List Line) (fault : NodeFault) → NodelistOf bytes lines → ListFaultOf bytes fault → ⊥ }
+    ensures fault { (bytes : List ℕ) (one other : NodeFault) → NodelistFaultOf bytes one → NodelistFaultOf bytes other → one ≡ other }
+    ensures faulty { (bytes : List ℕ) (lines : List Line) (fault : NodeFault) → NodelistOf bytes lines → NodelistFaultOf bytes fault → ⊥ }
 {}

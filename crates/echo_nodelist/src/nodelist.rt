@@ -33,13 +33,13 @@ impl Model for Nodelist {
 impl Nodelist {
     ghost use Rattle.std.specs.Prelude.{◌≡◌, IfOk};
     ghost use Rattle.echo_nodelist.specs.Back.{Finds, address_at, hub_at};
-    ghost use Rattle.echo_nodelist.specs.Nodelist.{ListAnswered, IsNodelist};
+    ghost use Rattle.echo_nodelist.specs.Nodelist.{NodelistAnswered, IsNodelist};
     ghost use Rattle.echo_nodelist.specs.Written.{WritesOut, nodelist_text};
 
     /// The nodelist that the bytes are, up to the first 1A. A fault is that of the first faulty line,
     /// or `Memory`.
     pub fn read(alloc: Global, bytes: &[u8]) -> Result<Nodelist, NodeFault>
-        ensures { ListAnswered bytes.now result }
+        ensures { NodelistAnswered bytes.now result }
     {
         let reading = read_lines(alloc, before_end(bytes))?;
         Ok(Nodelist {

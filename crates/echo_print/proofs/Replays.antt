@@ -12,7 +12,7 @@ use Rattle.std.specs.Option.{option_map}
 use Rattle.echo_addr.specs.declared.address.Address.{Address}
 use Rattle.echo_run.specs.World.{filed_at, is_settled, undelivered, waiting_at}
 use Rattle.echo_replay.proofs.Exports.{nth-slice_get}
-use Rattle.echo_print.specs.Replayed.{area_line, counts_line, packets_line, replay_lines, settled_line, systems_from}
+use Rattle.echo_print.specs.Replayed.{area_state_line, area_counts_line, packets_line, replay_lines, settled_line, systems_from}
 
 -- one more item
 pub flat_more : {X : Type 0} (f : X → List ℕ) (xs : List X) (k : ℕ) (first old new : List ℕ) → k < length xs → ((x : X) → slice_get xs k ≡ Some x → new ≡ old ++ f x)
@@ -28,16 +28,16 @@ flat_more f xs k first old new inside added so = elim (slice_get_cases xs k).1 [
 
 -- one more system
 systems_last : (run : Run) (i : ℕ) (files : List LinkFile) (file : LinkFile)
-    → systems_from run i (files ++ file ∷ []) ≡ systems_from run i files ++ flat_map (area_line run (i + length files) file.system) file.areas
+    → systems_from run i (files ++ file ∷ []) ≡ systems_from run i files ++ flat_map (area_state_line run (i + length files) file.system) file.areas
 systems_last run i [] file =
-    append-nil (flat_map (area_line run i file.system) file.areas) ∙ ap (λ n. flat_map (area_line run n file.system) file.areas) (let e : i ≡ i + 0 = omega arith in e)
+    append-nil (flat_map (area_state_line run i file.system) file.areas) ∙ ap (λ n. flat_map (area_state_line run n file.system) file.areas) (let e : i ≡ i + 0 = omega arith in e)
 systems_last run i (first ∷ files) file =
-    ap (λ t. flat_map (area_line run i first.system) first.areas ++ t) (systems_last run (i + 1) files file)
-    ∙ sym (append_assoc (flat_map (area_line run i first.system) first.areas) (systems_from run (i + 1) files) (flat_map (area_line run (i + 1 + length files) file.system) file.areas))
-    ∙ ap (λ n. (flat_map (area_line run i first.system) first.areas ++ systems_from run (i + 1) files) ++ flat_map (area_line run n file.system) file.areas) (omega arith)
+    ap (λ t. flat_map (area_state_line run i first.system) first.areas ++ t) (systems_last run (i + 1) files file)
+    ∙ sym (append_assoc (flat_map (area_state_line run i first.system) first.areas) (systems_from run (i + 1) files) (flat_map (area_state_line run (i + 1 + length files) file.system) file.areas))
+    ∙ ap (λ n. (flat_map (area_state_line run i first.system) first.areas ++ systems_from run (i + 1) files) ++ flat_map (area_state_line run n file.system) file.areas) (omega arith)
 
 pub systems_more : (run : Run) (i : ℕ) (first old new : List ℕ) → i < length run.systems
-    → ((s : System) → nth i run.systems ≡ Some s → new ≡ old ++ flat_map (area_line run i s.file.system) s.file.areas)
+    → ((s : System) → nth i run.systems ≡ Some s → new ≡ old ++ flat_map (area_state_line run i s.file.system) s.file.areas)
     → old ≡ first ++ systems_from run 0 (take i (map (λ (s : System). s.file) run.systems))
     → new ≡ first ++ systems_from run 0 (take (i + 1) (map (λ (s : System). s.file) run.systems))
 systems_more run i first old new inside added so = elim (slice_get_cases run.systems i).1 [
@@ -46,10 +46,10 @@ systems_more run i first old new inside added so = elim (slice_get_cases run.sys
       let long : i < length files = (let e = length-map run.systems (λ (s : System). s.file) in omega (arith, e, inside)) in
       let here : get_or files i s.file ≡ s.file = get_or-map (λ (s : System). s.file) run.systems i s ∙ ap (λ (t : System). t.file) read in
       let count : 0 + length (take i files) ≡ i = (let e = length-take-le i files (omega (arith, long)) in omega (arith, e)) in
-      added s (sym (nth-slice_get i run.systems) ∙ got) ∙ ap (λ l. l ++ flat_map (area_line run i s.file.system) s.file.areas) so
-      ∙ append_assoc first (systems_from run 0 (take i files)) (flat_map (area_line run i s.file.system) s.file.areas)
+      added s (sym (nth-slice_get i run.systems) ∙ got) ∙ ap (λ l. l ++ flat_map (area_state_line run i s.file.system) s.file.areas) so
+      ∙ append_assoc first (systems_from run 0 (take i files)) (flat_map (area_state_line run i s.file.system) s.file.areas)
       ∙ ap (λ t. first ++ t)
-      (ap (λ n. systems_from run 0 (take i files) ++ flat_map (area_line run n s.file.system) s.file.areas) (sym count)
+      (ap (λ n. systems_from run 0 (take i files) ++ flat_map (area_state_line run n s.file.system) s.file.areas) (sym count)
       ∙ sym (systems_last run 0 (take i files) s.file)
       ∙ ap (systems_from run 0) (ap (λ y. take i files ++ y ∷ []) (sym here) ∙ sym (take_more files i s.file long)))
   | inr past ↦ absurd (let less = past.0 in omega (arith, less, inside))
@@ -72,11 +72,11 @@ world_lines run files packets missing settled old a b text new a-is b-is new-is 
 -- the line of an area, by what the world tells
 pub area_told : (run : Run) (i : ℕ) (a : Address) (area : Area) (areas : List Area) (k filed waiting : ℕ) (tag old new : List ℕ) → slice_get areas k ≡ Some area
     → Some tag ≡ option_map (λ (area : Area). area.tag) (slice_get areas k) → filed ≡ filed_at run i tag → waiting ≡ waiting_at run i tag
-    → new ≡ old ++ counts_line a tag filed waiting → new ≡ old ++ area_line run i a area
+    → new ≡ old ++ area_counts_line a tag filed waiting → new ≡ old ++ area_state_line run i a area
 area_told run i a area areas k filed waiting tag old new is told filed-is waiting-is so =
     let same : tag ≡ area.tag = some_same tag area.tag (told ∙ ap (option_map (λ (area : Area). area.tag)) is) in
-    so ∙ ap (λ n. old ++ counts_line a tag n waiting) filed-is ∙ ap (λ n. old ++ counts_line a tag (filed_at run i tag) n) waiting-is
-    ∙ ap (λ t. old ++ counts_line a t (filed_at run i t) (waiting_at run i t)) same
+    so ∙ ap (λ n. old ++ area_counts_line a tag n waiting) filed-is ∙ ap (λ n. old ++ area_counts_line a tag (filed_at run i tag) n) waiting-is
+    ∙ ap (λ t. old ++ area_counts_line a t (filed_at run i t) (waiting_at run i t)) same
   where
     some_same : (x y : List ℕ) → (let o : Option (List ℕ) = Some x in o ≡ Some y) → x ≡ y
     some_same x y e = cc

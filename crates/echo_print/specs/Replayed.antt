@@ -8,18 +8,18 @@ use Rattle.echo_run.specs.Run.{Run}
 use Rattle.echo_run.specs.World.{filed_at, is_settled, undelivered, waiting_at}
 
 -- the line of an area, by its address, its tag and its two numbers; the tag is printed as it stands
-abbrev pub counts_line : Address → List ℕ → ℕ → ℕ → List ℕ
-counts_line a tag filed waiting =
+abbrev pub area_counts_line : Address → List ℕ → ℕ → ℕ → List ℕ
+area_counts_line a tag filed waiting =
     codes "system " ++ (address_text a ++ (codes " " ++ (tag ++ (codes " filed " ++ (decimal filed ++ (codes " waiting " ++ (decimal waiting ++ codes "\n")))))))
 
 -- the line of an area of the system of an index
-abbrev pub area_line : Run → ℕ → Address → Area → List ℕ
-area_line run i a area = counts_line a area.tag (filed_at run i area.tag) (waiting_at run i area.tag)
+abbrev pub area_state_line : Run → ℕ → Address → Area → List ℕ
+area_state_line run i a area = area_counts_line a area.tag (filed_at run i area.tag) (waiting_at run i area.tag)
 
 -- the lines of the areas of systems, in order, of which the first has this index
 abbrev pub systems_from : Run → ℕ → List LinkFile → List ℕ
 systems_from run i [] = []
-systems_from run i (file ∷ later) = flat_map (area_line run i file.system) file.areas ++ systems_from run (i + 1) later
+systems_from run i (file ∷ later) = flat_map (area_state_line run i file.system) file.areas ++ systems_from run (i + 1) later
 
 -- the line of the packets
 abbrev pub packets_line : ℕ → ℕ → List ℕ

@@ -3,8 +3,8 @@ ghost use Rattle.std.specs.Prelude.{◌≡◌, ◌++◌, OnOk, Some, length, map
 ghost use Rattle.std.specs.List.{flat_map};
 ghost use Rattle.echo_links.specs.Links.{Area};
 ghost use Rattle.echo_run.specs.Run.{Run, System, nth};
-ghost use Rattle.echo_replay.specs.Worlds.{IsRun};
-ghost use Rattle.echo_print.specs.Replayed.{area_line, counts_line, packets_line, replay_lines, settled_line, systems_from};
+ghost use Rattle.echo_replay.specs.Worlds.{IsWorldOf};
+ghost use Rattle.echo_print.specs.Replayed.{area_state_line, area_counts_line, packets_line, replay_lines, settled_line, systems_from};
 
 use crate::escape::written;
 use echo_addr::Address;
@@ -16,7 +16,7 @@ use std::io::Write;
 /// Adds the lines of a net of so many systems: of each area of each, how many messages are filed and wait
 /// there; how many packets were made and not delivered; and whether the net has settled.
 pub fn push_world(lines: &mut Vec<u8>, systems: usize, world: &World) -> Result<(), AllocError>
-    ensures { OnOk result ((run : Run) → IsRun world.now run → length run.systems ≡ systems →
+    ensures { OnOk result ((run : Run) → IsWorldOf world.now run → length run.systems ≡ systems →
         lines.new.items ≡ lines.old.items ++ replay_lines (map (λ s. s.file) run.systems) run) }
 {
     push_systems(lines, systems, world)?;
@@ -27,7 +27,7 @@ pub fn push_world(lines: &mut Vec<u8>, systems: usize, world: &World) -> Result<
 
 // Adds the lines of the areas of the systems.
 fn push_systems(lines: &mut Vec<u8>, systems: usize, world: &World) -> Result<(), AllocError>
-    ensures { OnOk result ((run : Run) → IsRun world.now run → length run.systems ≡ systems →
+    ensures { OnOk result ((run : Run) → IsWorldOf world.now run → length run.systems ≡ systems →
         lines.new.items ≡ lines.old.items ++ systems_from run 0 (map (λ s. s.file) run.systems)) }
 {
     'systems: for i in 0..systems {
@@ -38,8 +38,8 @@ fn push_systems(lines: &mut Vec<u8>, systems: usize, world: &World) -> Result<()
 
 // Adds the lines of the areas of the system of this index.
 fn push_system(lines: &mut Vec<u8>, i: usize, world: &World) -> Result<(), AllocError>
-    ensures { OnOk result ((run : Run) → IsRun world.now run → (s : System) → nth i run.systems ≡ Some s →
-        lines.new.items ≡ lines.old.items ++ flat_map (area_line run i s.file.system) s.file.areas) }
+    ensures { OnOk result ((run : Run) → IsWorldOf world.now run → (s : System) → nth i run.systems ≡ Some s →
+        lines.new.items ≡ lines.old.items ++ flat_map (area_state_line run i s.file.system) s.file.areas) }
 {
     match world.links(i) {
         Some(file) => push_areas(lines, i, file, world),
@@ -54,8 +54,8 @@ fn push_areas(
     file: &LinkFile,
     world: &World,
 ) -> Result<(), AllocError>
-    ensures { OnOk result ((run : Run) → IsRun world.now run →
-        lines.new.items ≡ lines.old.items ++ flat_map (area_line run i file.now.system) file.now.areas) }
+    ensures { OnOk result ((run : Run) → IsWorldOf world.now run →
+        lines.new.items ≡ lines.old.items ++ flat_map (area_state_line run i file.now.system) file.now.areas) }
 {
     'areas: for k in 0..file.areas() {
         push_area(lines, i, k, file, world)?;
@@ -71,8 +71,8 @@ fn push_area(
     file: &LinkFile,
     world: &World,
 ) -> Result<(), AllocError>
-    ensures { OnOk result ((run : Run) → IsRun world.now run → (area : Area) → slice_get file.now.areas k ≡ Some area →
-        lines.new.items ≡ lines.old.items ++ area_line run i file.now.system area) }
+    ensures { OnOk result ((run : Run) → IsWorldOf world.now run → (area : Area) → slice_get file.now.areas k ≡ Some area →
+        lines.new.items ≡ lines.old.items ++ area_state_line run i file.now.system area) }
 {
     let Some(tag) = file.area(k) else {
         return Ok(());
@@ -90,7 +90,7 @@ fn push_counts(
     filed: usize,
     waiting: usize,
 ) -> Result<(), AllocError>
-    ensures { OnOk result (lines.new.items ≡ lines.old.items ++ counts_line system tag.now filed waiting) }
+    ensures { OnOk result (lines.new.items ≡ lines.old.items ++ area_counts_line system tag.now filed waiting) }
 {
     written(write!(lines, "system {system} "))?;
     lines.extend_from_slice(tag)?;

@@ -8,21 +8,21 @@ use Rattle.std.proofs.lemmas.List.Folds.{list_all-map}
 use Rattle.echo_steps.specs.SystemState.{SystemState}
 use Rattle.echo_run.specs.Run.{Run, System, nth}
 use Rattle.echo_run.specs.World.{area_count, filed_at, is_settled, undelivered, waiting_at}
-use Rattle.echo_replay.specs.Worlds.{Exported, IsRun, WorldState, encoded, exported_from, state_of}
+use Rattle.echo_replay.specs.Worlds.{Exported, IsWorldOf, WorldState, encoded, exported_from, state_of}
 use Rattle.echo_replay.proofs.Exports.{exported-bytes, exported-length, exported-missing, nth-map, nth-slice_get}
 
 -- how many packets did not come
-pub missing-is : (world : WorldState) (run : Run) → IsRun world run → count_by (λ e. not e.came) world.packets ≡ undelivered run
+pub missing-is : (world : WorldState) (run : Run) → IsWorldOf world run → count_by (λ e. not e.came) world.packets ≡ undelivered run
 missing-is world run is = ap (λ (es : List Exported). count_by (λ e. not e.came) es) is.packets ∙ exported-missing run.delivered 0 run.packets
 
 -- whether nothing waits
-pub scanned-is : (world : WorldState) (run : Run) → IsRun world run
+pub scanned-is : (world : WorldState) (run : Run) → IsWorldOf world run
     → list_all (λ s. nat_le (length s.base) s.cursor) world.systems ≡ list_all (λ s. nat_le (length s.base) s.cursor) run.systems
 scanned-is world run is =
     ap (λ (ss : List SystemState). list_all (λ s. nat_le (length s.base) s.cursor) ss) is.systems
     ∙ list_all-map (λ (s : SystemState). nat_le (length s.base) s.cursor) state_of run.systems
 
-pub settled-is : (world : WorldState) (run : Run) → IsRun world run
+pub settled-is : (world : WorldState) (run : Run) → IsWorldOf world run
     → list_all (λ s. nat_le (length s.base) s.cursor) world.systems && (count_by (λ e. not e.came) world.packets == 0) ≡ is_settled run
 settled-is world run is =
     let a = scanned-is world run is in
@@ -30,29 +30,29 @@ settled-is world run is =
     λ i. a i && (b i == 0)
 
 -- the system of an index
-pub system-is : (world : WorldState) (run : Run) → IsRun world run → (i : ℕ) → slice_get world.systems i ≡ option_map state_of (nth i run.systems)
+pub system-is : (world : WorldState) (run : Run) → IsWorldOf world run → (i : ℕ) → slice_get world.systems i ≡ option_map state_of (nth i run.systems)
 system-is world run is i = ap (λ (ss : List SystemState). slice_get ss i) is.systems ∙ nth-slice_get i (map state_of run.systems) ∙ nth-map state_of i run.systems
 
 -- the bytes of the packet of an index
-pub bytes-are : (world : WorldState) (run : Run) → IsRun world run → (k : ℕ) → option_map (λ e. e.bytes) (slice_get world.packets k) ≡ option_map encoded (nth k run.packets)
+pub bytes-are : (world : WorldState) (run : Run) → IsWorldOf world run → (k : ℕ) → option_map (λ e. e.bytes) (slice_get world.packets k) ≡ option_map encoded (nth k run.packets)
 bytes-are world run is k =
     ap (λ (es : List Exported). option_map (λ e. e.bytes) (slice_get es k)) is.packets
     ∙ ap (option_map (λ e. e.bytes)) (nth-slice_get k (exported_from run.delivered 0 run.packets))
     ∙ exported-bytes run.delivered 0 k run.packets
 
 -- how many packets there are
-pub packet_count : (world : WorldState) (run : Run) → IsRun world run → length world.packets ≡ length run.packets
+pub packet_count : (world : WorldState) (run : Run) → IsWorldOf world run → length world.packets ≡ length run.packets
 packet_count world run is = ap (λ (es : List Exported). length es) is.packets ∙ exported-length run.delivered 0 run.packets
 
 -- how many messages of an area the system of an index has, and how many wait
-pub none_filed : (world : WorldState) (run : Run) → IsRun world run → (i : ℕ) → slice_get world.systems i ≡ None → nth i run.systems ≡ None
+pub none_filed : (world : WorldState) (run : Run) → IsWorldOf world run → (i : ℕ) → slice_get world.systems i ≡ None → nth i run.systems ≡ None
 none_filed world run is i h = none_before (nth i run.systems) (sym (system-is world run is i) ∙ h)
   where
     none_before : (o : Option System) → option_map state_of o ≡ None → o ≡ None
     none_before None e = refl
     none_before (Some s) e = absurd (cc)
 
-pub filed-is : (world : WorldState) (run : Run) → IsRun world run → (i : ℕ) (tag : List ℕ) (s : SystemState) → slice_get world.systems i ≡ Some s
+pub filed-is : (world : WorldState) (run : Run) → IsWorldOf world run → (i : ℕ) (tag : List ℕ) (s : SystemState) → slice_get world.systems i ≡ Some s
     → area_count tag s.base ≡ filed_at run i tag
 filed-is world run is i tag s h = of (nth i run.systems) (sym (system-is world run is i) ∙ h)
   where
@@ -60,7 +60,7 @@ filed-is world run is i tag s h = of (nth i run.systems) (sym (system-is world r
     of None e = absurd (cc)
     of (Some x) e = let same : state_of x ≡ s = cc in ap (λ (y : SystemState). area_count tag y.base) (sym same)
 
-pub waiting-is : (world : WorldState) (run : Run) → IsRun world run → (i : ℕ) (tag : List ℕ) (s : SystemState) → slice_get world.systems i ≡ Some s
+pub waiting-is : (world : WorldState) (run : Run) → IsWorldOf world run → (i : ℕ) (tag : List ℕ) (s : SystemState) → slice_get world.systems i ≡ Some s
     → area_count tag (drop s.cursor s.base) ≡ waiting_at run i tag
 waiting-is world run is i tag s h = of (nth i run.systems) (sym (system-is world run is i) ∙ h)
   where

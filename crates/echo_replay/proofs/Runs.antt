@@ -24,7 +24,7 @@ use Rattle.echo_run.specs.Event.{run_event}
 use Rattle.echo_run.specs.declared.event.Event.{Event}
 use Rattle.echo_run.proofs.LaterSystems.{after-append}
 use Rattle.echo_run.specs.Run.{Run, System, after_event, change, changing, coming, delivery, destination, filing, fresh, nth, posting_at, purging_at, receiver, run_of, scanning, scanning_at, start, taking, tossing_at}
-use Rattle.echo_replay.specs.Worlds.{Exported, Fits, IsRun, ScanFits, WorldState, own_addresses, after_posting, after_purge, after_scan, after_toss, arrived, encoded, exported_packet, exported_from, first_at, made, made_by, scanned_world, state_of, with_change, world_after}
+use Rattle.echo_replay.specs.Worlds.{Exported, Fits, IsWorldOf, ScanFits, WorldState, own_addresses, after_posting, after_purge, after_scan, after_toss, arrived, encoded, exported_packet, exported_from, first_at, made, made_by, scanned_world, state_of, with_change, world_after}
 use Rattle.echo_replay.proofs.Changes.{read-nth}
 use Rattle.echo_replay.proofs.Exports.{below-with, exported-append, exported-came, exported-made, exported-nth, nth-map, nth-past, nth-within, within-nth}
 
@@ -41,7 +41,7 @@ map-change zero f g (s ∷ ss) same = ap (λ (x : SystemState). x ∷ map state_
 map-change (suc i) f g (s ∷ ss) same = ap (λ (xs : List SystemState). state_of s ∷ xs) (map-change i f g ss same)
 
 changed-run : (world : WorldState) (run : Run) (i : ℕ) (f : System → System) (g : SystemState → SystemState) → ((s : System) → state_of (f s) ≡ g (state_of s))
-    → IsRun world run → IsRun (with_change world i g) (changing run i f)
+    → IsWorldOf world run → IsWorldOf (with_change world i g) (changing run i f)
 changed-run world run i f g same is = record {
   systems = ap (change i g) is.systems ∙ sym (map-change i f g run.systems same);
   packets = is.packets;
@@ -49,12 +49,12 @@ changed-run world run i f g same is = record {
   delivered = is.delivered;
 }
 
-pub posted-run : (world : WorldState) (run : Run) (i : ℕ) (tag : List ℕ) (draft : Draft) (serial : ℕ) (stamp : Stamp) → IsRun world run
-    → IsRun (with_change world i (after_posting tag draft serial stamp)) (changing run i (posting_at tag draft serial stamp))
+pub posted-run : (world : WorldState) (run : Run) (i : ℕ) (tag : List ℕ) (draft : Draft) (serial : ℕ) (stamp : Stamp) → IsWorldOf world run
+    → IsWorldOf (with_change world i (after_posting tag draft serial stamp)) (changing run i (posting_at tag draft serial stamp))
 posted-run world run i tag draft serial stamp is =
     changed-run world run i (posting_at tag draft serial stamp) (after_posting tag draft serial stamp) (λ s. state-filing s (posting s.file s.base tag draft serial stamp)) is
 
-pub purged-run : (world : WorldState) (run : Run) (i : ℕ) → IsRun world run → IsRun (with_change world i after_purge) (changing run i purging_at)
+pub purged-run : (world : WorldState) (run : Run) (i : ℕ) → IsWorldOf world run → IsWorldOf (with_change world i after_purge) (changing run i purging_at)
 purged-run world run i is = changed-run world run i purging_at after_purge (λ s. refl) is
 
 -- the toss of messages, without the history
@@ -85,8 +85,8 @@ stays i [] = refl
 stays zero (x ∷ xs) = refl
 stays (suc i) (x ∷ xs) = ap (λ (ys : List _). x ∷ ys) (stays i xs)
 
-scan-taken : (world : WorldState) (run : Run) (i : ℕ) (stamp : Stamp) (s : System) → is_stamp stamp ≡ true → IsRun world run → All Fits (made_by stamp (state_of s))
-    → IsRun (scanned_world world i stamp (Some (state_of s))) (scanning run i stamp (Some s))
+scan-taken : (world : WorldState) (run : Run) (i : ℕ) (stamp : Stamp) (s : System) → is_stamp stamp ≡ true → IsWorldOf world run → All Fits (made_by stamp (state_of s))
+    → IsWorldOf (scanned_world world i stamp (Some (state_of s))) (scanning run i stamp (Some s))
 scan-taken world run i stamp s moment is fits =
     let ps = scanned s.file s.base s.cursor stamp in
     let made_is : made_by stamp (state_of s) ≡ ps = cond-true (is_stamp stamp) ps [] moment in
@@ -95,7 +95,7 @@ scan-taken world run i stamp s moment is fits =
     let there : Run = record { systems = change i scanning_at run.systems; packets = run.packets ++ ps; delivered = run.delivered } in
     let scanned_run : scanning run i stamp (Some s) ≡ there = cond-true (is_stamp stamp) there run moment in
     let start_is : 0 + length run.packets ≡ length run.packets = omega arith in
-    subst (IsRun (scanned_world world i stamp (Some (state_of s)))) (sym scanned_run)
+    subst (IsWorldOf (scanned_world world i stamp (Some (state_of s)))) (sym scanned_run)
     (record {
       systems = ap (change i (after_scan stamp)) is.systems ∙ sym (map-change i scanning_at (after_scan stamp) run.systems after);
       packets = (λ j. is.packets j ++ map made (made_is j))
@@ -106,8 +106,8 @@ scan-taken world run i stamp s moment is fits =
       delivered = λ k among. let less = is.delivered k among in omega (arith, length-append run.packets ps, less);
     })
 
-scan-refused : (world : WorldState) (run : Run) (i : ℕ) (stamp : Stamp) (s : System) → is_stamp stamp ≡ false → IsRun world run
-    → IsRun (scanned_world world i stamp (Some (state_of s))) (scanning run i stamp (Some s))
+scan-refused : (world : WorldState) (run : Run) (i : ℕ) (stamp : Stamp) (s : System) → is_stamp stamp ≡ false → IsWorldOf world run
+    → IsWorldOf (scanned_world world i stamp (Some (state_of s))) (scanning run i stamp (Some s))
 scan-refused world run i stamp s moment is =
     let ps = scanned s.file s.base s.cursor stamp in
     let made_is : made_by stamp (state_of s) ≡ [] = cond-false (is_stamp stamp) ps [] moment in
@@ -115,7 +115,7 @@ scan-refused world run i stamp s moment is =
     λ x. sym (cond-false (is_stamp stamp) (record { file = x.file; base = x.base; cursor = length x.base }) (state_of x) moment) in
     let there : Run = record { systems = change i scanning_at run.systems; packets = run.packets ++ ps; delivered = run.delivered } in
     let scanned_run : scanning run i stamp (Some s) ≡ run = cond-false (is_stamp stamp) there run moment in
-    subst (IsRun (scanned_world world i stamp (Some (state_of s)))) (sym scanned_run)
+    subst (IsWorldOf (scanned_world world i stamp (Some (state_of s)))) (sym scanned_run)
     (record {
       systems = ap (change i (after_scan stamp)) is.systems ∙ sym (map-change i (λ x. x) (after_scan stamp) run.systems after) ∙ ap (map state_of) (stays i run.systems);
       packets = (λ j. world.packets ++ map made (made_is j)) ∙ append-nil world.packets ∙ is.packets;
@@ -123,14 +123,14 @@ scan-refused world run i stamp s moment is =
       delivered = is.delivered;
     })
 
-pub scanned-run : (world : WorldState) (run : Run) (i : ℕ) (stamp : Stamp) → IsRun world run → ScanFits stamp (nth i world.systems)
-    → IsRun (scanned_world world i stamp (nth i world.systems)) (scanning run i stamp (nth i run.systems))
+pub scanned-run : (world : WorldState) (run : Run) (i : ℕ) (stamp : Stamp) → IsWorldOf world run → ScanFits stamp (nth i world.systems)
+    → IsWorldOf (scanned_world world i stamp (nth i world.systems)) (scanning run i stamp (nth i run.systems))
 scanned-run world run i stamp is fits =
     let here : nth i world.systems ≡ option_map state_of (nth i run.systems) = ap (nth i) is.systems ∙ nth-map state_of i run.systems in
-    let P : Option SystemState → Type 0 = λ o. IsRun (scanned_world world i stamp o) (scanning run i stamp (nth i run.systems)) in
+    let P : Option SystemState → Type 0 = λ o. IsWorldOf (scanned_world world i stamp o) (scanning run i stamp (nth i run.systems)) in
     subst P (sym here) (by (nth i run.systems) (subst (ScanFits stamp) here fits))
   where
-    by : (o : Option System) → ScanFits stamp (option_map state_of o) → IsRun (scanned_world world i stamp (option_map state_of o)) (scanning run i stamp o)
+    by : (o : Option System) → ScanFits stamp (option_map state_of o) → IsWorldOf (scanned_world world i stamp (option_map state_of o)) (scanning run i stamp o)
     by None fit = is
     by (Some s) fit = elim (cases_Bool (is_stamp stamp)) [
       | inl h ↦ scan-taken world run i stamp s h is fit
@@ -147,16 +147,16 @@ first-map p f xs =
     by false n = refl
 
 -- the first system of an address is the same in both
-first-is : (world : WorldState) (run : Run) (p : Packet) → IsRun world run → first_at world (destination p) ≡ receiver run p
+first-is : (world : WorldState) (run : Run) (p : Packet) → IsWorldOf world run → first_at world (destination p) ≡ receiver run p
 first-is world run p is =
     ap (λ (ss : List SystemState). position_or_len (λ s. same_address s.file.system (destination p)) ss) is.systems
     ∙ first-map (λ (s : SystemState). same_address s.file.system (destination p)) state_of run.systems
 
-count-is : (world : WorldState) (run : Run) → IsRun world run → length world.systems ≡ length run.systems
+count-is : (world : WorldState) (run : Run) → IsWorldOf world run → length world.systems ≡ length run.systems
 count-is world run is = ap (λ (ss : List SystemState). length ss) is.systems ∙ length-map run.systems state_of
 
-arrived-run : (world : WorldState) (run : Run) (k : ℕ) (p : Packet) (s : System) → IsRun world run → k < length run.packets
-    → IsRun (record { systems = change (receiver run p) (after_toss p) world.systems; packets = change k arrived world.packets }) (coming run k p (Some s))
+arrived-run : (world : WorldState) (run : Run) (k : ℕ) (p : Packet) (s : System) → IsWorldOf world run → k < length run.packets
+    → IsWorldOf (record { systems = change (receiver run p) (after_toss p) world.systems; packets = change k arrived world.packets }) (coming run k p (Some s))
 arrived-run world run k p s is within = record {
   systems = ap (change (receiver run p) (after_toss p)) is.systems
       ∙ sym (map-change (receiver run p) (taking p (length p.messages)) (after_toss p) run.systems (state-taking p));
@@ -165,8 +165,8 @@ arrived-run world run k p s is within = record {
   delivered = below-with run.delivered k (length run.packets) is.delivered within;
 }
 
-pub delivered-run : (world : WorldState) (run : Run) (k : ℕ) (p : Packet) → IsRun world run → nth k run.packets ≡ Some p
-    → IsRun (world_after world k p) (delivery run k (Some p))
+pub delivered-run : (world : WorldState) (run : Run) (k : ℕ) (p : Packet) → IsWorldOf world run → nth k run.packets ≡ Some p
+    → IsWorldOf (world_after world k p) (delivery run k (Some p))
 delivered-run world run k p is there =
     let first = first-is world run p is in
     let count = count-is world run is in
@@ -175,15 +175,15 @@ delivered-run world run k p is there =
       | inl h ↦
           let less : receiver run p < length run.systems = omega (arith, ltb-true (first_at world (destination p)) (length world.systems) h, first, count) in
           let found = nth-within (receiver run p) run.systems less in
-          let P : ℕ → Type 0 = λ i. IsRun (record { systems = change i (after_toss p) world.systems; packets = change k arrived world.packets }) (coming run k p (Some found.0)) in
-          let Q : Option System → Type 0 = λ o. IsRun come (coming run k p o) in
-          let R : WorldState → Type 0 = λ w. IsRun w (delivery run k (Some p)) in
+          let P : ℕ → Type 0 = λ i. IsWorldOf (record { systems = change i (after_toss p) world.systems; packets = change k arrived world.packets }) (coming run k p (Some found.0)) in
+          let Q : Option System → Type 0 = λ o. IsWorldOf come (coming run k p o) in
+          let R : WorldState → Type 0 = λ w. IsWorldOf w (delivery run k (Some p)) in
           subst R (sym (cond-true (nat_lt (first_at world (destination p)) (length world.systems)) come world h))
           (subst Q (sym found.1) (subst P (sym first) (arrived-run world run k p found.0 is (within-nth k run.packets p there))))
       | inr h ↦
           let past : length run.systems ≤ receiver run p = omega (arith, ltb-false (first_at world (destination p)) (length world.systems) h, first, count) in
-          let Q : Option System → Type 0 = λ o. IsRun world (coming run k p o) in
-          let R : WorldState → Type 0 = λ w. IsRun w (delivery run k (Some p)) in
+          let Q : Option System → Type 0 = λ o. IsWorldOf world (coming run k p o) in
+          let R : WorldState → Type 0 = λ w. IsWorldOf w (delivery run k (Some p)) in
           subst R (sym (cond-false (nat_lt (first_at world (destination p)) (length world.systems)) come world h))
           (subst Q (sym (nth-past (receiver run p) run.systems past)) is)
     ]
@@ -203,7 +203,7 @@ event-more files events i event within there =
     ∙ after-append (map run_event (take i events)) (run_event event ∷ []) (start files))
 
 -- the systems at first
-pub first-run : (files : List LinkFile) → IsRun (record { systems = map state_at_first files; packets = [] }) (start files)
+pub first-run : (files : List LinkFile) → IsWorldOf (record { systems = map state_at_first files; packets = [] }) (start files)
 first-run files = record {
   systems = sym (map_again files);
   packets = refl;
@@ -254,20 +254,20 @@ led-nowhere world k p to whom none =
     sym (cond-false (nat_lt (first_at world (destination p)) (length world.systems)) come world (le-ltb (first_at world (destination p)) (length world.systems) past))
 
 -- what is asked of a delivery: a packet that is not there changes nothing, one that is comes to the first system of its destination
-pub delivery-run : (world new : WorldState) (run : Run) (k : ℕ) → IsRun world run → (nth k world.packets ≡ None → new ≡ world)
+pub delivery-run : (world new : WorldState) (run : Run) (k : ℕ) → IsWorldOf world run → (nth k world.packets ≡ None → new ≡ world)
     → ((p : Packet) → Fits p → (came : Bool) → nth k world.packets ≡ Some (record { bytes = encoded p; to = destination p; came = came }) → new ≡ world_after world k p)
-    → IsRun new (delivery run k (nth k run.packets))
+    → IsWorldOf new (delivery run k (nth k run.packets))
 delivery-run world new run k is none some = by (nth k run.packets) refl
   where
     here : nth k world.packets ≡ option_map (exported_packet run.delivered (0 + k)) (nth k run.packets)
     here = ap (nth k) is.packets ∙ exported-nth run.delivered 0 k run.packets
 
-    by : (o : Option Packet) → nth k run.packets ≡ o → IsRun new (delivery run k o)
+    by : (o : Option Packet) → nth k run.packets ≡ o → IsWorldOf new (delivery run k o)
     by None e =
-        let W : WorldState → Type 0 = λ w. IsRun w run in
+        let W : WorldState → Type 0 = λ w. IsWorldOf w run in
         subst W (sym (none (here ∙ ap (option_map (exported_packet run.delivered (0 + k))) e))) is
     by (Some p) e =
-        let W : WorldState → Type 0 = λ w. IsRun w (delivery run k (Some p)) in
+        let W : WorldState → Type 0 = λ w. IsWorldOf w (delivery run k (Some p)) in
         let there = here ∙ ap (option_map (exported_packet run.delivered (0 + k))) e in
         let fits = subst Fits (read-nth run.packets k p p e) (is.fit k p (within-nth k run.packets p e)) in
         subst W (sym (some p fits (list_any (λ d. d == 0 + k) run.delivered) there)) (delivered-run world run k p is e)

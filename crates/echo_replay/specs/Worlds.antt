@@ -60,7 +60,7 @@ abbrev pub Fits : Packet → Type 0
 Fits packet = PacketOf unlimited packet.header packet.messages (encoded packet)
 
 -- The world is that of the run: its systems, and its packets as bytes, with which of them were delivered.
-pub record IsRun (world : WorldState) (run : Run) : Type 0 where
+pub record IsWorldOf (world : WorldState) (run : Run) : Type 0 where
   pub systems : world.systems ≡ map state_of run.systems
   pub packets : world.packets ≡ exported_from run.delivered 0 run.packets
   pub fit : All Fits run.packets

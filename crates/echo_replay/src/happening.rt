@@ -8,7 +8,7 @@ ghost use Rattle.echo_run.specs.Event.{run_event};
 ghost use Rattle.echo_run.specs.Run.{Run, after_event, change, destination, nth};
 ghost use Rattle.echo_steps.specs.declared.packet.Packet.{Packet};
 ghost use Rattle.echo_steps.specs.SystemState.{SystemState};
-ghost use Rattle.echo_replay.specs.Worlds.{Fits, IsRun, LeadsToFirst, ScanFits, own_addresses, after_posting, after_purge, after_scan, after_toss, arrived, encoded, made, made_by, scanned_world, with_change, world_after};
+ghost use Rattle.echo_replay.specs.Worlds.{Fits, IsWorldOf, LeadsToFirst, ScanFits, own_addresses, after_posting, after_purge, after_scan, after_toss, arrived, encoded, made, made_by, scanned_world, with_change, world_after};
 
 use crate::receivers::Receivers;
 use crate::world::{Exported, Hashing, World};
@@ -28,7 +28,7 @@ pub(crate) fn happen(
 ) -> Result<(), AllocError>
     requires { LeadsToFirst receivers.now.first.entries (own_addresses world.old.systems) }
     ensures addresses { own_addresses world.new.systems ≡ own_addresses world.old.systems }
-    ensures run { OnOk result ((run : Run) → IsRun world.old run → IsRun world.new (after_event run (run_event event.now))) }
+    ensures run { OnOk result ((run : Run) → IsWorldOf world.old run → IsWorldOf world.new (after_event run (run_event event.now))) }
 {
     match event {
         Event::Post {

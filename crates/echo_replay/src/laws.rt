@@ -12,14 +12,14 @@ ghost use Rattle.echo_run.specs.Orderly.{Orderly, count};
 ghost use Rattle.echo_run.specs.Run.{run_of};
 ghost use Rattle.echo_run.specs.Tidy.{Tidy};
 ghost use Rattle.echo_steps.specs.SystemState.{SystemState};
-ghost use Rattle.echo_replay.specs.Worlds.{IsRun, WorldState};
+ghost use Rattle.echo_replay.specs.Worlds.{IsWorldOf, WorldState};
 
 use echo_run::{each_message_is_filed_once, every_run_of_a_tidy_area_is_orderly};
 
 /// On every net no replay shows a message twice in a base. On a net whose area is tidy each replay is
 /// of an orderly run, so it cannot show what `check` excludes.
 pub fn replay_laws()
-    ensures filed_once { (files : List LinkFile) → FilesFit files → (events : List RunEvent) (world : WorldState) → IsRun world (run_of files events) →
+    ensures filed_once { (files : List LinkFile) → FilesFit files → (events : List RunEvent) (world : WorldState) → IsWorldOf world (run_of files events) →
         (s : SystemState) → Among s world.systems → (key : Key) → count key s.base ≤ 1 }
     ensures orderly { (files : List LinkFile) (tag : List ℕ) → Tidy files tag → FilesFit files →
         (events : List Event) → Orderly (run_of files (map run_event events)) tag }

@@ -3,7 +3,7 @@
 ghost use Rattle.std.specs.Prelude.{◌≡◌, IfOk, map};
 ghost use Rattle.echo_run.specs.Event.{run_event};
 ghost use Rattle.echo_run.specs.Run.{run_of};
-ghost use Rattle.echo_replay.specs.Worlds.{IsRun, WorldState};
+ghost use Rattle.echo_replay.specs.Worlds.{IsWorldOf, WorldState};
 ghost use Rattle.echo_steps.specs.SystemState.{state_at_first};
 
 use crate::happening::happen;
@@ -19,7 +19,7 @@ use std::alloc::{AllocError, Global};
 /// system that has its destination. An event that names nothing, or whose posting or scan is refused,
 /// does nothing. Fails only by want of memory.
 pub fn replay(alloc: Global, files: Vec<LinkFile>, events: &[Event]) -> Result<World, AllocError>
-    ensures { IfOk result (λ world. IsRun world (run_of files.items (map run_event events.now))) }
+    ensures { IfOk result (λ world. IsWorldOf world (run_of files.items (map run_event events.now))) }
 {
     let receivers = Receivers::new(alloc, &files)?;
     let mut world = World {

@@ -7,7 +7,7 @@ ghost use Rattle.echo_base.specs.BaseFile.{is_countable, saved_bytes};
 ghost use Rattle.echo_base.specs.Saving.{CountsSaved, Saves, TellsTooMany};
 ghost use Rattle.echo_run.specs.Run.{Run, nth};
 ghost use Rattle.echo_run.specs.World.{area_count, filed_at, waiting_at, is_settled, undelivered};
-ghost use Rattle.echo_replay.specs.Worlds.{IsRun, OfSystem, encoded, message_at};
+ghost use Rattle.echo_replay.specs.Worlds.{IsWorldOf, OfSystem, encoded, message_at};
 
 use echo_addr::{Address, Items};
 use echo_base::BaseFault;
@@ -57,7 +57,7 @@ impl World {
     /// How many messages of the area the system has filed, 0 where there is no such system. Tags are
     /// compared byte for byte.
     pub fn filed(&self, system: usize, tag: &[u8]) -> usize
-        ensures { (run : Run) → IsRun self.now run → result ≡ filed_at run system tag.now }
+        ensures { (run : Run) → IsWorldOf self.now run → result ≡ filed_at run system tag.now }
     {
         match self.systems.get(system) {
             Some(tosser) => count_from(tosser, 0, tag),
@@ -67,7 +67,7 @@ impl World {
 
     /// How many of them wait for a scan.
     pub fn waiting(&self, system: usize, tag: &[u8]) -> usize
-        ensures { (run : Run) → IsRun self.now run → result ≡ waiting_at run system tag.now }
+        ensures { (run : Run) → IsWorldOf self.now run → result ≡ waiting_at run system tag.now }
     {
         match self.systems.get(system) {
             Some(tosser) => count_from(tosser, tosser.filed() - tosser.waiting(), tag),
@@ -77,7 +77,7 @@ impl World {
 
     /// How many packets were made.
     pub fn packets(&self) -> usize
-        ensures { (run : Run) → IsRun self.now run → result ≡ length run.packets }
+        ensures { (run : Run) → IsWorldOf self.now run → result ≡ length run.packets }
     {
         let packets = self.packets.as_slice();
         packets.len()
@@ -85,35 +85,35 @@ impl World {
 
     /// How many of them did not come.
     pub fn undelivered(&self) -> usize
-        ensures { (run : Run) → IsRun self.now run → result ≡ undelivered run }
+        ensures { (run : Run) → IsWorldOf self.now run → result ≡ undelivered run }
     {
         count_missing(&self.packets)
     }
 
     /// Whether no message of any area waits for a scan and every packet came.
     pub fn settled(&self) -> bool
-        ensures { (run : Run) → IsRun self.now run → result ≡ is_settled run }
+        ensures { (run : Run) → IsWorldOf self.now run → result ≡ is_settled run }
     {
         all_scanned(&self.systems) && count_missing(&self.packets) == 0
     }
 
     /// The link file of the system.
     pub fn links(&self, system: usize) -> Option<&LinkFile>
-        ensures { (run : Run) → IsRun self.now run → option_copied result ≡ option_map (λ s. s.file) (nth system run.systems) }
+        ensures { (run : Run) → IsWorldOf self.now run → option_copied result ≡ option_map (λ s. s.file) (nth system run.systems) }
     {
         Some(self.systems.get(system)?.links())
     }
 
     /// The message of this number that the system has, counted from 0 in order of filing.
     pub fn message(&self, system: usize, i: usize) -> Option<&Filed>
-        ensures { (run : Run) → IsRun self.now run → option_copied result ≡ message_at run system i }
+        ensures { (run : Run) → IsWorldOf self.now run → option_copied result ≡ message_at run system i }
     {
         self.systems.get(system)?.message(i)
     }
 
     /// The bytes of the packet.
     pub fn packet(&self, k: usize) -> Option<&[u8]>
-        ensures { (run : Run) → IsRun self.now run → option_copied result ≡ option_map encoded (nth k run.packets) }
+        ensures { (run : Run) → IsWorldOf self.now run → option_copied result ≡ option_map encoded (nth k run.packets) }
     {
         bytes_at(&self.packets, k)
     }
@@ -122,10 +122,10 @@ impl World {
     /// What the writer holds back is left to its owner. It is `TooMany` where four bytes do not count the
     /// messages, or the bytes of a text or an id, and `Write` with the number of bytes that went out.
     pub fn save<W: Sink>(&self, system: usize, writer: &mut W) -> Option<Result<(), BaseFault>>
-        ensures bytes { (run : Run) → IsRun self.now run → OfSystem result (nth system run.systems) (λ saved s.
+        ensures bytes { (run : Run) → IsWorldOf self.now run → OfSystem result (nth system run.systems) (λ saved s.
             Saves (W.contents writer.old) (W.contents writer.new) saved (saved_bytes s.base s.cursor)) }
         ensures device { IfSome result (λ saved. CountsSaved saved (W.failures writer.old) (W.failures writer.new)) }
-        ensures too_many { (run : Run) → IsRun self.now run → OfSystem result (nth system run.systems) (λ saved s. TellsTooMany (is_countable s.base s.cursor) saved) }
+        ensures too_many { (run : Run) → IsWorldOf self.now run → OfSystem result (nth system run.systems) (λ saved s. TellsTooMany (is_countable s.base s.cursor) saved) }
         ensures none { result ≡ None → Keeps (W.contents writer.old) (W.contents writer.new) × (W.failures writer.new ≡ W.failures writer.old) }
     {
         Some(self.systems.get(system)?.save(writer))

@@ -15,7 +15,7 @@ use Rattle.echo_toss.specs.declared.fault.TossCause.{TossCause}
 use Rattle.echo_toss.specs.declared.fault.TossCause.TheVariants as stop
 use Rattle.echo_toss.specs.declared.fault.TossFault.{TossFault}
 use Rattle.echo_toss.specs.declared.tally.Tally.{Tally}
-use Rattle.echo_toss.specs.Unpacked.{BeginsWith, FailsBehind, FailsInHeader, HasTossed, IsForUs, PacketStep, TossesAll, TossesPart, TossesSome}
+use Rattle.echo_toss.specs.Unpacked.{BeginsWith, TossesUpToFault, FailsInHeader, HasTossed, IsForUs, PacketStep, TossesAll, TossesPart, TossesSome}
 use Rattle.echo_toss.proofs.Parsed.{first_messages, one_header, one_list}
 use Rattle.echo_commands.specs.Showing.{show_limits}
 use Rattle.echo_stations.specs.Agreement.{IsPacketFile, limits_of}
@@ -125,7 +125,7 @@ some p bytes old new tally is step =
 
 -- a fault of the header, or behind it
 where-failed : (old new : SystemState) (before after : Option (List ℕ)) (tally : Tally) (f : PacketFault) → TossesPart show_limits old before after tally (stop.Packet f) new
-    → FailsInHeader old before after tally f new ⊎ FailsBehind show_limits old before after tally f new
+    → FailsInHeader old before after tally f new ⊎ TossesUpToFault show_limits old before after tally f new
 where-failed old new before after tally fault.Memory h = absurd h
 where-failed old new before after tally (fault.Truncated at) h = h
 where-failed old new before after tally (fault.NotType2 at) h = h

@@ -18,7 +18,7 @@ use Rattle.echo_run.proofs.TosserLaws.{the_laws}
 use Rattle.echo_run.proofs.WellFormed.{filed-once}
 use Rattle.echo_commands.specs.Given.{AreLinkFiles}
 use Rattle.echo_stations.specs.Agreement.{Agrees, HasFiles, IsPacketFile, limits_of}
-use Rattle.echo_stations.specs.InOrder.{FilesAreSound, Holds, IsSound, IsUnchanged, ReadsAs, Says}
+use Rattle.echo_stations.specs.InOrder.{FilesAreSound, StationHolds, IsSound, IsUnchanged, ReadsAs, StationSays}
 use Rattle.echo_stations.specs.Nets.{Net, Station}
 use Rattle.echo_stations.proofs.BaseFiles.{file-fits, gives-base, said-once}
 use Rattle.echo_stations.proofs.EachEvent.{events-are-a-run}
@@ -29,7 +29,7 @@ pub reads : (bytes : List ℕ) (p : Packet) → IsPacketFile bytes p → ReadsAs
 reads bytes p is = (limits_of bytes, is.packet)
 
 -- a station's files say what its system has
-pub says-so : (station : Station) (s : System) → HasFiles station s → Says station s.file s.base s.cursor
+pub says-so : (station : Station) (s : System) → HasFiles station s → StationSays station s.file s.base s.cursor
 says-so station s has = record { links = has.links; base = gives-base station.base s.base s.cursor has.base }
 
 -- the system of a station
@@ -39,7 +39,7 @@ pub record Stands (run : Run) (file : LinkFile) (messages : List Filed) : Type 0
   pub same_file : file ≡ s.file
   pub same_base : messages ≡ s.base
 
-pub stands : (net : Net) (run : Run) → Agrees net run → (file : LinkFile) (messages : List Filed) (cursor : ℕ) → Holds net file messages cursor → Stands run file messages
+pub stands : (net : Net) (run : Run) → Agrees net run → (file : LinkFile) (messages : List Filed) (cursor : ℕ) → StationHolds net file messages cursor → Stands run file messages
 stands net run agrees file messages cursor holds =
     let (s, there, has) = paired-among HasFiles holds.station net.stations run.systems agrees.stations holds.there in
     let once = said-once holds.station s has file messages cursor holds.says.links holds.says.base in

@@ -22,15 +22,15 @@ use Rattle.echo_stations.specs.Commands.{CommandEvent, Happen}
 use Rattle.echo_stations.specs.Nets.{Net, Paired, Station, first_net}
 
 -- what a station's files say: its link file, and the messages and the cursor of its base file
-pub record Says (station : Station) (file : LinkFile) (messages : List Filed) (cursor : ℕ) : Type 0 where
+pub record StationSays (station : Station) (file : LinkFile) (messages : List Filed) (cursor : ℕ) : Type 0 where
   pub links : LinksOf station.links (Ok file)
   pub base : IsBaseGiven station.base messages cursor
 
 -- a station of the net says this
-pub record Holds (net : Net) (file : LinkFile) (messages : List Filed) (cursor : ℕ) : Type 0 where
+pub record StationHolds (net : Net) (file : LinkFile) (messages : List Filed) (cursor : ℕ) : Type 0 where
   pub station : Station
   pub there : Among station net.stations
-  pub says : Says station file messages cursor
+  pub says : StationSays station file messages cursor
 
 -- the bytes are a packet
 abbrev pub ReadsAs : List ℕ → Packet → Type 0
@@ -44,16 +44,16 @@ IsUnchanged m posting = SameContent m posting ⊎ ((filed : Filed) × (m ≡ stu
 pub record IsSound (net : Net) : Type 0 where
   -- each packet file is a packet, and each base file is read
   pub packets : (bytes : List ℕ) → Among bytes net.packets → (p : Packet) × ReadsAs bytes p
-  pub bases : (station : Station) → Among station net.stations → (file : LinkFile) × (messages : List Filed) × (cursor : ℕ) × Says station file messages cursor
+  pub bases : (station : Station) → Among station net.stations → (file : LinkFile) × (messages : List Filed) × (cursor : ℕ) × StationSays station file messages cursor
   -- it has each message at most once
-  pub filed_once : (file : LinkFile) (messages : List Filed) (cursor : ℕ) → Holds net file messages cursor → (key : Key) → count key messages ≤ 1
+  pub filed_once : (file : LinkFile) (messages : List Filed) (cursor : ℕ) → StationHolds net file messages cursor → (key : Key) → count key messages ≤ 1
   -- and only messages that were posted, unchanged
-  pub only_posted : (file : LinkFile) (messages : List Filed) (cursor : ℕ) → Holds net file messages cursor → (m : Filed) → Among m messages →
+  pub only_posted : (file : LinkFile) (messages : List Filed) (cursor : ℕ) → StationHolds net file messages cursor → (m : Filed) → Among m messages →
       (posting : Filed) × Among posting net.postings × (posting.echo.tag ≡ m.echo.tag) × IsUnchanged m posting
 
 -- no message of the area waits for a scan, and each packet file that holds one was tossed whole
 pub record IsSettled (net : Net) (tag : List ℕ) : Type 0 where
-  pub scanned : (file : LinkFile) (messages : List Filed) (cursor : ℕ) → Holds net file messages cursor → (m : Filed) → Among m (drop cursor messages) → m.echo.tag ≢ tag
+  pub scanned : (file : LinkFile) (messages : List Filed) (cursor : ℕ) → StationHolds net file messages cursor → (m : Filed) → Among m (drop cursor messages) → m.echo.tag ≢ tag
   pub tossed : (k : ℕ) (bytes : List ℕ) (p : Packet) → nth k net.packets ≡ Some bytes → ReadsAs bytes p →
       (m : Filed) → Among m (copies p) → m.echo.tag ≡ tag → Among k net.delivered
 
@@ -67,14 +67,14 @@ pub record InOrder (net : Net) (tag : List ℕ) : Type 0 where
   pub sound : IsSound net
   -- over all packet files each station that has the area was sent each message at most once, and none of its own
   pub sent_once : (packets : List Packet) → Paired ReadsAs net.packets packets →
-      (file : LinkFile) (messages : List Filed) (cursor : ℕ) → Holds net file messages cursor → IsTrue (has_area file tag) →
+      (file : LinkFile) (messages : List Filed) (cursor : ℕ) → StationHolds net file messages cursor → IsTrue (has_area file tag) →
       (key : Key) → tag_of key ≡ tag → sent_count file.system key packets ≤ 1
   pub never_own : (packets : List Packet) → Paired ReadsAs net.packets packets →
-      (file : LinkFile) (messages : List Filed) (cursor : ℕ) → Holds net file messages cursor → IsTrue (has_area file tag) →
+      (file : LinkFile) (messages : List Filed) (cursor : ℕ) → StationHolds net file messages cursor → IsTrue (has_area file tag) →
       (m : Filed) → Among m messages → IsPosting tag m → sent_count file.system (key_of m) packets ≡ 0
   -- and where nothing waits its base file has each posting once, unchanged
   pub all_came : IsSettled net tag → (posting : Filed) → Among posting net.postings → posting.echo.tag ≡ tag →
-      (file : LinkFile) (messages : List Filed) (cursor : ℕ) → Holds net file messages cursor → IsTrue (has_area file tag) → HasUnchanged messages posting
+      (file : LinkFile) (messages : List Filed) (cursor : ℕ) → StationHolds net file messages cursor → IsTrue (has_area file tag) → HasUnchanged messages posting
 
 -- any commands on stations of different addresses leave files that are sound
 abbrev pub FilesAreSound : Type 0

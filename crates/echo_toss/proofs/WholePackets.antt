@@ -20,7 +20,7 @@ use Rattle.echo_toss.specs.declared.fault.TossCause.{TossCause}
 use Rattle.echo_toss.specs.declared.fault.TossCause.TheVariants as stop
 use Rattle.echo_toss.specs.declared.fault.TossFault.{TossFault}
 use Rattle.echo_toss.specs.Tallies.{tally_of}
-use Rattle.echo_toss.specs.Unpacked.{CountsCause, CountsToss, FailsBehind, FailsInHeader, HasTossed, IsForUs, PacketStep, StopsBehind, TossesAll, TossesPart, TossesSome, WholeStep}
+use Rattle.echo_toss.specs.Unpacked.{CountsCause, CountsToss, TossesUpToFault, FailsInHeader, HasTossed, IsForUs, PacketStep, StopsBehind, TossesAll, TossesPart, TossesSome, WholeStep}
 use Rattle.echo_toss.proofs.Parsed.{first_messages, one_header, one_list, opens}
 
 -- a packet and what follows it, part by part
@@ -57,7 +57,7 @@ never f counts at e = Failed-never (subst (λ x. CountsCause (stop.Packet x) 0 0
 
 -- a fault of the header, or behind it
 where_failed : (limits : Limits) (old new : SystemState) (before after : Option (List ℕ)) (tally : Tally) (f : PacketFault) → TossesPart limits old before after tally (stop.Packet f) new
-    → FailsInHeader old before after tally f new ⊎ FailsBehind limits old before after tally f new
+    → FailsInHeader old before after tally f new ⊎ TossesUpToFault limits old before after tally f new
 where_failed limits old new before after tally fault.Memory h = absurd h
 where_failed limits old new before after tally (fault.Truncated at) h = h
 where_failed limits old new before after tally (fault.NotType2 at) h = h

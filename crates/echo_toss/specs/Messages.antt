@@ -57,7 +57,7 @@ pub record HasTaken (limits : Limits) (sender : Address) (old : SystemState) (be
   pub done : HasTossed sender ms old tally new
 
 -- the reader lost messages and the terminator, and they were tossed
-pub record TakesAll (limits : Limits) (sender : Address) (old : SystemState) (before after : Option (List ℕ)) (tally : Tally) (new : SystemState) : Type 0 where
+pub record TossesToEnd (limits : Limits) (sender : Address) (old : SystemState) (before after : Option (List ℕ)) (tally : Tally) (new : SystemState) : Type 0 where
   pub messages : List Message
   pub left : Option (List ℕ)
   pub given : ℕ
@@ -84,7 +84,7 @@ pub record TakesSome (limits : Limits) (sender : Address) (old : SystemState) (b
 
 -- the toss of the messages at the front of a reader's bytes
 abbrev pub TossesMessages : {A : Type 0} → Limits → Address → SystemState → Option (List ℕ) → Option (List ℕ) → Tally → Result A TossCause → SystemState → Type 0
-TossesMessages limits sender old before after tally (Ok done) new = TakesAll limits sender old before after tally new
+TossesMessages limits sender old before after tally (Ok done) new = TossesToEnd limits sender old before after tally new
 TossesMessages limits sender old before after tally (Err cause) new = TakesSome limits sender old before after tally cause new
 
 -- the count of failures rose where the reader failed, and only there

@@ -82,7 +82,7 @@ StopsBehind limits ms before after (fault.Read at) = Came before after (λ came.
 StopsBehind limits ms before after f = IfSome before (λ bs. FaultOf bs limits ms f)
 
 -- a fault after the header, and the messages before it were tossed
-pub record FailsBehind (limits : Limits) (old : SystemState) (before after : Option (List ℕ)) (tally : Tally) (f : PacketFault) (new : SystemState) : Type 0 where
+pub record TossesUpToFault (limits : Limits) (old : SystemState) (before after : Option (List ℕ)) (tally : Tally) (f : PacketFault) (new : SystemState) : Type 0 where
   pub some : TossesSome limits old before tally new
   pub fault : StopsBehind limits some.messages before after f
 
@@ -92,7 +92,7 @@ TossesPart limits old before after tally (stop.NotForUs a) new = IsForOther old 
 TossesPart limits old before after tally stop.Memory new = TossesSome limits old before tally new
 TossesPart limits old before after tally (stop.Packet fault.Memory) new = ⊥
 TossesPart limits old before after tally (stop.Packet f) new =
-    FailsInHeader old before after tally f new ⊎ FailsBehind limits old before after tally f new
+    FailsInHeader old before after tally f new ⊎ TossesUpToFault limits old before after tally f new
 
 -- the toss of the packet at the front of a reader's bytes
 abbrev pub PacketStep : Limits → SystemState → Option (List ℕ) → Option (List ℕ) → Result Tally TossFault → SystemState → Type 0

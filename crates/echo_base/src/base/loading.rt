@@ -3,7 +3,7 @@ ghost use Rattle.std.specs.Prelude.{◌≡◌, ◌≤◌, [], length, IfErr, IfO
 ghost use Rattle.echo_packet.specs.Header.{AreBytes};
 ghost use Rattle.echo_base.specs.declared.fault.BaseFault.{BaseFault as Fault};
 ghost use Rattle.echo_base.specs.BaseFile.{LoadOf, Loaded};
-ghost use Rattle.echo_base.specs.Loading.{AnswersLoad, CountsLoad, FailsToLoad, IsVersion, ReadsHead, ReadsVersion, TakesBase, TakesMessage, TakesMessages, told_behind};
+ghost use Rattle.echo_base.specs.Loading.{AnswersLoad, CountsLoad, FailsToLoad, IsVersion, ReadsHead, ReadsVersion, TakesBase, TakesStored, TakesMessages, told_behind};
 
 use crate::base::Base;
 use crate::fault::BaseFault;
@@ -97,7 +97,7 @@ fn take_message<R: Source, S: BuildHasher>(
     version: Version,
     cursor: usize,
 ) -> Result<(), BaseFault>
-    ensures taken { TakesMessage version cursor base.old.messages base.new.messages (R.remaining reader.old) (R.remaining reader.new) result }
+    ensures taken { TakesStored version cursor base.old.messages base.new.messages (R.remaining reader.old) (R.remaining reader.new) result }
     ensures cursor { base.new.cursor ≡ base.old.cursor }
     ensures device { CountsLoad result (R.failures reader.old) (R.failures reader.new) }
 {

@@ -3,7 +3,7 @@ use Rattle.std.specs.Option.{option_copied}
 use Rattle.echo_links.specs.Links.{LinkFile, upper}
 use Rattle.echo_net.specs.Faults.{IsYes}
 use Rattle.echo_print.specs.Checked.{CheckShown}
-use Rattle.echo_commands.specs.Checking.{IsVerdict, RunsAreOrderly}
+use Rattle.echo_commands.specs.Checking.{IsCheckVerdict, RunsAreOrderly}
 use Rattle.echo_print.specs.Pushed.{Pushes}
 use Rattle.echo_commands.proofs.Checks.{of_same, was_checked}
 use Rattle.echo_commands.proofs.checking.check_given.Goals as goal
@@ -14,7 +14,7 @@ returns g c =
     let tag : List ℕ = c.in_ok-tag.tag.items in
     let verdict = c.in_ok-verdict.verdict in
     let found = c.in_ok-verdict.ensures in
-    let judged = of_same (λ f t. IsVerdict f t verdict) c.deref.result.now files c.deref-2.result.now tag c.deref.ensures.value c.deref-2.ensures.value
+    let judged = of_same (λ f t. IsCheckVerdict f t verdict) c.deref.result.now files c.deref-2.result.now tag c.deref.ensures.value c.deref-2.ensures.value
     (record { tidy = found.tidy; counted = found.counted; first = found.first }) in
     let runs = of_same (λ f t. IsYes verdict → RunsAreOrderly f t) c.deref.result.now files c.deref-2.result.now tag c.deref.ensures.value c.deref-2.ensures.value found.orderly in
     let pushed = of_same (λ f t. Pushes (CheckShown f t c.in_ok-list.list verdict) c.new-lines.result.items c.push_check.new.lines.items) c.deref-3.result.now files c.deref-4.result.now tag c.deref-3.ensures.value c.deref-4.ensures.value

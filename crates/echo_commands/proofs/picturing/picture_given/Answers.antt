@@ -1,7 +1,7 @@
 use Rattle.std.proofs.Common.{◌≡◌, ◌++◌, ℕ, List, subst}
 use Rattle.echo_links.specs.Links.{LinkFile}
 use Rattle.echo_net.specs.Drawn.{IsDrawing}
-use Rattle.echo_commands.specs.Checking.{IsVerdict}
+use Rattle.echo_commands.specs.Checking.{IsCheckVerdict}
 use Rattle.echo_print.specs.Pictured.{picture_lines}
 use Rattle.echo_commands.proofs.Checks.{of_same}
 use Rattle.echo_commands.proofs.Pictures.{was_pictured}
@@ -13,7 +13,7 @@ returns g c =
     let tag : List ℕ = c.in_ok-tag.tag.items in
     let verdict = c.in_ok-verdict.verdict in
     let found = c.in_ok-verdict.ensures in
-    let judged = of_same (λ f t. IsVerdict f t verdict) c.deref.result.now files c.deref-2.result.now tag c.deref.ensures.value c.deref-2.ensures.value
+    let judged = of_same (λ f t. IsCheckVerdict f t verdict) c.deref.result.now files c.deref-2.result.now tag c.deref.ensures.value c.deref-2.ensures.value
     (record { tidy = found.tidy; counted = found.counted; first = found.first }) in
     let drawn = of_same (λ f t. IsDrawing f t verdict c.in_ok-drawing.drawing) c.deref-3.result.now files c.deref-4.result.now tag c.deref-3.ensures.value c.deref-4.ensures.value
     c.in_ok-drawing.ensures in

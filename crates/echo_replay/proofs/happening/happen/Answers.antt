@@ -5,7 +5,7 @@ use Rattle.echo_run.specs.Event.{run_event}
 use Rattle.echo_run.specs.declared.event.Event.{Event}
 use Rattle.echo_run.specs.declared.event.Event.TheVariants as event
 use Rattle.echo_run.specs.Run.{Run, after_event}
-use Rattle.echo_replay.specs.Worlds.{IsRun, WorldState, after_posting, with_change}
+use Rattle.echo_replay.specs.Worlds.{IsWorldOf, WorldState, after_posting, with_change}
 use Rattle.echo_replay.proofs.Runs.{delivery-run, posted-run, purged-run, scanned-run}
 use Rattle.echo_replay.proofs.happening.happen.Goals as goal
 
@@ -15,15 +15,15 @@ both_ok P Q (Ok x) p q = (p, q)
 both_ok P Q (Err e) p q = tt
 
 -- the run after the event, whose name is known, as the world is after it
-known : (world : WorldState) (run : Run) (event named : Event) → event ≡ named → IsRun world (after_event run (run_event named)) → IsRun world (after_event run (run_event event))
-known world run event named e = subst (λ (x : Event). IsRun world (after_event run (run_event x))) (sym e)
+known : (world : WorldState) (run : Run) (event named : Event) → event ≡ named → IsWorldOf world (after_event run (run_event named)) → IsWorldOf world (after_event run (run_event event))
+known world run event named e = subst (λ (x : Event). IsWorldOf world (after_event run (run_event x))) (sym e)
 
 pub returns-in-Post-clause-run : goal.returns-in-Post-clause-run
 returns-in-Post-clause-run c =
     on_ok_weaker c.post.result
     (λ posted run is.
     let now = posted ∙ ap (λ (t : List ℕ). with_change c.args.world.now c.in-Post.system (after_posting t c.in-Post.draft c.in-Post.serial c.in-Post.stamp)) c.as_slice.ensures in
-    let W : WorldState → Type 0 = λ w. IsRun w (after_event run (run_event (event.Post c.in-Post.system c.in-Post.tag c.in-Post.draft c.in-Post.serial c.in-Post.stamp))) in
+    let W : WorldState → Type 0 = λ w. IsWorldOf w (after_event run (run_event (event.Post c.in-Post.system c.in-Post.tag c.in-Post.draft c.in-Post.serial c.in-Post.stamp))) in
     known c.post.new.world run c.args.event.now _ c.in-Post.is
     (subst W (sym now) (posted-run c.args.world.now run c.in-Post.system c.in-Post.tag c.in-Post.draft c.in-Post.serial c.in-Post.stamp is)))
     c.post.ensures.posted
@@ -32,7 +32,7 @@ pub returns-in-Purge-clause-run : goal.returns-in-Purge-clause-run
 returns-in-Purge-clause-run c =
     on_ok_weaker c.purge.result
     (λ purged run is.
-    let W : WorldState → Type 0 = λ w. IsRun w (after_event run (run_event (event.Purge c.in-Purge.system))) in
+    let W : WorldState → Type 0 = λ w. IsWorldOf w (after_event run (run_event (event.Purge c.in-Purge.system))) in
     known c.purge.new.world run c.args.event.now _ c.in-Purge.is (subst W (sym purged) (purged-run c.args.world.now run c.in-Purge.system is)))
     c.purge.ensures.purged
 
@@ -40,7 +40,7 @@ pub returns-in-Scan-clause-run : goal.returns-in-Scan-clause-run
 returns-in-Scan-clause-run c =
     on_ok_weaker c.scan.result
     (λ both run is.
-    let W : WorldState → Type 0 = λ w. IsRun w (after_event run (run_event (event.Scan c.in-Scan.system c.in-Scan.stamp))) in
+    let W : WorldState → Type 0 = λ w. IsWorldOf w (after_event run (run_event (event.Scan c.in-Scan.system c.in-Scan.stamp))) in
     known c.scan.new.world run c.args.event.now _ c.in-Scan.is (subst W (sym both.0) (scanned-run c.args.world.now run c.in-Scan.system c.in-Scan.stamp is both.1)))
     (both_ok _ _ c.scan.result c.scan.ensures.scanned c.scan.ensures.fit)
 

@@ -4,14 +4,14 @@ use Rattle.echo_addr.specs.declared.address.Address.{Address}
 use Rattle.echo_run.specs.Event.{run_event}
 use Rattle.echo_run.specs.declared.event.Event.{Event}
 use Rattle.echo_run.specs.Run.{Run, run_of}
-use Rattle.echo_replay.specs.Worlds.{IsRun, LeadsToFirst, WorldState, own_addresses}
+use Rattle.echo_replay.specs.Worlds.{IsWorldOf, LeadsToFirst, WorldState, own_addresses}
 use Rattle.echo_replay.proofs.Runs.{addresses-first, event-more, first-run}
 use Rattle.echo_replay.proofs.replaying.replay.Goals as goal
 
 pub events-init : goal.events-init
 events-init c =
     let A : List Address → Type 0 = λ all. LeadsToFirst c.in_ok-receivers.receivers.first.entries all in
-    let W : WorldState → Type 0 = λ w. IsRun w (run_of c.args.files.items []) in
+    let W : WorldState → Type 0 = λ w. IsWorldOf w (run_of c.args.files.items []) in
     record {
       leads = subst A
           (sym (ap own_addresses c.in_ok-systems.ensures ∙ addresses-first c.args.files.items ∙ ap (map (λ f. f.system)) (sym c.deref.ensures.value)))
@@ -25,7 +25,7 @@ pub events-preserved : goal.events-preserved
 events-preserved c =
     let before = c.events.invariant in
     let A : List Address → Type 0 = λ all. LeadsToFirst c.in_ok-receivers.receivers.first.entries all in
-    let R : Run → Type 0 = λ run. IsRun c.happen.new.world run in
+    let R : Run → Type 0 = λ run. IsWorldOf c.happen.new.world run in
     record {
       leads = subst A (sym c.in_ok-happen.ensures.addresses) before.leads;
       run = subst R (event-more c.args.files.items c.args.events.now c.events.event-index c.event-item.result c.events-test.true c.event-item.is)
@@ -35,5 +35,5 @@ events-preserved c =
 pub returns : goal.returns
 returns c =
     let whole = take_all c.events.event-index c.args.events.now c.events-test.false in
-    let R : List Event → Type 0 = λ events. IsRun c.events.world (run_of c.args.files.items (map run_event events)) in
+    let R : List Event → Type 0 = λ events. IsWorldOf c.events.world (run_of c.args.files.items (map run_event events)) in
     subst R whole c.events.invariant.run

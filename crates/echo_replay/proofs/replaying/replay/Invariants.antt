@@ -1,12 +1,12 @@
 use Rattle.std.proofs.Common.{map, take}
 use Rattle.echo_run.specs.Event.{run_event}
 use Rattle.echo_run.specs.Run.{run_of}
-use Rattle.echo_replay.specs.Worlds.{IsRun, LeadsToFirst, own_addresses}
+use Rattle.echo_replay.specs.Worlds.{IsWorldOf, LeadsToFirst, own_addresses}
 use Rattle.echo_replay.proofs.replaying.replay.Given as goal
 
 -- the world is that of the events so far, and each address leads to its first system
 abbrev pub invariant-events : goal.invariant-events
 invariant-events l = record {
   leads : LeadsToFirst l.receivers.first.entries (own_addresses l.world.systems);
-  run : IsRun l.world (run_of l.fn.files.items (map run_event (take l.event-index l.events)));
+  run : IsWorldOf l.world (run_of l.fn.files.items (map run_event (take l.event-index l.events)));
 }
