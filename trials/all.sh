@@ -1,34 +1,36 @@
 #!/usr/bin/env bash
-# Runs all trials of the built program, one after another, and prints the last line of each at the end.
+# Runs all trials of the built program, and prints the last line of each at the end. Those that use one core
+# each run side by side, then each that uses all cores, and then those that measure, on no more than half of
+# the cores and one. What a trial says is printed when it ends.
 # Words: how many small hostile inputs, the size of the grown ones; with none, those of docs/TRIALS.md.
 set -u
 cd "$(dirname "$0")/.."
 inputs=${1:-100000}
 size=${2:-64000000}
-told=$(mktemp)
-trap 'rm -f "$told"' EXIT
-status=0
+cores=$(nproc)
+told=$(mktemp -d)
+trap 'rm -rf "$told"' EXIT
 
+# Runs a trial, prints what it said, and keeps its last line, and whether it failed.
 each() {
-  local begin=$SECONDS
-  echo "== $*"
-  "$@" | tee bin/last-trial.txt
-  [ "${PIPESTATUS[0]}" = 0 ] || status=1
-  echo "$(tail -1 bin/last-trial.txt) ($((SECONDS - begin)) s)" >> "$told"
+  local begin=$SECONDS said
+  said=$(mktemp "$told/XXXXXX")
+  "$@" > "$said" 2>&1 || touch "$told/failed"
+  {
+    flock 9
+    echo "== $*"
+    cat "$said"
+    echo "$(tail -1 "$said") ($((SECONDS - begin)) s)" >> "$told/last"
+  } 9> "$told/lock"
 }
 
-each trials/kept.sh
-each trials/kills.sh
-each trials/crowds.sh
-each trials/full_disk.sh
-each trials/devices.sh
-each trials/pieces.sh
-each trials/refusals.sh
-each trials/valgrind.sh
-each python3 trials/stations.py 300 "$(nproc)"
-each python3 trials/hostile.py "$inputs" "$(nproc)"
-each python3 trials/nets.py
-each python3 trials/grown.py "$size" $((($(nproc) + 1) / 2))
-echo "== in all"
-cat "$told"
-exit $status
+for name in kept kills crowds full_disk devices pieces refusals valgrind; do each trials/$name.sh & done
+wait
+each python3 trials/stations.py 300 "$cores"
+each python3 trials/hostile.py "$inputs" "$cores"
+each python3 trials/nets.py &
+each python3 trials/grown.py "$size" $(((cores + 1) / 2)) &
+wait
+echo "== in all, $SECONDS s"
+cat "$told/last"
+[ ! -e "$told/failed" ]
