@@ -1,6 +1,6 @@
 -- What a base that looks up keys keeps, and what its look-ups say of the messages.
-use Rattle.std.proofs.Common.{◌≡◌, ℕ, zero, suc, ◌≤◌, length, take, ◌||◌, Bool, true, false, cond, List, [], ◌∷◌, ◌++◌, map, refl, sym, ap, subst, ◌∙◌, Option, Some, None, is_some, arith, inl, inr}
-use Rattle.std.specs.Prelude.{bytes_eq, option_map, slice_get, unwrap_or}
+use Rattle.std.proofs.Common.{◌≡◌, ℕ, zero, suc, ◌≤◌, length, take, ◌||◌, Bool, true, false, cond, List, [], ◌∷◌, ◌++◌, map, refl, sym, ap, subst, ◌∙◌, Option, Some, None, is_some, Result, Ok, Err, not, if◌then◌else◌, arith, inl, inr}
+use Rattle.std.specs.Prelude.{IfOk, OnErr, bytes_eq, option_map, slice_get, unwrap_or}
 use Rattle.std.specs.Cmp.Lexicographic.{bytes_decides}
 use Rattle.std.specs.List.{AllByRecursion, list_any}
 use Rattle.std.specs.Map.{keys_of, lookup, values_of}
@@ -172,6 +172,31 @@ one_more_entry entries tags cursor purged key m h filed own new tagged =
       own_tags = subst R (sym values) (all_append (HasTagIn tags) (values_of entries) (m ∷ []) h.own_tags (tagged, tt));
       front = let P : List Filed → Type 0 = λ l. ArePurged l cursor purged in subst P (sym values) (still_purged (values_of entries) cursor purged m h.is_base.within h.front);
     }
+
+-- a message with its key was put behind the others, unless one of them has the key
+pub known_unless : (added b : Bool) → added ≡ not b → b ≡ not added
+known_unless added true h = sym (ap not h)
+known_unless added false h = sym (ap not h)
+
+pub entries_after : {E : Type 0} (entries entries' : List (Key × Filed)) (tags : List (List ℕ)) (cursor purged : ℕ) (key : Key) (m : Filed) (r : Result Bool E)
+    → AreEntries entries tags cursor purged → IsFiled m → key ≡ key_of m → HasTagIn tags m → IfOk r (λ added. added ≡ not (is_known (values_of entries) key))
+    → IfOk r (λ added. entries' ≡ (if added then entries ++ (key, m) ∷ [] else entries)) → OnErr r (entries' ≡ entries) → AreEntries entries' tags cursor purged
+entries_after entries entries' tags cursor purged key m (Ok true) h filed own tagged new is refused =
+    let P : List (Key × Filed) → Type 0 = λ es. AreEntries es tags cursor purged in
+    subst P (sym is) (one_more_entry entries tags cursor purged key m h filed own (known_unless true (is_known (values_of entries) key) new) tagged)
+entries_after entries entries' tags cursor purged key m (Ok false) h filed own tagged new is refused =
+    let P : List (Key × Filed) → Type 0 = λ es. AreEntries es tags cursor purged in
+    subst P (sym is) h
+entries_after entries entries' tags cursor purged key m (Err e) h filed own tagged new is refused =
+    let P : List (Key × Filed) → Type 0 = λ es. AreEntries es tags cursor purged in
+    subst P (sym refused) h
+
+pub messages_after : {E : Type 0} (entries entries' : List (Key × Filed)) (key : Key) (m : Filed) (r : Result Bool E)
+    → IfOk r (λ added. entries' ≡ (if added then entries ++ (key, m) ∷ [] else entries))
+    → IfOk r (λ added. values_of entries' ≡ (if added then values_of entries ++ m ∷ [] else values_of entries))
+messages_after entries entries' key m (Ok true) is = ap values_of is ∙ values_more entries key m
+messages_after entries entries' key m (Ok false) is = ap values_of is
+messages_after entries entries' key m (Err e) is = tt
 
 -- the tag of a message whose tag is among the tags is among them
 pub tag_of_one : (tags : List (List ℕ)) (tag : List ℕ) (base : List Filed) → AllByRecursion (HasTagIn tags) base

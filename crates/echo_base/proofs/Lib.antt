@@ -7,5 +7,6 @@ pub mod Loaded
 pub mod Verdicts
 pub mod Failing
 pub mod Purges
+pub mod ShortForms
 pub mod StubBases
 pub mod SavedAgain

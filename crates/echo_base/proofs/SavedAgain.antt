@@ -6,9 +6,9 @@ use Rattle.std.specs.List.{AllByRecursion, flat_map, list_all, list_any}
 use Rattle.std.proofs.lemmas.Bool.{and_from, and_parts, lt-ltb, ltb-false, not-false, or_parts}
 use Rattle.std.proofs.lemmas.List.{append-nil, length-append, length-map}
 use Rattle.echo_addr.specs.declared.address.Address.{Address}
-use Rattle.echo_text.specs.Lines.{is_tag, trimmed}
+use Rattle.echo_text.specs.Lines.{is_tag}
 use Rattle.echo_text.specs.Echo.{EchoText, msgid_of}
-use Rattle.echo_text.specs.Ids.{is_line_byte, is_zero}
+use Rattle.echo_text.specs.Ids.{is_zero}
 use Rattle.echo_text.specs.Refusal.{text_refusal}
 use Rattle.echo_filed.specs.Written.{echo_of, text_of}
 use Rattle.echo_filed.specs.Filed.{Filed}
@@ -16,8 +16,7 @@ use Rattle.echo_filed.specs.Stubs.{bare}
 use Rattle.echo_filed.specs.declared.stored.Version.{Version}
 use Rattle.echo_filed.specs.declared.stored.Version.TheVariants.{First, Second}
 use Rattle.echo_filed.specs.Stored.{IsStored, Stored, has_tag, is_posted, is_short, is_short_enough, kind_of, message_in, sender_or_zeros, stored_as, stored_bytes}
-use Rattle.echo_filed.proofs.Keys.{IsIdText, msgid_first}
-use Rattle.echo_filed.proofs.Trims.{IsTrim, trimmed_trim}
+use Rattle.echo_base.proofs.ShortForms.{id_told}
 use Rattle.echo_base.specs.BaseFile.{AreSound, BaseOf, has_wrong_form, has_wrong_last, has_wrong_sender, has_wrong_string, head_bytes, is_countable, is_damaged, is_other_kind, is_wrong_id, is_wrong_text, magic, saved_bytes, stored_at, stored_from}
 
 -- the first byte is told by the sender and the form
@@ -46,15 +45,7 @@ last_back : (with_tag : Bool) (tag last : List ℕ) → (with_tag ≡ false → 
     (cond with_tag e.tag [] ≡ tag) × (cond with_tag (unwrap_or (msgid_of e.kept) []) (text_of e) ≡ last)
 last_back true tag last none right =
     let p1 = or_parts (not (is_tag tag)) (is_wrong_id last) right in
-    let p2 = or_parts (length last == 0) (not (list_all is_line_byte last) || not (bytes_eq (trimmed last) last)) p1.1 in
-    let p3 = or_parts (not (list_all is_line_byte last)) (not (bytes_eq (trimmed last) last)) p2.1 in
-    let same : trimmed last ≡ last = (bytes_decides (trimmed last) last).0 (not-false (bytes_eq (trimmed last) last) p3.1) in
-    let id : IsIdText last = record { some = some last p2.0; trim = subst IsTrim same (trimmed_trim last) } in
-    (refl, ap (λ (o : Option (List ℕ)). unwrap_or o []) (msgid_first last [] id))
-  where
-    some : (l : List ℕ) → (length l == 0) ≡ false → 0 < length l
-    some [] h = absurd (cc)
-    some (x ∷ l) h = omega arith
+    (refl, ap (λ (o : Option (List ℕ)). unwrap_or o []) (id_told last p1.1))
 last_back false tag last none right =
     let p1 = or_parts (list_any is_zero last) (not (is_none (text_refusal last)) || not (bytes_eq (text_of (echo_of last)) last)) right in
     let p2 = or_parts (not (is_none (text_refusal last))) (not (bytes_eq (text_of (echo_of last)) last)) p1.1 in

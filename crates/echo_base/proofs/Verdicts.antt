@@ -9,7 +9,6 @@ use Rattle.echo_text.specs.Lines.{is_tag, msgid_word, trimmed}
 use Rattle.echo_text.specs.Echo.{EchoOf, EchoText, IsEcho}
 use Rattle.echo_text.specs.Ids.{is_line_byte, is_zero}
 use Rattle.echo_text.specs.Refusal.{text_refusal}
-use Rattle.echo_filed.specs.declared.key.Key.{Key}
 use Rattle.echo_filed.specs.Filed.{Filed, IsFiled, id_line, key_of}
 use Rattle.echo_filed.specs.Written.{echo_of, text_of}
 use Rattle.echo_filed.specs.declared.stored.Version.{Version}
@@ -19,8 +18,8 @@ use Rattle.echo_filed.proofs.Stubs.{bare_echo}
 use Rattle.echo_filed.proofs.Texts.{says_accepted, says_one}
 use Rattle.echo_base.specs.Base.{is_known}
 use Rattle.echo_base.specs.BaseFile.{has_wrong_form, has_wrong_last, has_wrong_sender, has_wrong_string, is_damaged, is_other_kind, is_wrong_id, is_wrong_text}
-use Rattle.echo_base.specs.Loading.{Judges, UnlessWrong, has_wrong_field, is_out_of_place, told_last, wrong_last}
-use Rattle.echo_base.proofs.Loaded.{filed_with, right_last, stored_sound}
+use Rattle.echo_base.specs.Loading.{UnlessWrong, is_wrong, told_last, wrong_last}
+use Rattle.echo_base.proofs.Loaded.{filed_with, right_last}
 
 -- a text that says an echo is wrong where it is not the one that is written
 pub text_wrong : (text : List ℕ) (e : EchoText) (dropped : ℕ) → list_any is_zero text ≡ false → EchoOf text e dropped → is_wrong_text text ≡ not (bytes_eq (text_of e) text)
@@ -62,18 +61,34 @@ message_is version s sender echo same told =
     λ i. record { sender = same i; date = s.date; to_name = s.to_name; from_name = s.from_name; subject = s.subject; echo = told i }
 
 -- the tests in groups
-regrouped : (o s t l r : Bool) → (o || (s || (t || (l || r)))) ≡ (((o || (s || t)) || l) || r)
-regrouped true s t l r = refl
-regrouped false true t l r = refl
-regrouped false false true l r = refl
-regrouped false false false l r = refl
+regrouped : (o s t l f k : Bool) → (o || (s || (t || (l || (f || k))))) ≡ ((((o || (s || t)) || l) || f) || k)
+regrouped true s t l f k = refl
+regrouped false true t l f k = refl
+regrouped false false true l f k = refl
+regrouped false false false true f k = refl
+regrouped false false false false f k = refl
 
 pub damaged_by : (version : Version) (cursor : ℕ) (earlier : List Filed) (s : Stored)
-    → is_damaged version cursor earlier s ≡ (has_wrong_field version s || is_out_of_place version cursor earlier (has_tag version s.kind) (message_in version s))
+    → is_damaged version cursor earlier s ≡ (is_wrong version cursor (length earlier) s || is_known earlier (key_of (message_in version s)))
 unfolding is_damaged
 damaged_by version cursor earlier s =
     regrouped (is_other_kind version s.kind) (has_wrong_sender s) (has_wrong_string s) (has_wrong_last version s)
-    (has_wrong_form version cursor (length earlier) s || is_known earlier (key_of (message_in version s)))
+    (has_wrong_form version cursor (length earlier) s) (is_known earlier (key_of (message_in version s)))
+
+-- it is damaged where it is wrong, and else where an earlier message has its key
+pub wrong_damaged : (version : Version) (cursor place : ℕ) (earlier : List Filed) (s : Stored) → place ≡ length earlier → is_wrong version cursor place s ≡ true
+    → is_damaged version cursor earlier s ≡ true
+wrong_damaged version cursor place earlier s at_end wrong =
+    damaged_by version cursor earlier s
+    ∙ ap (λ b. b || is_known earlier (key_of (message_in version s))) (ap (λ n. is_wrong version cursor n s) (sym at_end) ∙ wrong)
+
+pub known_damaged : (version : Version) (cursor place : ℕ) (earlier : List Filed) (s : Stored) (m : Filed) (known : Bool) → place ≡ length earlier
+    → is_wrong version cursor place s ≡ false → m ≡ message_in version s → is_known earlier (key_of m) ≡ known → is_damaged version cursor earlier s ≡ known
+known_damaged version cursor place earlier s m known at_end right told is =
+    damaged_by version cursor earlier s
+    ∙ ap (λ b. b || is_known earlier (key_of (message_in version s))) (ap (λ n. is_wrong version cursor n s) (sym at_end) ∙ right)
+    ∙ ap (λ x. is_known earlier (key_of x)) (sym told)
+    ∙ is
 
 -- what stands after the subject, where its parts are told in another way
 pub last_told : (version : Version) (s : Stored) (with_tag : Bool) (last : List ℕ) (o : Option EchoText) (echo : EchoText) → with_tag ≡ has_tag version s.kind → last ≡ s.last
@@ -83,30 +98,9 @@ last_told version s with_tag last o echo tagged same is h =
     let P : Bool → List ℕ → Option EchoText → Type 0 = λ t l x. UnlessWrong (wrong_last t s.tag l) (told_last t s.tag l) x in
     subst (P (has_tag version s.kind) s.last) is (subst (λ l. P (has_tag version s.kind) l o) same (subst (λ t. P t last o) tagged h))
 
--- a field is wrong; the message is out of place; or neither
-pub damaged_field : (version : Version) (cursor : ℕ) (earlier : List Filed) (s : Stored) → has_wrong_field version s ≡ true → is_damaged version cursor earlier s ≡ true
-damaged_field version cursor earlier s wrong =
-    damaged_by version cursor earlier s
-    ∙ ap (λ b. b || is_out_of_place version cursor earlier (has_tag version s.kind) (message_in version s)) wrong
-
-pub placed : (version : Version) (cursor : ℕ) (earlier : List Filed) (s : Stored) (with_tag : Bool) (m : Filed) → with_tag ≡ has_tag version s.kind → m ≡ message_in version s
-    → has_wrong_field version s ≡ false → is_out_of_place version cursor earlier with_tag m ≡ is_damaged version cursor earlier s
-placed version cursor earlier s with_tag m tagged told right =
-    (λ i. is_out_of_place version cursor earlier (tagged i) (told i))
-    ∙ sym (damaged_by version cursor earlier s
-    ∙ ap (λ b. b || is_out_of_place version cursor earlier (has_tag version s.kind) (message_in version s)) right)
-
 -- what is found is the value, and not wrong
 pub found_right : {X : Type 0} (wrong : Bool) (x y : X) (o : Option X) → o ≡ Some y → UnlessWrong wrong x o → (wrong ≡ false) × (y ≡ x)
 found_right wrong x y o is h = subst (UnlessWrong wrong x) is h
 
 pub none_wrong : {X : Type 0} (wrong : Bool) (x : X) (o : Option X) → o ≡ None → UnlessWrong wrong x o → wrong ≡ true
 none_wrong wrong x o is h = subst (UnlessWrong wrong x) is h
-
--- no earlier message has the key of one that may stand next
-pub key_is_new : (version : Version) (cursor : ℕ) (earlier : List Filed) (s : Stored) (key : Key) → IsStored version s → is_damaged version cursor earlier s ≡ false
-    → key ≡ key_of (message_in version s) → is_known earlier key ≡ false
-key_is_new version cursor earlier s key size sound own = ap (is_known earlier) own ∙ (stored_sound version cursor earlier s size sound).new
-
-pub judged_right : (damaged : Bool) (m : Filed) (found : Key × Filed) (o : Option (Key × Filed)) → o ≡ Some found → Judges damaged m o → Judges damaged m (Some found)
-judged_right damaged m found o is h = subst (Judges damaged m) is h

@@ -1,5 +1,5 @@
 -- What loading a base answers.
-use Rattle.std.specs.Prelude.{◌≡◌, ℕ, ◌^◌, ◌<◌, ◌≤◌, ◌⊎◌, ◌||◌, not, Bool, true, false, List, [], ◌∷◌, ◌++◌, length, if◌then◌else◌, Option, Some, None, IfSome, Result, Ok, Err, map}
+use Rattle.std.specs.Prelude.{◌≡◌, ℕ, ◌^◌, ◌<◌, ◌≤◌, ◌⊎◌, ◌||◌, not, nat_lt, Bool, true, false, List, [], ◌∷◌, ◌++◌, length, if◌then◌else◌, Option, Some, None, IfSome, Result, Ok, Err, map}
 use Rattle.std.specs.List.{AllByRecursion, flat_map}
 use Rattle.std.specs.Io.KnownBytes.{Consumes, IsAtEnd}
 use Rattle.echo_device.specs.Device.{Failed}
@@ -18,8 +18,8 @@ use Rattle.echo_filed.specs.Fields.{StopsIn}
 use Rattle.echo_base.specs.declared.fault.BaseFault.{BaseFault}
 use Rattle.echo_base.specs.declared.fault.BaseFault.TheVariants as fault
 use Rattle.echo_base.specs.declared.base.loading.Head.{Head}
-use Rattle.echo_base.specs.Base.{Base, is_known}
-use Rattle.echo_base.specs.BaseFile.{AreSound, BaseFaultOf, BaseOf, Loaded, has_wrong_last, has_wrong_sender, has_wrong_string, head_bytes, is_damaged, is_front, is_other_kind, is_wrong_id, is_wrong_text, magic}
+use Rattle.echo_base.specs.Base.{Base}
+use Rattle.echo_base.specs.BaseFile.{AreSound, BaseFaultOf, BaseOf, Loaded, has_wrong_form, has_wrong_last, has_wrong_sender, has_wrong_string, head_bytes, is_damaged, is_front, is_other_kind, is_wrong_id, is_wrong_text, magic}
 
 -- the value, or none where it is wrong
 abbrev pub UnlessWrong : {X : Type 0} → Bool → X → Option X → Type 0
@@ -40,19 +40,23 @@ has_wrong_front version s = is_other_kind version s.kind || (has_wrong_sender s 
 abbrev pub has_wrong_field : Version → Stored → Bool
 has_wrong_field version s = has_wrong_front version s || has_wrong_last version s
 
--- tag and id do not stand where they are to stand, or stand elsewhere; or an earlier message has the key
+-- tag and id do not stand where they are to stand, or stand elsewhere
 abbrev pub wrong_form : Version → ℕ → ℕ → Bool → Filed → Bool
 wrong_form version cursor place with_tag m =
     if with_tag then not (is_short version cursor place m) else is_short version cursor place m
 
-abbrev pub is_out_of_place : Version → ℕ → List Filed → Bool → Filed → Bool
-is_out_of_place version cursor earlier with_tag m =
-    wrong_form version cursor (length earlier) with_tag m || is_known earlier (key_of m)
+-- or a field is wrong
+abbrev pub is_wrong : Version → ℕ → ℕ → Stored → Bool
+is_wrong version cursor place s = has_wrong_field version s || has_wrong_form version cursor place s
 
--- the message with its key, or none where it is damaged
+-- tag and id stand in place of the text wherever the message was scanned
+abbrev pub IsShortOnceScanned : Version → Filed → Type 0
+IsShortOnceScanned version m = (cursor place : ℕ) → is_short version cursor place m ≡ nat_lt place cursor
+
+-- the message with its key, or none where it is wrong
 abbrev pub Judges : Bool → Filed → Option (Key × Filed) → Type 0
-Judges damaged m None = damaged ≡ true
-Judges damaged m (Some found) = (damaged ≡ false) × (found.0 ≡ key_of m) × (found.1 ≡ m)
+Judges wrong m None = wrong ≡ true
+Judges wrong m (Some found) = (wrong ≡ false) × (found.0 ≡ key_of m) × (found.1 ≡ m)
 
 -- how a field that was not read is told, behind so many whole messages
 abbrev pub told_behind : Broken → ℕ → BaseFault

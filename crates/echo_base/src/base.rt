@@ -1,6 +1,6 @@
-ghost use Rattle.std.specs.Prelude.{◌≡◌, ℕ, List, not, [], ◌∷◌, ◌++◌, false, true, bytes_eq, length, map, take, drop, count_by, slice_get, option_copied, IsTrue, IfOk, OnOk, OnErr};
+ghost use Rattle.std.specs.Prelude.{◌≡◌, ℕ, List, not, [], ◌∷◌, ◌++◌, false, true, bytes_eq, length, map, take, drop, count_by, slice_get, option_copied, if◌then◌else◌, IsTrue, IfOk, OnOk, OnErr};
 ghost use Rattle.std.specs.List.{AllByRecursion, list_any};
-ghost use Rattle.std.specs.Map.{values_of};
+ghost use Rattle.std.specs.Map.{keys_of, values_of};
 ghost use Rattle.echo_filed.specs.Filed.{has_id, key_of};
 ghost use Rattle.echo_filed.specs.Stubs.{is_stub, stub_of};
 ghost use Rattle.echo_base.specs.Entries.{HasTagIn};
@@ -11,6 +11,7 @@ mod saving;
 
 use crate::purging::{lines_left, put_stubs};
 use echo_filed::{Filed, Key, by_id};
+use indexmap::map::Entry;
 use indexmap::{IndexMap, IndexSet};
 use std::alloc::{AllocError, Global};
 use std::hash::BuildHasher;
@@ -108,11 +109,24 @@ impl<S: BuildHasher> Base<S> {
         ensures cursor { self.new.cursor ≡ self.old.cursor }
         ensures refused { OnErr result (self.new ≡ self.old) }
     {
+        self.add(key, message)?;
+        Ok(())
+    }
+
+    // Puts a message, with its key, at the end, unless one before it has the key, and answers whether it
+    // did. The base stays as it was where a growth is refused.
+    fn add(&mut self, key: Key, message: Filed) -> Result<bool, AllocError>
+        requires own { key ≡ key_of message }
+        ensures added { IfOk result (λ added. added ≡ not (is_known self.old.messages (key_of message))) }
+        ensures messages { IfOk result (λ added. self.new.messages
+            ≡ (if added then self.old.messages ++ message ∷ [] else self.old.messages)) }
+        ensures cursor { self.new.cursor ≡ self.old.cursor }
+        ensures refused { OnErr result (self.new ≡ self.old) }
+    {
         let echo = &message.echo;
         let tag = &echo.tag;
         keep_tag(&self.entries, &mut self.tags, tag.as_slice())?;
-        self.entries.insert(key, message)?;
-        Ok(())
+        push_new(&mut self.entries, key, message)
     }
 
     /// Moves the cursor to the end: all messages are scanned.
@@ -139,6 +153,28 @@ impl<S: BuildHasher> Base<S> {
         put_stubs(alloc, &mut self.entries, self.purged, self.cursor, lines);
         self.purged = self.cursor;
         Ok(count)
+    }
+}
+
+// Puts a message, with its key, behind the others, unless one of them has the key, and answers whether it
+// did.
+fn push_new<S: BuildHasher>(
+    entries: &mut IndexMap<Key, Filed, S>,
+    key: Key,
+    message: Filed,
+) -> Result<bool, AllocError>
+    requires own { keys_of entries.old.entries ≡ map key_of (values_of entries.old.entries) }
+    ensures added { IfOk result (λ added. added ≡ not (is_known (values_of entries.old.entries) key)) }
+    ensures entries { IfOk result (λ added. entries.new.entries
+        ≡ (if added then entries.old.entries ++ (key, message) ∷ [] else entries.old.entries)) }
+    ensures refused { OnErr result (entries.new.entries ≡ entries.old.entries) }
+{
+    match entries.entry(key)? {
+        Entry::Occupied(_) => Ok(false),
+        Entry::Vacant(place) => {
+            place.insert(message);
+            Ok(true)
+        }
     }
 }
 

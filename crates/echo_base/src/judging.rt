@@ -1,23 +1,22 @@
 //! Whether a stored message may stand in a base, and which message it is.
-ghost use Rattle.std.specs.Prelude.{◌≡◌, ◌||◌, not, bytes_eq, false, None, Some, if◌then◌else◌, IfOk};
+ghost use Rattle.std.specs.Prelude.{◌≡◌, ◌||◌, not, bytes_eq, false, None, Some, if◌then◌else◌, IfOk, IsTrue};
 ghost use Rattle.std.specs.List.{list_all};
 ghost use Rattle.echo_text.specs.Lines.{is_tag, is_tag_byte};
 ghost use Rattle.echo_text.specs.Echo.{IsEcho};
 ghost use Rattle.echo_text.specs.Ids.{is_line_byte};
 ghost use Rattle.echo_filed.specs.Written.{echo_of, text_of};
+ghost use Rattle.echo_filed.specs.declared.key.Key.TheVariants.{ById};
 ghost use Rattle.echo_filed.specs.Filed.{key_of};
 ghost use Rattle.echo_filed.specs.Stubs.{bare};
 ghost use Rattle.echo_filed.specs.Stored.{IsStored, is_posted, message_in};
 ghost use Rattle.echo_base.specs.BaseFile.{has_wrong_last, has_wrong_sender, has_wrong_string, is_damaged, is_no_string, is_other_kind, is_wrong_id, is_wrong_text};
-ghost use Rattle.echo_base.specs.Loading.{Judges, UnlessWrong, has_wrong_field, has_wrong_front, is_out_of_place, told_last, wrong_form, wrong_last};
+ghost use Rattle.echo_base.specs.Loading.{IsShortOnceScanned, Judges, UnlessWrong, has_wrong_field, has_wrong_front, is_wrong, told_last, wrong_form, wrong_last};
 
-use crate::base::Base;
 use echo_addr::{Address, Items};
 use echo_filed::{Filed, Key, StoredMessage, Version, has_tag, is_short, lines_of_id};
 use echo_packet::{MAX_NAME, MAX_SUBJECT};
 use echo_text::{Echo, TextFault, read_text, trimmed, write_text};
 use std::alloc::{AllocError, Global};
-use std::hash::BuildHasher;
 
 // The most bytes of a tag.
 const MAX_TAG: usize = 60;
@@ -164,29 +163,30 @@ fn sender_in(kind: u8, sender: Address) -> Option<Address>
     if is_posted(kind) { None } else { Some(sender) }
 }
 
-// The message that is stored so, unless what stands after the subject is wrong.
+// The message that is stored so, with what stands last, unless what stands after the subject is wrong.
 fn message_of(
     alloc: Global,
     version: Version,
     stored: StoredMessage,
-) -> Result<Option<Filed>, AllocError>
+) -> Result<Option<(Filed, Items<u8>)>, AllocError>
     requires sizes { IsStored version stored }
     requires strings { has_wrong_string stored ≡ false }
-    ensures { IfOk result (UnlessWrong (has_wrong_last version stored) (message_in version stored)) }
+    ensures { IfOk result (UnlessWrong (has_wrong_last version stored) (message_in version stored, stored.last)) }
 {
     let with_tag = has_tag(version, stored.kind);
     let sender = sender_in(stored.kind, stored.sender);
     let Some(echo) = echo_in(alloc, with_tag, stored.tag, stored.last.as_slice())? else {
         return Ok(None);
     };
-    Ok(Some(Filed {
+    let message = Filed {
         sender,
         date: stored.date,
         to_name: stored.to_name,
         from_name: stored.from_name,
         subject: stored.subject,
         echo,
-    }))
+    };
+    Ok(Some((message, stored.last)))
 }
 
 // Whether the first byte, the sender or a string is wrong.
@@ -196,14 +196,14 @@ fn has_wrong_front(version: Version, stored: &StoredMessage) -> bool
     is_other_kind(version, stored.kind) || has_wrong_sender(stored) || has_wrong_string(stored)
 }
 
-// The message that is stored so, unless a field of it is wrong.
+// The message that is stored so, with what stands last, unless a field of it is wrong.
 fn right_message(
     alloc: Global,
     version: Version,
     stored: StoredMessage,
-) -> Result<Option<Filed>, AllocError>
+) -> Result<Option<(Filed, Items<u8>)>, AllocError>
     requires { IsStored version stored }
-    ensures { IfOk result (UnlessWrong (has_wrong_field version stored) (message_in version stored)) }
+    ensures { IfOk result (UnlessWrong (has_wrong_field version stored) (message_in version stored, stored.last)) }
 {
     if has_wrong_front(version, &stored) {
         return Ok(None);
@@ -219,53 +219,57 @@ fn has_wrong_form(
     with_tag: bool,
     message: &Filed,
 ) -> bool
+    requires { IsTrue with_tag → IsShortOnceScanned version message.now }
     ensures { result ≡ wrong_form version cursor place with_tag message.now }
 {
-    let short = match version {
+    if with_tag {
+        return place >= cursor;
+    }
+    match version {
         Version::First => false,
         Version::Second => is_short(message, place, cursor),
-    };
-    if with_tag { !short } else { short }
+    }
 }
 
-// The key of the message, unless it may not stand next in the base.
-fn key_if_next<S: BuildHasher>(
+// The key of the message. Where it has tag and id in place of the text, the id stands last.
+fn key_of(
     alloc: Global,
-    base: &Base<S>,
-    version: Version,
-    cursor: usize,
     with_tag: bool,
     message: &Filed,
-) -> Result<Option<Key>, AllocError>
-    ensures { IfOk result (UnlessWrong (is_out_of_place version cursor base.now.messages with_tag message.now) (key_of message.now)) }
+    last: Items<u8>,
+) -> Result<Key, AllocError>
+    requires { IsTrue with_tag → key_of message.now ≡ ById message.now.echo.tag last }
+    ensures { IfOk result (λ key. key ≡ key_of message.now) }
 {
-    if has_wrong_form(version, cursor, base.len(), with_tag, message) {
-        return Ok(None);
+    if !with_tag {
+        return Key::of_message(alloc, message);
     }
-    let key = Key::of_message(alloc, message)?;
-    if base.knows(&key) {
-        return Ok(None);
-    }
-    Ok(Some(key))
+    let tag = Vec::from_slice(alloc, message.echo.tag.as_slice())?;
+    Ok(Key::ById {
+        tag: Items::new(tag),
+        msgid: last,
+    })
 }
 
-/// The message with its key, unless it may not stand next in the base.
-pub(crate) fn judged<S: BuildHasher>(
+/// The message with its key, unless a field is wrong or it has not the form that it is to have at this
+/// place of a base.
+pub(crate) fn judged(
     alloc: Global,
-    base: &Base<S>,
     version: Version,
     cursor: usize,
+    place: usize,
     stored: StoredMessage,
 ) -> Result<Option<(Key, Filed)>, AllocError>
     requires { IsStored version stored }
-    ensures { IfOk result (Judges (is_damaged version cursor base.now.messages stored) (message_in version stored)) }
+    ensures { IfOk result (Judges (is_wrong version cursor place stored) (message_in version stored)) }
 {
     let with_tag = has_tag(version, stored.kind);
-    let Some(message) = right_message(alloc, version, stored)? else {
+    let Some((message, last)) = right_message(alloc, version, stored)? else {
         return Ok(None);
     };
-    match key_if_next(alloc, base, version, cursor, with_tag, &message)? {
-        Some(key) => Ok(Some((key, message))),
-        None => Ok(None),
+    if has_wrong_form(version, cursor, place, with_tag, &message) {
+        return Ok(None);
     }
+    let key = key_of(alloc, with_tag, &message, last)?;
+    Ok(Some((key, message)))
 }

@@ -1,5 +1,5 @@
 -- What `picture` answers, from what its parts do.
-use Rattle.std.proofs.Common.{◌≡◌, ℕ, List, [], ◌++◌, Option, refl, sym, ap, subst, ◌∙◌}
+use Rattle.std.proofs.Common.{◌≡◌, ℕ, List, [], ◌++◌, Option, refl, sym, subst, ◌∙◌}
 use Rattle.std.specs.Io.KnownBytes.{Appends}
 use Rattle.echo_links.specs.Links.{LinkFile, upper}
 use Rattle.echo_net.specs.declared.drawing.Drawing.{Drawing}

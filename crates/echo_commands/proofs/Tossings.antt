@@ -1,8 +1,8 @@
 -- A run of `toss` over packet files, one file more at its front.
-use Rattle.std.proofs.Common.{◌≡◌, ℕ, List, [], ◌∷◌, Option, Some, None, Ok, Err, refl, sym, subst, inl, inr}
+use Rattle.std.proofs.Common.{◌≡◌, ℕ, List, [], ◌∷◌, Option, Some, None, Ok, Err, refl, subst, inl, inr}
 use Rattle.echo_commands.specs.declared.fault.Fault.{Fault}
 use Rattle.echo_commands.specs.Coming.{Coming, OpensNext}
-use Rattle.echo_commands.specs.Tossed.{TossesEach, TossesFile}
+use Rattle.echo_commands.specs.Tossed.{TossesEach}
 use Rattle.echo_commands.specs.Unpacked.{TossRun, TossesPacket}
 
 -- no file is left

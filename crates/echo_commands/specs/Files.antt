@@ -1,5 +1,5 @@
 -- The files that a command leaves to be written, and how it ends.
-use Rattle.std.specs.Prelude.{◌≡◌, ℕ, List, [], Option, Some, None, Result, Ok, Err}
+use Rattle.std.specs.Prelude.{◌≡◌, ℕ, List, [], Some, None, Result, Ok, Err}
 use Rattle.echo_commands.specs.declared.fault.Fault.{Fault}
 use Rattle.echo_commands.specs.declared.leaving.Done.{Done}
 use Rattle.echo_commands.specs.declared.leaving.Files.{Files}

@@ -123,6 +123,18 @@ string_breaks size had a b c broken.Device within took h =
     (had ++ h.0, Consumes-trans a b c had h.0 took h.1, string_ends size (had ++ h.0) (omega (arith, length-append had h.0)))
 string_breaks size had a b c broken.Memory within took h = tt
 
+-- a part of a string broke, behind those that came
+pub part_breaks : (size next : ℕ) (had : List ℕ) (a b c : Option (List ℕ)) (e : Broken) → length had + next ≤ size → Consumes a b had
+    → Breaks (List ℕ) (HasLength next) itself b c e → Breaks (List ℕ) (HasLength size) itself a c e
+part_breaks size next had a b c e within took h =
+    breaks_behind {F = HasLength next} {w = itself} {G = HasLength size} {v = itself} a b c had e took
+    (λ bytes inside.
+    let some = inside.some in
+    let fits = inside.fits in
+    let cut = ap length inside.cut ∙ length-append bytes inside.missing in
+    string_ends size (had ++ bytes) (omega (arith, length-append had bytes)))
+    h
+
 -- a string behind its length
 pub counted_reads : (F : ℕ → Type 0) (w : ℕ → List ℕ) (n : ℕ) (a b c : Option (List ℕ)) (r : Result (List ℕ) Broken) → F n → Consumes a b (w n)
     → Reads (HasLength n) itself b c r → Reads (LengthFits F) (length_first w) a c r

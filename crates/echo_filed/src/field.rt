@@ -1,5 +1,6 @@
 //! One field of a base file, taken from a source.
 ghost use Rattle.std.specs.Prelude.{◌≡◌, ◌<◌, ◌≤◌, length, take, drop, IfOk, IfErr, OnOk};
+ghost use Rattle.std.specs.List.{flat_map};
 ghost use Rattle.std.specs.Io.KnownBytes.{Consumes};
 ghost use Rattle.echo_packet.specs.Header.{AreBytes, word};
 ghost use Rattle.echo_filed.specs.Stored.{after_length, after_long_length, long};
@@ -8,7 +9,7 @@ ghost use Rattle.echo_filed.specs.Fields.{BreaksFilling, CountsBreak, HasLength,
 use crate::numbers::{long_of, word_of};
 use echo_addr::{Address, Items};
 use echo_device::{Failure, Source, fill};
-use std::alloc::{AllocError, Global};
+use std::alloc::{AllocError, AllocFailed, Global};
 
 /// Why a field was not read.
 #[derive(Clone, Copy, Debug, PartialEq, Eq)]
@@ -43,8 +44,22 @@ impl From<AllocError> for Broken {
     }
 }
 
+impl<T: Drop> From<AllocFailed<T>> for Broken {
+    ghost use Rattle.std.specs.Prelude.{◌≡◌};
+    ghost use Rattle.echo_filed.specs.declared.field.Broken.TheVariants as broken;
+
+    ghost from_gives = { λ _ e. e ≡ broken.Memory };
+
+    fn from(_refused: AllocFailed<T>) -> Broken {
+        Broken::Memory
+    }
+}
+
 // How many bytes more than those that came room is made for.
 const STEP: usize = 4096;
+
+// The most bytes of a string that is read in one part.
+const PART: usize = 65_536;
 
 // Does nothing. Its contract says of bytes that each is below 256.
 fn are_bytes(bytes: &[u8])
@@ -146,7 +161,7 @@ fn take_piece<R: Source>(reader: &mut R, string: &mut Vec<u8>, size: usize) -> R
 }
 
 // So many bytes. Room grows with those that come.
-fn read_string<R: Source>(alloc: Global, reader: &mut R, size: usize) -> Result<Items<u8>, Broken>
+fn read_part<R: Source>(alloc: Global, reader: &mut R, size: usize) -> Result<Items<u8>, Broken>
     ensures read { Reads (HasLength size) itself (R.remaining reader.old) (R.remaining reader.new) result }
     ensures device { CountsBreak result (R.failures reader.old) (R.failures reader.new) }
 {
@@ -155,6 +170,49 @@ fn read_string<R: Source>(alloc: Global, reader: &mut R, size: usize) -> Result<
         take_piece(reader, &mut string, size)?;
     }
     Ok(Items::new(string))
+}
+
+// The parts behind one another, which have so many bytes together.
+fn joined(alloc: Global, parts: &[Items<u8>], size: usize) -> Result<Items<u8>, AllocError>
+    ensures { IfOk result (λ string. string ≡ flat_map itself parts.now) }
+{
+    let mut string = Vec::with_capacity(alloc, size)?;
+    'parts: for part in parts {
+        string.extend_from_slice(part.as_slice())?;
+    }
+    Ok(Items::new(string))
+}
+
+// So many bytes, in parts that are put together once all came: a long string that grew would be moved
+// with each step.
+fn read_long_string<R: Source>(
+    alloc: Global,
+    reader: &mut R,
+    size: usize,
+) -> Result<Items<u8>, Broken>
+    ensures read { Reads (HasLength size) itself (R.remaining reader.old) (R.remaining reader.new) result }
+    ensures device { CountsBreak result (R.failures reader.old) (R.failures reader.new) }
+{
+    let mut parts = Vec::new(alloc);
+    let mut left = size;
+    'parts: while left > 0 {
+        let next = left.min(PART);
+        let part = read_part(alloc, reader, next)?;
+        parts.push(part)?;
+        left -= next;
+    }
+    Ok(joined(alloc, parts.as_slice(), size)?)
+}
+
+// So many bytes.
+fn read_string<R: Source>(alloc: Global, reader: &mut R, size: usize) -> Result<Items<u8>, Broken>
+    ensures read { Reads (HasLength size) itself (R.remaining reader.old) (R.remaining reader.new) result }
+    ensures device { CountsBreak result (R.failures reader.old) (R.failures reader.new) }
+{
+    if size <= PART {
+        return read_part(alloc, reader, size);
+    }
+    read_long_string(alloc, reader, size)
 }
 
 /// Bytes after their length, of one byte.

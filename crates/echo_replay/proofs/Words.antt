@@ -1,15 +1,14 @@
 -- The words of a script's lines.
-use Rattle.std.proofs.Common.{◌≡◌, ◌≢◌, ℕ, ◌<◌, ◌≤◌, ◌^◌, ◌==◌, ◌&&◌, nat_lt, not, Bool, true, false, cond, List, [], ◌∷◌, length, drop, codes, refl, sym, ap, ◌∙◌, Option, Some, None, arith}
+use Rattle.std.proofs.Common.{◌≡◌, ◌≢◌, ℕ, ◌<◌, ◌≤◌, ◌^◌, ◌==◌, ◌&&◌, nat_lt, not, Bool, true, false, cond, List, [], ◌∷◌, length, drop, codes, refl, sym, ap, ◌∙◌, None, arith}
 use Rattle.std.specs.Prelude.{bytes_eq, nat_le, option_map}
 use Rattle.std.specs.Char.{is_ascii_uppercase}
 use Rattle.std.specs.List.{list_any, position_or_len}
 use Rattle.std.proofs.Math.Nat.{pow-le-pow_right}
-use Rattle.std.proofs.lemmas.Bool.{and_from, cond-false, cond-true, eq-eqb, le-leb, le-ltb, lt-leb, lt-ltb, ne_eqb}
+use Rattle.std.proofs.lemmas.Bool.{and_from, cond-false, cond-true, eq-eqb, le-leb, lt-leb, lt-ltb, ne_eqb}
 use Rattle.echo_addr.specs.Entries.{is_blank, tokens}
 use Rattle.echo_links.specs.LinkLines.{after_first_of, first_of, is_control_byte}
-use Rattle.echo_run.specs.declared.event.Event.{Event}
-use Rattle.echo_run.specs.declared.event.Event.TheVariants.{Deliver, Post, Purge, Scan}
-use Rattle.echo_replay.specs.Script.{after_first_word, draft_of, event_in, event_of, index_in, moment, number_in, only_index, posting_in, posting_of, posting_with, serial_in}
+use Rattle.echo_run.specs.declared.event.Event.TheVariants.{Deliver, Purge, Scan}
+use Rattle.echo_replay.specs.Script.{after_first_word, event_in, event_of, index_in, moment, number_in, only_index, posting_in, posting_of, posting_with, serial_in}
 
 -- ---- an index
 

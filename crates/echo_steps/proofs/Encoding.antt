@@ -1,11 +1,10 @@
 -- The bytes of a packet, message by message.
-use Rattle.std.proofs.Common.{◌≡◌, ℕ, ◌+◌, ◌^◌, ◌<◌, ◌≤◌, List, [], ◌∷◌, ◌++◌, length, take, get_or, refl, sym, ap, subst, ◌∙◌, arith, append_assoc, length-append}
+use Rattle.std.proofs.Common.{◌≡◌, ℕ, ◌+◌, ◌^◌, ◌<◌, ◌≤◌, List, [], ◌∷◌, ◌++◌, length, take, get_or, sym, ap, subst, ◌∙◌, arith, append_assoc, length-append}
 use Rattle.std.specs.List.{AllByRecursion}
 use Rattle.std.proofs.lemmas.List.{take_more}
 use Rattle.echo_packet.specs.declared.header.Header.{Header}
-use Rattle.echo_packet.specs.declared.limits.Limits.{Limits}
 use Rattle.echo_packet.specs.Header.{IsHeader, header_bytes, word}
-use Rattle.echo_packet.specs.Message.{AreMessages, IsMessage, IsString, Message, Text, before, message_bytes, messages_bytes, zero_ended}
+use Rattle.echo_packet.specs.Message.{IsMessage, Message, Text, before, message_bytes, messages_bytes, zero_ended}
 use Rattle.echo_packet.specs.Packet.{PacketOf, packet_bytes}
 use Rattle.echo_packet.proofs.MessageByMessage.{messages_bytes-push}
 use Rattle.echo_filed.proofs.Plain.{all_append}

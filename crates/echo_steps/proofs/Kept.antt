@@ -21,7 +21,7 @@ use Rattle.echo_text.proofs.Reread.{read_is_echo}
 use Rattle.echo_filed.specs.Written.{echo_of}
 use Rattle.echo_steps.proofs.Received.{tossing_received}
 use Rattle.echo_filed.proofs.Texts.{says_read}
-use Rattle.echo_filed.proofs.Plain.{no_zero, some_bytes}
+use Rattle.echo_filed.proofs.Plain.{some_bytes}
 use Rattle.echo_base.proofs.Entries.{none_known, one_more}
 use Rattle.echo_steps.proofs.Posted.{posted_id, posted_is_echo, posting_posted}
 

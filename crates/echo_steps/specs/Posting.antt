@@ -1,10 +1,9 @@
 -- Posting: what is filed for a draft, and why a draft is refused.
 pub use Rattle.echo_filed.specs.Filed.{has_id}
-use Rattle.std.specs.Prelude.{◌≡◌, ℕ, ◌⊎◌, ◌==◌, ◌||◌, not, nat_lt, Bool, true, false, List, [], ◌∷◌, ◌++◌, map, length, codes, if◌then◌else◌, Option, Some, None, is_none, option_map, unwrap_or, bytes_eq, Result, Ok, Err}
+use Rattle.std.specs.Prelude.{◌≡◌, ℕ, ◌⊎◌, ◌==◌, ◌||◌, not, nat_lt, Bool, true, false, List, [], ◌∷◌, ◌++◌, length, codes, if◌then◌else◌, Option, Some, None, is_none, Result, Ok, Err}
 use Rattle.std.specs.List.{list_any}
 use Rattle.echo_addr.specs.Address.{address_text}
 use Rattle.echo_text.specs.Lines.{lines, msgid_word, origin_word, reply_word, trimmed}
-use Rattle.echo_text.specs.Echo.{msgid_of}
 use Rattle.echo_packet.specs.Message.{max_name, max_subject}
 use Rattle.echo_steps.specs.declared.draft.Draft.{Draft}
 use Rattle.echo_steps.specs.declared.stamp.Stamp.{Stamp}

@@ -1,9 +1,8 @@
 -- Nets whose link files change, by computation: one that stays in order, and for each premise of the law on
 -- such nets a run that misses it and is not orderly.
-use Rattle.std.proofs.Common.{◌≡◌, Some, None, ℕ, List, [], ◌∷◌, ◌++◌, refl, codes, map}
-use Rattle.std.specs.Prelude.{Bool, true, false, filter}
+use Rattle.std.proofs.Common.{◌≡◌, ℕ, List, [], ◌∷◌, ◌++◌, refl, codes, map}
+use Rattle.std.specs.Prelude.{Bool, true, filter}
 use Rattle.std.specs.Fmt.{digits}
-use Rattle.echo_addr.specs.declared.address.Address.{Address}
 use Rattle.echo_addr.specs.Entries.{entries, pair_of, tokens}
 use Rattle.echo_text.specs.Lines.{lines, trimmed, begins, after_word}
 use Rattle.echo_text.specs.Tail.{kept_of, path_lists, seen_lists}
@@ -15,7 +14,7 @@ use Rattle.echo_filed.specs.declared.key.Key.{Key}
 use Rattle.echo_filed.specs.declared.key.Key.TheVariants.{ById}
 use Rattle.echo_filed.specs.Sets.{address_set, entry_set}
 use Rattle.echo_filed.specs.Written.{echo_of, short_lines, text_of}
-use Rattle.echo_filed.specs.Filed.{Filed, key_of, same_key}
+use Rattle.echo_filed.specs.Filed.{key_of, same_key}
 use Rattle.echo_steps.specs.declared.draft.Draft.{Draft}
 use Rattle.echo_steps.specs.Stamps.{date_of}
 use Rattle.echo_steps.specs.Posting.{post_refusal, posted, posted_lines, posting}

@@ -102,18 +102,19 @@ fn take_message<R: Source, S: BuildHasher>(
     ensures device { CountsLoad result (R.failures reader.old) (R.failures reader.new) }
 {
     let alloc = *base.entries.allocator();
-    let number = base.len() as u64;
+    let place = base.len();
     let stored = match read_stored(alloc, reader, version) {
         Ok(stored) => stored,
-        Err(broken) => return Err(told(broken, number)),
+        Err(broken) => return Err(told(broken, place as u64)),
     };
-    match judged(alloc, base, version, cursor, stored)? {
-        Some((key, message)) => {
-            base.file(key, message)?;
-            Ok(())
+    if let Some((key, message)) = judged(alloc, version, cursor, place, stored)? {
+        if base.add(key, message)? {
+            return Ok(());
         }
-        None => Err(BaseFault::Damaged { message: number }),
     }
+    Err(BaseFault::Damaged {
+        message: place as u64,
+    })
 }
 
 // Takes the messages that stand behind the head.

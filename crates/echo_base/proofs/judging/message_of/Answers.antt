@@ -4,8 +4,8 @@ use Rattle.echo_base.specs.BaseFile.{has_wrong_last, has_wrong_string}
 use Rattle.echo_base.proofs.Verdicts.{last_told, message_is, message_made}
 use Rattle.echo_base.proofs.judging.message_of.Goals as goal
 
-pub invariant_of-result : goal.invariant_of-result
-invariant_of-result c =
+pub invariant_of-message : goal.invariant_of-message
+invariant_of-message c =
     let i = c.stored.inside in
     let s : Stored = record { kind = i.kind; zone = i.sender.zone; net = i.sender.net; node = i.sender.node; date = i.date; to_name = i.to_name; from_name = i.from_name; subject = i.subject; tag = i.tag; last = i.last } in
     let version = c.args.version in
@@ -18,7 +18,9 @@ returns c =
     let i = c.stored.inside in
     let s : Stored = record { kind = i.kind; zone = i.sender.zone; net = i.sender.net; node = i.sender.node; date = i.date; to_name = i.to_name; from_name = i.from_name; subject = i.subject; tag = i.tag; last = i.last } in
     let version = c.args.version in
-    let told = last_told version s c.has_tag-with_tag.result c.as_slice.result.now _ c.in-Some.echo c.has_tag-with_tag.ensures c.as_slice.ensures c.in-Some.is c.in_ok-echo.ensures in (
+    let told = last_told version s c.has_tag-with_tag.result c.as_slice.result.now _ c.in-Some.echo c.has_tag-with_tag.ensures c.as_slice.ensures c.in-Some.is c.in_ok-echo.ensures in
+    let message = message_is version s c.sender_in-sender.result c.in-Some.echo c.sender_in-sender.ensures told.1 ∙ ap (message_in version) c.stored.view_is in
+    let last = ap (λ (x : Stored). x.last) c.stored.view_is in (
       ap (has_wrong_last version) (sym c.stored.view_is) ∙ told.0,
-      message_is version s c.sender_in-sender.result c.in-Some.echo c.sender_in-sender.ensures told.1 ∙ ap (message_in version) c.stored.view_is,
+      λ j. (message j, last j),
     )

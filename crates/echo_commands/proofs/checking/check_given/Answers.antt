@@ -1,6 +1,6 @@
 use Rattle.std.proofs.Common.{◌≡◌, ℕ, List, ◌∙◌}
 use Rattle.std.specs.Option.{option_copied}
-use Rattle.echo_links.specs.Links.{LinkFile, upper}
+use Rattle.echo_links.specs.Links.{LinkFile}
 use Rattle.echo_net.specs.Faults.{IsYes}
 use Rattle.echo_print.specs.Checked.{CheckShown}
 use Rattle.echo_commands.specs.Checking.{IsCheckVerdict, RunsAreOrderly}

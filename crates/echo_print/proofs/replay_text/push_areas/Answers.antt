@@ -1,5 +1,4 @@
 use Rattle.std.proofs.Common.{arith}
-use Rattle.std.specs.List.{flat_map}
 use Rattle.echo_print.specs.Replayed.{area_state_line}
 use Rattle.echo_print.proofs.Replays.{flat_more}
 use Rattle.echo_print.proofs.replay_text.push_areas.Goals as goal

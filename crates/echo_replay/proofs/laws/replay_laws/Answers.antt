@@ -1,6 +1,5 @@
-use Rattle.std.proofs.Common.{◌≡◌, ℕ, ◌≤◌, List, [], ◌∷◌, map, refl, sym, ap, subst, inl, inr, ◌⊎◌}
+use Rattle.std.proofs.Common.{◌≡◌, ℕ, ◌≤◌, List, [], ◌∷◌, map, refl, sym, subst, inl, inr, ◌⊎◌}
 use Rattle.echo_graph.specs.Walk.{Among}
-use Rattle.echo_filed.specs.declared.key.Key.{Key}
 use Rattle.echo_run.specs.Orderly.{count}
 use Rattle.echo_run.specs.Run.{System, run_of}
 use Rattle.echo_steps.specs.SystemState.{SystemState}

@@ -1,7 +1,7 @@
 use Rattle.std.proofs.Common.{◌≡◌, ◌++◌, false, length, take}
 use Rattle.std.specs.List.{AllByRecursion}
 use Rattle.echo_device.specs.Watched.{watched_device}
-use Rattle.echo_packet.specs.Header.{IsHeader, header_bytes}
+use Rattle.echo_packet.specs.Header.{header_bytes}
 use Rattle.echo_packet.specs.Message.{IsMessage, messages_bytes}
 use Rattle.echo_packet.specs.Writer.{has_stopped, writer_below}
 use Rattle.echo_steps.proofs.packet.Packet.encode.Given as goal

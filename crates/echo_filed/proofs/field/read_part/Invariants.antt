@@ -1,7 +1,7 @@
 -- What is there came from the source.
 use Rattle.std.proofs.Common.{◌≡◌, ◌-◌, ◌≤◌, length}
 use Rattle.std.specs.Io.KnownBytes.{Consumes}
-use Rattle.echo_filed.proofs.field.read_string.Given as goal
+use Rattle.echo_filed.proofs.field.read_part.Given as goal
 
 abbrev pub invariant-pieces : goal.invariant-pieces
 invariant-pieces g l = record {

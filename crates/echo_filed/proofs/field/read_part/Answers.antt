@@ -1,6 +1,6 @@
 use Rattle.std.proofs.lemmas.Result.{err_from_is_err_and}
 use Rattle.echo_filed.proofs.Taken.{string_breaks}
-use Rattle.echo_filed.proofs.field.read_string.Goals as goal
+use Rattle.echo_filed.proofs.field.read_part.Goals as goal
 
 pub returns-in_err-take_piece-clause-read : goal.returns-in_err-take_piece-clause-read
 returns-in_err-take_piece-clause-read g c =
