@@ -23,7 +23,7 @@ use Rattle.echo_steps.specs.Posting.{IsAllowed, has_id, holds_zero, is_too_long,
 use Rattle.echo_filed.proofs.Choices.{all_weaker}
 use Rattle.echo_filed.proofs.Keys.{msgid_first}
 use Rattle.echo_steps.proofs.OwnIds.{own_id_is_id, plain_id}
-use Rattle.echo_filed.proofs.Plain.{IsLineByte, Plain, all_append, plain_address, plain_if, plain_line}
+use Rattle.echo_filed.proofs.Plain.{IsLineByte, Plain, all_append, lines_plain, no_zero, plain_address, plain_if, plain_line}
 
 passed : {F : Type 0} (b : Bool) (f : F) (rest : Option F) → cond b (Some f) rest ≡ None → (b ≡ false) × (rest ≡ None)
 passed true f rest h = absurd (cc)
