@@ -23,7 +23,8 @@ endings_of() {
   shift
   for number in "$@"; do
     told=$work/told.$number
-    timeout 60 env CHOSEN="$number" LD_PRELOAD="$work/refuse.so" "$program" "$test" > "$told" 2>&1
+    # The shell's own word on a test that stopped is left out.
+    { timeout 60 env CHOSEN="$number" LD_PRELOAD="$work/refuse.so" "$program" "$test" > "$told" 2>&1; } 2> /dev/null
     status=$?
     if [ $status = 0 ]; then
       echo passed
