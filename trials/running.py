@@ -12,7 +12,8 @@ import time
 from typing import NamedTuple
 
 LONGEST = 20  # seconds for a small input
-MOST_MEMORY = 8 << 30  # so that a grown input harms nobody else
+# So that a grown input harms nobody else: eight GiB, where MOST_MEMORY does not tell other bytes.
+MOST_MEMORY = int(os.environ.get("MOST_MEMORY", 8 << 30))
 
 
 class Ended(NamedTuple):
