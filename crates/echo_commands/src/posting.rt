@@ -1,6 +1,8 @@
-ghost use Rattle.std.specs.Prelude.{◌≡◌, ◌++◌, IfOk, OnOk, option_copied};
+ghost use Rattle.std.specs.Prelude.{◌≡◌, ◌++◌, ℕ, List, Option, IfOk, OnOk, option_copied};
 ghost use Rattle.echo_commands.specs.Files.{Leaves};
 ghost use Rattle.echo_commands.specs.Posted.{PostAnswers, draft_body, draft_byte, draft_given};
+ghost use Rattle.echo_commands.specs.System.{IsSystemGiven};
+ghost use Rattle.echo_commands.specs.declared.fault.Fault.{Fault};
 
 use crate::fault::Fault;
 use crate::leaving::{Done, Files, leave};
@@ -10,6 +12,7 @@ use echo_addr::Items;
 use echo_device::Sink;
 use echo_print::push_posted;
 use echo_steps::{Draft, Stamp};
+use echo_toss::Tosser;
 use std::alloc::{AllocError, Global};
 use std::hash::BuildHasher;
 
@@ -64,9 +67,22 @@ fn post_given<'a, S: BuildHasher + Drop, W: Sink>(
     ensures { PostAnswers words.entry links.now (option_copied base.entry) stopped.entry body.now (W.contents out.old) (W.contents out.new) (W.failures out.old) (W.failures out.new) result }
 {
     let mut system = system_given(alloc, links, base, stopped, hasher)?;
+    post_system(alloc, words, &mut system, body, out)
+}
+
+// The same at the system that the files make.
+fn post_system<'a, S: BuildHasher, W: Sink>(
+    alloc: Global,
+    words: NewMessage<'_>,
+    system: &mut Tosser<S>,
+    body: &[u8],
+    out: &mut W,
+) -> Result<Files, Fault<'a>>
+    ensures { (links : List ℕ) (base : Option (List ℕ)) (stopped : Option Fault) → IsSystemGiven links base system.old → stopped ≡ None → PostAnswers words.entry links base stopped body.now (W.contents out.old) (W.contents out.new) (W.failures out.old) (W.failures out.new) result }
+{
     let draft = draft_of(alloc, words, body)?;
     system.post(words.tag, &draft, words.serial, words.stamp)?;
-    let base = saved(alloc, &system)?;
+    let base = saved(alloc, system)?;
     let mut lines = Vec::new(alloc);
     push_posted(
         alloc,

@@ -1,6 +1,8 @@
-ghost use Rattle.std.specs.Prelude.{option_copied};
+ghost use Rattle.std.specs.Prelude.{◌≡◌, ℕ, List, Option, option_copied};
 ghost use Rattle.echo_commands.specs.Files.{Leaves};
 ghost use Rattle.echo_commands.specs.Purged.{PurgeAnswers};
+ghost use Rattle.echo_commands.specs.System.{IsSystemGiven};
+ghost use Rattle.echo_commands.specs.declared.fault.Fault.{Fault};
 
 use crate::fault::Fault;
 use crate::leaving::{Done, Files, leave};
@@ -8,6 +10,7 @@ use crate::printing::print_rest;
 use crate::system::{saved, system_given};
 use echo_device::Sink;
 use echo_print::push_purged;
+use echo_toss::Tosser;
 use std::alloc::Global;
 use std::hash::BuildHasher;
 
@@ -44,8 +47,19 @@ fn purge_given<'a, S: BuildHasher + Drop, W: Sink>(
     ensures { PurgeAnswers links.now (option_copied base.entry) stopped.entry (W.contents out.old) (W.contents out.new) (W.failures out.old) (W.failures out.new) result }
 {
     let mut system = system_given(alloc, links, base, stopped, hasher)?;
+    purge_system(alloc, &mut system, out)
+}
+
+// The same of the system that the files make.
+fn purge_system<'a, S: BuildHasher, W: Sink>(
+    alloc: Global,
+    system: &mut Tosser<S>,
+    out: &mut W,
+) -> Result<Files, Fault<'a>>
+    ensures { (links : List ℕ) (base : Option (List ℕ)) (stopped : Option Fault) → IsSystemGiven links base system.old → stopped ≡ None → PurgeAnswers links base stopped (W.contents out.old) (W.contents out.new) (W.failures out.old) (W.failures out.new) result }
+{
     let count = system.purge()?;
-    let base = saved(alloc, &system)?;
+    let base = saved(alloc, system)?;
     let mut lines = Vec::new(alloc);
     push_purged(&mut lines, count)?;
     print_rest(&mut lines, out)?;

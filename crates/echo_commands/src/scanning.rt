@@ -1,8 +1,10 @@
-ghost use Rattle.std.specs.Prelude.{◌≡◌, ◌++◌, length, map, IfOk, OnOk, option_copied};
+ghost use Rattle.std.specs.Prelude.{◌≡◌, ◌++◌, ℕ, List, Option, length, map, IfOk, OnOk, option_copied};
 ghost use Rattle.std.specs.List.{flat_map};
 ghost use Rattle.echo_packet.specs.Packet.{packet_bytes};
 ghost use Rattle.echo_commands.specs.Files.{Leaves};
 ghost use Rattle.echo_commands.specs.Scanned.{ScanAnswers, file_sent, line_sent, packet_name};
+ghost use Rattle.echo_commands.specs.System.{IsSystemGiven};
+ghost use Rattle.echo_commands.specs.declared.fault.Fault.{Fault};
 ghost use Rattle.echo_print.specs.Shown.{told_receiver};
 
 use crate::fault::Fault;
@@ -14,6 +16,7 @@ use echo_device::Sink;
 use echo_packet::Header;
 use echo_print::push_sent;
 use echo_steps::{Packet, Stamp};
+use echo_toss::Tosser;
 use std::alloc::{AllocError, Global};
 use std::hash::BuildHasher;
 
@@ -52,9 +55,21 @@ fn scan_given<'a, S: BuildHasher + Drop, W: Sink>(
     ensures { ScanAnswers stamp links.now (option_copied base.entry) stopped.entry (W.contents out.old) (W.contents out.new) (W.failures out.old) (W.failures out.new) result }
 {
     let mut system = system_given(alloc, links, base, stopped, hasher)?;
+    scan_system(alloc, stamp, &mut system, out)
+}
+
+// The same of the system that the files make.
+fn scan_system<'a, S: BuildHasher, W: Sink>(
+    alloc: Global,
+    stamp: Stamp,
+    system: &mut Tosser<S>,
+    out: &mut W,
+) -> Result<Files, Fault<'a>>
+    ensures { (links : List ℕ) (base : Option (List ℕ)) (stopped : Option Fault) → IsSystemGiven links base system.old → stopped ≡ None → ScanAnswers stamp links base stopped (W.contents out.old) (W.contents out.new) (W.failures out.old) (W.failures out.new) result }
+{
     let before = system.filed() - system.waiting();
     let packets = system.scan(stamp)?;
-    let base = saved(alloc, &system)?;
+    let base = saved(alloc, system)?;
     let mut lines = Vec::new(alloc);
     let files = packet_files(alloc, &packets, before, &mut lines)?;
     print_rest(&mut lines, out)?;

@@ -1,31 +1,4 @@
-use Rattle.std.proofs.Common.{refl, inl, inr}
-use Rattle.std.proofs.lemmas.Result.{err_from_is_err_and}
-use Rattle.echo_commands.proofs.Stationed.{post_refused, post_unsaved}
 use Rattle.echo_commands.proofs.posting.post_given.Goals as goal
 
-pub returns-in_err-draft : goal.returns-in_err-draft
-returns-in_err-draft g c =
-    let p = err_from_is_err_and c.from_residual-in_err-draft.result c.from_residual-in_err-draft.ensures.1 in
-    rw (p.1, p.2) (inl (inr (tt, refl)))
-
-pub returns-in_err-post : goal.returns-in_err-post
-returns-in_err-post g c =
-    let p = err_from_is_err_and c.from_residual-in_err-post.result c.from_residual-in_err-post.ensures.1 in
-    rw (p.1, p.2) (post_refused c.args.words c.args.links.now _ c.args.stopped c.args.body.now c.in_ok-system.system c.post.new.self c.in_ok-draft.draft c.in_err-post.field-0.0 _ _
-    c.in_ok-system.ensures.ok c.in_ok-system.ensures.whole c.in_ok-draft.ensures c.in_err-post.ensures.0)
-
-pub returns-in_err-base : goal.returns-in_err-base
-returns-in_err-base g c =
-    let p = err_from_is_err_and c.from_residual-in_err-base.result c.from_residual-in_err-base.ensures.1 in
-    rw (p.1, p.2) (post_unsaved c.args.words c.args.links.now _ c.args.stopped c.args.body.now c.in_ok-system.system c.post.new.self c.in_ok-draft.draft c.in_err-base.field-0.0 _ _
-    c.in_ok-system.ensures.ok c.in_ok-system.ensures.whole c.in_ok-draft.ensures c.in_ok-post.ensures.0 c.in_ok-post.ensures.1 c.in_err-base.ensures.err)
-
-pub returns-in_err-push_posted : goal.returns-in_err-push_posted
-returns-in_err-push_posted g c =
-    let p = err_from_is_err_and c.from_residual-in_err-push_posted.result c.from_residual-in_err-push_posted.ensures.1 in
-    rw (p.1, p.2) (inl (inr (tt, refl)))
-
-pub returns-in_err-print_rest : goal.returns-in_err-print_rest
-returns-in_err-print_rest g c =
-    let p = err_from_is_err_and c.from_residual-in_err-print_rest.result c.from_residual-in_err-print_rest.ensures.1 in
-    rw (p.1, p.2) (inl (inl c.in_err-print_rest.ensures.err))
+pub returns : goal.returns
+returns g c = c.post_system.ensures _ _ _ c.in_ok-system.ensures.ok c.in_ok-system.ensures.whole
