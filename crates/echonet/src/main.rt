@@ -4,8 +4,6 @@
 
 mod inputs;
 mod station;
-#[cfg(test)]
-mod tests;
 mod words;
 
 use clap::error::ErrorKind;
