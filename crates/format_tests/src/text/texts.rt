@@ -1,6 +1,6 @@
 use super::{checked, copied, read, view, written};
-use crate::{Echo, EchoView, Lines, split_line};
 use echo_addr::NetNode;
+use echo_text::{Echo, EchoView, Lines, split_line};
 use std::alloc::Global;
 use std::test::Fail;
 

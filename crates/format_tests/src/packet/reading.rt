@@ -1,7 +1,7 @@
 //! Packets from readers.
 use super::{FIRST, SIZE};
-use crate::{Limits, PacketFault, PacketReader, read_packet};
 use echo_device::{Source, Trial, Watched};
+use echo_packet::{Limits, PacketFault, PacketReader, read_packet};
 use std::alloc::{AllocError, Global};
 use std::test::Fail;
 

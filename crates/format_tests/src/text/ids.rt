@@ -1,5 +1,5 @@
-use crate::{MsgId, TextFault};
 use echo_addr::Address;
+use echo_text::{MsgId, TextFault};
 use std::alloc::{AllocError, Global};
 use std::test::Fail;
 

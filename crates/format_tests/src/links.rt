@@ -1,4 +1,6 @@
-use super::*;
+use echo_addr::Address;
+use echo_links::{LinkFault, LinkFile};
+use std::alloc::Global;
 use std::test::Fail;
 
 const OWN: Address = Address {

@@ -5,7 +5,7 @@ ghost use Rattle.std.specs.Prelude.{◌≡◌, AllPairs, IfOk};
 ghost use Rattle.echo_addr.specs.declared.address.NetNode.{NetNode};
 ghost use Rattle.echo_addr.specs.ShortLines.{ComesBefore};
 
-use crate::{AddrFault, Address, NetNode, read_list, write_path, write_seen};
+use echo_addr::{AddrFault, Address, NetNode, read_list, write_path, write_seen};
 use std::alloc::{AllocError, Global};
 
 fn entry(net: u16, node: u16) -> NetNode

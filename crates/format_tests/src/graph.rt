@@ -1,6 +1,6 @@
 mod slow;
 
-use super::*;
+use echo_graph::{Graph, Links, is_graph, loop_of, unreached};
 use slow::{first_ring, fully_linked, goes_round, link_all, reached, sequences};
 use std::alloc::{AllocError, Global};
 use std::process::Abort;

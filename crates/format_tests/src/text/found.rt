@@ -1,5 +1,5 @@
 use super::{checked, read, view};
-use crate::{Echo, EchoView};
+use echo_text::{Echo, EchoView};
 use std::alloc::Global;
 use std::test::Fail;
 

@@ -1,6 +1,6 @@
 use super::{FIRST, SIZE};
-use crate::*;
 use echo_device::{Sink, Trial, Watched};
+use echo_packet::{Field, Packed, PacketFault, PacketWriter, read_header};
 use std::alloc::{AllocError, Global};
 use std::test::Fail;
 

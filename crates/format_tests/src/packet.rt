@@ -1,4 +1,4 @@
-use super::*;
+use echo_packet::{Field, Limits, PacketFault, read_header, read_packet};
 use std::test::Fail;
 
 mod reading;

@@ -1,5 +1,5 @@
 //! Devices that move pieces, are interrupted and fail.
-use crate::{Buffered, Sink, Source, Trial, Watched, fill, send};
+use echo_device::{Buffered, Sink, Source, Trial, Watched, fill, send};
 use std::io;
 use std::io::{ErrorKind, Read, Write};
 use std::test::Fail;

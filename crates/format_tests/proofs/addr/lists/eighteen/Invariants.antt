@@ -1,7 +1,7 @@
 use Rattle.std.proofs.Common.{◌≡◌, ◌<◌}
 use Rattle.std.specs.List.{All, AllPairs}
 use Rattle.echo_addr.specs.ShortLines.{ComesBefore}
-use Rattle.echo_addr.proofs.tests.lists.eighteen.Given as goal
+use Rattle.format_tests.proofs.addr.lists.eighteen.Given as goal
 
 abbrev pub invariant-loop-node : goal.invariant-loop-node
 invariant-loop-node l = record {

@@ -1,9 +1,9 @@
 //! The worked examples. Where a call is refused memory it is repeated, and answers as if it had not
 //! been refused.
 
-use crate::{CrcLine, Keyword, Line, NodeFault, Nodelist, crc_line, crc16};
 use echo_addr::Address;
 use echo_device::{Trial, Watched};
+use echo_nodelist::{CrcLine, Keyword, Line, NodeFault, Nodelist, crc_line, crc16};
 use std::alloc::Global;
 use std::test::Fail;
 

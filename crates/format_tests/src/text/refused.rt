@@ -1,5 +1,5 @@
 use super::{checked, read, view};
-use crate::TextFault;
+use echo_text::TextFault;
 use std::alloc::Global;
 use std::test::Fail;
 

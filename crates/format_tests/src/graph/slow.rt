@@ -1,6 +1,6 @@
 //! The answers by the definitions, found by trying all sequences of different members.
 
-use crate::graph::{Graph, Links};
+use echo_graph::{Graph, Links};
 use std::alloc::{AllocError, Global};
 
 /// Rows of links for these members.

@@ -1,5 +1,5 @@
 //! The small type in a struct.
-use crate::Items;
+use echo_addr::Items;
 use std::alloc::{AllocError, Global};
 use std::convert::AsSlice;
 use std::hash::{DefaultHasher, Hash, Hasher};

@@ -1,7 +1,7 @@
 //! Bases in bytes: read, written, cut at each byte, and damaged.
-use super::*;
-use crate::BaseFault;
+use echo_base::{Base, BaseFault};
 use echo_device::{Trial, Watched};
+use std::alloc::{AllocError, Global};
 use std::hash::{BuildHasherDefault, FoldHasher};
 use std::test::Fail;
 

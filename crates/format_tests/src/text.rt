@@ -8,7 +8,7 @@ mod texts;
 ghost use Rattle.std.specs.Prelude.{IfSome};
 ghost use Rattle.echo_text.specs.Echo.{HasNoZero};
 
-use crate::{Echo, EchoView, TextFault, read_text, view_text, write_text};
+use echo_text::{Echo, EchoView, TextFault, read_text, view_text, write_text};
 use std::alloc::{AllocError, Global};
 
 /// The text, which has no 00.
