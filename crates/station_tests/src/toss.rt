@@ -1,6 +1,9 @@
-use super::*;
 use echo_addr::{Address, Items};
 use echo_packet::{Limits, Packed};
+use echo_toss::{
+    Draft, Filed, LinkFault, LinkFile, Outcome, Packet, PostFault, ScanFault, Stamp, Tally,
+    TossCause, TossFault, Tosser,
+};
 use std::alloc::{AllocError, Global};
 use std::hash::{BuildHasherDefault, FoldHasher};
 use std::test::Fail;

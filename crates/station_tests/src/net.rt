@@ -1,7 +1,7 @@
 mod small;
 
-use super::*;
 use echo_links::{LinkFault, LinkFile};
+use echo_net::{Absence, NetFault, Verdict, check, listed};
 use echo_nodelist::Nodelist;
 use small::{NO_AREA, SmallNet};
 use std::alloc::Global;

@@ -2,9 +2,9 @@ mod refused;
 mod saved;
 mod scripts;
 
-use super::*;
 use echo_addr::Items;
 use echo_links::{LinkFault, LinkFile};
+use echo_replay::{ScriptFault, World, read_script, replay};
 use echo_run::Event;
 use echo_steps::{Draft, Stamp};
 use std::alloc::{AllocError, Global};

@@ -1,6 +1,6 @@
-use crate::readers_are_what_they_tell;
 use echo_commands::toss;
 use echo_device::Watched;
+use echo_stations::readers_are_what_they_tell;
 use std::hash::{BuildHasherDefault, FoldHasher};
 
 /// A packet without messages, from 1:10/1 to 1:10/2.
