@@ -1,12 +1,13 @@
 # `make` proves what has changed and builds bin/echonet, `make test` is the gate, `make demo` runs the
 # first example, `make show-examples` compares what `show` prints of the packets in examples/ with what
-# it is to print. `make story` runs three systems on real files, `make net-test` the scripts of
+# it is to print, and `make cases` what each command prints and leaves in the runs of examples/cases. `make
+# story` runs three systems on real files, `make net-test` the scripts of
 # examples/net; `make manual-test` compares the manual page with the program's help; `make follow` does
 # what docs/OPERATORS.md says (it needs binkd); `make interop` runs a net with another tosser (it needs
 # binkd and crashmail); `make trials` tries the program from outside (docs/TRIALS.md). `make install` puts
 # the program and its manual page under PREFIX, or under DESTDIR and PREFIX, and `make uninstall` takes
 # them away.
-.PHONY: all test demo show-examples story net-test manual-test follow interop trials install uninstall toolchain clean
+.PHONY: all test demo show-examples cases story net-test manual-test follow interop trials install uninstall toolchain clean
 PREFIX = /usr/local
 
 # The program that the examples are run with. After the gate that is the one that it built and left in
@@ -61,6 +62,9 @@ show-examples: $(program)
 	  diff $${packet%.pkt}.txt bin/shown.txt || exit 1; \
 	  echo "$$packet: as expected"; \
 	done
+
+cases: $(program)
+	scripts/cases.sh $(program)
 
 story: $(program)
 	examples/story.sh $(program)

@@ -27,6 +27,3 @@ pub use items::Items;
 pub use laws::{address_read_back, one_spelling, written_lines_read_back};
 pub use listing::{add_list, next_token, read_list};
 pub use shortening::{write_path, write_seen};
-
-#[cfg(test)]
-mod tests;

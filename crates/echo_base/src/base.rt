@@ -219,6 +219,3 @@ fn note_tag(tags: &mut IndexSet<Vec<u8>>, tag: &[u8]) -> Result<(), AllocError>
     tags.insert(tag)?;
     Ok(())
 }
-
-#[cfg(test)]
-mod tests;

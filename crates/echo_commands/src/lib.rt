@@ -53,6 +53,3 @@ pub use scanning::scan;
 pub use showing::show;
 pub use status::Status;
 pub use unpacking::toss;
-
-#[cfg(test)]
-mod tests;

@@ -22,6 +22,3 @@ pub use sink::{Sink, send};
 pub use source::{Source, fill};
 pub use trial::Trial;
 pub use watched::Watched;
-
-#[cfg(test)]
-mod tests;

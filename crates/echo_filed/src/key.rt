@@ -1,4 +1,4 @@
-ghost use Rattle.std.specs.Prelude.{◌≡◌, ◌↔◌, Option, IfOk, IsTrue};
+ghost use Rattle.std.specs.Prelude.{◌≡◌, Option, IfOk};
 ghost use Rattle.echo_addr.specs.declared.address.Address.{Address as Sender};
 ghost use Rattle.echo_filed.specs.declared.key.Key.TheVariants.{ByContent, ById};
 ghost use Rattle.echo_filed.specs.Filed.{key_of};
@@ -106,36 +106,4 @@ fn boxed(alloc: Global, bytes: &[u8]) -> Result<Boxed<u8>, AllocError>
     ensures { IfOk result (λ copy. copy ≡ bytes.now) }
 {
     Boxed::new(alloc, Vec::from_slice(alloc, bytes)?)
-}
-
-#[cfg(test)]
-mod tests {
-    use super::*;
-    use std::alloc::{AllocError, Global};
-    use std::test::Fail;
-
-    // Keys compare equal just where they are the same.
-    fn same(a: &Key, b: &Key) -> bool
-        ensures { IsTrue result ↔ (a.now ≡ b.now) }
-    {
-        a == b
-    }
-
-    // The answers for two keys, if memory is there.
-    fn compared(alloc: Global, tag: &[u8], other: &[u8]) -> Result<bool, AllocError> {
-        let key = by_id(alloc, tag, b"1:10/1 00000001")?;
-        let next = by_id(alloc, other, b"1:10/1 00000001")?;
-        Ok(same(&key, &next))
-    }
-
-    #[test]
-    fn areas_keep_keys_apart(rt: HostRuntime) -> Result<(), Fail> {
-        if let Ok(equal) = compared(rt.alloc(), b"TEST", b"TEST") {
-            assert!(rt; equal);
-        }
-        if let Ok(equal) = compared(rt.alloc(), b"TEST", b"OTHER") {
-            assert!(rt; !equal);
-        }
-        Ok(())
-    }
 }

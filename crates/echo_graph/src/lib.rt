@@ -37,6 +37,3 @@ pub use laws::{
 pub use polygons::loop_of;
 pub use reach::unreached;
 pub use sound::is_graph;
-
-#[cfg(test)]
-mod tests;

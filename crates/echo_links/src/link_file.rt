@@ -135,6 +135,3 @@ impl LinkFile {
         }
     }
 }
-
-#[cfg(test)]
-mod tests;

@@ -29,6 +29,3 @@ pub use checker::check;
 pub use drawing::{Drawing, DrawnLink, DrawnSystem, Mark, Sides, draw};
 pub use presence::{Absence, listed};
 pub use verdict::{NetFault, Verdict};
-
-#[cfg(test)]
-mod tests;

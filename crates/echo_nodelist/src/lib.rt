@@ -31,6 +31,3 @@ pub use laws::{one_nodelist, written_nodelist_read_back};
 pub use line::Line;
 pub use nodelist::Nodelist;
 pub use stated::{CrcLine, crc_line};
-
-#[cfg(test)]
-mod tests;

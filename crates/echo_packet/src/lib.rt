@@ -34,6 +34,3 @@ pub use reader::{PacketReader, read_header};
 pub use reading::read_packet;
 pub use sending::{send_header, send_message, send_terminator};
 pub use writer::PacketWriter;
-
-#[cfg(test)]
-mod tests;

@@ -19,6 +19,3 @@ pub use laws::replay_laws;
 pub use replaying::replay;
 pub use script::{ScriptFault, read_script};
 pub use world::World;
-
-#[cfg(test)]
-mod tests;

@@ -11,6 +11,3 @@ pub use laws::{
     command_is_events, commands_are_a_run, files_are_in_order, files_are_sound,
     readers_are_what_they_tell,
 };
-
-#[cfg(test)]
-mod tests;

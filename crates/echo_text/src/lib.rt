@@ -41,6 +41,3 @@ pub use msgid::{MsgId, serial_of};
 pub use reading::{read_text, view_text};
 pub use words::trimmed;
 pub use writing::{write_parts, write_text};
-
-#[cfg(test)]
-mod tests;

@@ -37,6 +37,3 @@ pub use fault::{TossCause, TossFault};
 pub use laws::packet_laws;
 pub use tally::Tally;
 pub use tosser::Tosser;
-
-#[cfg(test)]
-mod tests;

@@ -1,0 +1,130 @@
+use super::{FIRST, SIZE};
+use echo_device::{Sink, Trial, Watched};
+use echo_packet::{Field, Packed, PacketFault, PacketWriter, read_header};
+use std::alloc::{AllocError, Global};
+use std::test::Fail;
+
+/// Where the text of its message stands.
+const TEXT: usize = 103;
+
+// A message from 10/1 to 10/2 at its moment, with these strings.
+fn message(
+    alloc: Global,
+    to_name: &[u8],
+    from_name: &[u8],
+    subject: &[u8],
+    text: &[u8],
+) -> Result<Result<Packed, PacketFault>, AllocError> {
+    Ok(Packed::new(
+        1,
+        2,
+        10,
+        10,
+        0,
+        0,
+        *b"03 Jul 26  12:34:56\0",
+        to_name.to_vec(alloc)?,
+        from_name.to_vec(alloc)?,
+        subject.to_vec(alloc)?,
+        text.to_vec(alloc)?,
+    ))
+}
+
+// The message of the packet.
+fn first_message(alloc: Global) -> Result<Packed, Fail> {
+    Ok(message(alloc, b"All", b"Ann", b"Hi", &FIRST[TEXT..209])??)
+}
+
+// The packet with this message, written to the device.
+fn write_packet<W: Sink + Drop>(device: W, message: &Packed) -> Result<W, PacketFault> {
+    let header = read_header(&mut &FIRST[..])?;
+    let mut packet = PacketWriter::begin(device, &header)?;
+    packet.put(message)?;
+    packet.finish()
+}
+
+// What a device that takes pieces and fails after so many bytes gets of the packet. The bytes behind
+// those stay FF.
+fn write_case(message: &Packed, piece: usize, left: u64) -> (Option<PacketFault>, usize) {
+    let mut out = [0xffu8; SIZE];
+    let device = Watched::new(Trial::new(&mut out[..], piece, 0, left));
+    let fault = write_packet(device, message).err();
+    let same = out.iter().zip(&FIRST).take_while(|(a, b)| a == b).count();
+    let untouched = out.iter().rev().take_while(|byte| **byte == 0xff).count();
+    (fault, same.min(SIZE - untouched))
+}
+
+#[test]
+fn writes_the_first_posting(rt: HostRuntime) -> Result<(), Fail> {
+    let message = first_message(rt.alloc())?;
+    assert_eq!(rt; write_case(&message, SIZE, 212), (None, SIZE));
+    assert_eq!(rt; write_case(&message, 1, 212), (None, SIZE));
+    Ok(())
+}
+
+#[test]
+fn failing_writers_are_told(rt: HostRuntime) -> Result<(), Fail> {
+    let message = first_message(rt.alloc())?;
+    for left in 0u64..212 {
+        let (fault, same) = write_case(&message, SIZE, left);
+        assert_eq!(rt; fault, Some(PacketFault::Write { bytes: left }));
+        assert_eq!(rt; same, left as usize);
+    }
+    let (fault, _) = write_case(&message, 0, 212);
+    assert_eq!(rt; fault, Some(PacketFault::Write { bytes: 0 }));
+    Ok(())
+}
+
+#[test]
+fn stops_after_a_fault(rt: HostRuntime) -> Result<(), Fail> {
+    let message = first_message(rt.alloc())?;
+    let header = read_header(&mut &FIRST[..])?;
+    let mut out = [0u8; SIZE];
+    let device = Watched::new(Trial::new(&mut out[..], SIZE, 0, 100));
+    let mut packet = PacketWriter::begin(device, &header)?;
+    assert_eq!(rt;
+        packet.put(&message),
+        Err(PacketFault::Write { bytes: 100 })
+    );
+    assert_eq!(rt; packet.put(&message), Err(PacketFault::Stopped));
+    assert_eq!(rt; packet.finish().err(), Some(PacketFault::Stopped));
+    Ok(())
+}
+
+#[test]
+fn refuses_long_fields(rt: HostRuntime) -> Result<(), Fail> {
+    let alloc = rt.alloc();
+    let longest = [0x41u8; 72];
+    for (to_name, from_name, subject, fault) in [
+        (35, 35, 71, None),
+        (36, 36, 72, Some(PacketFault::BadField(Field::ToName))),
+        (35, 36, 72, Some(PacketFault::BadField(Field::FromName))),
+        (35, 35, 72, Some(PacketFault::BadField(Field::Subject))),
+    ] {
+        let made = message(
+            alloc,
+            &longest[..to_name],
+            &longest[..from_name],
+            &longest[..subject],
+            &[],
+        )?;
+        assert_eq!(rt; made.err(), fault);
+    }
+    let zero = message(alloc, b"A", b"B", b"", b"H\0")?;
+    assert_eq!(rt; zero.err(), Some(PacketFault::BadField(Field::Text)));
+    Ok(())
+}
+
+#[test]
+fn gives_the_parts(rt: HostRuntime) -> Result<(), Fail> {
+    let message = first_message(rt.alloc())?;
+    assert_eq!(rt; (message.orig_node(), message.dest_node()), (1, 2));
+    assert_eq!(rt; (message.orig_net(), message.dest_net()), (10, 10));
+    assert_eq!(rt; (message.attribute(), message.cost()), (0, 0));
+    assert_eq!(rt; message.date(), b"03 Jul 26  12:34:56\0");
+    assert_eq!(rt; message.to_name(), b"All".as_slice());
+    assert_eq!(rt; message.from_name(), b"Ann".as_slice());
+    assert_eq!(rt; message.subject(), b"Hi".as_slice());
+    assert_eq!(rt; message.text().len(), 106);
+    Ok(())
+}
