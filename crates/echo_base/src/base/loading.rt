@@ -16,7 +16,7 @@ use std::hash::BuildHasher;
 // What the two versions begin with.
 const FIRST: &[u8] = b"ECHOBAS1";
 
-const SECOND: &[u8] = b"ECHOBAS2";
+pub(super) const SECOND: &[u8] = b"ECHOBAS2";
 
 // The first 16 bytes of a base file.
 #[derive(Clone, Copy)]
