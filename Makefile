@@ -7,7 +7,6 @@
 # the program and its manual page under PREFIX, or under DESTDIR and PREFIX, and `make uninstall` takes
 # them away.
 .PHONY: all test demo show-examples story net-test manual-test follow interop trials install uninstall toolchain clean
-MAKEFLAGS += --jobs=$(shell nproc)
 PREFIX = /usr/local
 
 # The program that the examples are run with. After the gate that is the one that it built and left in
@@ -21,17 +20,18 @@ closure = $(sort $(1) $(foreach name,$(filter $(ours),$(call lower,$(1))),$(call
 needed := $(call closure,echonet)
 # And with the program by which a trial replays events.
 tried := $(sort $(needed) $(call closure,bench))
-proving := $(if $(filter trials,$(MAKECMDGOALS)),$(tried),$(needed))
+counted := $(if $(filter bin/proved/bench,$(MAKECMDGOALS)),$(tried),$(needed))
 
 all: bin/echonet
 
 toolchain:
 	@command -v rt >/dev/null || { echo "echonet: the Rattle toolchain's command rt is not on the PATH" >&2; exit 1; }
 
+ifdef proving
 # One rule for each crate: it is proved after those that it stands on.
 define crate_rule
 bin/proved/$(1): crates.txt $$(shell find crates/$(1) -name out -prune -o \( -name '*.rt' -o -name '*.antt' \) -print) $$(patsubst %,bin/proved/%,$$(filter $$(ours),$$(call lower,$(1)))) | toolchain
-	@scripts/prove.sh $(1) $$(words $$(proving)) $$(or $$(run_$(1)),lib)
+	@scripts/prove.sh $(1) $$(words $$(counted)) $$(or $$(run_$(1)),lib)
 endef
 # How a program is run once it is built.
 run_echonet = run --help
@@ -40,6 +40,13 @@ $(foreach name,$(tried),$(eval $(call crate_rule,$(name))))
 
 bin/echonet: bin/proved/echonet
 	@cp crates/echonet/out/echonet bin/echonet
+else
+# The crates are proved side by side, one for each processor: make takes their number from a command line
+# alone. What has to be proved anew is known to the make that is called here.
+.PHONY: bin/echonet
+bin/echonet: toolchain
+	@$(MAKE) --no-print-directory --jobs=$(shell nproc) proving=1 bin/echonet $(if $(filter trials,$(MAKECMDGOALS)),bin/proved/bench)
+endif
 
 test: toolchain
 	rt ci
@@ -78,7 +85,7 @@ install: bin/echonet
 uninstall:
 	rm -f $(DESTDIR)$(PREFIX)/bin/echonet $(DESTDIR)$(PREFIX)/share/man/man1/echonet.1
 
-trials: bin/echonet bin/proved/bench
+trials: bin/echonet
 	trials/all.sh
 
 clean:

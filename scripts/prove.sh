@@ -5,11 +5,13 @@ set -u
 cd "$(dirname "$0")/.."
 name=$1 total=$2 kind=${3:-lib}
 log=bin/$name.log
+jobs=$(nproc)
+[ "$jobs" -le 4 ] || jobs=4
 mkdir -p bin/proved
 if [ "$kind" = run ]; then
-  (cd "crates/$name" && rt run -- "${@:4}") > "$log" 2>&1
+  (cd "crates/$name" && rt run --jobs "$jobs" -- "${@:4}") > "$log" 2>&1
 else
-  (cd "crates/$name" && rt lib) > "$log" 2>&1
+  (cd "crates/$name" && rt lib --jobs "$jobs") > "$log" 2>&1
 fi
 status=$?
 if [ $status -ne 0 ]; then

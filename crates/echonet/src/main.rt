@@ -1,20 +1,17 @@
-//! The program `echonet`: it reads the command line (`words`) and the files (`inputs`), and calls the
-//! commands.
+//! The program `echonet`: it reads the files that the command line names (`inputs`), calls the commands,
+//! and puts what they leave in place (`station`).
 #![tactic(auto)]
 
 mod inputs;
 mod station;
-#[cfg(test)]
-mod tests;
-mod words;
 
-use clap::error::ErrorKind;
 use echo_addr::Address;
 use echo_base::BaseFault;
 use echo_commands::{
     Fault, Status, check, list, nodelist, number_of, picture, replay, show, wanted,
 };
 use echo_device::{Sink, Watched};
+use echo_words::{Ending, Words, explain, parse};
 use inputs::{
     MOST_INPUT, read_base, read_file, read_given, read_if_given, read_links, read_script,
 };
@@ -22,7 +19,6 @@ use station::{run_post, run_purge, run_scan, run_toss};
 use std::collections::hash_map::RandomState;
 use std::process::ExitCode;
 use std::{env, io};
-use words::{Words, parse};
 
 // `show [--hex] PACKET`
 fn run_show<W: Sink, E: Sink>(
@@ -186,23 +182,18 @@ fn run_words<W: Sink, E: Sink>(
     }
 }
 
-// Prints what the parser says, and answers the status: 0 for help that was asked for.
-fn refuse(rt: &HostRuntime, error: &clap::Error) -> Status {
-    if error.kind() == ErrorKind::OutOfMemory {
-        return Fault::OutOfMemory.report(&mut Watched::new(rt.stderr()));
-    }
-    let printed = error.print(rt);
-    match error.kind() {
-        ErrorKind::DisplayHelp | ErrorKind::DisplayVersion if printed.is_ok() => Status::Good,
-        ErrorKind::DisplayHelp | ErrorKind::DisplayVersion => {
-            Fault::CannotUse("-").report(&mut Watched::new(rt.stderr()))
-        }
-        _ => Status::CommandLine,
+// The status of a command line that asks for no command.
+fn status_of(rt: &HostRuntime, ending: Ending) -> Status {
+    match ending {
+        Ending::Helped => Status::Good,
+        Ending::CannotPrint => Fault::CannotUse("-").report(&mut Watched::new(rt.stderr())),
+        Ending::OutOfMemory => Fault::OutOfMemory.report(&mut Watched::new(rt.stderr())),
+        Ending::Refused => Status::CommandLine,
     }
 }
 
 // The words of the command line. The status is that of what stops it: words that are no text, or
-// want of memory.
+// no memory.
 fn words_given(rt: &HostRuntime) -> Result<Vec<String>, Status> {
     match env::args(rt) {
         Ok(args) => args.collect::<Vec<String>>(rt.alloc()).map_err(|_| Fault::OutOfMemory.report(
@@ -231,7 +222,7 @@ fn run(rt: &HostRuntime) -> Status {
             &mut Watched::new(rt.stderr()),
         ),
         Ok(None) => Status::CommandLine,
-        Err(error) => refuse(rt, &error),
+        Err(error) => status_of(rt, explain(rt, &error)),
     }
 }
 

@@ -5,7 +5,6 @@ ghost use Rattle.std.specs.Prelude.{map};
 ghost use Rattle.echo_commands.specs.Coming.{Unknown};
 
 use crate::inputs::{MOST_LINKS, input_fault, read_base, read_standard_input};
-use crate::words::PostWords;
 use echo_base::BaseFault;
 use echo_commands::{
     Done, Fault, NewMessage, PacketFile, PacketFiles, Status, post, purge, scan, serial_of,
@@ -13,6 +12,7 @@ use echo_commands::{
 };
 use echo_device::{Buffered, Sink, Watched};
 use echo_files::{OutputFault, create_file, read_whole, replace_file};
+use echo_words::PostWords;
 use std::alloc::AllocError;
 use std::collections::hash_map::RandomState;
 use std::fs::File;

@@ -1,0 +1,180 @@
+//! What the words of a command line ask for.
+
+use crate::commands::command;
+use clap::{ArgMatches, Error};
+use std::alloc::{AllocError, Global};
+
+/// What the command line asks for. Paths are as given, `-` among them.
+#[derive(Drop)]
+pub enum Words<'a> {
+    Show {
+        hex: bool,
+        packet: &'a str,
+    },
+    Nodelist {
+        find: Option<&'a str>,
+        file: &'a str,
+    },
+    Check {
+        nodelist: Option<&'a str>,
+        tag: &'a str,
+        links: Vec<&'a str>,
+    },
+    Picture {
+        tag: &'a str,
+        links: Vec<&'a str>,
+    },
+    Replay {
+        script: &'a str,
+        links: Vec<&'a str>,
+    },
+    List {
+        area: Option<&'a str>,
+        from: Option<&'a str>,
+        base: &'a str,
+    },
+    Post(PostWords<'a>),
+    Toss {
+        links: &'a str,
+        base: &'a str,
+        packets: Vec<&'a str>,
+    },
+    Scan {
+        at: &'a str,
+        links: &'a str,
+        base: &'a str,
+        folder: &'a str,
+    },
+    Purge {
+        links: &'a str,
+        base: &'a str,
+    },
+}
+
+/// The words of `post`.
+#[derive(Drop)]
+pub struct PostWords<'a> {
+    pub area: &'a str,
+    pub to: &'a str,
+    pub from: &'a str,
+    pub subject: &'a str,
+    pub serial: &'a str,
+    pub at: &'a str,
+    pub reply: Option<&'a str>,
+    pub links: &'a str,
+    pub base: &'a str,
+}
+
+// The values of the argument that is given once or more.
+fn values<'a>(
+    alloc: Global,
+    matches: &ArgMatches<'a>,
+    id: &str,
+) -> Result<Vec<&'a str>, AllocError> {
+    Vec::from_slice(alloc, matches.get_strs(id).unwrap_or(&[]))
+}
+
+fn show_words<'a>(matches: &ArgMatches<'a>) -> Option<Words<'a>> {
+    Some(Words::Show {
+        hex: matches.get_flag("hex"),
+        packet: matches.get_str("PACKET")?,
+    })
+}
+
+fn nodelist_words<'a>(matches: &ArgMatches<'a>) -> Option<Words<'a>> {
+    Some(Words::Nodelist {
+        find: matches.get_str("find"),
+        file: matches.get_str("FILE")?,
+    })
+}
+
+fn check_words<'a>(matches: &ArgMatches<'a>, links: Vec<&'a str>) -> Option<Words<'a>> {
+    Some(Words::Check {
+        nodelist: matches.get_str("nodelist"),
+        tag: matches.get_str("TAG")?,
+        links,
+    })
+}
+
+fn picture_words<'a>(matches: &ArgMatches<'a>, links: Vec<&'a str>) -> Option<Words<'a>> {
+    Some(Words::Picture {
+        tag: matches.get_str("TAG")?,
+        links,
+    })
+}
+
+fn post_words<'a>(matches: &ArgMatches<'a>) -> Option<Words<'a>> {
+    Some(Words::Post(PostWords {
+        area: matches.get_str("area")?,
+        to: matches.get_str("to")?,
+        from: matches.get_str("from")?,
+        subject: matches.get_str("subject")?,
+        serial: matches.get_str("serial")?,
+        at: matches.get_str("at")?,
+        reply: matches.get_str("reply"),
+        links: matches.get_str("LINKS")?,
+        base: matches.get_str("BASE")?,
+    }))
+}
+
+fn toss_words<'a>(matches: &ArgMatches<'a>, packets: Vec<&'a str>) -> Option<Words<'a>> {
+    Some(Words::Toss {
+        links: matches.get_str("LINKS")?,
+        base: matches.get_str("BASE")?,
+        packets,
+    })
+}
+
+fn scan_words<'a>(matches: &ArgMatches<'a>) -> Option<Words<'a>> {
+    Some(Words::Scan {
+        at: matches.get_str("at")?,
+        links: matches.get_str("LINKS")?,
+        base: matches.get_str("BASE")?,
+        folder: matches.get_str("DIR")?,
+    })
+}
+
+fn purge_words<'a>(matches: &ArgMatches<'a>) -> Option<Words<'a>> {
+    Some(Words::Purge {
+        links: matches.get_str("LINKS")?,
+        base: matches.get_str("BASE")?,
+    })
+}
+
+fn list_words<'a>(matches: &ArgMatches<'a>) -> Option<Words<'a>> {
+    Some(Words::List {
+        area: matches.get_str("area"),
+        from: matches.get_str("from"),
+        base: matches.get_str("BASE")?,
+    })
+}
+
+fn replay_words<'a>(matches: &ArgMatches<'a>, links: Vec<&'a str>) -> Option<Words<'a>> {
+    Some(Words::Replay {
+        script: matches.get_str("SCRIPT")?,
+        links,
+    })
+}
+
+fn words_of<'a>(alloc: Global, matches: &ArgMatches<'a>) -> Result<Option<Words<'a>>, AllocError> {
+    Ok(match matches.subcommand() {
+        Some(("show", given)) => show_words(given),
+        Some(("nodelist", given)) => nodelist_words(given),
+        Some(("check", given)) => check_words(given, values(alloc, given, "LINKS")?),
+        Some(("picture", given)) => picture_words(given, values(alloc, given, "LINKS")?),
+        Some(("post", given)) => post_words(given),
+        Some(("toss", given)) => toss_words(given, values(alloc, given, "PACKET")?),
+        Some(("scan", given)) => scan_words(given),
+        Some(("purge", given)) => purge_words(given),
+        Some(("list", given)) => list_words(given),
+        Some(("replay", given)) => replay_words(given, values(alloc, given, "LINKS")?),
+        _ => None,
+    })
+}
+
+/// What the words ask for, or why they were refused; help that was asked for is such an error too.
+/// `None` is a command that the program does not have.
+pub fn parse<'a>(alloc: Global, words: &'a [String]) -> Result<Option<Words<'a>>, Error> {
+    let matches = command(alloc)?.try_get_matches_from(words)?;
+    Ok(words_of(alloc, &matches)?)
+}
