@@ -7,6 +7,14 @@
 //! Modules in reading order: `fault` (why bytes are no address), `digits` (decimal numbers), `blanks`,
 //! `places` (where a byte stands), `address`, `listing` (reading lists), `shortening` (writing them),
 //! `laws` (what holds of the definitions); `items` (a list that no later call grows).
+//!
+//! A caller:
+//!
+//! ```
+//! let boss = Address::parse(b"2:450/128")?;
+//! let (entries, dropped) = read_list(alloc, b"450/128 129 451/1")?;
+//! let known = entries.contains(&boss.net_node());
+//! ```
 #![tactic(auto)]
 
 mod address;

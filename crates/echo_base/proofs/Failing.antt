@@ -7,8 +7,8 @@ use Rattle.std.proofs.KnownBytes.{Consumes-trans, Consumes-whole}
 use Rattle.std.proofs.lemmas.Grind.{flat_map-append}
 use Rattle.std.proofs.lemmas.List.{append-nil, append_assoc, length-append, length-map, take_at}
 use Rattle.echo_packet.specs.Header.{AreBytes}
-use Rattle.echo_filed.specs.declared.field.Broken.{Broken}
-use Rattle.echo_filed.specs.declared.field.Broken.TheVariants as broken
+use Rattle.echo_device.specs.declared.fixed.Broken.{Broken}
+use Rattle.echo_device.specs.declared.fixed.Broken.TheVariants as broken
 use Rattle.echo_filed.specs.Filed.{Filed}
 use Rattle.echo_filed.specs.declared.stored.Version.{Version}
 use Rattle.echo_filed.specs.declared.stored.Version.TheVariants.{First, Second}

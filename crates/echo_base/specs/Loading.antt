@@ -6,8 +6,8 @@ use Rattle.echo_device.specs.Device.{Failed}
 use Rattle.echo_packet.specs.Field.{Came}
 use Rattle.echo_text.specs.Lines.{is_tag}
 use Rattle.echo_text.specs.Echo.{EchoText}
-use Rattle.echo_filed.specs.declared.field.Broken.{Broken}
-use Rattle.echo_filed.specs.declared.field.Broken.TheVariants as broken
+use Rattle.echo_device.specs.declared.fixed.Broken.{Broken}
+use Rattle.echo_device.specs.declared.fixed.Broken.TheVariants as broken
 use Rattle.echo_filed.specs.declared.key.Key.{Key}
 use Rattle.echo_filed.specs.Filed.{Filed, key_of}
 use Rattle.echo_filed.specs.Stubs.{bare}

@@ -22,7 +22,7 @@ use std::marker::Model;
 #[derive(Drop)]
 pub struct Base<S: BuildHasher> {
     entries: IndexMap<Key, Filed, S>,
-    // Each tag of a message. Few, and known from the link file, so that a fixed hasher serves.
+    // Each tag of a message, once.
     tags: IndexSet<Vec<u8>>,
     cursor: usize,
     // So many messages from the front are known to be stubs.

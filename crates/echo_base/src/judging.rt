@@ -1,7 +1,7 @@
 //! Whether a stored message may stand in a base, and which message it is.
 ghost use Rattle.std.specs.Prelude.{◌≡◌, ◌||◌, not, bytes_eq, false, None, Some, if◌then◌else◌, IfOk, IsTrue};
 ghost use Rattle.std.specs.List.{list_all};
-ghost use Rattle.echo_text.specs.Lines.{is_tag, is_tag_byte};
+ghost use Rattle.echo_text.specs.Lines.{is_tag};
 ghost use Rattle.echo_text.specs.Echo.{IsEcho};
 ghost use Rattle.echo_text.specs.Ids.{is_line_byte};
 ghost use Rattle.echo_filed.specs.Written.{echo_of, text_of};
@@ -15,11 +15,8 @@ ghost use Rattle.echo_base.specs.Loading.{IsShortOnceScanned, Judges, UnlessWron
 use echo_addr::{Address, Items};
 use echo_filed::{Filed, Key, StoredMessage, Version, has_tag, is_short, lines_of_id};
 use echo_packet::{MAX_NAME, MAX_SUBJECT};
-use echo_text::{Echo, TextFault, read_text, trimmed, write_text};
+use echo_text::{Echo, TextFault, is_kept_tag, read_text, trimmed, write_text};
 use std::alloc::{AllocError, Global};
-
-// The most bytes of a tag.
-const MAX_TAG: usize = 60;
 
 // Whether the version does not have the first byte.
 fn is_other_kind(version: Version, kind: u8) -> bool
@@ -60,27 +57,6 @@ fn has_wrong_string(stored: &StoredMessage) -> bool
     is_no_string(MAX_NAME, stored.to_name.as_slice())
         || is_no_string(MAX_NAME, stored.from_name.as_slice())
         || is_no_string(MAX_SUBJECT, stored.subject.as_slice())
-}
-
-// Whether the bytes are a tag as it is kept, in upper case.
-fn is_tag(bytes: &[u8]) -> bool
-    ensures { result ≡ is_tag bytes.now }
-{
-    !bytes.is_empty() && bytes.len() <= MAX_TAG && has_tag_bytes(bytes)
-}
-
-// Whether each byte may.
-fn has_tag_bytes(bytes: &[u8]) -> bool
-    ensures { result ≡ list_all is_tag_byte bytes.now }
-{
-    bytes.iter().all(|b| is_tag_byte(*b))
-}
-
-// Whether the byte may stand in a tag as it is kept.
-fn is_tag_byte(byte: u8) -> bool
-    ensures { result ≡ is_tag_byte byte }
-{
-    (33..=126).contains(&byte) && !(97..=122).contains(&byte)
 }
 
 // Whether the bytes are no id: none at all, one of them 00 or 0D, or with a blank at an end.
@@ -128,7 +104,7 @@ fn echo_of(alloc: Global, text: &[u8]) -> Result<Option<Echo>, AllocError>
 fn bare(alloc: Global, tag: Items<u8>, id: &[u8]) -> Result<Option<Echo>, AllocError>
     ensures { IfOk result (UnlessWrong (not (is_tag tag) || is_wrong_id id.now) (bare tag id.now)) }
 {
-    if !is_tag(tag.as_slice()) || is_wrong_id(id) {
+    if !is_kept_tag(tag.as_slice()) || is_wrong_id(id) {
         return Ok(None);
     }
     let kept = lines_of_id(alloc, id)?;

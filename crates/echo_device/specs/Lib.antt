@@ -2,3 +2,4 @@ pub mod Device
 pub mod Watched
 pub mod Buffered
 pub mod Trial
+pub mod Fixed

@@ -1,4 +1,4 @@
-//! Readers that tell how often they failed.
+//! Readers that count their failures.
 ghost use Rattle.std.specs.Prelude.{◌≡◌, ℕ, ◌+◌, ◌<◌, ◌≤◌, List, length, take, drop, IfSome, IfOk, OnOk, OnErr};
 ghost use Rattle.std.specs.Io.{ReadsAtMost, StartsWith};
 ghost use Rattle.std.specs.Io.KnownBytes.{Consumes, ReadConsumes};
@@ -109,4 +109,16 @@ pub fn fill<S: Source>(source: &mut S, buf: &mut [u8]) -> Result<usize, Failure>
         filled += came;
     }
     Ok(filled)
+}
+
+/// Reads into `buf` from `at` on until it is full or nothing is left, and answers how many bytes came.
+pub fn fill_from<S: Source>(source: &mut S, buf: &mut [u8], at: usize) -> Result<usize, Failure>
+    requires { at ≤ length buf.old }
+    ensures front { take at buf.new ≡ take at buf.old }
+    ensures within { IfOk result (λ count. at + count ≤ length buf.new) }
+    ensures bytes { Fills (S.remaining source.old) (S.remaining source.new) result (drop at buf.new) }
+    ensures ok { OnOk result (S.failures source.new ≡ S.failures source.old) }
+    ensures err { OnErr result (Failed (S.failures source.old) (S.failures source.new)) }
+{
+    fill(source, &mut buf[at..])
 }

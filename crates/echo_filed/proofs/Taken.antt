@@ -5,10 +5,11 @@ use Rattle.std.proofs.KnownBytes.{Consumes-trans}
 use Rattle.std.proofs.lemmas.List.{append-nil, length-append, length-drop, length-replicate, take-append-drop}
 use Rattle.echo_addr.specs.declared.address.Address.{Address}
 use Rattle.echo_packet.specs.Header.{AreBytes, number_at, word}
-use Rattle.echo_filed.specs.declared.field.Broken.{Broken}
-use Rattle.echo_filed.specs.declared.field.Broken.TheVariants as broken
+use Rattle.echo_device.specs.declared.fixed.Broken.{Broken}
+use Rattle.echo_device.specs.declared.fixed.Broken.TheVariants as broken
 use Rattle.echo_filed.specs.Stored.{long, long_at}
-use Rattle.echo_filed.specs.Fields.{Breaks, BreaksFilling, BreaksSized, EndsIn, HasLength, IsByte, IsLong, IsSmall, IsWord, Reads, address_bytes, itself, one_byte}
+use Rattle.echo_device.specs.Fixed.{BreaksFilling}
+use Rattle.echo_filed.specs.Fields.{Breaks, BreaksSized, EndsIn, HasLength, IsByte, IsLong, IsSmall, IsWord, Reads, address_bytes, itself, one_byte}
 use Rattle.echo_filed.proofs.Layouts.{BothFit, Layout, LengthFits, both_bytes, ends_first, ends_second, ends_string, length_first, long_front}
 
 -- the first bytes of a value end inside it
@@ -48,17 +49,6 @@ pub byte_whole : (s : List ℕ) → length s ≡ 1 → AreBytes s → IsByte (ge
 byte_whole [] size are = absurd (omega arith)
 byte_whole (a ∷ []) size are = (are 0, refl)
 byte_whole (a ∷ (b ∷ s)) size are = absurd (omega arith)
-
-pub word_whole : (s : List ℕ) → length s ≡ 2 → AreBytes s → IsWord (number_at 0 s) × (word (number_at 0 s) ≡ s)
-word_whole [] size are = absurd (omega arith)
-word_whole (a ∷ []) size are = absurd (omega arith)
-word_whole (a ∷ (b ∷ [])) size are =
-    let low : a < 256 = are 0 in
-    let high : b < 256 = are 1 in
-    let first : (a + 256 * b) % 256 ≡ a = omega arith in
-    let second : (a + 256 * b) / 256 ≡ b = omega arith in
-    (omega arith, λ i. first i ∷ (second i ∷ []))
-word_whole (a ∷ (b ∷ (c ∷ s))) size are = absurd (omega arith)
 
 pub long_whole : (s : List ℕ) → length s ≡ 4 → AreBytes s → IsLong (long_at 0 s) × (long (long_at 0 s) ≡ s)
 long_whole s size are =

@@ -1,12 +1,11 @@
 -- Fields of a stored message that are taken from a source.
 use Rattle.std.specs.Prelude.{◌≡◌, ℕ, ◌-◌, ◌^◌, ◌<◌, ◌≤◌, Bool, true, false, List, [], ◌∷◌, ◌++◌, length, if◌then◌else◌, Option, Result, Ok, Err}
 use Rattle.std.specs.Io.KnownBytes.{Consumes, IsAtEnd}
-use Rattle.echo_device.specs.Device.{Failed, FillsFront}
 use Rattle.echo_packet.specs.Header.{word}
 use Rattle.echo_packet.specs.Field.{Came}
 use Rattle.echo_addr.specs.declared.address.Address.{Address}
-use Rattle.echo_filed.specs.declared.field.Broken.{Broken}
-use Rattle.echo_filed.specs.declared.field.Broken.TheVariants as broken
+use Rattle.echo_device.specs.declared.fixed.Broken.{Broken}
+use Rattle.echo_device.specs.declared.fixed.Broken.TheVariants as broken
 use Rattle.echo_filed.specs.Stored.{IsStored, Stored, Version, after_length, after_long_length, stored_bytes}
 
 -- the bytes end inside a value of the field
@@ -27,18 +26,6 @@ Breaks X Fits write old new broken.Memory = Unit {0}
 abbrev pub Reads : {X : Type 0} → (X → Type 0) → (X → List ℕ) → Option (List ℕ) → Option (List ℕ) → Result X Broken → Type 0
 Reads Fits write old new (Ok x) = Fits x × Consumes old new (write x)
 Reads {X} Fits write old new (Err e) = Breaks X Fits write old new e
-
--- the count of failures rose where the device failed, and only there
-abbrev pub CountsBreak : {A : Type 0} → Result A Broken → ℕ → ℕ → Type 0
-CountsBreak (Err broken.Device) old new = Failed old new
-CountsBreak (Err _) old new = new ≡ old
-CountsBreak (Ok _) old new = new ≡ old
-
--- why a buffer was not filled: some first bytes of it came, but not all
-abbrev pub BreaksFilling : List ℕ → Option (List ℕ) → Option (List ℕ) → Broken → Type 0
-BreaksFilling buf old new broken.Cut = FillsFront old new buf × IsAtEnd new
-BreaksFilling buf old new broken.Device = FillsFront old new buf
-BreaksFilling buf old new broken.Memory = Unit {0}
 
 -- fewer bytes came than a string of this length lacks
 abbrev pub BreaksSized : ℕ → Option (List ℕ) → Option (List ℕ) → Broken → Type 0

@@ -1,97 +1,20 @@
 //! One field of a base file, taken from a source.
-ghost use Rattle.std.specs.Prelude.{◌≡◌, ◌<◌, ◌≤◌, length, take, drop, IfOk, IfErr, OnOk};
+ghost use Rattle.std.specs.Prelude.{◌≡◌, ◌<◌, length, IfOk};
 ghost use Rattle.std.specs.List.{flat_map};
-ghost use Rattle.std.specs.Io.KnownBytes.{Consumes};
-ghost use Rattle.echo_packet.specs.Header.{AreBytes, word};
+ghost use Rattle.echo_device.specs.Fixed.{CountsBreak};
 ghost use Rattle.echo_filed.specs.Stored.{after_length, after_long_length, long};
-ghost use Rattle.echo_filed.specs.Fields.{BreaksFilling, CountsBreak, HasLength, IsByte, IsLong, IsLongString, IsShortString, IsSmall, IsWord, LastFits, Reads, StepsSized, address_bytes, itself, last_of, one_byte};
+ghost use Rattle.echo_filed.specs.Fields.{HasLength, IsByte, IsLong, IsLongString, IsShortString, IsSmall, LastFits, Reads, StepsSized, address_bytes, itself, last_of, one_byte};
 
 use crate::numbers::{long_of, word_of};
 use echo_addr::{Address, Items};
-use echo_device::{Failure, Source, fill};
-use std::alloc::{AllocError, AllocFailed, Global};
-
-/// Why a field was not read.
-#[derive(Clone, Copy, Debug, PartialEq, Eq)]
-pub enum Broken {
-    /// The input ends inside it.
-    Cut,
-    /// The device failed.
-    Device,
-    /// A growth was refused.
-    Memory,
-}
-
-impl From<Failure> for Broken {
-    ghost use Rattle.std.specs.Prelude.{◌≡◌};
-    ghost use Rattle.echo_filed.specs.declared.field.Broken.TheVariants as broken;
-
-    ghost from_gives = { λ _ e. e ≡ broken.Device };
-
-    fn from(_failure: Failure) -> Broken {
-        Broken::Device
-    }
-}
-
-impl From<AllocError> for Broken {
-    ghost use Rattle.std.specs.Prelude.{◌≡◌};
-    ghost use Rattle.echo_filed.specs.declared.field.Broken.TheVariants as broken;
-
-    ghost from_gives = { λ _ e. e ≡ broken.Memory };
-
-    fn from(_refused: AllocError) -> Broken {
-        Broken::Memory
-    }
-}
-
-impl<T: Drop> From<AllocFailed<T>> for Broken {
-    ghost use Rattle.std.specs.Prelude.{◌≡◌};
-    ghost use Rattle.echo_filed.specs.declared.field.Broken.TheVariants as broken;
-
-    ghost from_gives = { λ _ e. e ≡ broken.Memory };
-
-    fn from(_refused: AllocFailed<T>) -> Broken {
-        Broken::Memory
-    }
-}
+use echo_device::{Broken, Source, fill_from, read_fixed};
+use std::alloc::{AllocError, Global};
 
 // How many bytes more than those that came room is made for.
 const STEP: usize = 4096;
 
 // The most bytes of a string that is read in one part.
 const PART: usize = 65_536;
-
-// Does nothing. Its contract says of bytes that each is below 256.
-fn are_bytes(bytes: &[u8])
-    ensures { AreBytes bytes.now }
-{}
-
-// Fills the field.
-fn read_fixed<R: Source>(reader: &mut R, field: &mut [u8]) -> Result<(), Broken>
-    ensures bytes { AreBytes field.new }
-    ensures taken { OnOk result (Consumes (R.remaining reader.old) (R.remaining reader.new) field.new) }
-    ensures broken { IfErr result (BreaksFilling field.new (R.remaining reader.old) (R.remaining reader.new)) }
-    ensures device { CountsBreak result (R.failures reader.old) (R.failures reader.new) }
-{
-    let filled = fill(reader, field);
-    are_bytes(field);
-    let count = filled?;
-    if count < field.len() {
-        return Err(Broken::Cut);
-    }
-    Ok(())
-}
-
-// Fills the field from a place on.
-fn read_from<R: Source>(reader: &mut R, field: &mut [u8], at: usize) -> Result<(), Broken>
-    requires { at ≤ length field.old }
-    ensures front { take at field.new ≡ take at field.old }
-    ensures taken { OnOk result (Consumes (R.remaining reader.old) (R.remaining reader.new) (drop at field.new)) }
-    ensures broken { IfErr result (BreaksFilling (drop at field.new) (R.remaining reader.old) (R.remaining reader.new)) }
-    ensures device { CountsBreak result (R.failures reader.old) (R.failures reader.new) }
-{
-    read_fixed(reader, &mut field[at..])
-}
 
 // One byte.
 pub(crate) fn read_byte<R: Source>(reader: &mut R) -> Result<u8, Broken>
@@ -101,16 +24,6 @@ pub(crate) fn read_byte<R: Source>(reader: &mut R) -> Result<u8, Broken>
     let mut bytes = [0u8; 1];
     read_fixed(reader, &mut bytes)?;
     Ok(bytes[0])
-}
-
-// A number of two bytes.
-fn read_word<R: Source>(reader: &mut R) -> Result<u16, Broken>
-    ensures read { Reads IsWord word (R.remaining reader.old) (R.remaining reader.new) result }
-    ensures device { CountsBreak result (R.failures reader.old) (R.failures reader.new) }
-{
-    let mut bytes = [0u8; 2];
-    read_fixed(reader, &mut bytes)?;
-    Ok(word_of(bytes))
 }
 
 /// A number of four bytes.
@@ -157,7 +70,11 @@ fn take_piece<R: Source>(reader: &mut R, string: &mut Vec<u8>, size: usize) -> R
     let step = (size - had).min(STEP);
     string.reserve_exact(step)?;
     string.resize(had + step, 0)?;
-    read_from(reader, string, had)
+    let came = fill_from(reader, string, had)?;
+    if came < step {
+        return Err(Broken::Cut);
+    }
+    Ok(())
 }
 
 // So many bytes. Room grows with those that come.

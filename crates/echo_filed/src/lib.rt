@@ -21,7 +21,7 @@ mod stored;
 mod stub;
 
 pub use boxed::{Boxed, BoxedLines};
-pub use field::{Broken, read_long};
+pub use field::read_long;
 pub use filed::Filed;
 pub use key::{Key, by_id};
 pub use laws::{key_law, set_law, stub_laws, text_laws};

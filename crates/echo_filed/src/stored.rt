@@ -1,11 +1,12 @@
 //! A message as it stands in a base file, taken from a source.
 ghost use Rattle.std.specs.Prelude.{◌≡◌};
 ghost use Rattle.echo_filed.specs.Stored.{IsStored, has_tag, sender_in, stored_bytes};
-ghost use Rattle.echo_filed.specs.Fields.{CountsBreak, Reads};
+ghost use Rattle.echo_device.specs.Fixed.{CountsBreak};
+ghost use Rattle.echo_filed.specs.Fields.{Reads};
 
-use crate::field::{Broken, read_address, read_byte, read_date, read_last, read_short};
+use crate::field::{read_address, read_byte, read_date, read_last, read_short};
 use echo_addr::{Address, Items};
-use echo_device::Source;
+use echo_device::{Broken, Source};
 use std::alloc::Global;
 use std::marker::Model;
 

@@ -1,9 +1,9 @@
-ghost use Rattle.std.specs.Prelude.{◌≡◌, ◌≢◌, ◌+◌, ◌≤◌, ◌<◌, ◌++◌, drop, length, replicate, take, IfErr, IfOk, IfSome, IsErrOf, OnErr, OnOk};
-ghost use Rattle.echo_device.specs.Device.{Failed, Fills};
+ghost use Rattle.std.specs.Prelude.{◌≡◌, ◌≢◌, ◌≤◌, ◌<◌, ◌++◌, length, replicate, IfErr, IfOk, IfSome, IsErrOf, OnOk};
+ghost use Rattle.echo_device.specs.Device.{Failed};
 ghost use Rattle.echo_files.specs.declared.input.InputFault.TheVariants.{Device, Memory, TooLarge};
 ghost use Rattle.echo_files.specs.Input.{ReadsOn};
 
-use echo_device::{Failure, Source, fill};
+use echo_device::{Failure, Source, fill_from};
 use std::alloc::{AllocError, Global};
 
 /// Why an input was not read.
@@ -43,18 +43,6 @@ fn make_room(whole: &mut Vec<u8>) -> Result<(), InputFault>
     let size = whole.len() + PIECE;
     whole.resize(size, 0)?;
     Ok(())
-}
-
-// Reads into `buf` from `at` on until it is full or nothing is left.
-fn fill_from<R: Source>(reader: &mut R, buf: &mut [u8], at: usize) -> Result<usize, Failure>
-    requires { at ≤ length buf.old }
-    ensures front { take at buf.new ≡ take at buf.old }
-    ensures within { IfOk result (λ count. at + count ≤ length buf.new) }
-    ensures bytes { Fills (R.remaining reader.old) (R.remaining reader.new) result (drop at buf.new) }
-    ensures ok { OnOk result (R.failures reader.new ≡ R.failures reader.old) }
-    ensures err { OnErr result (Failed (R.failures reader.old) (R.failures reader.new)) }
-{
-    fill(reader, &mut buf[at..])
 }
 
 // Reads a piece to the end of `whole`, a short one only where nothing is left.

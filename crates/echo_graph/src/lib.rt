@@ -14,7 +14,17 @@
 //! The definitions stand in specs/: `Walk` (walks, and what a graph is), `Cycle`, `Beyond` (what stands
 //! on every walk), `Family` (what a search by levels gives) and `Renaming`; `Rows` (a graph as rows of
 //! links), `Reach` and `Loops` (the two answers), and what single functions promise. The lemmas in
-//! proofs/ on walks, cycles and families hold of members of any type whose equality can be told.
+//! proofs/ on walks, cycles and families hold of members of any type whose equality is decided.
+//!
+//! A caller, with the rows of members 0, 1 and so on, each an ascending list of links:
+//!
+//! ```
+//! let graph = Graph::new(rows);
+//! if let Some(member) = unreached(alloc, &graph)? {
+//!     return Ok(Answer::Unreached(member));
+//! }
+//! let cycle = loop_of(alloc, &graph)?;
+//! ```
 #![tactic(auto)]
 
 mod forest;

@@ -21,7 +21,7 @@ pub struct Pinch {
 }
 
 /// The first pinch of the graph: the smallest member, and of its pinches the one with the smallest
-/// links. `None` exactly where the graph has none. Fails only by want of memory.
+/// links. `None` exactly where the graph has none. Fails only when out of memory.
 ///
 /// For each member a search is made from each link that has a later one which it is not linked with, so
 /// this takes at most about the square of the links.

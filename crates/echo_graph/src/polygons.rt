@@ -13,7 +13,7 @@ use crate::writing::written;
 use std::alloc::{AllocError, Global};
 
 /// `None` exactly where any two members of a cycle are linked; else a cycle with two members that
-/// are not linked. Fails only by want of memory. `None` takes about the time of one search; the cycle
+/// are not linked. Fails only when out of memory. `None` takes about the time of one search; the cycle
 /// takes a search for each end of a link that has a later one unlinked.
 ///
 /// Of all members b with links a < c that are not linked, though a walk from a to c does not pass b,

@@ -11,7 +11,7 @@ use crate::levels::levels_around;
 use std::alloc::{AllocError, Global};
 
 /// The first member that no walk from member 0 reaches, `None` exactly where there is a walk between
-/// any two members. Fails only by want of memory.
+/// any two members. Fails only when out of memory.
 pub fn unreached(alloc: Global, graph: &Graph) -> Result<Option<usize>, AllocError>
     ensures { IfOk result (λ found. MatchOption found
         (Connected (λ member. member < length graph.now) (linked graph.now))

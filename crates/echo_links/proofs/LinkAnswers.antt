@@ -77,7 +77,7 @@ all_lines earlier number [] = tt
 all_lines earlier number (line ∷ later) =
     first_or (line_fault earlier number line) (first_fault (line ∷ earlier) (number + 1) later) (each_line earlier number line) (all_lines (line ∷ earlier) (number + 1) later)
 
--- want of memory is no fault of the bytes
+-- out of memory is no fault of the bytes
 pub no_memory_fault : (bytes : List ℕ) → LinksOf bytes (Err fault.Memory) → ⊥
 unfolding file_fault
 no_memory_fault bytes h =

@@ -6,7 +6,7 @@ ghost use Rattle.echo_links.specs.declared.fault.LinkFault.TheVariants as link;
 ghost use Rattle.echo_links.specs.Links.{IsFile, LinkFile};
 ghost use Rattle.echo_links.specs.LinkLines.{LinksOf};
 
-/// Bytes are a link file or have a fault, and only one of these holds; want of memory is no fault of
+/// Bytes are a link file or have a fault, and only one of these holds; out of memory is no fault of
 /// theirs.
 pub fn one_link_file_or_fault()
     ensures answered { (bytes : List ℕ) →

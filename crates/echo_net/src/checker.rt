@@ -19,7 +19,7 @@ use echo_run::every_run_of_a_tidy_area_is_orderly;
 use std::alloc::{AllocError, Global};
 
 /// Is the area of this tag in order, on the net of these link files (FTS-0004)? Tags are compared byte
-/// for byte. Fails only by want of memory.
+/// for byte. Fails only when out of memory.
 ///
 /// Where the answer is `Yes`, each run on these files is orderly: after any postings, scans,
 /// deliveries, stopped tosses and purges, with losses and repeats and in any order, each carrier was

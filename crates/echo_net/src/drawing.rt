@@ -61,7 +61,7 @@ pub struct Drawing {
 }
 
 /// The area as it is drawn, with what this verdict names marked. Any link files will do, tidy or not.
-/// Fails only by want of memory.
+/// Fails only when out of memory.
 pub fn draw(
     alloc: Global,
     files: &[LinkFile],

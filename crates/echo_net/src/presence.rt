@@ -23,7 +23,7 @@ pub enum Absence {
 }
 
 /// The carriers of the area that the nodelist (FTS-5000) does not hold, ascending, each once. Fails only
-/// by want of memory.
+/// when out of memory.
 pub fn listed(
     alloc: Global,
     files: &[LinkFile],

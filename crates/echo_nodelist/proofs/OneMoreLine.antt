@@ -26,7 +26,7 @@ outcome_is lines raw number said count is =
     let same : length (reverse lines) + 1 ≡ number = omega (arith, length-reverse lines) in
     ap (λ n. placed n (reverse lines) (line_in n raw)) same ∙ ap (placed number (reverse lines)) (sym is)
 
--- an answer that is no want of memory
+-- an answer that is other than out of memory
 said_ok : (line : Line) (expected : Result Line NodeFault) → Gives (Ok line) expected → Ok line ≡ expected
 said_ok line expected (inl memory) = cc
 said_ok line expected (inr is) = is

@@ -50,12 +50,12 @@ pub record FaultIn (raws : List (List ℕ)) (fault : NodeFault) : Type 0 where
 abbrev pub NodelistFaultOf : List ℕ → NodeFault → Type 0
 NodelistFaultOf bytes fault = FaultIn (node_lines bytes) fault
 
--- a reader's answer: the lines, the first fault, or want of memory
+-- a reader's answer: the lines, the first fault, or out of memory
 abbrev pub NodelistAnswered : List ℕ → Result (List Line) NodeFault → Type 0
 NodelistAnswered bytes (Ok lines) = NodelistOf bytes lines
 NodelistAnswered bytes (Err fault) = NodelistFaultOf bytes fault ⊎ (fault ≡ Memory)
 
--- what was to be answered, or want of memory
+-- what was to be answered, or out of memory
 abbrev pub Gives : {A : Type 0} → Result A NodeFault → Result A NodeFault → Type 0
 Gives answer expected = (answer ≡ Err Memory) ⊎ (answer ≡ expected)
 

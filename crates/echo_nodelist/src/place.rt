@@ -16,14 +16,14 @@ pub(crate) struct Place {
     net: u16,
 }
 
-/// What the lines up to a line tell of it: its address, and the place after it.
+/// What the lines up to a line say of it: its address, and the place after it.
 #[derive(Clone, Copy)]
 pub(crate) struct Told {
     pub(crate) address: Option<Address>,
     pub(crate) place: Option<Place>,
 }
 
-/// What is told of a line after a place. `number` is the line's.
+/// What is known of a line after a place. `number` is the line's.
 pub(crate) fn tell(place: Option<Place>, number: usize, line: &Line) -> Result<Told, NodeFault>
     ensures { (earlier : List Line) → IsPlaceAfter earlier place → Tells number earlier line.now result }
 {

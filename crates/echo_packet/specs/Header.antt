@@ -1,10 +1,7 @@
 -- The 58 bytes in front of a packet. Numbers have the low byte first.
 use Rattle.std.specs.Prelude.{◌≡◌, ℕ, ◌*◌, ◌/◌, ◌%◌, ◌+◌, ◌^◌, ◌<◌, List, [], ◌∷◌, ◌++◌, length, take, drop, slice_index}
+pub use Rattle.echo_device.specs.Fixed.{AreBytes}
 use Rattle.echo_packet.specs.declared.header.Header.{Header}
-
--- every number of the list is a byte
-abbrev pub AreBytes : List ℕ → Type 0
-AreBytes bs = (i : ℕ) → slice_index bs i < 256
 
 -- a number of two bytes, the low one first
 abbrev pub word : ℕ → List ℕ

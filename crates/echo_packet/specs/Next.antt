@@ -21,7 +21,7 @@ pub record AtPart (limits : Limits) (given start : ℕ) (bs : List ℕ) (at : �
   pub place : at ≡ place_of (start + length (before field one_more))
   pub wrong : Wrong field rest
 
--- the fault of these bytes, or that the device failed, or want of memory
+-- the fault of these bytes, or that the device failed, or out of memory
 abbrev pub NextFault : Limits → ℕ → ℕ → List ℕ → PacketFault → Type 0
 NextFault limits given start bs (fault.Truncated at) = AtPart limits given start bs at (IsCut limits)
 NextFault limits given start bs (fault.NotMessage at) = AtPart limits given start bs at IsOtherNumber

@@ -1,11 +1,10 @@
 //! One field of a message, taken from a source.
 ghost use Rattle.std.specs.Prelude.{◌≡◌, ◌<◌, ◌≤◌, List, length, IfOk, IfErr, OnOk};
 ghost use Rattle.std.specs.Io.KnownBytes.{Consumes};
-ghost use Rattle.echo_packet.specs.Header.{AreBytes};
 ghost use Rattle.echo_packet.specs.Message.{IsString, zero_ended};
 ghost use Rattle.echo_packet.specs.Field.{BreaksFixed, BreaksString, CountsBroken, IsPiece, StepsString};
 
-use echo_device::{Failure, Source, fill};
+use echo_device::{Failure, Source, are_bytes, fill};
 use memchr::memchr;
 use std::alloc::{AllocError, AllocFailed, Global};
 
@@ -151,11 +150,6 @@ fn take_piece<R: Source>(reader: &mut R, string: &mut Vec<u8>, room: usize) -> R
         take_held(reader, string, room)
     }
 }
-
-// Does nothing. Its contract says of bytes that each is below 256.
-pub(crate) fn are_bytes(bytes: &[u8])
-    ensures { AreBytes bytes.now }
-{}
 
 /// A string of at most `most` bytes, without the 00 that ends it. No byte after the 00 is taken.
 pub(crate) fn read_string<R: Source>(

@@ -8,6 +8,15 @@
 //! `fault` (what may be wrong, and where), `field` (one field from a source), `message` (one
 //! message), `reader` (a packet, message by message), `reading` (a packet in a slice), `encoding`,
 //! `sending` and `writer` (a packet is written), and `laws` (what holds of the definitions).
+//!
+//! A caller, who reads a packet message by message:
+//!
+//! ```
+//! let mut reader = PacketReader::open(alloc, source, Limits::NONE)?;
+//! while let Some(message) = reader.next()? {
+//!     file(message.text())?;
+//! }
+//! ```
 #![tactic(auto)]
 
 mod encoding;

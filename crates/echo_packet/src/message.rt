@@ -8,11 +8,11 @@ ghost use Rattle.echo_packet.specs.Field.{FailsInField, FixedFault, IsOpen, IsSh
 ghost use Rattle.echo_packet.specs.Next.{CountsFailures, FailsBehind, FailsInMessage, IsWithin, NextFault, TakesNext, next_bytes};
 
 use crate::fault::PacketFault;
-use crate::field::{Broken, are_bytes, read_fixed, read_string};
+use crate::field::{Broken, read_fixed, read_string};
 use crate::header::number_at;
 use crate::limits::{Limits, MAX_NAME, MAX_SUBJECT};
-use crate::packed::{Packed, from_parts};
-use echo_device::Source;
+use crate::packed::Packed;
+use echo_device::{Source, are_bytes};
 use std::alloc::Global;
 
 pub(crate) fn name_fault(broken: Broken, at: u64) -> PacketFault
@@ -127,7 +127,7 @@ fn read_fields<R: Source>(
     let from_name = name_at(alloc, reader, MAX_NAME, place)?;
     let subject = name_at(alloc, reader, MAX_SUBJECT, place)?;
     let text = text_at(alloc, reader, limits.text, place)?;
-    Ok(from_parts(
+    Ok(Packed::from_parts(
         number_at(&numbers, 0),
         number_at(&numbers, 2),
         number_at(&numbers, 4),

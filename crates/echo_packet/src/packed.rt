@@ -1,6 +1,5 @@
-ghost use Rattle.std.specs.Prelude.{◌≡◌, ◌↔◌, length, IsTrue, IfOk, IfErr, IfSome, IsNone, Err, Some};
-ghost use Rattle.echo_packet.specs.Header.{AreBytes};
-ghost use Rattle.echo_packet.specs.Message.{Message, IsMessage, IsString, AreStrings, IsFirstBad, max_name, max_subject, readdressed};
+ghost use Rattle.std.specs.Prelude.{◌≡◌, ◌≤◌, ◌↔◌, length, IsTrue, IfOk, IfErr, IfSome, IsNone, Err, Some};
+ghost use Rattle.echo_packet.specs.Message.{HasNoZero, Message, IsMessage, IsString, AreStrings, IsFirstBad, max_name, max_subject, readdressed};
 ghost use Rattle.echo_packet.specs.declared.fault.Field.{Field};
 ghost use Rattle.echo_packet.specs.declared.fault.PacketFault.TheVariants.{BadField};
 
@@ -8,6 +7,7 @@ use crate::fault::{Field, PacketFault};
 use crate::holding::{Holding, Strings};
 use crate::limits::{MAX_NAME, MAX_SUBJECT};
 use echo_addr::Items;
+use echo_device::are_bytes;
 use memchr::memchr;
 use std::alloc::{AllocError, Global};
 use std::marker::Model;
@@ -37,45 +37,6 @@ impl Model for Packed {
     ghost view = { message_of };
 
     ghost invariant = { λ p. IsMessage (length (message_of p).text) (message_of p) };
-}
-
-/// The message of these parts.
-#[allow(clippy::too_many_arguments)]
-pub(crate) fn from_parts(
-    orig_node: u16,
-    dest_node: u16,
-    orig_net: u16,
-    dest_net: u16,
-    attribute: u16,
-    cost: u16,
-    date: [u8; 20],
-    to_name: Vec<u8>,
-    from_name: Vec<u8>,
-    subject: Vec<u8>,
-    text: Vec<u8>,
-) -> Packed
-    requires date { AreBytes date }
-    requires to_name { IsString max_name to_name.items }
-    requires from_name { IsString max_name from_name.items }
-    requires subject { IsString max_subject subject.items }
-    requires text { IsString (length text.items) text.items }
-    ensures { result ≡ record { orig_node = orig_node; dest_node = dest_node; orig_net = orig_net; dest_net = dest_net; attribute = attribute; cost = cost; date = date; to_name = to_name.items; from_name = from_name.items; subject = subject.items; text = text.items } }
-{
-    Packed {
-        orig_node,
-        dest_node,
-        orig_net,
-        dest_net,
-        attribute,
-        cost,
-        date,
-        strings: Holding::Own(Strings {
-            to_name: Items::new(to_name),
-            from_name: Items::new(from_name),
-            subject: Items::new(subject),
-            text: Items::new(text),
-        }),
-    }
 }
 
 fn is_string(bytes: &[u8], most: usize) -> bool
@@ -128,10 +89,55 @@ impl Packed {
     {
         match first_bad(&to_name, &from_name, &subject, &text) {
             Some(field) => Err(PacketFault::BadField(field)),
-            None => Ok(from_parts(
+            None => Ok(Packed::from_parts(
                 orig_node, dest_node, orig_net, dest_net, attribute, cost, date, to_name,
                 from_name, subject, text,
             )),
+        }
+    }
+
+    /// The message of parts that are already judged: the two systems, the attributes and the cost, the
+    /// date, and the strings without their 00. Takes no memory.
+    #[allow(clippy::too_many_arguments)]
+    pub fn from_parts(
+        orig_node: u16,
+        dest_node: u16,
+        orig_net: u16,
+        dest_net: u16,
+        attribute: u16,
+        cost: u16,
+        date: [u8; 20],
+        to_name: Vec<u8>,
+        from_name: Vec<u8>,
+        subject: Vec<u8>,
+        text: Vec<u8>,
+    ) -> Packed
+        requires to_name { HasNoZero to_name.items × (length to_name.items ≤ max_name) }
+        requires from_name { HasNoZero from_name.items × (length from_name.items ≤ max_name) }
+        requires subject { HasNoZero subject.items × (length subject.items ≤ max_subject) }
+        requires text { HasNoZero text.items }
+        ensures { result ≡ record { orig_node = orig_node; dest_node = dest_node; orig_net = orig_net; dest_net = dest_net; attribute = attribute; cost = cost; date = date; to_name = to_name.items; from_name = from_name.items; subject = subject.items; text = text.items } }
+    {
+        // For the prover alone: each byte is below 256.
+        are_bytes(&date);
+        are_bytes(&to_name);
+        are_bytes(&from_name);
+        are_bytes(&subject);
+        are_bytes(&text);
+        Packed {
+            orig_node,
+            dest_node,
+            orig_net,
+            dest_net,
+            attribute,
+            cost,
+            date,
+            strings: Holding::Own(Strings {
+                to_name: Items::new(to_name),
+                from_name: Items::new(from_name),
+                subject: Items::new(subject),
+                text: Items::new(text),
+            }),
         }
     }
 

@@ -19,7 +19,7 @@ use echo_steps::{Draft, Packet, PostFault, ScanFault, Stamp};
 use echo_toss::Tosser;
 use std::alloc::{AllocError, Global};
 
-/// The event happens. Fails only by want of memory, and the world is then of no run.
+/// The event happens. Fails only when out of memory, and the world is then of no run.
 pub(crate) fn happen(
     alloc: Global,
     receivers: &Receivers,

@@ -17,7 +17,7 @@ use std::alloc::{AllocError, Global};
 /// What becomes of a net on which these events happen, one after another. Each system begins with an
 /// empty base. Packets travel as their bytes and are tossed by the packet reader; one comes to the first
 /// system that has its destination. An event that names nothing, or whose posting or scan is refused,
-/// does nothing. Fails only by want of memory.
+/// does nothing. Fails only when out of memory.
 pub fn replay(alloc: Global, files: Vec<LinkFile>, events: &[Event]) -> Result<World, AllocError>
     ensures { IfOk result (λ world. IsWorldOf world (run_of files.items (map run_event events.now))) }
 {

@@ -1,19 +1,13 @@
 -- The state of a system: what posting, tossing, scanning and purging read and change.
 use Rattle.std.specs.Prelude.{ℕ, List, [], ◌∷◌, ◌++◌, Option, option_to_list}
-use Rattle.echo_links.specs.Links.{IsFile, LinkFile}
+use Rattle.echo_links.specs.Links.{LinkFile}
 use Rattle.echo_filed.specs.Filed.{Filed}
-use Rattle.echo_base.specs.Base.{IsBase}
 
 -- what a system keeps: its link file, its base, and the cursor, before which messages were scanned
 pub record SystemState : Type 0 where
   pub file : LinkFile
   pub base : List Filed
   pub cursor : ℕ
-
--- what holds of it
-pub record IsState (s : SystemState) : Type 0 where
-  pub link_file : IsFile s.file
-  pub messages : IsBase s.base s.cursor
 
 -- the system that has filed nothing
 abbrev pub state_at_first : LinkFile → SystemState

@@ -16,7 +16,7 @@ refusal_of first =
 unfoldable pub text_refusal : List ℕ → Option TextFault
 text_refusal text = refusal_of (first_line (lines text))
 
--- a reader's answer: what the text says, the text_refusal that applies, or want of memory where none applies
+-- a reader's answer: what the text says, the text_refusal that applies, or out of memory where none applies
 abbrev pub TextAnswers : List ℕ → Result (EchoText × ℕ) TextFault → Type 0
 TextAnswers text (Ok read) = EchoOf text read.0 read.1
 TextAnswers text (Err fault) = (text_refusal text ≡ Some fault) ⊎ ((text_refusal text ≡ None) × (fault ≡ Memory))

@@ -9,7 +9,7 @@ use crate::words::{AREA, after_word, trimmed};
 use std::alloc::{AllocError, Global};
 
 /// The most bytes of a tag.
-const MOST: usize = 60;
+pub const MAX_TAG: usize = 60;
 
 /// The tag of the AREA line as it stands there, where the line is one and the tag a good one.
 pub(crate) fn tag_of(first: &[u8]) -> Result<&[u8], TextFault>
@@ -33,10 +33,24 @@ pub(crate) fn tag_of(first: &[u8]) -> Result<&[u8], TextFault>
 pub fn is_tag(bytes: &[u8]) -> bool
     ensures { result ≡ is_tag (map to_ascii_uppercase bytes.now) }
 {
-    if bytes.is_empty() || bytes.len() > MOST {
+    if bytes.is_empty() || bytes.len() > MAX_TAG {
         return false;
     }
     has_tag_bytes(bytes)
+}
+
+/// Whether the bytes are a tag as it is kept, in upper case. Takes no memory.
+pub fn is_kept_tag(bytes: &[u8]) -> bool
+    ensures { result ≡ is_tag bytes.now }
+{
+    !bytes.is_empty() && bytes.len() <= MAX_TAG && has_kept_bytes(bytes)
+}
+
+/// Whether each byte may stand in a tag.
+fn has_kept_bytes(bytes: &[u8]) -> bool
+    ensures { result ≡ list_all is_tag_byte bytes.now }
+{
+    bytes.iter().all(|b| is_tag_byte(*b))
 }
 
 /// Whether each byte, in upper case, may stand in a tag.

@@ -14,7 +14,7 @@ pub fn written_text_read_back()
 {}
 
 /// A text that was written has no 00, and whoever reads it answers what it was written for, no token
-/// dropped, or want of memory.
+/// dropped, or out of memory.
 pub fn written_text_is_read()
     ensures no_zero { (e : EchoText) (text : List ℕ) → IsEcho e → TextOf e text → HasNoZero text }
     ensures read { (e : EchoText) (text : List ℕ) (r : Result (EchoText × ℕ) TextFault) → IsEcho e → TextOf e text → TextAnswers text r → (r ≡ Ok (e, 0)) ⊎ (r ≡ Err Memory) }
@@ -41,7 +41,7 @@ pub fn kept_as_they_stand()
 {}
 
 /// What a text says keeps the rules of an `Echo`, and it says one thing: whoever reads it answers
-/// that, or want of memory.
+/// that, or out of memory.
 pub fn one_reading()
     ensures echo { (text : List ℕ) (e : EchoText) (d : ℕ) → HasNoZero text → EchoOf text e d → IsEcho e }
     ensures same { (text : List ℕ) (e f : EchoText) (m n : ℕ) → EchoOf text e m → EchoOf text f n → (e ≡ f) × (m ≡ n) }

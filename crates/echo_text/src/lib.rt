@@ -8,6 +8,15 @@
 //! (its entries), `found` (ids, tear and origin lines), `kept` (the kept lines), `echo` (a text taken
 //! apart), `reading`, `writing`, `msgid` (message ids), and `laws` and `id_laws` (what holds of the
 //! definitions).
+//!
+//! A caller, who adds a system to the PATH of a text:
+//!
+//! ```
+//! let (echo, dropped) = read_text(alloc, text)?;
+//! let mut path = echo.path.into_vec();
+//! path.push(own)?;
+//! let text = write_parts(alloc, echo.tag.as_slice(), &echo.kept, echo.seen.as_slice(), &path)?;
+//! ```
 #![tactic(auto)]
 
 mod area;
@@ -25,7 +34,7 @@ mod tail;
 mod words;
 mod writing;
 
-pub use area::{in_upper_case, is_tag};
+pub use area::{MAX_TAG, in_upper_case, is_kept_tag, is_tag};
 pub use echo::{Echo, EchoView};
 pub use fault::TextFault;
 pub use id_laws::{

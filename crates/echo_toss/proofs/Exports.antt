@@ -14,7 +14,10 @@ use Rattle.echo_text.specs.Echo.{EchoText, IsEcho, TextOf}
 use Rattle.echo_filed.specs.Written.{text_of}
 use Rattle.echo_filed.proofs.Texts.{text_is_text}
 use Rattle.echo_text.proofs.OneReading.{one_text}
-use Rattle.echo_links.specs.Links.{LinkFile, links_of}
+use Rattle.echo_text.proofs.NoZeros.{written_has_no_zero}
+use Rattle.echo_packet.specs.Message.{HasNoZero}
+use Rattle.echo_steps.proofs.Copies.{exported_is_echo}
+use Rattle.echo_links.specs.Links.{IsFile, LinkFile, links_of}
 use Rattle.echo_filed.specs.Filed.{Filed}
 use Rattle.echo_filed.specs.Sets.{address_set, entry_set}
 use Rattle.echo_steps.specs.declared.stamp.Stamp.{Stamp}
@@ -116,6 +119,12 @@ exported_made file e own links tag kept before seen passed path o l t k b s q p 
 -- a text that was written
 pub written_is : (e : EchoText) (bytes : List ℕ) → IsEcho e → TextOf e bytes → bytes ≡ text_of e
 written_is e bytes is text = one_text e bytes (text_of e) text (text_is_text e is)
+
+-- no text that goes out holds 00
+pub exported_no_zero : (file : LinkFile) → IsFile file → (e : EchoText) → IsEcho e → HasNoZero (text_of (exported file e))
+exported_no_zero file is e h =
+    let out = exported_is_echo file is e h in
+    written_has_no_zero (exported file e) (text_of (exported file e)) out (text_is_text (exported file e) out)
 
 -- the packets of what is ready are those of what goes out
 same_ready : (file : LinkFile) (a : Address) (all : List Outgoing) → map (ready_copy a) (filter (goes_ready a) (map (ready_of file) all)) ≡ map (copy_out file a) (filter (goes_out a) all)

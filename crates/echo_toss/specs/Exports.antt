@@ -23,21 +23,25 @@ pub record Outgoing : Type 0 where
 abbrev pub outgoing_of : LinkFile → Filed → Outgoing
 outgoing_of file m = record { message = m; targets = targets file m; text = text_of (exported file m.echo) }
 
--- the copy of it that goes to an address
-abbrev pub copy_out : LinkFile → Address → Outgoing → Message
-copy_out file address o = record {
+-- a message with this text, as it goes to an address
+abbrev pub message_out : LinkFile → Address → Filed → List ℕ → Message
+message_out file address m text = record {
   orig_node = file.system.node;
   dest_node = address.node;
   orig_net = file.system.net;
   dest_net = address.net;
   attribute = 0;
   cost = 0;
-  date = o.message.date;
-  to_name = o.message.to_name;
-  from_name = o.message.from_name;
-  subject = o.message.subject;
-  text = o.text;
+  date = m.date;
+  to_name = m.to_name;
+  from_name = m.from_name;
+  subject = m.subject;
+  text = text;
 }
+
+-- the copy of what goes out that goes to an address
+abbrev pub copy_out : LinkFile → Address → Outgoing → Message
+copy_out file address o = message_out file address o.message o.text
 
 -- whether it goes to an address
 abbrev pub goes_out : Address → Outgoing → Bool

@@ -2,6 +2,7 @@
 ghost use Rattle.std.specs.Prelude.{◌≡◌, ◌∷◌, ◌++◌, ◌&&◌, not, false, map, filter, drop, option_map, unwrap_or, IfOk};
 ghost use Rattle.std.specs.List.{list_any};
 ghost use Rattle.echo_addr.specs.Address.{net_node_of};
+ghost use Rattle.echo_packet.specs.Message.{HasNoZero};
 ghost use Rattle.echo_links.specs.Links.{links_of, same_address};
 ghost use Rattle.echo_filed.specs.Sets.{entry_set, same_entry};
 ghost use Rattle.echo_filed.specs.Written.{text_of};
@@ -32,6 +33,10 @@ impl<'a> Model for Outgoing<'a> {
     ghost Value = { model.Outgoing };
 
     ghost view = { λ o. record { message = o.message.now; targets = o.targets; text = o.text } };
+
+    ghost use Rattle.echo_packet.specs.Message.{HasNoZero};
+
+    ghost invariant = { λ o. HasNoZero o.text };
 }
 
 /// What goes out of the messages from the cursor on, in order.
@@ -125,7 +130,8 @@ fn is_seen_by(seen: &[NetNode], link: Address) -> bool
 
 // The text that goes out: the own net/node and those of the links join SEEN-BY, the own ends PATH.
 fn exported_text(alloc: Global, links: &LinkFile, echo: &Echo) -> Result<Items<u8>, AllocError>
-    ensures { IfOk result (λ text. text ≡ text_of (exported links.now echo.now)) }
+    ensures no_zero { IfOk result HasNoZero }
+    ensures text { IfOk result (λ text. text ≡ text_of (exported links.now echo.now)) }
 {
     let own = links.system().net_node();
     let tag = echo.tag.as_slice();

@@ -1,26 +1,21 @@
 //! The packets of what goes out.
 ghost use Rattle.std.specs.Prelude.{◌≡◌, [], ◌∷◌, ◌++◌, true, map, filter, IfOk, OnOk};
 ghost use Rattle.std.specs.List.{flat_map};
+ghost use Rattle.echo_packet.specs.Message.{HasNoZero};
 ghost use Rattle.echo_filed.specs.Sets.{address_set};
 ghost use Rattle.echo_steps.specs.Scanning.{header_to};
 ghost use Rattle.echo_steps.specs.Stamps.{is_stamp};
-ghost use Rattle.echo_toss.specs.Exports.{copy_out, goes_ready, packet_ready, packets_out, ready_copy, ready_of};
+ghost use Rattle.echo_toss.specs.Exports.{goes_ready, message_out, nowhere, packet_ready, packets_out, ready_copy, ready_of};
 
 use crate::outgoing::Outgoing;
 use crate::sets::address_set;
 use echo_addr::{Address, Items};
+use echo_filed::Filed;
 use echo_links::LinkFile;
 use echo_packet::{Header, Packed};
 use echo_steps::{Packet, Stamp};
 use std::alloc::{AllocError, Global};
 use std::marker::Model;
-
-// No address: it stands in a message that is not for one system alone.
-const NOWHERE: Address = Address {
-    zone: 0,
-    net: 0,
-    node: 0,
-};
 
 // A message as it goes out, which its copies share, and the addresses that it goes to, as a set.
 #[derive(Drop)]
@@ -46,12 +41,12 @@ pub(crate) fn packets(
     alloc: Global,
     links: &LinkFile,
     stamp: Stamp,
-    outgoing: &[Outgoing<'_>],
+    outgoing: Vec<Outgoing<'_>>,
 ) -> Result<Vec<Packet>, AllocError>
     requires { is_stamp stamp ≡ true }
-    ensures { IfOk result (λ all. all.items ≡ packets_out links.now stamp outgoing.now) }
+    ensures { IfOk result (λ all. all.items ≡ packets_out links.now stamp outgoing.entry.items) }
 {
-    let recipients = recipients(alloc, outgoing)?;
+    let recipients = recipients(alloc, outgoing.as_slice())?;
     let ready = all_ready(alloc, links, outgoing)?;
     packets_to(alloc, links, stamp, recipients.as_slice(), ready.as_slice())
 }
@@ -71,9 +66,9 @@ fn recipients(alloc: Global, outgoing: &[Outgoing<'_>]) -> Result<Vec<Address>, 
 fn all_ready(
     alloc: Global,
     links: &LinkFile,
-    outgoing: &[Outgoing<'_>],
+    outgoing: Vec<Outgoing<'_>>,
 ) -> Result<Vec<Ready>, AllocError>
-    ensures { IfOk result (λ all. all.items ≡ map (ready_of links.now) outgoing.now) }
+    ensures { IfOk result (λ all. all.items ≡ map (ready_of links.now) outgoing.entry.items) }
 {
     let mut all = Vec::with_capacity(alloc, outgoing.len())?;
     'outgoing: for one in outgoing {
@@ -83,14 +78,18 @@ fn all_ready(
 }
 
 // The message, ready to be copied.
-fn made_ready(alloc: Global, links: &LinkFile, one: &Outgoing<'_>) -> Result<Ready, AllocError>
-    ensures { IfOk result (λ r. r ≡ ready_of links.now one.now) }
+fn made_ready(alloc: Global, links: &LinkFile, one: Outgoing<'_>) -> Result<Ready, AllocError>
+    ensures { IfOk result (λ r. r ≡ ready_of links.now one.entry) }
 {
-    let targets = Vec::from_slice(alloc, one.targets.as_slice())?;
-    let message = copy_to(alloc, links, NOWHERE, one)?.shared(alloc)?;
+    let Outgoing {
+        message,
+        targets,
+        text,
+    } = one;
+    let message = packed(alloc, links, message, text)?.shared(alloc)?;
     Ok(Ready {
         message,
-        targets: Items::new(address_set(targets)),
+        targets: Items::new(address_set(targets.into_vec())),
     })
 }
 
@@ -155,37 +154,30 @@ fn goes_to(one: &Ready, address: Address) -> bool
     one.targets.as_slice().binary_search(&address).is_ok()
 }
 
-// The copy of the message that goes to the address.
-fn copy_to(
+// The message, whose text goes into it, as it goes to no system alone.
+fn packed(
     alloc: Global,
     links: &LinkFile,
-    address: Address,
-    one: &Outgoing<'_>,
+    message: &Filed,
+    text: Items<u8>,
 ) -> Result<Packed, AllocError>
-    ensures { IfOk result (λ copy. copy ≡ copy_out links.now address one.now) }
+    requires { HasNoZero text }
+    ensures { IfOk result (λ copy. copy ≡ message_out links.now nowhere message.now text) }
 {
     let system = links.system();
-    let message = one.message;
-    let to_name = Vec::from_slice(alloc, message.to_name.as_slice())?;
-    let from_name = Vec::from_slice(alloc, message.from_name.as_slice())?;
-    let subject = Vec::from_slice(alloc, message.subject.as_slice())?;
-    let text = Vec::from_slice(alloc, one.text.as_slice())?;
-    match Packed::new(
+    Ok(Packed::from_parts(
         system.node,
-        address.node,
+        0,
         system.net,
-        address.net,
+        0,
         0,
         0,
         message.date,
-        to_name,
-        from_name,
-        subject,
-        text,
-    ) {
-        Ok(copy) => Ok(copy),
-        Err(_) => Err(AllocError),
-    }
+        Vec::from_slice(alloc, message.to_name.as_slice())?,
+        Vec::from_slice(alloc, message.from_name.as_slice())?,
+        Vec::from_slice(alloc, message.subject.as_slice())?,
+        text.into_vec(),
+    ))
 }
 
 // The header of a packet to the address.

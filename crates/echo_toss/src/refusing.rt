@@ -11,10 +11,7 @@ use crate::moment::is_stamp;
 use echo_links::LinkFile;
 use echo_packet::{MAX_NAME, MAX_SUBJECT};
 use echo_steps::{Draft, PostFault, Stamp};
-use echo_text::MsgId;
-
-/// The most bytes of a tag.
-const TAG: usize = 60;
+use echo_text::{MAX_TAG, MsgId};
 
 /// Judges a draft by the link file and by itself.
 pub(crate) fn judge(
@@ -47,11 +44,11 @@ pub(crate) fn judge(
 fn has_area(links: &LinkFile, tag: &[u8]) -> bool
     ensures { result ≡ has_area links.now (upper tag.now) }
 {
-    if tag.len() > TAG {
+    if tag.len() > MAX_TAG {
         links.system();
         return false;
     }
-    let mut raised = [0u8; TAG];
+    let mut raised = [0u8; MAX_TAG];
     let raised = &mut raised[..tag.len()];
     raised.copy_from_slice(tag);
     raise(raised);

@@ -39,5 +39,5 @@ fn scanned<S: BuildHasher>(
     ensures { IfOk result (λ all. all.items ≡ scanned links.now base.now.messages base.now.cursor stamp) }
 {
     let outgoing = waiting(alloc, links, base)?;
-    packets(alloc, links, stamp, outgoing.as_slice())
+    packets(alloc, links, stamp, outgoing)
 }

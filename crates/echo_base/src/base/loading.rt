@@ -8,15 +8,15 @@ ghost use Rattle.echo_base.specs.Loading.{AnswersLoad, CountsLoad, FailsToLoad, 
 use crate::base::Base;
 use crate::fault::BaseFault;
 use crate::judging::judged;
-use echo_device::{Source, fill};
-use echo_filed::{Broken, Version, read_long, read_stored};
+use echo_device::{Broken, Source, fill};
+use echo_filed::{Version, read_long, read_stored};
 use std::alloc::Global;
 use std::hash::BuildHasher;
 
 // What the two versions begin with.
 const FIRST: &[u8] = b"ECHOBAS1";
 
-const SECOND: &[u8] = b"ECHOBAS2";
+pub(super) const SECOND: &[u8] = b"ECHOBAS2";
 
 // The first 16 bytes of a base file.
 #[derive(Clone, Copy)]

@@ -11,15 +11,13 @@ ghost use Rattle.echo_base.specs.BaseFile.{head_bytes, is_countable, saved_bytes
 ghost use Rattle.echo_base.specs.Saving.{CountsSaved, Saves, TellsTooMany};
 
 use crate::base::Base;
+use crate::base::loading::SECOND;
 use crate::fault::BaseFault;
 use echo_device::{Failure, Sink, send};
 use echo_filed::{Filed, Key, Unsent, is_short, is_short_enough, long_bytes, send_message};
 use indexmap::IndexMap;
 use std::alloc::{AllocError, Global};
 use std::hash::BuildHasher;
-
-// What a base of version 2 begins with.
-const MAGIC: &[u8] = b"ECHOBAS2";
 
 // The most messages that four bytes count.
 const MOST: usize = 0xffff_ffff;
@@ -35,7 +33,7 @@ fn send_head<W: Sink>(
     ensures ok { OnOk result (W.failures writer.new ≡ W.failures writer.old) }
     ensures err { OnErr result (Failed (W.failures writer.old) (W.failures writer.new)) }
 {
-    send(writer, MAGIC, sent)?;
+    send(writer, SECOND, sent)?;
     send(writer, &long_bytes(cursor), sent)?;
     send(writer, &long_bytes(number), sent)
 }

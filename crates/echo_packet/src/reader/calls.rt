@@ -9,13 +9,13 @@ ghost use Rattle.echo_packet.specs.Next.{CountsFailures, FailsInMessage, IsWithi
 ghost use Rattle.echo_packet.specs.Reader.{FrontFault, GoesOn, IsDropped, IsEnded, IsReading, IsStopped, KeepsFront, reader_given, reader_header, reader_limits, reader_place, reader_source};
 
 use crate::fault::PacketFault;
-use crate::field::{are_bytes, read_fixed};
+use crate::field::read_fixed;
 use crate::header::{HEADER_BYTES, Header, header_of, number_at};
 use crate::limits::Limits;
 use crate::message::{name_fault, read_next};
 use crate::packed::Packed;
 use crate::reader::{PacketReader, Stage};
-use echo_device::Source;
+use echo_device::{Source, are_bytes};
 use std::alloc::Global;
 
 /// The header at the front of what the source has, and no byte more.

@@ -5,7 +5,8 @@ use Rattle.echo_addr.specs.ShortLines.{ComesBefore}
 use Rattle.echo_text.specs.Echo.{EchoText, IsEcho}
 use Rattle.echo_filed.specs.Written.{text_of}
 use Rattle.echo_steps.proofs.Copies.{exported_is_echo}
-use Rattle.echo_toss.proofs.Exports.{exported_made, written_is}
+use Rattle.echo_packet.specs.Message.{HasNoZero}
+use Rattle.echo_toss.proofs.Exports.{exported_made, exported_no_zero, written_is}
 use Rattle.echo_toss.proofs.outgoing.exported_text.Goals as goal
 
 pub write_parts-requires : goal.write_parts-requires
@@ -22,8 +23,8 @@ write_parts-requires c =
     let P : List NetNode → Type 0 = AllPairs ComesBefore in
     subst P (sym c.as_slice-3.ensures) made.ascending
 
-pub returns : goal.returns
-returns c =
+pub returns-clause-text : goal.returns-clause-text
+returns-clause-text c =
     let view = c.echo.view_is in
     let is =
     exported_made c.args.links.now c.args.echo.now c.net_node-own.result c.links_of-all.result.now c.as_slice-tag.result.now c.echo.inside.kept
@@ -35,3 +36,7 @@ returns c =
     let made = subst IsEcho (sym is) (exported_is_echo c.args.links.now c.system.ensures.file c.args.echo.now (subst IsEcho view c.echo.invariant)) in
     let said : EchoText = record { tag = c.as_slice-tag.result.now; kept = c.echo.inside.kept; seen = c.as_slice-3.result.now; path = c.deref.result.now } in
     c.new.ensures ∙ written_is said c.in_ok-text.text.items made c.in_ok-text.ensures ∙ ap text_of is
+
+pub returns-clause-no_zero : goal.returns-clause-no_zero
+returns-clause-no_zero c =
+    subst HasNoZero (sym (returns-clause-text c)) (exported_no_zero c.args.links.now c.system.ensures.file c.args.echo.now (subst IsEcho c.echo.view_is c.echo.invariant))
