@@ -1,0 +1,10 @@
+//! Nets in which any tossers run that keep five rules.
+//!
+//! The definitions stand in specs/: `Nets` (addresses and links, and which nets are tidy), `Events` (what
+//! happens to the messages of an area), `Rules` (the five rules) and `Orderly` (what they promise).
+//! `laws` states what holds.
+#![tactic(auto)]
+
+mod laws;
+
+pub use laws::every_run_by_the_rules_is_orderly;
