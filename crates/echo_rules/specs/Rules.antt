@@ -1,5 +1,5 @@
 -- Five rules for tossers.
-use Rattle.std.specs.Prelude.{◌≡◌, ◌≢◌, ◌↔◌, IsTrue, List, [], ◌∷◌, Some}
+use Rattle.std.specs.Prelude.{◌≡◌, ◌≢◌, ◌⊎◌, ◌↔◌, IsTrue, List, [], ◌∷◌, Some}
 use Rattle.echo_graph.specs.Walk.{Among, Different}
 use Rattle.echo_graph.specs.Beyond.{Beyond}
 use Rattle.echo_rules.specs.Nets.{Net}
@@ -46,6 +46,13 @@ pub record IsTold {A N K C : Type 0} (net : Net A N) (m : Filed A N K C) (to : L
   pub others : (l : A) → Among l to → IsTrue (net.linked x l) → Among (net.net_node l) seen
   pub behind : (d : A) → IsTrue (net.carries d) → Beyond net.linked x m.at d → d ≢ x → Among (net.net_node d) seen →
       Among (net.net_node d) m.text.seen
+
+-- the plain way to keep this: it lists all that it is sent to, and besides nothing but what the message
+-- listed, the own system, links of it, and what is no system with the area
+pub record IsToldPlainly {A N K C : Type 0} (net : Net A N) (m : Filed A N K C) (to : List A) (seen : List N) : Type 0 where
+  pub all : (l : A) → Among l to → Among (net.net_node l) seen
+  pub only : (n : N) → Among n seen → Among n m.text.seen
+      ⊎ (((l : A) × ((l ≡ m.at) ⊎ IsTrue (net.linked m.at l)) × (n ≡ net.net_node l)) ⊎ ((d : A) → IsTrue (net.carries d) → n ≢ net.net_node d))
 
 -- and that of a posting lists no system with the area but its own
 abbrev pub Tells : {A N K C : Type 0} → Net A N → List (Event A N K C) → Event A N K C → Type 0
