@@ -4,5 +4,6 @@ pub mod Lists
 pub mod Steps
 pub mod Runs
 pub mod SmallNets
+pub mod Chain
 pub mod Needed
 pub mod Telling

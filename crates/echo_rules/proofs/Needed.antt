@@ -4,9 +4,10 @@ use Rattle.std.specs.Prelude.{true}
 use Rattle.echo_graph.specs.Walk.{Among}
 use Rattle.echo_graph.proofs.Members.{ℕ-can_tell}
 use Rattle.echo_rules.specs.Events.{Text, Filed, Copy, Event, Posts, Exports, Comes, Has, exported, filed}
-use Rattle.echo_rules.specs.Rules.{IsTarget, IsSentOnce, IsTold, Rule, Kept, filing, keeping, sending, telling, keys}
-use Rattle.echo_rules.specs.Orderly.{IsNeeded, IsSettled}
+use Rattle.echo_rules.specs.Rules.{IsTarget, IsSentOnce, IsTold, Rule, Kept, Always, IsPossible, ListsAll, filing, keeping, sending, telling, keys}
+use Rattle.echo_rules.specs.Orderly.{IsMet, IsNeeded, IsSettled}
 use Rattle.echo_rules.proofs.Targets.{some_same}
+use Rattle.echo_rules.proofs.Chain.{chain, chain-parts, chain-tidy}
 use Rattle.echo_rules.proofs.SmallNets.{polygon, polygon-tidy, linked-parts}
 
 -- a message of key 7 with this content, that lists no one
@@ -92,46 +93,71 @@ filing-needed = record {
     others telling apart = (tt, (tt, (told, (λ d carrier h. absurd h, tt))))
     others keys apart = (tt, (tt, (tt, (λ m h. absurd h, tt))))
 
--- a copy has another content, and so has what is filed
+-- a message is sent with this content and filed, and nothing is left to do
+abbrev settling : ℕ → List (Event ℕ ℕ ℕ ℕ)
+settling content = Exports (received content) [] (λ x. says content) ∷ come content ∷ send content ∷ post 0 ∷ []
+
+settled : (content : ℕ) → IsSettled (settling content)
+settled content = record { all_exported = λ m h. h; all_came = λ copy h. h }
+
+settling-possible : (content : ℕ) → Always (IsPossible (polygon 2)) (settling content)
+settling-possible content = (tt, (inl refl, (tt, (refl, tt))))
+
+settling-kept : (content : ℕ) (rule : Rule) → rule ≢ keeping → Kept (polygon 2) (λ a b. a ≡ b) (settling content) rule
+settling-kept content filing apart = (tt, ((λ yes. (refl, not_at_1), λ new. refl), (tt, (tt, tt))))
+settling-kept content keeping apart = absurd (apart refl)
+settling-kept content sending apart = (
+  record {
+    is_filed = inl refl;
+    first = not_at_1;
+    targets = λ x. (λ h. absurd h, λ target. nobody x target);
+    one_each = tt;
+  },
+  (tt, (sent_once (post 0 ∷ []) (inl refl) (λ has. has.1), (tt, tt))),
+)
+  where
+    nobody : (x : ℕ) → IsTarget (polygon 2) (received content) x → ⊥
+    nobody x target =
+        let (below, under, other) = linked-parts 2 1 x target.link in
+        let zero : x ≡ 0 = omega (arith, under, λ (e : x ≡ 1). other (sym e)) in
+        target.not_sender (ap (λ (a : ℕ). Some a) (sym zero))
+settling-kept content telling apart = (λ x h. absurd h, (tt, (told, (λ d carrier h. absurd h, tt))))
+settling-kept content keys apart = (tt, (tt, (tt, (λ m h. absurd h, tt))))
+
+-- all rules are kept where the content stays
+pub can-be-kept : IsMet
+can-be-kept = record {
+  net = polygon 2;
+  tidy = polygon-tidy 2;
+  run = settling 1;
+  possible = settling-possible 1;
+  kept = kept;
+  settled = settled 1;
+  sent = (copied 1, inl refl);
+}
+  where
+    kept : (rule : Rule) → Kept (polygon 2) (λ a b. a ≡ b) (settling 1) rule
+    kept filing = settling-kept 1 filing (λ e. cc)
+    kept keeping = (λ x h. absurd h, (tt, (λ x h. (refl, refl), (tt, tt))))
+    kept sending = settling-kept 1 sending (λ e. cc)
+    kept telling = settling-kept 1 telling (λ e. cc)
+    kept keys = settling-kept 1 keys (λ e. cc)
+
+-- where a copy has another content, so has what is filed
 pub keeping-needed : IsNeeded keeping
 keeping-needed = record {
   net = polygon 2;
   tidy = polygon-tidy 2;
-  run = Exports (received 2) [] (λ x. says 2) ∷ come 2 ∷ send 2 ∷ post 0 ∷ [];
-  possible = (tt, (inl refl, (tt, (refl, tt))));
-  others = others;
+  run = settling 2;
+  possible = settling-possible 2;
+  others = settling-kept 2;
   broken = λ orderly.
-      let (m, h, at, key, content) = orderly.all_filed settled (posted 0) (inr (inl refl)) refl 1 refl in
+      let (m, h, at, key, content) = orderly.all_filed (settled 2) (posted 0) (inr (inl refl)) refl 1 refl in
       elim h [
         | inl e ↦ (let two = ap (λ (n : Filed ℕ ℕ ℕ ℕ). n.text.content) e in absurd (omega (arith, two, content)))
         | inr t ↦ not_at_1 (m, t, at, key)
       ];
 }
-  where
-    settled : IsSettled (Exports (received 2) [] (λ x. says 2) ∷ come 2 ∷ send 2 ∷ post 0 ∷ [])
-    settled = record { all_exported = λ m h. h; all_came = λ copy h. h }
-
-    nobody : (x : ℕ) → IsTarget (polygon 2) (received 2) x → ⊥
-    nobody x target =
-        let (below, under, other) = linked-parts 2 1 x target.link in
-        let zero : x ≡ 0 = omega (arith, under, λ (e : x ≡ 1). other (sym e)) in
-        target.not_sender (ap (λ (a : ℕ). Some a) (sym zero))
-
-    others : (other : Rule) → other ≢ keeping →
-        Kept (polygon 2) (λ a b. a ≡ b) (Exports (received 2) [] (λ x. says 2) ∷ come 2 ∷ send 2 ∷ post 0 ∷ []) other
-    others filing apart = (tt, ((λ yes. (refl, not_at_1), λ new. refl), (tt, (tt, tt))))
-    others keeping apart = absurd (apart refl)
-    others sending apart = (
-      record {
-        is_filed = inl refl;
-        first = not_at_1;
-        targets = λ x. (λ h. absurd h, λ target. nobody x target);
-        one_each = tt;
-      },
-      (tt, (sent_once (post 0 ∷ []) (inl refl) (λ has. has.1), (tt, tt))),
-    )
-    others telling apart = (λ x h. absurd h, (tt, (told, (λ d carrier h. absurd h, tt))))
-    others keys apart = (tt, (tt, (tt, (λ m h. absurd h, tt))))
 
 -- a message is exported a second time
 pub sending-needed : IsNeeded sending
@@ -209,6 +235,69 @@ telling-needed = record {
         ),
       ),
     )
+    others telling apart = absurd (apart refl)
+    others keys apart = (tt, (tt, (tt, (λ m h. absurd h, tt))))
+
+-- in a chain 1 is told that 2 has the message, and does not pass it on
+abbrev hides : Text ℕ ℕ ℕ
+hides = record { key = 7; content = 1; seen = 1 ∷ 2 ∷ [] }
+
+abbrev at_1 : Filed ℕ ℕ ℕ ℕ
+at_1 = record { at = 1; sender = Some 0; text = hides }
+
+abbrev hidden : List (Event ℕ ℕ ℕ ℕ)
+hidden = Exports at_1 [] (λ x. hides) ∷ Comes (record { from = 0; to = 1; text = hides }) true ∷ Exports (posted 0) (1 ∷ []) (λ x. hides) ∷ post 0 ∷ []
+
+pub hiding_none-needed : (needed : IsNeeded telling) × Always (ListsAll needed.net) needed.run
+hiding_none-needed = (
+  record {
+    net = chain;
+    tidy = chain-tidy;
+    run = hidden;
+    possible = (tt, (inl refl, (tt, (refl, tt))));
+    others = others;
+    broken = λ orderly.
+        let (m, h, at, key, content) = orderly.all_filed (record { all_exported = λ n i. i; all_came = λ c i. i }) (posted 0) (inr (inl refl)) refl 2 refl in
+        elim h [
+          | inl e ↦ absurd (elsewhere m at_1 2 1 e at refl (λ same. absurd (omega (arith, same))))
+          | inr t ↦ elim t [
+            | inl e ↦ absurd (elsewhere m (posted 0) 2 0 e at refl (λ same. absurd (omega (arith, same))))
+            | inr none ↦ none
+          ]
+        ];
+  },
+  (λ x h. absurd h, (tt, (λ x h l i. elim i [ inl e ↦ inl e | inr none ↦ absurd none ], (tt, tt)))),
+)
+  where
+    elsewhere : (m n : Filed ℕ ℕ ℕ ℕ) (a b : ℕ) → m ≡ n → m.at ≡ a → n.at ≡ b → a ≢ b → ⊥
+    elsewhere m n a b e at_a at_b other = other (sym at_a ∙ (ap (λ (x : Filed ℕ ℕ ℕ ℕ). x.at) e ∙ at_b))
+
+    others : (other : Rule) → other ≢ telling → Kept chain (λ a b. a ≡ b) hidden other
+    others filing apart = (tt, ((λ yes. (refl, not_at_1), λ new. refl), (tt, (tt, tt))))
+    others keeping apart = (λ x h. absurd h, (tt, (λ x h. (refl, refl), (tt, tt))))
+    others sending apart = (
+      record { is_filed = inl refl; first = not_at_1; targets = λ x. (λ h. absurd h, λ target. nobody x target); one_each = tt },
+      (tt, (record { is_filed = inl refl; first = λ has. has.1; targets = from_0; one_each = (λ h. h, tt) }, (tt, tt))),
+    )
+      where
+        nobody : (x : ℕ) → IsTarget chain at_1 x → ⊥
+        nobody x target =
+            let (below, under, near) = chain-parts 1 x target.link in
+            elim near [
+              | inl e ↦ target.not_seen (inr (inl (omega (arith, e))))
+              | inr e ↦ (let zero : x ≡ 0 = omega (arith, e) in target.not_sender (ap (λ (a : ℕ). Some a) (sym zero)))
+            ]
+
+        from_0 : (x : ℕ) → Among x (1 ∷ []) ↔ IsTarget chain (posted 0) x
+        from_0 x = (
+          λ h. (let P : ℕ → Type 0 = λ a. IsTarget chain (posted 0) a in
+              elim h [
+                | inl e ↦ subst P (sym e) (record { link = refl; not_sender = λ none. cc; not_seen = λ i. i })
+                | inr none ↦ absurd none
+              ]),
+          λ target. (let (below, under, near) = chain-parts 0 x target.link in
+              elim near [ inl e ↦ inl (omega (arith, e)) | inr e ↦ absurd (omega (arith, e)) ]),
+        )
     others telling apart = absurd (apart refl)
     others keys apart = (tt, (tt, (tt, (λ m h. absurd h, tt))))
 

@@ -1,5 +1,6 @@
 -- Each event keeps what is true of a run by the rules.
 use Rattle.std.proofs.Common.{◌≡◌, ◌≢◌, ◌⊎◌, inl, inr, refl, sym, subst, ap, ◌∙◌, IsTrue, List, [], ◌∷◌, ◌++◌, map, Some, None}
+use Rattle.std.proofs.lemmas.List.{map-append}
 use Rattle.echo_graph.specs.Walk.{Among, Different}
 use Rattle.echo_graph.specs.Beyond.{Beyond, IsWay}
 use Rattle.echo_graph.proofs.Members.{CanTell, Among-append_left, Among-append_right, Among-append_cases}
@@ -10,7 +11,7 @@ use Rattle.echo_rules.specs.Rules.{IsTarget, IsTold}
 use Rattle.echo_rules.specs.Orderly.{Compares, place, goal}
 use Rattle.echo_rules.proofs.Invariant.{Parent, View, IsPoster, Good, Sent, IsSentTo, Invariant}
 use Rattle.echo_rules.proofs.Targets.{simple, carriers_to, beyond-target, told-parent}
-use Rattle.echo_rules.proofs.Lists.{Among-map_to, Among-map_from, map-append, Different-append}
+use Rattle.echo_rules.proofs.Lists.{Among-map_to, Among-map_from, Different-append}
 
 module _ {A N K C : Type 0} where
   pub Has-from_place : (m : Filed A N K C) (ms : List (Filed A N K C)) → Among (place m) (map place ms) → Has m.at m.text.key ms

@@ -46,3 +46,13 @@ pub record IsNeeded (rule : Rule) : Type 0 where
   pub possible : Always (IsPossible net) run
   pub others : (other : Rule) → other ≢ rule → Kept net (λ a b. a ≡ b) run other
   pub broken : ¬ Orderly net (λ a b. a ≡ b) run
+
+-- the rules can be kept: in some tidy net by a run that has settled, in which a copy was sent
+pub record IsMet : Type 0 where
+  pub net : Net ℕ ℕ
+  pub tidy : Tidy net
+  pub run : List (Event ℕ ℕ ℕ ℕ)
+  pub possible : Always (IsPossible net) run
+  pub kept : (rule : Rule) → Kept net (λ a b. a ≡ b) run rule
+  pub settled : IsSettled run
+  pub sent : (copy : Copy ℕ ℕ ℕ ℕ) × Among copy (copies run)

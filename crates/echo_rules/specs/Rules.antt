@@ -60,6 +60,11 @@ Tells {A} net earlier (Posts at text) = (d : A) → IsTrue (net.carries d) → A
 Tells {A} net earlier (Exports m to text) = (x : A) → Among x to → IsTold net m to x (text x).seen
 Tells net earlier (Comes copy is_filed) = Unit {0}
 
+-- half of it: each system is listed that the message is sent to
+abbrev pub ListsAll : {A N K C : Type 0} → Net A N → List (Event A N K C) → Event A N K C → Type 0
+ListsAll {A} net earlier (Exports m to text) = (x : A) → Among x to → (l : A) → Among l to → Among (net.net_node l) (text x).seen
+ListsAll net earlier other = Unit {0}
+
 -- new keys: a posting has a key that no system has filed
 abbrev pub NewKeys : {A N K C : Type 0} → List (Event A N K C) → Event A N K C → Type 0
 NewKeys {A} {N} {K} {C} earlier (Posts at text) = (m : Filed A N K C) → Among m (filed earlier) → m.text.key ≢ text.key

@@ -8,6 +8,7 @@
 mod laws;
 
 pub use laws::{
-    every_run_by_the_rules_is_orderly, filing_once_is_needed, keeping_is_needed,
-    new_keys_are_needed, plain_telling_is_enough, sending_once_is_needed, telling_is_needed,
+    every_run_by_the_rules_is_orderly, filing_once_is_needed, hiding_none_is_needed,
+    keeping_is_needed, new_keys_are_needed, plain_telling_is_enough, sending_once_is_needed,
+    telling_is_needed, the_rules_can_be_kept,
 };
