@@ -1,0 +1,9 @@
+pub mod Invariant
+pub mod Targets
+pub mod Lists
+pub mod Steps
+pub mod Runs
+pub mod SmallNets
+pub mod Chain
+pub mod Needed
+pub mod Telling

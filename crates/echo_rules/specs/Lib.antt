@@ -1,0 +1,4 @@
+pub mod Nets
+pub mod Events
+pub mod Rules
+pub mod Orderly

@@ -1,0 +1,14 @@
+//! Nets in which any tossers run that keep five rules.
+//!
+//! The definitions stand in specs/: `Nets` (addresses and links, and which nets are tidy), `Events` (what
+//! happens to the messages of an area), `Rules` (the five rules) and `Orderly` (what they promise).
+//! `laws` states what holds.
+#![tactic(auto)]
+
+mod laws;
+
+pub use laws::{
+    every_run_by_the_rules_is_orderly, filing_once_is_needed, hiding_none_is_needed,
+    keeping_is_needed, new_keys_are_needed, plain_telling_is_enough, sending_once_is_needed,
+    telling_is_needed, the_rules_can_be_kept,
+};
