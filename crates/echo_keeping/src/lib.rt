@@ -6,4 +6,4 @@
 
 mod laws;
 
-pub use laws::tidy_files_are_a_tidy_net;
+pub use laws::{any_tossers_on_tidy_files_are_orderly, tidy_files_are_a_tidy_net};
