@@ -1,0 +1,28 @@
+//! What holds of link files in any net. Each law is the contract of a function that does nothing.
+
+ghost use Rattle.std.specs.Prelude.{ℕ, Bool, IsTrue, List};
+ghost use Rattle.echo_addr.specs.declared.address.Address.{Address};
+ghost use Rattle.echo_addr.specs.declared.address.NetNode.{NetNode};
+ghost use Rattle.echo_links.specs.Links.{LinkFile};
+ghost use Rattle.echo_rules.specs.Events.{Event};
+ghost use Rattle.echo_rules.specs.Rules.{Always, IsPossible, Kept, Rule};
+ghost use Rattle.echo_rules.specs.Orderly.{AreToldApart, Compares, Orderly};
+ghost use Rattle.echo_run.specs.Tidy.{Tidy};
+ghost use Rattle.echo_keeping.specs.AreaNets.{IsTidyNet, net_of};
+
+/// Link files that are tidy in an area say a net that is tidy for any tossers: what these promise where
+/// they keep the rules, they promise on these files.
+pub fn tidy_files_are_a_tidy_net()
+    ensures { (files : List LinkFile) (tag : List ℕ) → Tidy files tag → IsTidyNet files tag }
+{}
+
+/// Where link files are tidy in an area, and the tosser of each system with it keeps the five rules, every
+/// run on these files is orderly. Keys and contents are of any types; contents are compared by any `same`
+/// that is reflexive and transitive.
+pub fn any_tossers_on_tidy_files_are_orderly<K, C>()
+    ensures { AreToldApart K → (files : List LinkFile) (tag : List ℕ) → Tidy files tag →
+        (same : C → C → Bool) → Compares (λ a b. IsTrue (same a b)) →
+        (run : List (Event Address NetNode K C)) → Always (IsPossible (net_of files tag)) run →
+        ((rule : Rule) → Kept (net_of files tag) (λ a b. IsTrue (same a b)) run rule) →
+        Orderly (net_of files tag) (λ a b. IsTrue (same a b)) run }
+{}
