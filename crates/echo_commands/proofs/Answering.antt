@@ -54,14 +54,14 @@ not_out bytes a b c d x y z answer fault so failed =
 
 -- the digits were not decoded
 pub undecoded : (hex : Bool) (input : List ℕ) (old : Option (List ℕ)) (n : ℕ) (fault : Fault) → hex ≡ true → DecodeAnswers input (Err fault)
-    → ShowAnswers hex input old old n n (Err fault)
+    → ShowAnswers hex input (record { contents = old; failures = n }) (record { contents = old; failures = n }) (Err fault)
 undecoded hex input old n fault asked (inl want) = inl (inr (subst IsWantOfMemory (sym want) tt, refl))
 undecoded hex input old n fault asked (inr bad) =
     inr (inl (record { is = bad.0; asked = asked; undecoded = bad.1; nothing = refl }), refl)
 
 -- the bytes that the input stands for were shown
 pub stands_shown : (hex : Bool) (input bytes : List ℕ) (old new : Option (List ℕ)) (x y : ℕ) (answer : Result Status Fault) → Stands hex input bytes
-    → PacketAnswers bytes old new x y answer → ShowAnswers hex input old new x y answer
+    → PacketAnswers bytes old new x y answer → ShowAnswers hex input (record { contents = old; failures = x }) (record { contents = new; failures = y }) answer
 stands_shown hex input bytes old new x y (Ok status) stands right = ((right.0.good, (bytes, stands, right.0.printed)), right.1)
 stands_shown hex input bytes old new x y (Err fault) stands (inl stops) = inl stops
 stands_shown hex input bytes old new x y (Err fault) stands (inr refused) = inr (inr (bytes, stands, refused.0), refused.1)

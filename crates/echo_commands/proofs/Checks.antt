@@ -1,6 +1,7 @@
 -- What `check` answers, from what its parts do.
 use Rattle.std.proofs.Common.{◌≡◌, ℕ, List, [], ◌∷◌, ◌++◌, Option, Result, Ok, Err, refl, sym, ap, subst, ◌∙◌}
 use Rattle.std.specs.Io.KnownBytes.{Appends}
+use Rattle.echo_commands.specs.Devices.{Device}
 use Rattle.echo_links.specs.declared.fault.LinkFault.{LinkFault}
 use Rattle.echo_links.specs.declared.fault.LinkFault.TheVariants as link
 use Rattle.echo_links.specs.Links.{LinkFile, upper}
@@ -29,7 +30,7 @@ use Rattle.echo_commands.specs.Status.{base_status, link_status, node_status, pa
 use Rattle.echo_commands.specs.Ended.{status_at}
 use Rattle.echo_print.specs.Checked.{CheckShown}
 use Rattle.echo_commands.specs.Checking.{CheckAnswers, IsChecked, IsCheckVerdict, RunsAreOrderly, verdict_status}
-use Rattle.echo_commands.specs.Given.{AreLinkFiles, IsNodelistGiven}
+use Rattle.echo_commands.specs.Inputs.{AreLinkFiles, IsNodelistGiven}
 use Rattle.echo_print.specs.Pushed.{Pushes}
 
 -- a yes has the status 0, and only a yes
@@ -128,13 +129,13 @@ not_good (fault.Scan f) good = scan_not_good f good
 not_good _ good = cc
 
 -- a 0 tells of each run
-pub headline : (nodelist : Option (List ℕ)) (tag : List ℕ) (inputs : List (List ℕ)) (stopped : Option Fault) (old new : Option (List ℕ)) (before after : ℕ)
-    (answer : Result Status Fault) (status : Status) → CheckAnswers nodelist tag inputs stopped old new before after answer → status ≡ status_at answer → status ≡ Good
+pub headline : (nodelist : Option (List ℕ)) (tag : List ℕ) (inputs : List (List ℕ)) (stopped : Option Fault) (old new : Device)
+    (answer : Result Status Fault) (status : Status) → CheckAnswers nodelist tag inputs stopped old new answer → status ≡ status_at answer → status ≡ Good
     → (links : List LinkFile) → AreLinkFiles inputs links → Tidy links (upper tag) × RunsAreOrderly links (upper tag)
-headline nodelist tag inputs stopped old new before after (Ok found) status so is good links are =
+headline nodelist tag inputs stopped old new (Ok found) status so is good links are =
     let checked = so.0.0 in
     let is_good : found ≡ Good = sym is ∙ good in
     let same : checked.files ≡ links = one_reading inputs checked.files links checked.are_files are in
     let P : List LinkFile → Type 0 = λ f. Tidy f (upper tag) × RunsAreOrderly f (upper tag) in
     subst P same (checked.tidy.0 is_good, checked.orderly is_good)
-headline nodelist tag inputs stopped old new before after (Err f) status so is good links are = absurd (not_good f (sym is ∙ good))
+headline nodelist tag inputs stopped old new (Err f) status so is good links are = absurd (not_good f (sym is ∙ good))

@@ -49,14 +49,14 @@ listed_lines find lines stated a b c first rest = record {
 
 -- the input is no nodelist
 pub read_refused : (find : Option Address) (input : List ℕ) (old : Option (List ℕ)) (n : ℕ) (f : NodeFault) → NodelistAnswered input (Err f)
-    → NodelistAnswers find input old old n n (Err (Nodelist f))
+    → NodelistAnswers find input (record { contents = old; failures = n }) (record { contents = old; failures = n }) (Err (Nodelist f))
 read_refused find input old n f (inl wrong) = inr (record { why = f; is = refl; of_lines = wrong; nothing = refl }, refl)
 read_refused find input old n f (inr memory) = inl (inr (subst (λ x. IsWantOfMemory (Nodelist x)) (sym memory) tt, refl))
 
 -- all lines of a nodelist went out
 pub list_printed : (find : Option Address) (input none rest : List ℕ) (lines : List Line) (stated : CrcLine) (status : Status) (a b c : Option (List ℕ)) (x y z : ℕ)
     → NodelistOf input lines → stated ≡ crc_line_of input → none ≡ [] → WritesLines (Listed find lines stated) (append_known a none) (append_known b rest)
-    → Appends b c rest → status ≡ crc_status stated → y ≡ x → z ≡ y → NodelistAnswers find input a c x z (Ok status)
+    → Appends b c rest → status ≡ crc_status stated → y ≡ x → z ≡ y → NodelistAnswers find input (record { contents = a; failures = x }) (record { contents = c; failures = z }) (Ok status)
 list_printed find input none rest lines stated status a b c x y z is agreed nothing printed went ended first second = (
   record {
     lines = lines;

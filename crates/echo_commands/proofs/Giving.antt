@@ -7,7 +7,7 @@ use Rattle.echo_links.specs.Links.{LinkFile}
 use Rattle.echo_links.specs.LinkLines.{LinksOf}
 use Rattle.echo_commands.specs.declared.fault.Fault.TheVariants.{Link}
 use Rattle.echo_commands.specs.Ended.{IsWantOfMemory}
-use Rattle.echo_commands.specs.Given.{AreLinkFiles, IsLinkFault}
+use Rattle.echo_commands.specs.Inputs.{AreLinkFiles, IsLinkFault}
 
 one_more : (inputs : List (List ℕ)) (files : List LinkFile) (bytes : List ℕ) (file : LinkFile) → AreLinkFiles inputs files → LinksOf bytes (Ok file)
     → AreLinkFiles (inputs ++ bytes ∷ []) (files ++ file ∷ [])

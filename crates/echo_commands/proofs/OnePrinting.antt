@@ -10,6 +10,7 @@ use Rattle.echo_text.specs.declared.fault.TextFault.{TextFault}
 use Rattle.echo_text.specs.declared.fault.TextFault.TheVariants.{BadMsgId, BadTag, Memory, NotEcho}
 use Rattle.echo_text.specs.Refusal.{text_refusal}
 use Rattle.echo_text.proofs.OneReading.{one_count, one_echo}
+use Rattle.echo_commands.specs.Devices.{Device}
 use Rattle.hex.specs.Hex.{decode_of}
 use Rattle.hex.specs.declared.error.FromHexError.{FromHexError}
 use Rattle.echo_commands.specs.declared.fault.Fault.{Fault}
@@ -112,20 +113,20 @@ undecoded : (hex : Bool) (input : List ℕ) → hex ≡ true → IsErr (decode_o
 undecoded hex input asked refused = ap (λ h. answer_to h input) asked ∙ refused_digits (decode_of (hex_text input)) refused
 
 -- an answer that is of the input is the one to it
-answered : (hex : Bool) (input : List ℕ) (old new : Option (List ℕ)) (before after : ℕ) (r : Result Status Fault) → ShowAnswers hex input old new before after r
-    → IsOfInput before after r → r ≡ answer_to hex input
-answered hex input old new before after (Ok status) right own =
+answered : (hex : Bool) (input : List ℕ) (old new : Device) (r : Result Status Fault) → ShowAnswers hex input old new r
+    → IsOfInput old.failures new.failures r → r ≡ answer_to hex input
+answered hex input old new (Ok status) right own =
     let bytes = right.0.1.0 in
     let printed = right.0.1.2 in
     let found : Answer = Ok (printed.header, printed.messages, printed.size) in
     ap Ok right.0.0 ∙ ap answer_of (only_one show_limits bytes found (printed.room, printed.packet)) ∙ sym (stood hex input bytes right.0.1.1)
-answered hex input old new before after (Err fault) (inl stops) own = absurd (own stops)
-answered hex input old new before after (Err fault) (inr (inl bad, same)) own = ap Err bad.is ∙ sym (undecoded hex input bad.asked bad.undecoded)
-answered hex input old new before after (Err fault) (inr (inr (bytes, stands, broken), same)) own =
+answered hex input old new (Err fault) (inl stops) own = absurd (own stops)
+answered hex input old new (Err fault) (inr (inl bad, same)) own = ap Err bad.is ∙ sym (undecoded hex input bad.asked bad.undecoded)
+answered hex input old new (Err fault) (inr (inr (bytes, stands, broken), same)) own =
     let wrong : Answer = Err broken.why in
     ap Err broken.is ∙ ap answer_of (only_one show_limits bytes wrong (broken.messages, broken.of_bytes)) ∙ sym (stood hex input bytes stands)
 
-pub one_answer : (hex : Bool) (input : List ℕ) (old new other : Option (List ℕ)) (before after later : ℕ) (r s : Result Status Fault)
-    → ShowAnswers hex input old new before after r → ShowAnswers hex input old other before later s → IsOfInput before after r → IsOfInput before later s → r ≡ s
-one_answer hex input old new other before after later r s a b own of_input =
-    answered hex input old new before after r a own ∙ sym (answered hex input old other before later s b of_input)
+pub one_answer : (hex : Bool) (input : List ℕ) (old new other : Device) (r s : Result Status Fault)
+    → ShowAnswers hex input old new r → ShowAnswers hex input old other s → IsOfInput old.failures new.failures r → IsOfInput old.failures other.failures s → r ≡ s
+one_answer hex input old new other r s a b own of_input =
+    answered hex input old new r a own ∙ sym (answered hex input old other s b of_input)

@@ -7,7 +7,7 @@ use Rattle.echo_net.specs.declared.verdict.Verdict.{Verdict}
 use Rattle.echo_net.specs.Drawn.{IsDrawing}
 use Rattle.echo_commands.specs.declared.status.Status.{Status}
 use Rattle.echo_commands.specs.Checking.{IsCheckVerdict, verdict_status}
-use Rattle.echo_commands.specs.Given.{AreLinkFiles}
+use Rattle.echo_commands.specs.Inputs.{AreLinkFiles}
 use Rattle.echo_commands.specs.Picturing.{IsPictured}
 use Rattle.echo_print.specs.Pictured.{picture_lines}
 use Rattle.echo_commands.proofs.Checks.{good_is_yes, of_same, went, yes_is_good}

@@ -1,5 +1,5 @@
 -- What `replay` answers, from what its parts do.
-use Rattle.std.proofs.Common.{◌≡◌, ℕ, ◌+◌, List, [], ◌++◌, length, map, sym, ap, subst, ◌∙◌, Option, Ok}
+use Rattle.std.proofs.Common.{◌≡◌, ℕ, List, [], ◌++◌, length, map, sym, ap, subst, ◌∙◌, Option, Ok}
 use Rattle.std.proofs.lemmas.List.{length-map}
 use Rattle.echo_links.specs.Links.{LinkFile}
 use Rattle.echo_run.specs.Event.{RunEvent, run_event}
@@ -11,7 +11,7 @@ use Rattle.echo_replay.specs.Script.{ScriptOf}
 use Rattle.echo_replay.specs.Worlds.{IsWorldOf, WorldState}
 use Rattle.echo_commands.specs.declared.status.Status.{Status}
 use Rattle.echo_commands.specs.declared.status.Status.TheVariants.{Good}
-use Rattle.echo_commands.specs.Given.{AreLinkFiles}
+use Rattle.echo_commands.specs.Inputs.{AreLinkFiles}
 use Rattle.echo_commands.specs.Replaying.{IsReplayed}
 use Rattle.echo_print.specs.Replayed.{replay_lines}
 use Rattle.echo_commands.proofs.Checks.{went}

@@ -21,6 +21,7 @@ use Rattle.echo_steps.specs.declared.fault.ScanFault.TheVariants as scan
 use Rattle.echo_commands.specs.declared.fault.Fault.{Fault}
 use Rattle.echo_commands.specs.declared.fault.Fault.TheVariants.{Post, Scan}
 use Rattle.echo_commands.specs.Ended.{IsWantOfMemory}
+use Rattle.echo_commands.specs.Handed.{Handed}
 use Rattle.echo_commands.specs.Posted.{PostAnswers, draft_given}
 use Rattle.echo_commands.specs.Purged.{PurgeAnswers}
 use Rattle.echo_commands.specs.Scanned.{IsScanned, ScanAnswers, file_sent, line_sent}
@@ -31,12 +32,12 @@ use Rattle.echo_commands.proofs.Checks.{went}
 scanned_before : (all waiting cursor before : ℕ) → waiting ≡ all - cursor → cursor ≤ all → before ≡ all - waiting → before ≡ cursor
 scanned_before all waiting cursor before is within counted = omega (arith, is, within, counted)
 
-pub was_scanned : (stamp : Stamp) (links : List ℕ) (base : Option (List ℕ)) (system left : SystemState) (packets : List Packet) (sent : List PacketFile) (all waiting before : ℕ)
-    (bytes none lines : List ℕ) (files : Files) (a b : Option (List ℕ)) → IsSystemGiven links base system → IsBase system.base system.cursor → all ≡ length system.base
+pub was_scanned : (stamp : Stamp) (handed : Handed) (system left : SystemState) (packets : List Packet) (sent : List PacketFile) (all waiting before : ℕ)
+    (bytes none lines : List ℕ) (files : Files) (a b : Option (List ℕ)) → IsSystemGiven handed.links handed.base system → IsBase system.base system.cursor → all ≡ length system.base
     → waiting ≡ length system.base - system.cursor → before ≡ all - waiting → ScanStep system stamp (Ok packets) left → bytes ≡ saved_bytes left.base left.cursor
     → is_countable left.base left.cursor ≡ true → sent ≡ map (file_sent before) packets → none ≡ [] → lines ≡ none ++ flat_map line_sent packets → Appends a b lines → files ≡ record { packets = sent; base = Some bytes }
-    → IsScanned stamp links base a b files
-was_scanned stamp links base system left packets sent all waiting before bytes none lines files a b given is_base counted waits rest step saved few made nothing whole out are =
+    → IsScanned stamp handed a b files
+was_scanned stamp handed system left packets sent all waiting before bytes none lines files a b given is_base counted waits rest step saved few made nothing whole out are =
     let scanned_first : before ≡ system.cursor =
     scanned_before (length system.base) waiting system.cursor before waits is_base.within (rest ∙ ap (λ (n : ℕ). n - waiting) counted) in
     record {
@@ -57,54 +58,54 @@ refused_draft words body system draft why drafted refused =
     subst (λ (d : Draft). post_refusal system.file system.base words.tag.now d words.serial words.stamp ≡ Some why) drafted refused
 
 -- a posting that is refused
-pub post_refused : (words : NewMessage) (links : List ℕ) (base : Option (List ℕ)) (stopped : Option Fault) (body : List ℕ) (system left : SystemState) (draft : Draft)
-    (why : PostFault) (old : Option (List ℕ)) (n : ℕ) → IsSystemGiven links base system → stopped ≡ None → draft ≡ draft_given words body
-    → IsPostFault system.file system.base words.tag.now draft words.serial words.stamp why → PostAnswers words links base stopped body old old n n (Err (Post why))
-post_refused words links base stopped body system left draft post.Memory old n given went_on drafted step = inl (inr (tt, refl))
-post_refused words links base stopped body system left draft post.NoArea old n given went_on drafted step =
+pub post_refused : (words : NewMessage) (handed : Handed) (body : List ℕ) (system left : SystemState) (draft : Draft)
+    (why : PostFault) (old : Option (List ℕ)) (n : ℕ) → IsSystemGiven handed.links handed.base system → handed.stopped ≡ None → draft ≡ draft_given words body
+    → IsPostFault system.file system.base words.tag.now draft words.serial words.stamp why → PostAnswers words handed body (record { contents = old; failures = n }) (record { contents = old; failures = n }) (Err (Post why))
+post_refused words handed body system left draft post.Memory old n given went_on drafted step = inl (inr (tt, refl))
+post_refused words handed body system left draft post.NoArea old n given went_on drafted step =
     inr ((inr (system, given, went_on, inl (post.NoArea, refl, refused_draft words body system draft post.NoArea drafted step)), refl), refl)
-post_refused words links base stopped body system left draft post.ByteZero old n given went_on drafted step =
+post_refused words handed body system left draft post.ByteZero old n given went_on drafted step =
     inr ((inr (system, given, went_on, inl (post.ByteZero, refl, refused_draft words body system draft post.ByteZero drafted step)), refl), refl)
-post_refused words links base stopped body system left draft post.FieldTooLong old n given went_on drafted step =
+post_refused words handed body system left draft post.FieldTooLong old n given went_on drafted step =
     inr ((inr (system, given, went_on, inl (post.FieldTooLong, refl, refused_draft words body system draft post.FieldTooLong drafted step)), refl), refl)
-post_refused words links base stopped body system left draft post.BadStamp old n given went_on drafted step =
+post_refused words handed body system left draft post.BadStamp old n given went_on drafted step =
     inr ((inr (system, given, went_on, inl (post.BadStamp, refl, refused_draft words body system draft post.BadStamp drafted step)), refl), refl)
-post_refused words links base stopped body system left draft post.BadReply old n given went_on drafted step =
+post_refused words handed body system left draft post.BadReply old n given went_on drafted step =
     inr ((inr (system, given, went_on, inl (post.BadReply, refl, refused_draft words body system draft post.BadReply drafted step)), refl), refl)
-post_refused words links base stopped body system left draft post.KnownSerial old n given went_on drafted step =
+post_refused words handed body system left draft post.KnownSerial old n given went_on drafted step =
     inr ((inr (system, given, went_on, inl (post.KnownSerial, refl, refused_draft words body system draft post.KnownSerial drafted step)), refl), refl)
 
 -- a base that is not saved after the posting
-pub post_unsaved : (words : NewMessage) (links : List ℕ) (base : Option (List ℕ)) (stopped : Option Fault) (body : List ℕ) (system left : SystemState) (draft : Draft)
-    (fault : Fault) (old : Option (List ℕ)) (n : ℕ) → IsSystemGiven links base system → stopped ≡ None → draft ≡ draft_given words body
+pub post_unsaved : (words : NewMessage) (handed : Handed) (body : List ℕ) (system left : SystemState) (draft : Draft)
+    (fault : Fault) (old : Option (List ℕ)) (n : ℕ) → IsSystemGiven handed.links handed.base system → handed.stopped ≡ None → draft ≡ draft_given words body
     → post_refusal system.file system.base words.tag.now draft words.serial words.stamp ≡ None
     → left ≡ state_with system (Some (posted system.file words.tag.now draft words.serial words.stamp)) → IsWantOfMemory fault ⊎ IsTooMany left.base left.cursor fault
-    → PostAnswers words links base stopped body old old n n (Err fault)
-post_unsaved words links base stopped body system left draft fault old n given went_on drafted allowed_draft moved (inl want) = inl (inr (want, refl))
-post_unsaved words links base stopped body system left draft fault old n given went_on drafted allowed_draft moved (inr many) =
+    → PostAnswers words handed body (record { contents = old; failures = n }) (record { contents = old; failures = n }) (Err fault)
+post_unsaved words handed body system left draft fault old n given went_on drafted allowed_draft moved (inl want) = inl (inr (want, refl))
+post_unsaved words handed body system left draft fault old n given went_on drafted allowed_draft moved (inr many) =
     let allowed = subst (λ (d : Draft). post_refusal system.file system.base words.tag.now d words.serial words.stamp ≡ None) drafted allowed_draft in
     let after = subst (λ (s : SystemState). IsTooMany s.base s.cursor fault) moved many in
     let great = subst (λ (d : Draft). IsTooMany (system.base ++ posted system.file words.tag.now d words.serial words.stamp ∷ []) system.cursor fault) drafted after in
     inr ((inr (system, given, went_on, inr (allowed, great)), refl), refl)
 
 -- a scan that is refused
-pub scan_refused : (stamp : Stamp) (links : List ℕ) (base : Option (List ℕ)) (stopped : Option Fault) (system left : SystemState) (why : ScanFault) (old : Option (List ℕ)) (n : ℕ)
-    → IsSystemGiven links base system → stopped ≡ None → ScanStep system stamp (Err why) left → ScanAnswers stamp links base stopped old old n n (Err (Scan why))
-scan_refused stamp links base stopped system left scan.Memory old n given went_on step = inl (inr (tt, refl))
-scan_refused stamp links base stopped system left scan.BadStamp old n given went_on step = inr ((inr (system, given, went_on, inl (refl, step.0)), refl), refl)
+pub scan_refused : (stamp : Stamp) (handed : Handed) (system left : SystemState) (why : ScanFault) (old : Option (List ℕ)) (n : ℕ)
+    → IsSystemGiven handed.links handed.base system → handed.stopped ≡ None → ScanStep system stamp (Err why) left → ScanAnswers stamp handed (record { contents = old; failures = n }) (record { contents = old; failures = n }) (Err (Scan why))
+scan_refused stamp handed system left scan.Memory old n given went_on step = inl (inr (tt, refl))
+scan_refused stamp handed system left scan.BadStamp old n given went_on step = inr ((inr (system, given, went_on, inl (refl, step.0)), refl), refl)
 
 -- a base that is not saved after the scan
-pub scan_unsaved : (stamp : Stamp) (links : List ℕ) (base : Option (List ℕ)) (stopped : Option Fault) (system left : SystemState) (packets : List Packet) (fault : Fault)
-    (old : Option (List ℕ)) (n : ℕ) → IsSystemGiven links base system → stopped ≡ None → ScanStep system stamp (Ok packets) left
-    → IsWantOfMemory fault ⊎ IsTooMany left.base left.cursor fault → ScanAnswers stamp links base stopped old old n n (Err fault)
-scan_unsaved stamp links base stopped system left packets fault old n given went_on step (inl want) = inl (inr (want, refl))
-scan_unsaved stamp links base stopped system left packets fault old n given went_on step (inr many) =
+pub scan_unsaved : (stamp : Stamp) (handed : Handed) (system left : SystemState) (packets : List Packet) (fault : Fault)
+    (old : Option (List ℕ)) (n : ℕ) → IsSystemGiven handed.links handed.base system → handed.stopped ≡ None → ScanStep system stamp (Ok packets) left
+    → IsWantOfMemory fault ⊎ IsTooMany left.base left.cursor fault → ScanAnswers stamp handed (record { contents = old; failures = n }) (record { contents = old; failures = n }) (Err fault)
+scan_unsaved stamp handed system left packets fault old n given went_on step (inl want) = inl (inr (want, refl))
+scan_unsaved stamp handed system left packets fault old n given went_on step (inr many) =
     inr ((inr (system, given, went_on, inr (step.0, subst (λ (s : SystemState). IsTooMany s.base s.cursor fault) step.2 many)), refl), refl)
 
 -- a base that is not saved after the purge
-pub purge_unsaved : (links : List ℕ) (base : Option (List ℕ)) (stopped : Option Fault) (system left : SystemState) (fault : Fault) (old : Option (List ℕ)) (n : ℕ)
-    → IsSystemGiven links base system → stopped ≡ None → left ≡ record { file = system.file; base = purged system.base system.cursor; cursor = system.cursor }
-    → IsWantOfMemory fault ⊎ IsTooMany left.base left.cursor fault → PurgeAnswers links base stopped old old n n (Err fault)
-purge_unsaved links base stopped system left fault old n given went_on is (inl want) = inl (inr (want, refl))
-purge_unsaved links base stopped system left fault old n given went_on is (inr many) =
+pub purge_unsaved : (handed : Handed) (system left : SystemState) (fault : Fault) (old : Option (List ℕ)) (n : ℕ)
+    → IsSystemGiven handed.links handed.base system → handed.stopped ≡ None → left ≡ record { file = system.file; base = purged system.base system.cursor; cursor = system.cursor }
+    → IsWantOfMemory fault ⊎ IsTooMany left.base left.cursor fault → PurgeAnswers handed (record { contents = old; failures = n }) (record { contents = old; failures = n }) (Err fault)
+purge_unsaved handed system left fault old n given went_on is (inl want) = inl (inr (want, refl))
+purge_unsaved handed system left fault old n given went_on is (inr many) =
     inr ((inr (system, given, went_on, subst (λ (s : SystemState). IsTooMany s.base s.cursor fault) is many), refl), refl)

@@ -1,6 +1,7 @@
 -- What `list` answers.
-use Rattle.std.specs.Prelude.{◌≡◌, ℕ, ◌-◌, List, Option, option_map, Result}
+use Rattle.std.specs.Prelude.{◌≡◌, ℕ, List, Option, option_map, Result}
 use Rattle.std.specs.Io.KnownBytes.{Appends}
+use Rattle.echo_commands.specs.Devices.{Device}
 use Rattle.echo_links.specs.Links.{upper}
 use Rattle.echo_filed.specs.Filed.{Filed}
 use Rattle.echo_commands.specs.declared.fault.Fault.{Fault}
@@ -19,6 +20,6 @@ pub record IsBaseListed (area : Option (List ℕ)) (first : ℕ) (base : Option 
   pub status_is : status ≡ Good
 
 -- what is answered where a base is to be listed; of a faulty one nothing is printed
-abbrev pub ListAnswers : Option (List ℕ) → ℕ → Option (List ℕ) → Option (List ℕ) → Option (List ℕ) → ℕ → ℕ → Result Status Fault → Type 0
-ListAnswers area first base old new before after answer =
-    Answers (IsBaseListed area first base old new) (λ fault. IsBaseFault base fault × (new ≡ old)) before after answer
+abbrev pub ListAnswers : Option (List ℕ) → ℕ → Option (List ℕ) → Device → Device → Result Status Fault → Type 0
+ListAnswers area first base old new answer =
+    Answers (IsBaseListed area first base old.contents new.contents) (λ fault. IsBaseFault base fault × (new.contents ≡ old.contents)) old.failures new.failures answer

@@ -1,5 +1,6 @@
 -- What `check` answers.
 use Rattle.std.specs.Prelude.{◌≡◌, ℕ, ◌↔◌, List, Option, None, Result}
+use Rattle.echo_commands.specs.Devices.{Device}
 use Rattle.echo_links.specs.Links.{LinkFile, upper}
 use Rattle.echo_nodelist.specs.declared.line.Line.{Line}
 use Rattle.echo_run.specs.Event.{RunEvent}
@@ -14,7 +15,7 @@ use Rattle.echo_commands.specs.declared.fault.Fault.{Fault}
 use Rattle.echo_commands.specs.declared.status.Status.{Status}
 use Rattle.echo_commands.specs.declared.status.Status.TheVariants.{Good, Differs}
 use Rattle.echo_commands.specs.Ended.{Answers}
-use Rattle.echo_commands.specs.Given.{AreLinkFiles, IsFirstFaultGiven, IsNodelistGiven}
+use Rattle.echo_commands.specs.Inputs.{AreLinkFiles, IsFirstFaultGiven, IsNodelistGiven}
 use Rattle.echo_commands.specs.Written.{WritesLines}
 use Rattle.echo_print.specs.Checked.{CheckShown}
 
@@ -48,7 +49,7 @@ pub record IsChecked (nodelist : Option (List ℕ)) (tag : List ℕ) (inputs : L
   pub orderly : status ≡ Good → RunsAreOrderly files (upper tag)
 
 -- what is answered where an area is to be checked; of a faulty file nothing is printed
-abbrev pub CheckAnswers : Option (List ℕ) → List ℕ → List (List ℕ) → Option Fault → Option (List ℕ) → Option (List ℕ) → ℕ → ℕ → Result Status Fault → Type 0
-CheckAnswers nodelist tag inputs stopped old new before after answer =
-    Answers (λ status. IsChecked nodelist tag inputs old new status × (stopped ≡ None))
-    (λ fault. IsFirstFaultGiven nodelist inputs stopped fault × (new ≡ old)) before after answer
+abbrev pub CheckAnswers : Option (List ℕ) → List ℕ → List (List ℕ) → Option Fault → Device → Device → Result Status Fault → Type 0
+CheckAnswers nodelist tag inputs stopped old new answer =
+    Answers (λ status. IsChecked nodelist tag inputs old.contents new.contents status × (stopped ≡ None))
+    (λ fault. IsFirstFaultGiven nodelist inputs stopped fault × (new.contents ≡ old.contents)) old.failures new.failures answer

@@ -3,7 +3,8 @@ pub mod Ended
 pub mod Written
 pub mod Showing
 pub mod Listing
-pub mod Given
+pub mod Inputs
+pub mod Handed
 pub mod Checking
 pub mod Picturing
 pub mod Options
@@ -17,3 +18,4 @@ pub mod Coming
 pub mod Tossed
 pub mod BaseListing
 pub mod Replaying
+pub mod Devices

@@ -1,6 +1,7 @@
 -- What `nodelist` answers.
 use Rattle.std.specs.Prelude.{◌≡◌, ℕ, List, Option, Result}
 use Rattle.echo_addr.specs.declared.address.Address.{Address}
+use Rattle.echo_commands.specs.Devices.{Device}
 use Rattle.echo_nodelist.specs.declared.stated.CrcLine.{CrcLine}
 use Rattle.echo_nodelist.specs.declared.stated.CrcLine.TheVariants.{Mismatch}
 use Rattle.echo_nodelist.specs.declared.line.Line.{Line}
@@ -35,6 +36,6 @@ pub record IsFaulty (input : List ℕ) (old new : Option (List ℕ)) (fault : Fa
   pub nothing : new ≡ old
 
 -- what is answered where a nodelist is to be printed
-abbrev pub NodelistAnswers : Option Address → List ℕ → Option (List ℕ) → Option (List ℕ) → ℕ → ℕ → Result Status Fault → Type 0
-NodelistAnswers find input old new before after answer =
-    Answers (IsListed find input old new) (IsFaulty input old new) before after answer
+abbrev pub NodelistAnswers : Option Address → List ℕ → Device → Device → Result Status Fault → Type 0
+NodelistAnswers find input old new answer =
+    Answers (IsListed find input old.contents new.contents) (IsFaulty input old.contents new.contents) old.failures new.failures answer

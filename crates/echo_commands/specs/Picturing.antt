@@ -1,6 +1,7 @@
 -- What `picture` answers.
 use Rattle.std.specs.Prelude.{◌≡◌, ℕ, ◌↔◌, List, Option, None, Result}
 use Rattle.std.specs.Io.KnownBytes.{Appends}
+use Rattle.echo_commands.specs.Devices.{Device}
 use Rattle.echo_links.specs.Links.{LinkFile, upper}
 use Rattle.echo_run.specs.Tidy.{Tidy}
 use Rattle.echo_net.specs.declared.drawing.Drawing.{Drawing}
@@ -11,7 +12,7 @@ use Rattle.echo_commands.specs.declared.status.Status.{Status}
 use Rattle.echo_commands.specs.declared.status.Status.TheVariants.{Good}
 use Rattle.echo_commands.specs.Checking.{IsCheckVerdict, verdict_status}
 use Rattle.echo_commands.specs.Ended.{Answers}
-use Rattle.echo_commands.specs.Given.{AreLinkFiles, IsFirstFaultGiven}
+use Rattle.echo_commands.specs.Inputs.{AreLinkFiles, IsFirstFaultGiven}
 use Rattle.echo_print.specs.Pictured.{picture_lines}
 
 -- the link files have no fault, and the area of the tag in upper case is drawn, with what the verdict on it names marked; the status is that of `check`
@@ -27,7 +28,7 @@ pub record IsPictured (tag : List ℕ) (inputs : List (List ℕ)) (old new : Opt
   pub tidy : (status ≡ Good) ↔ Tidy files (upper tag)
 
 -- what is answered where an area is to be drawn; of a faulty file nothing is printed
-abbrev pub PictureAnswers : List ℕ → List (List ℕ) → Option Fault → Option (List ℕ) → Option (List ℕ) → ℕ → ℕ → Result Status Fault → Type 0
-PictureAnswers tag inputs stopped old new before after answer =
-    Answers (λ status. IsPictured tag inputs old new status × (stopped ≡ None))
-    (λ fault. IsFirstFaultGiven None inputs stopped fault × (new ≡ old)) before after answer
+abbrev pub PictureAnswers : List ℕ → List (List ℕ) → Option Fault → Device → Device → Result Status Fault → Type 0
+PictureAnswers tag inputs stopped old new answer =
+    Answers (λ status. IsPictured tag inputs old.contents new.contents status × (stopped ≡ None))
+    (λ fault. IsFirstFaultGiven None inputs stopped fault × (new.contents ≡ old.contents)) old.failures new.failures answer

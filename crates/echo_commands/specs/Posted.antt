@@ -1,6 +1,7 @@
 -- What `post` prints and leaves.
 use Rattle.std.specs.Prelude.{◌≡◌, ℕ, ◌⊎◌, ◌==◌, true, List, [], ◌∷◌, ◌++◌, if◌then◌else◌, Option, Some, None, Result}
 use Rattle.std.specs.Io.KnownBytes.{Appends}
+use Rattle.echo_commands.specs.Devices.{Device}
 use Rattle.echo_filed.specs.Filed.{Filed}
 use Rattle.echo_base.specs.BaseFile.{is_countable, saved_bytes}
 use Rattle.echo_steps.specs.declared.draft.Draft.{Draft}
@@ -13,6 +14,7 @@ use Rattle.echo_commands.specs.declared.fault.Fault.TheVariants.{Post}
 use Rattle.echo_commands.specs.declared.leaving.Files.{Files}
 use Rattle.echo_commands.specs.declared.posting.NewMessage.{NewMessage}
 use Rattle.echo_commands.specs.Ended.{Answers}
+use Rattle.echo_commands.specs.Handed.{Handed}
 use Rattle.echo_commands.specs.Files.{only_base}
 use Rattle.echo_commands.specs.System.{IsFirstFaultOf, IsSystemGiven, IsTooMany}
 use Rattle.echo_print.specs.Told.{posted_line}
@@ -49,9 +51,9 @@ abbrev pub refusal_given : SystemState → NewMessage → List ℕ → Option Po
 refusal_given system words body = post_refusal system.file system.base words.tag.now (draft_given words body) words.serial words.stamp
 
 -- the posting at the system that the files make: its tag and id are printed, and the base with it, which four bytes count, is to be written
-pub record IsPosted (words : NewMessage) (links : List ℕ) (base : Option (List ℕ)) (body : List ℕ) (old new : Option (List ℕ)) (files : Files) : Type 0 where
+pub record IsPosted (words : NewMessage) (handed : Handed) (body : List ℕ) (old new : Option (List ℕ)) (files : Files) : Type 0 where
   pub system : SystemState
-  pub given : IsSystemGiven links base system
+  pub given : IsSystemGiven handed.links handed.base system
   pub allowed : refusal_given system words body ≡ None
   pub printed : Appends old new (posted_line words.tag.now (id_of system.file.system words.serial))
   pub left : files ≡ only_base (saved_bytes (base_after system words body) system.cursor)
@@ -64,13 +66,13 @@ IsUnposted system words body fault =
     ⊎ ((refusal_given system words body ≡ None) × IsTooMany (base_after system words body) system.cursor fault)
 
 -- the files have the fault, or the posting is refused
-abbrev pub PostRefuses : NewMessage → List ℕ → Option (List ℕ) → Option Fault → List ℕ → Fault → Type 0
-PostRefuses words links base stopped body fault =
-    IsFirstFaultOf links base stopped fault
-    ⊎ ((system : SystemState) × IsSystemGiven links base system × (stopped ≡ None) × IsUnposted system words body fault)
+abbrev pub PostRefuses : NewMessage → Handed → List ℕ → Fault → Type 0
+PostRefuses words handed body fault =
+    IsFirstFaultOf handed fault
+    ⊎ ((system : SystemState) × IsSystemGiven handed.links handed.base system × (handed.stopped ≡ None) × IsUnposted system words body fault)
 
 -- what is answered where a message is to be posted; where it is refused nothing is printed
-abbrev pub PostAnswers : NewMessage → List ℕ → Option (List ℕ) → Option Fault → List ℕ → Option (List ℕ) → Option (List ℕ) → ℕ → ℕ → Result Files Fault → Type 0
-PostAnswers words links base stopped body old new before after answer =
-    Answers (λ files. IsPosted words links base body old new files × (stopped ≡ None))
-    (λ fault. PostRefuses words links base stopped body fault × (new ≡ old)) before after answer
+abbrev pub PostAnswers : NewMessage → Handed → List ℕ → Device → Device → Result Files Fault → Type 0
+PostAnswers words handed body old new answer =
+    Answers (λ files. IsPosted words handed body old.contents new.contents files × (handed.stopped ≡ None))
+    (λ fault. PostRefuses words handed body fault × (new.contents ≡ old.contents)) old.failures new.failures answer

@@ -1,6 +1,7 @@
 -- What `replay` answers.
 use Rattle.std.specs.Prelude.{◌≡◌, ℕ, ◌⊎◌, List, map, Option, Some, None, Result, Ok, Err}
 use Rattle.std.specs.Io.KnownBytes.{Appends}
+use Rattle.echo_commands.specs.Devices.{Device}
 use Rattle.echo_links.specs.Links.{LinkFile}
 use Rattle.echo_run.specs.declared.event.Event.{Event}
 use Rattle.echo_run.specs.Event.{run_event}
@@ -12,7 +13,7 @@ use Rattle.echo_commands.specs.declared.fault.Fault.TheVariants.{ScriptLine}
 use Rattle.echo_commands.specs.declared.status.Status.{Status}
 use Rattle.echo_commands.specs.declared.status.Status.TheVariants.{Good}
 use Rattle.echo_commands.specs.Ended.{Answers}
-use Rattle.echo_commands.specs.Given.{AreLinkFiles, IsLinkFault}
+use Rattle.echo_commands.specs.Inputs.{AreLinkFiles, IsLinkFault}
 use Rattle.echo_print.specs.Replayed.{replay_lines}
 
 -- The script has no fault and neither have the link files; what is printed is of the run of its events on them.
@@ -36,7 +37,7 @@ IsFirstFaultReplayed script inputs stopped fault =
     ⊎ ((events : List Event) × (files : List LinkFile) × ScriptOf script (Ok events) × AreLinkFiles inputs files × (stopped ≡ Some fault)))
 
 -- what is answered where a script is to be replayed; of a faulty input nothing is printed
-abbrev pub ReplayAnswers : List ℕ → List (List ℕ) → Option Fault → Option (List ℕ) → Option (List ℕ) → ℕ → ℕ → Result Status Fault → Type 0
-ReplayAnswers script inputs stopped old new before after answer =
-    Answers (λ status. IsReplayed script inputs old new status × (stopped ≡ None))
-    (λ fault. IsFirstFaultReplayed script inputs stopped fault × (new ≡ old)) before after answer
+abbrev pub ReplayAnswers : List ℕ → List (List ℕ) → Option Fault → Device → Device → Result Status Fault → Type 0
+ReplayAnswers script inputs stopped old new answer =
+    Answers (λ status. IsReplayed script inputs old.contents new.contents status × (stopped ≡ None))
+    (λ fault. IsFirstFaultReplayed script inputs stopped fault × (new.contents ≡ old.contents)) old.failures new.failures answer

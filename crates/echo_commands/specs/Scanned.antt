@@ -4,6 +4,7 @@ use Rattle.std.specs.Io.KnownBytes.{Appends}
 use Rattle.std.specs.List.{flat_map}
 use Rattle.echo_addr.specs.declared.address.Address.{Address}
 use Rattle.echo_base.specs.BaseFile.{is_countable, saved_bytes}
+use Rattle.echo_commands.specs.Devices.{Device}
 use Rattle.echo_packet.specs.Packet.{packet_bytes}
 use Rattle.echo_steps.specs.declared.fault.ScanFault.TheVariants.{BadStamp}
 use Rattle.echo_steps.specs.declared.packet.Packet.{Packet}
@@ -16,6 +17,7 @@ use Rattle.echo_commands.specs.declared.fault.Fault.TheVariants.{Scan}
 use Rattle.echo_commands.specs.declared.leaving.Files.{Files}
 use Rattle.echo_commands.specs.declared.leaving.PacketFile.{PacketFile}
 use Rattle.echo_commands.specs.Ended.{Answers}
+use Rattle.echo_commands.specs.Handed.{Handed}
 use Rattle.echo_print.specs.Shown.{told_receiver}
 use Rattle.echo_commands.specs.System.{IsFirstFaultOf, IsSystemGiven, IsTooMany}
 use Rattle.echo_print.specs.Told.{sent_line}
@@ -40,9 +42,9 @@ files_of system packets = record {
 }
 
 -- the scan of the system that the files make: a line for each of its packets is printed, and these and the base, which four bytes count, are to be written
-pub record IsScanned (stamp : Stamp) (links : List ℕ) (base : Option (List ℕ)) (old new : Option (List ℕ)) (files : Files) : Type 0 where
+pub record IsScanned (stamp : Stamp) (handed : Handed) (old new : Option (List ℕ)) (files : Files) : Type 0 where
   pub system : SystemState
-  pub given : IsSystemGiven links base system
+  pub given : IsSystemGiven handed.links handed.base system
   pub moment : is_stamp stamp ≡ true
   pub printed : Appends old new (flat_map line_sent (scanned system.file system.base system.cursor stamp))
   pub left : files ≡ files_of system (scanned system.file system.base system.cursor stamp)
@@ -54,13 +56,13 @@ IsUnscanned stamp system fault =
     ((fault ≡ Scan BadStamp) × (is_stamp stamp ≡ false)) ⊎ ((is_stamp stamp ≡ true) × IsTooMany system.base (length system.base) fault)
 
 -- the files have the fault, or their system is not scanned
-abbrev pub ScanRefuses : Stamp → List ℕ → Option (List ℕ) → Option Fault → Fault → Type 0
-ScanRefuses stamp links base stopped fault =
-    IsFirstFaultOf links base stopped fault
-    ⊎ ((system : SystemState) × IsSystemGiven links base system × (stopped ≡ None) × IsUnscanned stamp system fault)
+abbrev pub ScanRefuses : Stamp → Handed → Fault → Type 0
+ScanRefuses stamp handed fault =
+    IsFirstFaultOf handed fault
+    ⊎ ((system : SystemState) × IsSystemGiven handed.links handed.base system × (handed.stopped ≡ None) × IsUnscanned stamp system fault)
 
 -- what is answered where a system is to be scanned; where it is refused nothing is printed
-abbrev pub ScanAnswers : Stamp → List ℕ → Option (List ℕ) → Option Fault → Option (List ℕ) → Option (List ℕ) → ℕ → ℕ → Result Files Fault → Type 0
-ScanAnswers stamp links base stopped old new before after answer =
-    Answers (λ files. IsScanned stamp links base old new files × (stopped ≡ None))
-    (λ fault. ScanRefuses stamp links base stopped fault × (new ≡ old)) before after answer
+abbrev pub ScanAnswers : Stamp → Handed → Device → Device → Result Files Fault → Type 0
+ScanAnswers stamp handed old new answer =
+    Answers (λ files. IsScanned stamp handed old.contents new.contents files × (handed.stopped ≡ None))
+    (λ fault. ScanRefuses stamp handed fault × (new.contents ≡ old.contents)) old.failures new.failures answer

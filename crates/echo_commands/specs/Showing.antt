@@ -1,6 +1,7 @@
 -- What an input of `show` stands for, and what `show` answers.
-use Rattle.std.specs.Prelude.{◌≡◌, ℕ, ◌⊎◌, ◌++◌, Bool, true, List, [], Option, Result, Ok, Err, IsErr, Vec, ◌-◌, length, filter, ◌≤◌, take, not, false, ◌||◌, ◌==◌}
+use Rattle.std.specs.Prelude.{◌≡◌, ℕ, ◌⊎◌, ◌++◌, Bool, true, List, [], Option, Result, Ok, Err, IsErr, Vec, length, filter, ◌≤◌, take, not, false, ◌||◌, ◌==◌}
 use Rattle.std.specs.declared.alloc.Global.{Global}
+use Rattle.echo_commands.specs.Devices.{Device}
 use Rattle.hex.specs.Hex.{decode_of}
 use Rattle.echo_packet.specs.declared.header.Header.{Header}
 use Rattle.echo_packet.specs.declared.fault.PacketFault.{PacketFault}
@@ -97,6 +98,6 @@ ShowRefuses hex input old new fault =
     IsBadHex hex input old new fault ⊎ ((bytes : List ℕ) × Stands hex input bytes × IsBroken bytes old new fault)
 
 -- what is answered where an input is to be shown
-abbrev pub ShowAnswers : Bool → List ℕ → Option (List ℕ) → Option (List ℕ) → ℕ → ℕ → Result Status Fault → Type 0
-ShowAnswers hex input old new before after answer =
-    Answers (λ status. (status ≡ Good) × IsShown hex input old new) (ShowRefuses hex input old new) before after answer
+abbrev pub ShowAnswers : Bool → List ℕ → Device → Device → Result Status Fault → Type 0
+ShowAnswers hex input old new answer =
+    Answers (λ status. (status ≡ Good) × IsShown hex input old.contents new.contents) (ShowRefuses hex input old.contents new.contents) old.failures new.failures answer

@@ -10,6 +10,7 @@ use Rattle.echo_base.specs.BaseFile.{BaseFaultOf, LoadOf, is_countable}
 use Rattle.echo_steps.specs.SystemState.{SystemState}
 use Rattle.echo_commands.specs.declared.fault.Fault.{Fault}
 use Rattle.echo_commands.specs.declared.fault.Fault.TheVariants.{Base, Link}
+use Rattle.echo_commands.specs.Handed.{Handed}
 
 -- what a base file says; where there is none the base is empty
 abbrev pub IsBaseGiven : Option (List ℕ) → List Filed → ℕ → Type 0
@@ -36,9 +37,10 @@ IsSystemFault links base fault =
     IsLinksFault links fault ⊎ ((file : LinkFile) × LinksOf links (Ok file) × IsBaseFault base fault)
 
 -- the first fault of these files, and of the reading of files that stopped after them
-abbrev pub IsFirstFaultOf : List ℕ → Option (List ℕ) → Option Fault → Fault → Type 0
-IsFirstFaultOf links base stopped fault =
-    IsSystemFault links base fault ⊎ ((system : SystemState) × IsSystemGiven links base system × (stopped ≡ Some fault))
+abbrev pub IsFirstFaultOf : Handed → Fault → Type 0
+IsFirstFaultOf handed fault =
+    IsSystemFault handed.links handed.base fault
+    ⊎ ((system : SystemState) × IsSystemGiven handed.links handed.base system × (handed.stopped ≡ Some fault))
 
 -- four bytes do not count what is to be saved
 abbrev pub IsTooMany : List Filed → ℕ → Fault → Type 0

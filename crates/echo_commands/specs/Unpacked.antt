@@ -1,5 +1,6 @@
 -- What `toss` does with one packet.
 use Rattle.std.specs.Prelude.{◌≡◌, ℕ, ◌⊎◌, List, ◌++◌, Option, Some, None, Result, Ok, Err}
+use Rattle.echo_commands.specs.Devices.{Device}
 use Rattle.echo_steps.specs.SystemState.{SystemState}
 use Rattle.echo_toss.specs.declared.fault.TossCause.{TossCause}
 use Rattle.echo_toss.specs.declared.fault.TossCause.TheVariants as stop
@@ -28,18 +29,18 @@ TellsPacket old new (Ok tally) stopped = (stopped ≡ None) × (new ≡ old ++ t
 TellsPacket old new (Err f) stopped = (stopped ≡ Some (fault_of f.cause)) × (new ≡ old ++ tally_line f.tally)
 
 -- the packet at the front of a reader's bytes is tossed
-pub record HasTossedPacket (old : TossRun) (before after : Option (List ℕ)) (failed fails : ℕ) (stopped : Option Fault) (new : TossRun) : Type 0 where
+pub record HasTossedPacket (old : TossRun) (reader left : Device) (stopped : Option Fault) (new : TossRun) : Type 0 where
   pub answer : Result Tally TossFault
-  pub step : PacketStep show_limits old.system before after answer new.system
-  pub device : CountsToss answer failed fails
+  pub step : PacketStep show_limits old.system reader.contents left.contents answer new.system
+  pub device : CountsToss answer reader.failures left.failures
   pub told : TellsPacket old.lines new.lines answer stopped
 
 -- there was no memory for the line of a packet: none of the packet was read, and the run is as before
-abbrev pub HasNoLine : TossRun → Option (List ℕ) → Option (List ℕ) → ℕ → ℕ → Option Fault → TossRun → Type 0
-HasNoLine old before after failed fails stopped new =
-    (stopped ≡ Some OutOfMemory) × (new ≡ old) × (after ≡ before) × (fails ≡ failed)
+abbrev pub HasNoLine : TossRun → Device → Device → Option Fault → TossRun → Type 0
+HasNoLine old reader left stopped new =
+    (stopped ≡ Some OutOfMemory) × (new ≡ old) × (left.contents ≡ reader.contents) × (left.failures ≡ reader.failures)
 
 -- what becomes of the packet at the front of a reader's bytes
-abbrev pub TossesPacket : TossRun → Option (List ℕ) → Option (List ℕ) → ℕ → ℕ → Option Fault → TossRun → Type 0
-TossesPacket old before after failed fails stopped new =
-    HasNoLine old before after failed fails stopped new ⊎ HasTossedPacket old before after failed fails stopped new
+abbrev pub TossesPacket : TossRun → Device → Device → Option Fault → TossRun → Type 0
+TossesPacket old reader left stopped new =
+    HasNoLine old reader left stopped new ⊎ HasTossedPacket old reader left stopped new

@@ -1,6 +1,7 @@
 //! The command `list`: the messages of a base.
 ghost use Rattle.std.specs.Prelude.{◌≡◌, ◌⊎◌, IfErr, IfOk, OnOk, length, option_copied, option_map};
 ghost use Rattle.std.specs.Io.KnownBytes.{Appends, append_known};
+ghost use Rattle.echo_commands.specs.Devices.{device_of};
 ghost use Rattle.echo_links.specs.Links.{upper};
 ghost use Rattle.echo_commands.specs.BaseListing.{ListAnswers};
 ghost use Rattle.echo_print.specs.BaseListed.{asked_text, is_of_area, messages_text};
@@ -30,7 +31,7 @@ pub fn list<S: BuildHasher + Drop, W: Sink, E: Sink>(
     out: &mut W,
     errors: &mut E,
 ) -> Status
-    ensures { Ends (ListAnswers (option_copied area.entry) first (option_copied base.entry) (W.contents out.old) (W.contents out.new) (W.failures out.old) (W.failures out.new)) result }
+    ensures { Ends (ListAnswers (option_copied area.entry) first (option_copied base.entry) (device_of W.contents W.failures out.old) (device_of W.contents W.failures out.new)) result }
 {
     ended(list_given(alloc, area, first, base, hasher, out), errors)
 }
@@ -43,7 +44,7 @@ fn list_given<'a, S: BuildHasher + Drop, W: Sink>(
     hasher: S,
     out: &mut W,
 ) -> Result<Status, Fault<'a>>
-    ensures { ListAnswers (option_copied area.entry) first (option_copied base.entry) (W.contents out.old) (W.contents out.new) (W.failures out.old) (W.failures out.new) result }
+    ensures { ListAnswers (option_copied area.entry) first (option_copied base.entry) (device_of W.contents W.failures out.old) (device_of W.contents W.failures out.new) result }
 {
     let base = base_given(alloc, base, hasher)?;
     let area = raised(alloc, area)?;

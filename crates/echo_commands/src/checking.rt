@@ -1,16 +1,17 @@
 ghost use Rattle.std.specs.Prelude.{◌≡◌, List, None, OnOk, option_copied};
 ghost use Rattle.std.specs.Io.KnownBytes.{Appends};
+ghost use Rattle.echo_commands.specs.Devices.{device_of};
 ghost use Rattle.echo_links.specs.Links.{LinkFile, upper};
 ghost use Rattle.echo_run.specs.Tidy.{Tidy};
 ghost use Rattle.echo_commands.specs.declared.status.Status.TheVariants.{Good};
 ghost use Rattle.echo_commands.specs.Checking.{CheckAnswers, RunsAreOrderly, verdict_status};
 ghost use Rattle.echo_print.specs.Checked.{CheckShown};
 ghost use Rattle.echo_commands.specs.Ended.{Ends};
-ghost use Rattle.echo_commands.specs.Given.{AreLinkFiles};
+ghost use Rattle.echo_commands.specs.Inputs.{AreLinkFiles};
 ghost use Rattle.echo_print.specs.Pushed.{Pushes};
 
 use crate::fault::Fault;
-use crate::given::{link_files, nodelist_given};
+use crate::inputs::{link_files, nodelist_given};
 use crate::printing::print_rest;
 use crate::status::{Status, ended};
 use echo_addr::Items;
@@ -34,7 +35,7 @@ pub fn check<W: Sink, E: Sink>(
     out: &mut W,
     errors: &mut E,
 ) -> Status
-    ensures answer { Ends (CheckAnswers (option_copied nodelist.entry) tag.now files.now stopped.entry (W.contents out.old) (W.contents out.new) (W.failures out.old) (W.failures out.new)) result }
+    ensures answer { Ends (CheckAnswers (option_copied nodelist.entry) tag.now files.now stopped.entry (device_of W.contents W.failures out.old) (device_of W.contents W.failures out.new)) result }
     // What a 0 promises: the area is tidy, and every run on these link files is orderly in it.
     ensures headline { result ≡ Good → (links : List LinkFile) → AreLinkFiles files.now links → Tidy links (upper tag.now) × RunsAreOrderly links (upper tag.now) }
 {
@@ -52,7 +53,7 @@ fn check_given<'a, W: Sink>(
     stopped: Option<Fault<'a>>,
     out: &mut W,
 ) -> Result<Status, Fault<'a>>
-    ensures { CheckAnswers (option_copied nodelist.entry) tag.now files.now stopped.entry (W.contents out.old) (W.contents out.new) (W.failures out.old) (W.failures out.new) result }
+    ensures { CheckAnswers (option_copied nodelist.entry) tag.now files.now stopped.entry (device_of W.contents W.failures out.old) (device_of W.contents W.failures out.new) result }
 {
     let list = nodelist_given(alloc, nodelist)?;
     let links = link_files(alloc, files)?;

@@ -1,37 +1,23 @@
-//! The files that a command was given.
-ghost use Rattle.std.specs.Prelude.{◌≡◌, ◌⊎◌, IfErr, IfOk, option_copied};
-ghost use Rattle.echo_commands.specs.Ended.{IsWantOfMemory};
-ghost use Rattle.echo_commands.specs.Given.{AreLinkFiles, IsLinkFault, IsNodelistFault, IsNodelistGiven};
-
+//! What a command that works on a system is given.
 use crate::fault::Fault;
 use echo_addr::Items;
-use echo_links::LinkFile;
-use echo_nodelist::Nodelist;
-use std::alloc::Global;
+use std::marker::Model;
 
-/// What the link files say, in order, or the first fault of the first faulty one.
-pub fn link_files<'a>(alloc: Global, inputs: &[Items<u8>]) -> Result<Vec<LinkFile>, Fault<'a>>
-    ensures ok { IfOk result (λ files. AreLinkFiles inputs.now files.items) }
-    ensures err { IfErr result (λ fault. IsWantOfMemory fault ⊎ IsLinkFault inputs.now fault) }
-{
-    let mut files = Vec::new(alloc);
-    'inputs: for input in inputs {
-        let file = LinkFile::read(alloc, input.as_slice())?;
-        files.push(file)?;
-    }
-    Ok(files)
+/// The files of a system, as they were read: the bytes of its link file; those of its base file, none
+/// where that does not exist; and why no further file was read, where reading stopped, which comes after
+/// the faults of the files. `hasher` is for the base that is made of them.
+#[derive(Drop)]
+pub struct Given<'a, S> {
+    pub links: Items<u8>,
+    pub base: Option<Items<u8>>,
+    pub stopped: Option<Fault<'a>>,
+    pub hasher: S,
 }
 
-/// What the nodelist says, where one was given.
-pub fn nodelist_given<'a>(
-    alloc: Global,
-    input: Option<&[u8]>,
-) -> Result<Option<Nodelist>, Fault<'a>>
-    ensures ok { IfOk result (λ list. IsNodelistGiven (option_copied input.entry) list) }
-    ensures err { IfErr result (λ fault. IsWantOfMemory fault ⊎ IsNodelistFault (option_copied input.entry) fault) }
-{
-    match input {
-        Some(bytes) => Ok(Some(Nodelist::read(alloc, bytes)?)),
-        None => Ok(None),
-    }
+impl<'a, S> Model for Given<'a, S> {
+    ghost use Rattle.echo_commands.specs.Handed.{Handed};
+
+    ghost Value = { Handed };
+
+    ghost view = { λ g. record { links = g.links; base = g.base; stopped = g.stopped } };
 }

@@ -1,6 +1,7 @@
 //! What holds of the definitions. Each law is the contract of a function that does nothing.
 
 ghost use Rattle.std.specs.Prelude.{◌≡◌, ℕ, Bool, List, Option, Some, Result};
+ghost use Rattle.echo_commands.specs.Devices.{Device};
 ghost use Rattle.echo_packet.specs.declared.header.Header.{Header};
 ghost use Rattle.echo_packet.specs.Message.{Message};
 ghost use Rattle.echo_commands.specs.declared.fault.Fault.{Fault};
@@ -16,5 +17,5 @@ ghost use Rattle.echo_print.specs.Shown.{Shown};
 pub fn one_printing()
     ensures lines { (h : Header) (ms : List Message) (n : ℕ) (a b : List ℕ) → Shown h ms n a → Shown h ms n b → a ≡ b }
     ensures input { (hex : Bool) (input old : List ℕ) (new other : Option (List ℕ)) → IsShown hex input (Some old) new → IsShown hex input (Some old) other → new ≡ other }
-    ensures answer { (hex : Bool) (input : List ℕ) (old new other : Option (List ℕ)) (before after later : ℕ) (r s : Result Status Fault) → ShowAnswers hex input old new before after r → ShowAnswers hex input old other before later s → IsOfInput before after r → IsOfInput before later s → r ≡ s }
+    ensures answer { (hex : Bool) (input : List ℕ) (old new other : Device) (r s : Result Status Fault) → ShowAnswers hex input old new r → ShowAnswers hex input old other s → IsOfInput old.failures new.failures r → IsOfInput old.failures other.failures s → r ≡ s }
 {}

@@ -8,8 +8,8 @@
 //! Which lines are printed for a value stands in the crate `echo_print`; here is what a command reads, which
 //! fault comes first, what it writes of those lines, and what it leaves.
 //!
-//! Modules in reading order: `fault` and `status` (how a command ends), `given` (the files that a command
-//! was given), `options` (stamps, serials and numbers of the command line), `printing` (lines on their way
+//! Modules in reading order: `fault` and `status` (how a command ends), `inputs` (link files and
+//! a nodelist are read), `given` (the files of a system that a command is given), `options` (stamps, serials and numbers of the command line), `printing` (lines on their way
 //! to standard output), `showing` (a packet), `listing` (a nodelist), `checking` (is an area in order),
 //! `picturing` (an area as a graph), `leaving` (the files that a command leaves to be written), `system` (a
 //! link file and a base are read, and the base is written), `posting`, `scanning`, `purging`, `coming`
@@ -22,6 +22,7 @@ mod checking;
 mod coming;
 mod fault;
 mod given;
+mod inputs;
 mod laws;
 mod leaving;
 mod listing;
@@ -41,6 +42,7 @@ pub use base_listing::list;
 pub use checking::check;
 pub use coming::PacketFiles;
 pub use fault::Fault;
+pub use given::Given;
 pub use laws::one_printing;
 pub use leaving::{Done, Files, PacketFile};
 pub use listing::{nodelist, wanted};

@@ -1,5 +1,6 @@
 ghost use Rattle.std.specs.Prelude.{◌≡◌, IfErr, IfOk, IsSome, None, OnOk};
 ghost use Rattle.std.specs.Io.KnownBytes.{Appends, append_known};
+ghost use Rattle.echo_commands.specs.Devices.{device_of};
 ghost use Rattle.echo_addr.specs.Address.{AddressOf, refusal};
 ghost use Rattle.echo_commands.specs.declared.fault.Fault.TheVariants.{BadAddress};
 ghost use Rattle.echo_commands.specs.Ended.{Ends, Stops};
@@ -36,7 +37,7 @@ pub fn nodelist<W: Sink, E: Sink>(
     out: &mut W,
     errors: &mut E,
 ) -> Status
-    ensures { Ends (NodelistAnswers find input.now (W.contents out.old) (W.contents out.new) (W.failures out.old) (W.failures out.new)) result }
+    ensures { Ends (NodelistAnswers find input.now (device_of W.contents W.failures out.old) (device_of W.contents W.failures out.new)) result }
 {
     ended(list_input(alloc, find, input, out), errors)
 }
@@ -47,7 +48,7 @@ fn list_input<'a, W: Sink>(
     input: &[u8],
     out: &mut W,
 ) -> Result<Status, Fault<'a>>
-    ensures { NodelistAnswers find input.now (W.contents out.old) (W.contents out.new) (W.failures out.old) (W.failures out.new) result }
+    ensures { NodelistAnswers find input.now (device_of W.contents W.failures out.old) (device_of W.contents W.failures out.new) result }
 {
     let list = Nodelist::read(alloc, input)?;
     let stated = crc_line(input);

@@ -1,9 +1,10 @@
+ghost use Rattle.echo_commands.specs.Devices.{device_of};
 ghost use Rattle.echo_commands.specs.Ended.{Ends};
 ghost use Rattle.echo_commands.specs.Picturing.{PictureAnswers};
 
 use crate::checking::status_of;
 use crate::fault::Fault;
-use crate::given::link_files;
+use crate::inputs::link_files;
 use crate::printing::print_rest;
 use crate::status::{Status, ended};
 use echo_addr::Items;
@@ -23,7 +24,7 @@ pub fn picture<W: Sink, E: Sink>(
     out: &mut W,
     errors: &mut E,
 ) -> Status
-    ensures { Ends (PictureAnswers tag.now files.now stopped.entry (W.contents out.old) (W.contents out.new) (W.failures out.old) (W.failures out.new)) result }
+    ensures { Ends (PictureAnswers tag.now files.now stopped.entry (device_of W.contents W.failures out.old) (device_of W.contents W.failures out.new)) result }
 {
     ended(picture_given(alloc, tag, files, stopped, out), errors)
 }
@@ -35,7 +36,7 @@ fn picture_given<'a, W: Sink>(
     stopped: Option<Fault<'a>>,
     out: &mut W,
 ) -> Result<Status, Fault<'a>>
-    ensures { PictureAnswers tag.now files.now stopped.entry (W.contents out.old) (W.contents out.new) (W.failures out.old) (W.failures out.new) result }
+    ensures { PictureAnswers tag.now files.now stopped.entry (device_of W.contents W.failures out.old) (device_of W.contents W.failures out.new) result }
 {
     let links = link_files(alloc, files)?;
     if let Some(fault) = stopped {

@@ -1,10 +1,12 @@
-ghost use Rattle.std.specs.Prelude.{◌≡◌, ◌++◌, ℕ, List, Option, IfOk, OnOk, option_copied};
+ghost use Rattle.std.specs.Prelude.{◌≡◌, ◌++◌, None, IfOk, OnOk};
+ghost use Rattle.echo_commands.specs.Devices.{device_of};
 ghost use Rattle.echo_commands.specs.Files.{Leaves};
+ghost use Rattle.echo_commands.specs.Handed.{Handed};
 ghost use Rattle.echo_commands.specs.Posted.{PostAnswers, draft_body, draft_byte, draft_given};
 ghost use Rattle.echo_commands.specs.System.{IsSystemGiven};
-ghost use Rattle.echo_commands.specs.declared.fault.Fault.{Fault};
 
 use crate::fault::Fault;
+use crate::given::Given;
 use crate::leaving::{Done, Files, leave};
 use crate::printing::print_rest;
 use crate::system::{saved, system_given};
@@ -32,41 +34,30 @@ pub struct NewMessage<'a> {
 /// `post --area TAG --to T --from F --subject S --serial HEX8 --at STAMP [--reply ID] LINKS BASE`: files
 /// a message with this body, whose lines end in 0A or 0D 0A, and prints its tag and its id. The base is
 /// to be written where no fault is answered. Of faulty files nothing is printed; the first fault goes to
-/// `errors`. `base` is none where the file does not exist; `stopped` is why no further file, or not the
-/// body, was read, and comes last.
+/// `errors`, that of the body, where it was not read, last.
 pub fn post<S: BuildHasher + Drop, W: Sink, E: Sink>(
     alloc: Global,
     words: NewMessage<'_>,
-    links: &[u8],
-    base: Option<&[u8]>,
-    stopped: Option<Fault<'_>>,
+    given: Given<'_, S>,
     body: &[u8],
-    hasher: S,
     out: &mut W,
     errors: &mut E,
 ) -> Done
-    ensures { Leaves (PostAnswers words.entry links.now (option_copied base.entry) stopped.entry body.now (W.contents out.old) (W.contents out.new) (W.failures out.old) (W.failures out.new)) result }
+    ensures { Leaves (PostAnswers words.entry given.entry body.now (device_of W.contents W.failures out.old) (device_of W.contents W.failures out.new)) result }
 {
-    leave(
-        alloc,
-        post_given(alloc, words, links, base, stopped, body, hasher, out),
-        errors,
-    )
+    leave(alloc, post_given(alloc, words, given, body, out), errors)
 }
 
 fn post_given<'a, S: BuildHasher + Drop, W: Sink>(
     alloc: Global,
     words: NewMessage<'_>,
-    links: &[u8],
-    base: Option<&[u8]>,
-    stopped: Option<Fault<'a>>,
+    given: Given<'a, S>,
     body: &[u8],
-    hasher: S,
     out: &mut W,
 ) -> Result<Files, Fault<'a>>
-    ensures { PostAnswers words.entry links.now (option_copied base.entry) stopped.entry body.now (W.contents out.old) (W.contents out.new) (W.failures out.old) (W.failures out.new) result }
+    ensures { PostAnswers words.entry given.entry body.now (device_of W.contents W.failures out.old) (device_of W.contents W.failures out.new) result }
 {
-    let mut system = system_given(alloc, links, base, stopped, hasher)?;
+    let mut system = system_given(alloc, given)?;
     post_system(alloc, words, &mut system, body, out)
 }
 
@@ -78,7 +69,7 @@ fn post_system<'a, S: BuildHasher, W: Sink>(
     body: &[u8],
     out: &mut W,
 ) -> Result<Files, Fault<'a>>
-    ensures { (links : List ℕ) (base : Option (List ℕ)) (stopped : Option Fault) → IsSystemGiven links base system.old → stopped ≡ None → PostAnswers words.entry links base stopped body.now (W.contents out.old) (W.contents out.new) (W.failures out.old) (W.failures out.new) result }
+    ensures { (handed : Handed) → IsSystemGiven handed.links handed.base system.old → handed.stopped ≡ None → PostAnswers words.entry handed body.now (device_of W.contents W.failures out.old) (device_of W.contents W.failures out.new) result }
 {
     let draft = draft_of(alloc, words, body)?;
     system.post(words.tag, &draft, words.serial, words.stamp)?;

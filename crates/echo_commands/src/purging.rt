@@ -1,10 +1,12 @@
-ghost use Rattle.std.specs.Prelude.{◌≡◌, ℕ, List, Option, option_copied};
+ghost use Rattle.std.specs.Prelude.{◌≡◌, None};
+ghost use Rattle.echo_commands.specs.Devices.{device_of};
 ghost use Rattle.echo_commands.specs.Files.{Leaves};
+ghost use Rattle.echo_commands.specs.Handed.{Handed};
 ghost use Rattle.echo_commands.specs.Purged.{PurgeAnswers};
 ghost use Rattle.echo_commands.specs.System.{IsSystemGiven};
-ghost use Rattle.echo_commands.specs.declared.fault.Fault.{Fault};
 
 use crate::fault::Fault;
+use crate::given::Given;
 use crate::leaving::{Done, Files, leave};
 use crate::printing::print_rest;
 use crate::system::{saved, system_given};
@@ -16,37 +18,26 @@ use std::hash::BuildHasher;
 
 /// `purge LINKS BASE`: leaves of each scanned message with an id nothing of its text but the id, and
 /// prints how many messages changed. The base is to be written where no fault is answered. Of faulty
-/// files nothing is printed; the first fault goes to `errors`. `base` is none where the file does not
-/// exist; `stopped` is why no further file was read, and comes last.
+/// files nothing is printed; the first fault goes to `errors`.
 pub fn purge<S: BuildHasher + Drop, W: Sink, E: Sink>(
     alloc: Global,
-    links: &[u8],
-    base: Option<&[u8]>,
-    stopped: Option<Fault<'_>>,
-    hasher: S,
+    given: Given<'_, S>,
     out: &mut W,
     errors: &mut E,
 ) -> Done
-    ensures { Leaves (PurgeAnswers links.now (option_copied base.entry) stopped.entry (W.contents out.old) (W.contents out.new) (W.failures out.old) (W.failures out.new)) result }
+    ensures { Leaves (PurgeAnswers given.entry (device_of W.contents W.failures out.old) (device_of W.contents W.failures out.new)) result }
 {
-    leave(
-        alloc,
-        purge_given(alloc, links, base, stopped, hasher, out),
-        errors,
-    )
+    leave(alloc, purge_given(alloc, given, out), errors)
 }
 
 fn purge_given<'a, S: BuildHasher + Drop, W: Sink>(
     alloc: Global,
-    links: &[u8],
-    base: Option<&[u8]>,
-    stopped: Option<Fault<'a>>,
-    hasher: S,
+    given: Given<'a, S>,
     out: &mut W,
 ) -> Result<Files, Fault<'a>>
-    ensures { PurgeAnswers links.now (option_copied base.entry) stopped.entry (W.contents out.old) (W.contents out.new) (W.failures out.old) (W.failures out.new) result }
+    ensures { PurgeAnswers given.entry (device_of W.contents W.failures out.old) (device_of W.contents W.failures out.new) result }
 {
-    let mut system = system_given(alloc, links, base, stopped, hasher)?;
+    let mut system = system_given(alloc, given)?;
     purge_system(alloc, &mut system, out)
 }
 
@@ -56,7 +47,7 @@ fn purge_system<'a, S: BuildHasher, W: Sink>(
     system: &mut Tosser<S>,
     out: &mut W,
 ) -> Result<Files, Fault<'a>>
-    ensures { (links : List ℕ) (base : Option (List ℕ)) (stopped : Option Fault) → IsSystemGiven links base system.old → stopped ≡ None → PurgeAnswers links base stopped (W.contents out.old) (W.contents out.new) (W.failures out.old) (W.failures out.new) result }
+    ensures { (handed : Handed) → IsSystemGiven handed.links handed.base system.old → handed.stopped ≡ None → PurgeAnswers handed (device_of W.contents W.failures out.old) (device_of W.contents W.failures out.new) result }
 {
     let count = system.purge()?;
     let base = saved(alloc, system)?;

@@ -1,11 +1,12 @@
 //! What `replay` answers.
 ghost use Rattle.std.specs.Prelude.{◌≡◌, ◌⊎◌, Ok, IfErr, IfOk};
+ghost use Rattle.echo_commands.specs.Devices.{device_of};
 ghost use Rattle.echo_commands.specs.Ended.{Ends, IsWantOfMemory};
 ghost use Rattle.echo_commands.specs.Replaying.{IsScriptFault, ReplayAnswers};
 ghost use Rattle.echo_replay.specs.Script.{ScriptOf};
 
 use crate::fault::Fault;
-use crate::given::link_files;
+use crate::inputs::link_files;
 use crate::printing::print_rest;
 use crate::status::{Status, ended};
 use echo_addr::Items;
@@ -28,7 +29,7 @@ pub fn replay<W: Sink, E: Sink>(
     out: &mut W,
     errors: &mut E,
 ) -> Status
-    ensures { Ends (ReplayAnswers script.now files.now stopped.entry (W.contents out.old) (W.contents out.new) (W.failures out.old) (W.failures out.new)) result }
+    ensures { Ends (ReplayAnswers script.now files.now stopped.entry (device_of W.contents W.failures out.old) (device_of W.contents W.failures out.new)) result }
 {
     ended(replay_given(alloc, script, files, stopped, out), errors)
 }
@@ -40,7 +41,7 @@ fn replay_given<'a, W: Sink>(
     stopped: Option<Fault<'a>>,
     out: &mut W,
 ) -> Result<Status, Fault<'a>>
-    ensures { ReplayAnswers script.now files.now stopped.entry (W.contents out.old) (W.contents out.new) (W.failures out.old) (W.failures out.new) result }
+    ensures { ReplayAnswers script.now files.now stopped.entry (device_of W.contents W.failures out.old) (device_of W.contents W.failures out.new) result }
 {
     let events = script_given(alloc, script)?;
     let links = link_files(alloc, files)?;

@@ -1,13 +1,15 @@
-ghost use Rattle.std.specs.Prelude.{◌≡◌, ◌++◌, ℕ, List, Option, length, map, IfOk, OnOk, option_copied};
+ghost use Rattle.std.specs.Prelude.{◌≡◌, ◌++◌, None, length, map, IfOk, OnOk};
 ghost use Rattle.std.specs.List.{flat_map};
 ghost use Rattle.echo_packet.specs.Packet.{packet_bytes};
+ghost use Rattle.echo_commands.specs.Devices.{device_of};
 ghost use Rattle.echo_commands.specs.Files.{Leaves};
+ghost use Rattle.echo_commands.specs.Handed.{Handed};
 ghost use Rattle.echo_commands.specs.Scanned.{ScanAnswers, file_sent, line_sent, packet_name};
 ghost use Rattle.echo_commands.specs.System.{IsSystemGiven};
-ghost use Rattle.echo_commands.specs.declared.fault.Fault.{Fault};
 ghost use Rattle.echo_print.specs.Shown.{told_receiver};
 
 use crate::fault::Fault;
+use crate::given::Given;
 use crate::leaving::{Done, Files, PacketFile, leave};
 use crate::printing::print_rest;
 use crate::system::{saved, system_given};
@@ -22,39 +24,28 @@ use std::hash::BuildHasher;
 
 /// `scan --at STAMP LINKS BASE DIR`: makes the packets of the messages that wait, and prints a line for
 /// each. The packets, and then the base, are to be written where no fault is answered. Of faulty files
-/// nothing is printed; the first fault goes to `errors`. `base` is none where the file does not exist;
-/// `stopped` is why no further file was read, and comes last.
+/// nothing is printed; the first fault goes to `errors`.
 pub fn scan<S: BuildHasher + Drop, W: Sink, E: Sink>(
     alloc: Global,
     stamp: Stamp,
-    links: &[u8],
-    base: Option<&[u8]>,
-    stopped: Option<Fault<'_>>,
-    hasher: S,
+    given: Given<'_, S>,
     out: &mut W,
     errors: &mut E,
 ) -> Done
-    ensures { Leaves (ScanAnswers stamp links.now (option_copied base.entry) stopped.entry (W.contents out.old) (W.contents out.new) (W.failures out.old) (W.failures out.new)) result }
+    ensures { Leaves (ScanAnswers stamp given.entry (device_of W.contents W.failures out.old) (device_of W.contents W.failures out.new)) result }
 {
-    leave(
-        alloc,
-        scan_given(alloc, stamp, links, base, stopped, hasher, out),
-        errors,
-    )
+    leave(alloc, scan_given(alloc, stamp, given, out), errors)
 }
 
 fn scan_given<'a, S: BuildHasher + Drop, W: Sink>(
     alloc: Global,
     stamp: Stamp,
-    links: &[u8],
-    base: Option<&[u8]>,
-    stopped: Option<Fault<'a>>,
-    hasher: S,
+    given: Given<'a, S>,
     out: &mut W,
 ) -> Result<Files, Fault<'a>>
-    ensures { ScanAnswers stamp links.now (option_copied base.entry) stopped.entry (W.contents out.old) (W.contents out.new) (W.failures out.old) (W.failures out.new) result }
+    ensures { ScanAnswers stamp given.entry (device_of W.contents W.failures out.old) (device_of W.contents W.failures out.new) result }
 {
-    let mut system = system_given(alloc, links, base, stopped, hasher)?;
+    let mut system = system_given(alloc, given)?;
     scan_system(alloc, stamp, &mut system, out)
 }
 
@@ -65,7 +56,7 @@ fn scan_system<'a, S: BuildHasher, W: Sink>(
     system: &mut Tosser<S>,
     out: &mut W,
 ) -> Result<Files, Fault<'a>>
-    ensures { (links : List ℕ) (base : Option (List ℕ)) (stopped : Option Fault) → IsSystemGiven links base system.old → stopped ≡ None → ScanAnswers stamp links base stopped (W.contents out.old) (W.contents out.new) (W.failures out.old) (W.failures out.new) result }
+    ensures { (handed : Handed) → IsSystemGiven handed.links handed.base system.old → handed.stopped ≡ None → ScanAnswers stamp handed (device_of W.contents W.failures out.old) (device_of W.contents W.failures out.new) result }
 {
     let before = system.filed() - system.waiting();
     let packets = system.scan(stamp)?;

@@ -1,5 +1,6 @@
 ghost use Rattle.std.specs.Prelude.{◌≡◌, ◌++◌, OnOk, IfErr};
 ghost use Rattle.std.specs.Io.KnownBytes.{append_known};
+ghost use Rattle.echo_commands.specs.Devices.{device_of};
 ghost use Rattle.hex.specs.Hex.{decode_of};
 ghost use Rattle.echo_text.specs.Echo.{HasNoZero};
 ghost use Rattle.echo_commands.specs.Ended.{Ends, IsWantOfMemory};
@@ -35,7 +36,7 @@ pub fn show<W: Sink, E: Sink>(
     out: &mut W,
     errors: &mut E,
 ) -> Status
-    ensures { Ends (ShowAnswers hex input.now (W.contents out.old) (W.contents out.new) (W.failures out.old) (W.failures out.new)) result }
+    ensures { Ends (ShowAnswers hex input.now (device_of W.contents W.failures out.old) (device_of W.contents W.failures out.new)) result }
 {
     ended(show_input(alloc, hex, input, out), errors)
 }
@@ -46,7 +47,7 @@ fn show_input<'a, W: Sink>(
     input: &[u8],
     out: &mut W,
 ) -> Result<Status, Fault<'a>>
-    ensures { ShowAnswers hex input.now (W.contents out.old) (W.contents out.new) (W.failures out.old) (W.failures out.new) result }
+    ensures { ShowAnswers hex input.now (device_of W.contents W.failures out.old) (device_of W.contents W.failures out.new) result }
 {
     if hex {
         let bytes = decode(alloc, input)?;

@@ -5,6 +5,7 @@ ghost use Rattle.echo_commands.specs.Ended.{IsWantOfMemory};
 ghost use Rattle.echo_commands.specs.System.{IsBaseFault, IsFirstFaultOf, IsSystemFault, IsSystemGiven, IsTooMany};
 
 use crate::fault::Fault;
+use crate::given::Given;
 use echo_addr::Items;
 use echo_base::BaseFault;
 use echo_device::Watched;
@@ -14,8 +15,35 @@ use std::alloc::Global;
 use std::hash::BuildHasher;
 
 /// The system of the link file, with the base of the base file, or an empty one where there is none.
-/// `stopped` is why no further file was read, and comes last.
+/// The bytes of the files are let go.
 pub(crate) fn system_given<'a, S: BuildHasher + Drop>(
+    alloc: Global,
+    given: Given<'a, S>,
+) -> Result<Tosser<S>, Fault<'a>>
+    ensures ok { IfOk result (λ system. IsSystemGiven given.entry.links given.entry.base system) }
+    ensures whole { IfOk result (λ _. given.entry.stopped ≡ None) }
+    ensures err { IfErr result (λ fault. IsWantOfMemory fault ⊎ IsFirstFaultOf given.entry fault) }
+{
+    let Given {
+        links,
+        base,
+        stopped,
+        hasher,
+    } = given;
+    match base {
+        Some(base) => system_read(
+            alloc,
+            links.as_slice(),
+            Some(base.as_slice()),
+            stopped,
+            hasher,
+        ),
+        None => system_read(alloc, links.as_slice(), None, stopped, hasher),
+    }
+}
+
+// The system of the two files, unless reading stopped after them.
+fn system_read<'a, S: BuildHasher + Drop>(
     alloc: Global,
     links: &[u8],
     base: Option<&[u8]>,
@@ -24,7 +52,7 @@ pub(crate) fn system_given<'a, S: BuildHasher + Drop>(
 ) -> Result<Tosser<S>, Fault<'a>>
     ensures ok { IfOk result (λ system. IsSystemGiven links.now (option_copied base.entry) system) }
     ensures whole { IfOk result (λ _. stopped.entry ≡ None) }
-    ensures err { IfErr result (λ fault. IsWantOfMemory fault ⊎ IsFirstFaultOf links.now (option_copied base.entry) stopped.entry fault) }
+    ensures err { IfErr result (λ fault. IsWantOfMemory fault ⊎ IsFirstFaultOf (record { links = links.now; base = option_copied base.entry; stopped = stopped.entry }) fault) }
 {
     let system = system_of(alloc, links, base, hasher)?;
     match stopped {

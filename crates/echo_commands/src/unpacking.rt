@@ -1,5 +1,6 @@
 //! The command `toss`: packet files one after the other, of which one is open at a time.
-ghost use Rattle.std.specs.Prelude.{◌≡◌, ◌⊎◌, [], None, IfErr, IfOk, option_copied};
+ghost use Rattle.std.specs.Prelude.{◌≡◌, ◌⊎◌, [], None, IfErr, IfOk};
+ghost use Rattle.echo_commands.specs.Devices.{device_of};
 ghost use Rattle.echo_commands.specs.Ended.{IsWantOfMemory};
 ghost use Rattle.echo_commands.specs.System.{IsFirstFaultOf, IsSystemGiven};
 ghost use Rattle.echo_commands.specs.Tossed.{EndsRun, RunEnds, TossAnswers, TossesEach};
@@ -7,6 +8,7 @@ ghost use Rattle.echo_commands.specs.Unpacked.{TossesPacket, fault_of};
 
 use crate::coming::PacketFiles;
 use crate::fault::Fault;
+use crate::given::Given;
 use crate::leaving::{Done, Files, leave};
 use crate::printing::print_rest;
 use crate::showing::LIMITS;
@@ -21,21 +23,17 @@ use std::marker::Model;
 /// `toss LINKS BASE PACKET...`: tosses the packet at the front of each file, in order, and prints a line
 /// for each, also for one whose fault ends the run; the files behind it are not opened. The base is to
 /// be written then, too. Where the link file or the base is faulty no packet file is opened, nothing is
-/// printed and nothing is to be written. The first fault goes to `errors`. `base` is none where the file
-/// does not exist; `stopped` is why it was not read, and comes after the faults of the link file.
+/// printed and nothing is to be written. The first fault goes to `errors`.
 pub fn toss<'a, S: BuildHasher + Drop, P: PacketFiles<'a>, W: Sink, E: Sink>(
     alloc: Global,
-    links: &[u8],
-    base: Option<&[u8]>,
-    stopped: Option<Fault<'_>>,
-    hasher: S,
+    given: Given<'_, S>,
     packets: &mut P,
     out: &mut W,
     errors: &mut E,
 ) -> Done
-    ensures { TossAnswers P.Reader.remaining P.Reader.failures links.now (option_copied base.entry) stopped.entry (P.coming packets.old) (P.coming packets.new) (W.contents out.old) (W.contents out.new) (W.failures out.old) (W.failures out.new) result }
+    ensures { TossAnswers (device_of P.Reader.remaining P.Reader.failures) given.entry (P.coming packets.old) (P.coming packets.new) (device_of W.contents W.failures out.old) (device_of W.contents W.failures out.new) result }
 {
-    match Run::begin(alloc, links, base, stopped, hasher) {
+    match Run::begin(alloc, given) {
         Ok(mut run) => {
             let stopped = run.each(packets);
             run.end(stopped, out, errors)
@@ -62,21 +60,15 @@ impl<S: BuildHasher> Model for Run<S> {
 
 impl<S: BuildHasher> Run<S> {
     // Before the first packet.
-    fn begin<'a>(
-        alloc: Global,
-        links: &[u8],
-        base: Option<&[u8]>,
-        stopped: Option<Fault<'a>>,
-        hasher: S,
-    ) -> Result<Run<S>, Fault<'a>>
+    fn begin<'a>(alloc: Global, given: Given<'a, S>) -> Result<Run<S>, Fault<'a>>
     where
         S: Drop,
-        ensures ok { IfOk result (λ run. IsSystemGiven links.now (option_copied base.entry) run.system) }
+        ensures ok { IfOk result (λ run. IsSystemGiven given.entry.links given.entry.base run.system) }
         ensures none { IfOk result (λ run. run.lines ≡ []) }
-        ensures whole { IfOk result (λ _. stopped.entry ≡ None) }
-        ensures err { IfErr result (λ fault. IsWantOfMemory fault ⊎ IsFirstFaultOf links.now (option_copied base.entry) stopped.entry fault) }
+        ensures whole { IfOk result (λ _. given.entry.stopped ≡ None) }
+        ensures err { IfErr result (λ fault. IsWantOfMemory fault ⊎ IsFirstFaultOf given.entry fault) }
     {
-        let system = system_given(alloc, links, base, stopped, hasher)?;
+        let system = system_given(alloc, given)?;
         Ok(Run {
             alloc,
             system,
@@ -86,7 +78,7 @@ impl<S: BuildHasher> Run<S> {
 
     // Tosses the packets of the files, up to the first fault, which is answered.
     fn each<'a, P: PacketFiles<'a>>(&mut self, packets: &mut P) -> Option<Fault<'a>>
-        ensures { TossesEach P.Reader.remaining P.Reader.failures (P.coming packets.old) self.old result (P.coming packets.new) self.new }
+        ensures { TossesEach (device_of P.Reader.remaining P.Reader.failures) (P.coming packets.old) self.old result (P.coming packets.new) self.new }
     {
         'files: while let Some(opened) = packets.open_next() {
             match opened {
@@ -104,7 +96,7 @@ impl<S: BuildHasher> Run<S> {
     // Tosses the packet at the front of what the reader has, and answers why it was not tossed whole. A
     // packet for whose line there is no memory is not read.
     fn packet<'a, R: Source>(&mut self, reader: &mut R) -> Option<Fault<'a>>
-        ensures { TossesPacket self.old (R.remaining reader.old) (R.remaining reader.new) (R.failures reader.old) (R.failures reader.new) result self.new }
+        ensures { TossesPacket self.old (device_of R.remaining R.failures reader.old) (device_of R.remaining R.failures reader.new) result self.new }
     {
         if self.lines.reserve(MOST_TALLY).is_err() {
             return Some(Fault::OutOfMemory);
@@ -126,7 +118,7 @@ impl<S: BuildHasher> Run<S> {
     fn end<W: Sink, E: Sink>(self, stopped: Option<Fault<'_>>, out: &mut W, errors: &mut E) -> Done
     where
         S: Drop,
-        ensures { EndsRun self stopped.entry (W.contents out.old) (W.contents out.new) (W.failures out.old) (W.failures out.new) result }
+        ensures { EndsRun self stopped.entry (device_of W.contents W.failures out.old) (device_of W.contents W.failures out.new) result }
     {
         let alloc = self.alloc;
         let answer = self.rest(stopped.is_some(), out);
@@ -142,12 +134,12 @@ impl<S: BuildHasher> Run<S> {
         }
     }
 
-    // Prints the lines, and answers the base; a run that was stopped does not tell that they could not
-    // be printed.
+    // Prints the lines, and answers the base; of a run that was stopped it is not reported that
+    // they could not be printed.
     fn rest<'a, W: Sink>(self, stopped: bool, out: &mut W) -> Result<Files, Fault<'a>>
     where
         S: Drop,
-        ensures { RunEnds self stopped (W.contents out.old) (W.contents out.new) (W.failures out.old) (W.failures out.new) result }
+        ensures { RunEnds self stopped (device_of W.contents W.failures out.old) (device_of W.contents W.failures out.new) result }
     {
         let mut run = self;
         run.finish(stopped, out)
@@ -155,7 +147,7 @@ impl<S: BuildHasher> Run<S> {
 
     // The same of a run that is still there.
     fn finish<'a, W: Sink>(&mut self, stopped: bool, out: &mut W) -> Result<Files, Fault<'a>>
-        ensures { RunEnds self.old stopped (W.contents out.old) (W.contents out.new) (W.failures out.old) (W.failures out.new) result }
+        ensures { RunEnds self.old stopped (device_of W.contents W.failures out.old) (device_of W.contents W.failures out.new) result }
     {
         let printed = print_rest(&mut self.lines, out);
         if !stopped {

@@ -1,42 +1,44 @@
 -- A toss from any readers is one from what is known of them.
-use Rattle.std.proofs.Common.{ℕ, List, [], ◌∷◌, Option, None, Ok, Err, inl, inr}
+use Rattle.std.proofs.Common.{List, [], ◌∷◌, Option, None, Ok, Err, inl, inr}
+use Rattle.echo_commands.specs.Devices.{Device}
 use Rattle.echo_commands.specs.declared.fault.Fault.{Fault}
 use Rattle.echo_commands.specs.declared.leaving.Done.{Done}
 use Rattle.echo_commands.specs.Coming.{Coming, Fails, Holds, Opens, Unknown}
+use Rattle.echo_commands.specs.Handed.{Handed}
 use Rattle.echo_commands.specs.Tossed.{IsTossed, TossesEach, TossesFile, run_begun}
 use Rattle.echo_commands.specs.Unpacked.{TossRun}
-use Rattle.echo_stations.specs.Commands.{failures_of, remaining_of}
+use Rattle.echo_stations.specs.Commands.{itself}
 
-module _ {R : Type 0} (remaining : R → Option (List ℕ)) (failures : R → ℕ) where
-  opened : (file : Coming) (reader : R) → Opens remaining file (Ok reader) → Opens remaining_of file (Ok (record { remaining = remaining reader; failures = failures reader }))
+module _ {R : Type 0} (device : R → Device) where
+  opened : (file : Coming) (reader : R) → Opens (λ r. (device r).contents) file (Ok reader) → Opens (λ (d : Device). d.contents) file (Ok (device reader))
   opened (Holds bytes) reader h = h
   opened (Fails why) reader h = h
   opened Unknown reader h = tt
 
-  unopened : (file : Coming) (fault : Fault) → Opens remaining file (Err fault) → Opens remaining_of file (Err fault)
+  unopened : (file : Coming) (fault : Fault) → Opens (λ (r : R). (device r).contents) file (Err fault) → Opens (λ (d : Device). d.contents) file (Err fault)
   unopened (Holds bytes) fault h = h
   unopened (Fails why) fault h = h
   unopened Unknown fault h = tt
 
-  file-known : (file : Coming) (old : TossRun) (stopped : Option Fault) (new : TossRun) → TossesFile remaining failures file old stopped new
-      → TossesFile remaining_of failures_of file old stopped new
+  file-known : (file : Coming) (old : TossRun) (stopped : Option Fault) (new : TossRun) → TossesFile device file old stopped new
+      → TossesFile itself file old stopped new
   file-known file old stopped new (inl h) = inl (record {
-    reader = record { remaining = remaining h.reader; failures = failures h.reader };
-    left = record { remaining = remaining h.left; failures = failures h.left };
+    reader = device h.reader;
+    left = device h.left;
     opened = opened file h.reader h.opened;
     packet = h.packet;
   })
   file-known file old stopped new (inr h) = inr (record { fault = h.fault; is = h.is; cannot = unopened file h.fault h.cannot; same = h.same })
 
-  each-known : (files : List Coming) (old : TossRun) (stopped : Option Fault) (left : List Coming) (new : TossRun) → TossesEach remaining failures files old stopped left new
-      → TossesEach remaining_of failures_of files old stopped left new
+  each-known : (files : List Coming) (old : TossRun) (stopped : Option Fault) (left : List Coming) (new : TossRun) → TossesEach device files old stopped left new
+      → TossesEach itself files old stopped left new
   each-known [] old stopped left new h = h
   each-known (file ∷ files) old stopped left new (inl (run, first, more)) = inl (run, file-known file old None run first, each-known files run stopped left new more)
   each-known (file ∷ files) old stopped left new (inr (fault, is, same, last)) = inr (fault, is, same, file-known file old stopped new last)
 
-  pub tossed-known : (links : List ℕ) (base : Option (List ℕ)) (files left : List Coming) (old new : Option (List ℕ)) (before after : ℕ) (done : Done)
-      → IsTossed remaining failures links base files left old new before after done → IsTossed remaining_of failures_of links base files left old new before after done
-  tossed-known links base files left old new before after done h = record {
+  pub tossed-known : (handed : Handed) (files left : List Coming) (old new : Device) (done : Done)
+      → IsTossed device handed files left old new done → IsTossed itself handed files left old new done
+  tossed-known handed files left old new done h = record {
     system = h.system;
     given = h.given;
     run = h.run;

@@ -7,7 +7,7 @@ use Rattle.echo_filed.specs.Filed.{Filed}
 use Rattle.echo_run.specs.Event.{Posting, Purging, RunEvent, Scanning}
 use Rattle.echo_run.specs.Run.{Run, System, after_events, fresh, start}
 use Rattle.echo_run.proofs.LaterSystems.{after-append}
-use Rattle.echo_commands.specs.Given.{AreLinkFiles}
+use Rattle.echo_commands.specs.Inputs.{AreLinkFiles}
 use Rattle.echo_commands.specs.Posted.{draft_given}
 use Rattle.echo_stations.specs.Agreement.{Agrees, AreEventsOf, EventIsEvents, EventsAreARun, HasFiles, file_address, own_address}
 use Rattle.echo_stations.specs.Commands.{Command, CommandEvent, Happen, Leads, Post, Purge, Scan, Toss}

@@ -2,6 +2,7 @@
 use Rattle.std.proofs.Common.{◌≡◌, refl, sym, subst, ap, ◌∙◌, ℕ, ◌≤◌, List, [], ◌∷◌, ◌++◌, length, Option, Some, Result, Ok, Err}
 use Rattle.std.specs.Prelude.{IsTrue}
 use Rattle.std.proofs.lemmas.List.{append-nil}
+use Rattle.echo_commands.specs.Devices.{Device}
 use Rattle.echo_graph.specs.Walk.{Among}
 use Rattle.echo_links.specs.Links.{LinkFile, has_area, upper}
 use Rattle.echo_filed.specs.Filed.{Filed, key_of}
@@ -19,7 +20,7 @@ use Rattle.echo_commands.specs.declared.status.Status.{Status}
 use Rattle.echo_commands.specs.declared.status.Status.TheVariants.{Good}
 use Rattle.echo_commands.specs.Checking.{CheckAnswers, RunsAreOrderly}
 use Rattle.echo_commands.specs.Ended.{Ends, status_at}
-use Rattle.echo_commands.specs.Given.{AreLinkFiles}
+use Rattle.echo_commands.specs.Inputs.{AreLinkFiles}
 use Rattle.echo_commands.proofs.Checks.{not_good}
 use Rattle.echo_stations.specs.Agreement.{Agrees, HasFiles, IsPacketFile, limits_of}
 use Rattle.echo_stations.specs.InOrder.{HasUnchanged, HeadlineOnFiles, InOrder, IsSettled, ReadsAs}
@@ -103,11 +104,11 @@ module _ (net : Net) (files : List LinkFile) (tag : List ℕ) (events : List Run
   }
 
 -- what a 0 of `check` tells
-pub checked : (nodelist : Option (List ℕ)) (tag : List ℕ) (links : List (List ℕ)) (stopped : Option Fault) (old new : Option (List ℕ)) (before after : ℕ)
-    → Ends (CheckAnswers nodelist tag links stopped old new before after) Good → (files : List LinkFile) × AreLinkFiles links files × Tidy files (upper tag) × RunsAreOrderly files (upper tag)
-checked nodelist tag links stopped old new before after ends = by ends.answer ends.so ends.is
+pub checked : (nodelist : Option (List ℕ)) (tag : List ℕ) (links : List (List ℕ)) (stopped : Option Fault) (old new : Device)
+    → Ends (CheckAnswers nodelist tag links stopped old new) Good → (files : List LinkFile) × AreLinkFiles links files × Tidy files (upper tag) × RunsAreOrderly files (upper tag)
+checked nodelist tag links stopped old new ends = by ends.answer ends.so ends.is
   where
-    by : (r : Result Status Fault) → CheckAnswers nodelist tag links stopped old new before after r → Good ≡ status_at r
+    by : (r : Result Status Fault) → CheckAnswers nodelist tag links stopped old new r → Good ≡ status_at r
         → (files : List LinkFile) × AreLinkFiles links files × Tidy files (upper tag) × RunsAreOrderly files (upper tag)
     by (Ok status) so is =
         let c = so.0.0 in
@@ -115,7 +116,7 @@ checked nodelist tag links stopped old new before after ends = by ends.answer en
     by (Err fault) so is = absurd (not_good fault (sym is))
 
 pub headline-on-files : HeadlineOnFiles
-headline-on-files nodelist tag links stopped old new before after ends commands net happen =
-    let (files, are, tidy, orderly) = checked nodelist tag links stopped old new before after ends in
+headline-on-files nodelist tag links stopped old new ends commands net happen =
+    let (files, are, tidy, orderly) = checked nodelist tag links stopped old new ends in
     let (events, agrees) = events-are-a-run links files are tidy.joined.one_file commands net happen in
     in-order net files (upper tag) events (files-fit links files are) agrees (orderly events)

@@ -28,9 +28,9 @@ left IsSo done base leaves there = by leaves.answer leaves.so leaves.is
     by (Err fault) so e = absurd (none_some (sym (ap (λ (d : Done). d.files.base) e) ∙ there))
 
 -- the call went on, so the system that it was given is that of the station's files
-pub called-on : (station : Station) (s : System) (call : Call station) (system : SystemState) → HasFiles station s → call.stopped ≡ None
-    → IsSystemGiven call.links call.base system → system ≡ state_of s
+pub called-on : (station : Station) (s : System) (call : Call station) (system : SystemState) → HasFiles station s → call.handed.stopped ≡ None
+    → IsSystemGiven call.handed.links call.handed.base system → system ≡ state_of s
 called-on station s call system has went_on given =
-    let (a, b) = call.handed went_on in
+    let (a, b) = call.whole went_on in
     given-once station s has system
-    (subst (λ (o : Option (List ℕ)). IsSystemGiven station.links o system) b (subst (λ (ls : List ℕ). IsSystemGiven ls call.base system) a given))
+    (subst (λ (o : Option (List ℕ)). IsSystemGiven station.links o system) b (subst (λ (ls : List ℕ). IsSystemGiven ls call.handed.base system) a given))

@@ -2,6 +2,7 @@
 use Rattle.std.proofs.Common.{◌≡◌, ◌≢◌, ◌⊎◌, inl, inr, refl, sym, subst, ap, ◌∙◌, ℕ, suc, ◌+◌, ◌-◌, ◌≤◌, arith, true, append-nil, List, [], ◌∷◌, ◌++◌, length, map, take, Option, Some, None, Result, Ok, Err}
 use Rattle.std.specs.Prelude.{is_some}
 use Rattle.std.proofs.lemmas.List.{take_all}
+use Rattle.echo_commands.specs.Devices.{Device}
 use Rattle.echo_graph.specs.Walk.{Among, Different}
 use Rattle.echo_links.specs.Links.{IsFile, LinkFile}
 use Rattle.echo_links.specs.LinkLines.{LinksOf}
@@ -25,7 +26,7 @@ use Rattle.echo_commands.specs.Coming.{Coming, Fails, Holds, Opens, Unknown}
 use Rattle.echo_commands.specs.Tossed.{EndsRun, RunEnds, TossesEach, TossesFile, run_begun, run_done}
 use Rattle.echo_commands.specs.Unpacked.{HasTossedPacket, TellsPacket, TossRun, TossesPacket}
 use Rattle.echo_stations.specs.Agreement.{Agrees, AreTossesOf, HasFiles, HasPosting, IsPacketFile, IsTossOf, own_address}
-use Rattle.echo_stations.specs.Commands.{IsPacketAt, Reader, Tosses, failures_of, remaining_of, whole_of}
+use Rattle.echo_stations.specs.Commands.{IsPacketAt, Tosses, itself, whole_of}
 use Rattle.echo_stations.specs.Nets.{Net, Paired, with_base, with_indexes, with_tossed}
 use Rattle.echo_stations.proofs.BaseFiles.{file-fits, kept-base, saved-file, state_of}
 use Rattle.echo_stations.proofs.Leavings.{called-on}
@@ -131,8 +132,8 @@ part-delivered run i s k p bytes new before there is front =
     }
 
 -- what is read of a packet file is its bytes
-opened-bytes : (packets : List (List ℕ)) (k : ℕ) (file : Coming) (reader : Reader) → IsPacketAt packets k file → Opens remaining_of file (Ok reader)
-    → (bytes : List ℕ) × (nth k packets ≡ Some bytes) × (remaining_of reader ≡ Some bytes)
+opened-bytes : (packets : List (List ℕ)) (k : ℕ) (file : Coming) (reader : Device) → IsPacketAt packets k file → Opens (λ (d : Device). d.contents) file (Ok reader)
+    → (bytes : List ℕ) × (nth k packets ≡ Some bytes) × (reader.contents ≡ Some bytes)
 opened-bytes packets k (Holds bytes) reader at opened = (bytes, at, opened)
 opened-bytes packets k (Fails why) reader at opened = absurd opened
 opened-bytes packets k Unknown reader at opened = absurd at
@@ -145,14 +146,14 @@ record Read (packets : List (List ℕ)) (run : Run) (s : System) (k : ℕ) (answ
   is : IsPacketFile bytes p
   so : TossedSo p (state_of s) new answer
 
-read-packet : (packets : List (List ℕ)) (run : Run) (s : System) (k : ℕ) (file : Coming) (old new : TossRun) (stopped : Option Fault) (reader left : Reader)
-    → Paired IsPacketFile packets run.packets → old.system ≡ state_of s → IsPacketAt packets k file → Opens remaining_of file (Ok reader)
-    → (h : HasTossedPacket old (remaining_of reader) (remaining_of left) (failures_of reader) (failures_of left) stopped new) → Read packets run s k h.answer new.system
+read-packet : (packets : List (List ℕ)) (run : Run) (s : System) (k : ℕ) (file : Coming) (old new : TossRun) (stopped : Option Fault) (reader left : Device)
+    → Paired IsPacketFile packets run.packets → old.system ≡ state_of s → IsPacketAt packets k file → Opens (λ (d : Device). d.contents) file (Ok reader)
+    → (h : HasTossedPacket old reader left stopped new) → Read packets run s k h.answer new.system
 read-packet packets run s k file old new stopped reader left paired same at opened h =
     let (bytes, there, reads) = opened-bytes packets k file reader at opened in
     let (p, at_p, is) = paired-nth IsPacketFile k bytes packets run.packets paired there in
-    let P : Option (List ℕ) → Type 0 = λ o. PacketStep show_limits old.system o (remaining_of left) h.answer new.system in
-    let so = tossed-so p bytes (remaining_of left) old.system new.system h.answer is (subst P reads h.step) in
+    let P : Option (List ℕ) → Type 0 = λ o. PacketStep show_limits old.system o left.contents h.answer new.system in
+    let so = tossed-so p bytes left.contents old.system new.system h.answer is (subst P reads h.step) in
     record { p = p; bytes = bytes; there = at_p; is = is; so = subst (λ (x : SystemState). TossedSo p x new.system h.answer) same so }
 
 -- a packet after which the run went on was tossed whole
@@ -162,10 +163,10 @@ went-on packets run i s k (Ok tally) old new system before told r = delivered ru
 went-on packets run i s k (Err f) old new system before told r = absurd (none_some told.0)
 
 whole-file : (packets : List (List ℕ)) (run : Run) (i : ℕ) (s : System) (k : ℕ) (file : Coming) (old new : TossRun) → Before run i s → Paired IsPacketFile packets run.packets
-    → old.system ≡ state_of s → IsPacketAt packets k file → TossesFile remaining_of failures_of file old None new → Tossing (IsTossOf k) run i s (k ∷ []) new.system
+    → old.system ≡ state_of s → IsPacketAt packets k file → TossesFile itself file old None new → Tossing (IsTossOf k) run i s (k ∷ []) new.system
 whole-file packets run i s k file old new before paired same at (inl opened) = by opened.packet
   where
-    by : TossesPacket old (remaining_of opened.reader) (remaining_of opened.left) (failures_of opened.reader) (failures_of opened.left) None new
+    by : TossesPacket old opened.reader opened.left None new
         → Tossing (IsTossOf k) run i s (k ∷ []) new.system
     by (inl none) = absurd (none_some none.0)
     by (inr h) = went-on packets run i s k h.answer old.lines new.lines new.system before h.told
@@ -188,11 +189,11 @@ stopped-at packets run i s k (Err f) old new fault system before told r = by r.s
     by (inr front) = part-delivered run i s k r.p r.bytes system before r.there r.is front
 
 last-file : (packets : List (List ℕ)) (run : Run) (i : ℕ) (s : System) (k : ℕ) (file : Coming) (old new : TossRun) (fault : Fault) → Before run i s
-    → Paired IsPacketFile packets run.packets → old.system ≡ state_of s → IsPacketAt packets k file → TossesFile remaining_of failures_of file old (Some fault) new
+    → Paired IsPacketFile packets run.packets → old.system ≡ state_of s → IsPacketAt packets k file → TossesFile itself file old (Some fault) new
     → Tossing (IsTossOf k) run i s [] new.system
 last-file packets run i s k file old new fault before paired same at (inl opened) = by opened.packet
   where
-    by : TossesPacket old (remaining_of opened.reader) (remaining_of opened.left) (failures_of opened.reader) (failures_of opened.left) (Some fault) new
+    by : TossesPacket old opened.reader opened.left (Some fault) new
         → Tossing (IsTossOf k) run i s [] new.system
     by (inl none) = stays run i s k old new before same none.1
     by (inr h) = stopped-at packets run i s k h.answer old.lines new.lines fault new.system before h.told
@@ -253,7 +254,7 @@ last-toss k later run i s whole new t = record {
 }
 
 -- as many files are left as stand behind the last that was opened
-left-behind : (files : List Coming) (old : TossRun) (fault : Fault) (left : List Coming) (new : TossRun) → TossesEach remaining_of failures_of files old (Some fault) left new
+left-behind : (files : List Coming) (old : TossRun) (fault : Fault) (left : List Coming) (new : TossRun) → TossesEach itself files old (Some fault) left new
     → length left + 1 ≤ length files
 left-behind [] old fault left new (none, rest, end) = absurd (none_some (sym none))
 left-behind (file ∷ files) old fault left new (inl (run, first, more)) = let less = left-behind files run fault left new more in omega (arith, less)
@@ -267,7 +268,7 @@ same-length packets (k ∷ indexes) (file ∷ files) are = let e = same-length p
 
 -- one more was tossed whole
 whole-more : (packets : List (List ℕ)) (k : ℕ) (indexes : List ℕ) (files : List Coming) (old : TossRun) (stopped : Option Fault) (left : List Coming) (new : TossRun)
-    → Paired (IsPacketAt packets) indexes files → TossesEach remaining_of failures_of files old stopped left new
+    → Paired (IsPacketAt packets) indexes files → TossesEach itself files old stopped left new
     → k ∷ whole_of indexes stopped left ≡ whole_of (k ∷ indexes) stopped left
 whole-more packets k indexes files old None left new are each = refl
 whole-more packets k indexes files old (Some fault) left new are each =
@@ -278,7 +279,7 @@ whole-more packets k indexes files old (Some fault) left new are each =
 -- all packet files of a toss
 each-toss : (packets : List (List ℕ)) (i : ℕ) (indexes : List ℕ) (files : List Coming) (run : Run) (s : System) (old : TossRun) (stopped : Option Fault) (left : List Coming)
     (new : TossRun) → Before run i s → Paired IsPacketFile packets run.packets → old.system ≡ state_of s → Paired (IsPacketAt packets) indexes files
-    → TossesEach remaining_of failures_of files old stopped left new → Tossing (AreTossesOf indexes) run i s (whole_of indexes stopped left) new.system
+    → TossesEach itself files old stopped left new → Tossing (AreTossesOf indexes) run i s (whole_of indexes stopped left) new.system
 each-toss packets i [] (file ∷ files) run s old stopped left new before paired same are each = absurd are
 each-toss packets i (k ∷ later) [] run s old stopped left new before paired same are each = absurd are
 each-toss packets i [] [] run s old stopped left new before paired same are (ended, none, end) =
@@ -295,7 +296,7 @@ each-toss packets i (k ∷ later) (file ∷ files) run s old stopped left new be
     (joined k later run i s (k ∷ []) (whole_of later stopped left) mid.system new.system first more)
 each-toss packets i (k ∷ later) (file ∷ files) run s old stopped left new before paired same are (inr (fault, is, rest, last)) =
     let Kind : List RunEvent → Type 0 = AreTossesOf (k ∷ later) in
-    let at_last = last-file packets run i s k file old new fault before paired same are.0 (subst (λ (o : Option Fault). TossesFile remaining_of failures_of file old o new) is last) in
+    let at_last = last-file packets run i s k file old new fault before paired same are.0 (subst (λ (o : Option Fault). TossesFile itself file old o new) is last) in
     let none : suc (length later) - (length left + 1) ≡ 0 = omega (arith, ap (λ (l : List Coming). length l) rest, same-length packets later files are.1) in
     subst (λ (o : Option Fault). Tossing Kind run i s (whole_of (k ∷ later) o left) new.system) (sym is)
     (subst (λ (n : ℕ). Tossing Kind run i s (take n (k ∷ later)) new.system) (sym none) (last-toss k later run i s [] new.system at_last))
@@ -305,16 +306,16 @@ record LeftBase (run : TossRun) (base : List ℕ) : Type 0 where
   saved : base ≡ saved_bytes run.system.base run.system.cursor
   countable : is_countable run.system.base run.system.cursor ≡ true
 
-left-base : (run : TossRun) (stopped : Option Fault) (old new : Option (List ℕ)) (before after : ℕ) (done : Done) (base : List ℕ) → EndsRun run stopped old new before after done
+left-base : (run : TossRun) (stopped : Option Fault) (old new : Device) (done : Done) (base : List ℕ) → EndsRun run stopped old new done
     → done.files.base ≡ Some base → LeftBase run base
-left-base run None old new before after done base ends there = by ends.answer ends.so ends.is
+left-base run None old new done base ends there = by ends.answer ends.so ends.is
   where
-    by : (r : Result Files Fault) → RunEnds run (is_some (let none : Option Fault = None in none)) old new before after r → done ≡ run_done None r → LeftBase run base
+    by : (r : Result Files Fault) → RunEnds run (is_some (let none : Option Fault = None in none)) old new r → done ≡ run_done None r → LeftBase run base
     by (Ok files) so e = record { saved = some_same (sym there ∙ ap (λ (d : Done). d.files.base) e ∙ ap (λ (f : Files). f.base) so.0); countable = so.1 }
     by (Err fault) so e = absurd (none_some (sym (ap (λ (d : Done). d.files.base) e) ∙ there))
-left-base run (Some why) old new before after done base ends there = by ends.answer ends.so ends.is
+left-base run (Some why) old new done base ends there = by ends.answer ends.so ends.is
   where
-    by : (r : Result Files Fault) → RunEnds run (is_some (Some why)) old new before after r → done ≡ run_done (Some why) r → LeftBase run base
+    by : (r : Result Files Fault) → RunEnds run (is_some (Some why)) old new r → done ≡ run_done (Some why) r → LeftBase run base
     by (Ok files) so e = record { saved = some_same (sym there ∙ ap (λ (d : Done). d.files.base) e ∙ ap (λ (f : Files). f.base) so.0); countable = so.1 }
     by (Err fault) so e = absurd (none_some (sym (ap (λ (d : Done). d.files.base) e) ∙ there))
 
@@ -337,7 +338,7 @@ toss-agrees indexes net new i run apart agrees tosses =
     } in
     let t = each-toss net.packets i indexes tosses.files run s (run_begun tossed.system) tossed.stopped tosses.left tossed.run before agrees.packets same tosses.are tossed.each in
     let z = t.now in
-    let written = left-base tossed.run tossed.stopped tosses.call.old tosses.call.new tosses.call.before tosses.call.after tosses.done base tossed.ends tosses.leaves.base in
+    let written = left-base tossed.run tossed.stopped tosses.call.old tosses.call.new tosses.done base tossed.ends tosses.leaves.base in
     let saved : base ≡ saved_bytes z.base z.cursor = subst (λ (x : SystemState). base ≡ saved_bytes x.base x.cursor) (sym t.state) written.saved in
     let counted : is_countable z.base z.cursor ≡ true = subst (λ (x : SystemState). is_countable x.base x.cursor ≡ true) (sym t.state) written.countable in
     let now : HasFiles (with_base base tosses.station) z =

@@ -16,7 +16,7 @@ use Rattle.echo_run.proofs.Origins.{run-traced}
 use Rattle.echo_run.proofs.TidyRuns.{run-ok}
 use Rattle.echo_run.proofs.TosserLaws.{the_laws}
 use Rattle.echo_run.proofs.WellFormed.{filed-once}
-use Rattle.echo_commands.specs.Given.{AreLinkFiles}
+use Rattle.echo_commands.specs.Inputs.{AreLinkFiles}
 use Rattle.echo_stations.specs.Agreement.{Agrees, HasFiles, IsPacketFile, limits_of}
 use Rattle.echo_stations.specs.InOrder.{FilesAreSound, StationHolds, IsSound, IsUnchanged, ReadsAs, StationSays}
 use Rattle.echo_stations.specs.Nets.{Net, Station}

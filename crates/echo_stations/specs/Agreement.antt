@@ -12,7 +12,7 @@ use Rattle.echo_base.specs.BaseFile.{BaseOf, saved_bytes}
 use Rattle.echo_steps.specs.declared.packet.Packet.{Packet}
 use Rattle.echo_run.specs.Event.{Delivery, PartDelivery, Posting, Purging, RunEvent, Scanning}
 use Rattle.echo_run.specs.Run.{Run, System, after_events, run_of}
-use Rattle.echo_commands.specs.Given.{AreLinkFiles}
+use Rattle.echo_commands.specs.Inputs.{AreLinkFiles}
 use Rattle.echo_commands.specs.Posted.{draft_given}
 use Rattle.echo_stations.specs.Commands.{Command, CommandEvent, Happen, Happens, Post, Purge, Scan, Toss}
 use Rattle.echo_stations.specs.Nets.{Net, Paired, Station, first_net}

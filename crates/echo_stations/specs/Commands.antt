@@ -1,6 +1,7 @@
 -- What a command may do to a net of files: it is called on the files of one station, and what it leaves is put in place.
 use Rattle.std.specs.Prelude.{◌≡◌, ℕ, ◌⊎◌, ◌+◌, ◌-◌, List, [], ◌∷◌, length, take, Option, Some, None, Ok}
 use Rattle.std.specs.List.{AllByRecursion}
+use Rattle.echo_commands.specs.Devices.{Device}
 use Rattle.echo_packet.specs.Header.{AreBytes}
 use Rattle.echo_links.specs.Links.{LinkFile}
 use Rattle.echo_links.specs.LinkLines.{LinksOf}
@@ -12,6 +13,7 @@ use Rattle.echo_commands.specs.declared.leaving.Done.{Done}
 use Rattle.echo_commands.specs.declared.leaving.Files.{Files}
 use Rattle.echo_commands.specs.declared.posting.NewMessage.{NewMessage}
 use Rattle.echo_commands.specs.Files.{Leaves}
+use Rattle.echo_commands.specs.Handed.{Handed}
 use Rattle.echo_commands.specs.Posted.{PostAnswers, draft_given}
 use Rattle.echo_commands.specs.Purged.{PurgeAnswers}
 use Rattle.echo_commands.specs.Scanned.{ScanAnswers}
@@ -20,16 +22,12 @@ use Rattle.echo_commands.specs.Tossed.{IsTossed}
 use Rattle.echo_stations.specs.Nets.{Net, Paired, Station, with_left, with_posting, with_tossed}
 
 -- A call of a command on the files of a station: what it was handed, which is these files unless the reading of
--- files stopped, and standard output before and after it, with how often that failed.
+-- files stopped, and standard output before and after it.
 pub record Call (station : Station) : Type 0 where
-  pub links : List ℕ
-  pub base : Option (List ℕ)
-  pub stopped : Option Fault
-  pub handed : stopped ≡ None → (links ≡ station.links) × (base ≡ station.base)
-  pub old : Option (List ℕ)
-  pub new : Option (List ℕ)
-  pub before : ℕ
-  pub after : ℕ
+  pub handed : Handed
+  pub whole : handed.stopped ≡ None → (handed.links ≡ station.links) × (handed.base ≡ station.base)
+  pub old : Device
+  pub new : Device
 
 -- a base file is among the files to write, and what is to be written is bytes
 pub record LeavesBase (files : Files) (bytes : List ℕ) : Type 0 where
@@ -43,7 +41,7 @@ pub record Posts (words : NewMessage) (body : List ℕ) (net : Net) (i : ℕ) (n
   pub there : nth i net.stations ≡ Some station
   pub call : Call station
   pub done : Done
-  pub answer : Leaves (PostAnswers words call.links call.base call.stopped body call.old call.new call.before call.after) done
+  pub answer : Leaves (PostAnswers words call.handed body call.old call.new) done
   pub base : List ℕ
   pub leaves : LeavesBase done.files base
   pub file : LinkFile
@@ -56,7 +54,7 @@ pub record Scans (stamp : Stamp) (net : Net) (i : ℕ) (new : Net) : Type 0 wher
   pub there : nth i net.stations ≡ Some station
   pub call : Call station
   pub done : Done
-  pub answer : Leaves (ScanAnswers stamp call.links call.base call.stopped call.old call.new call.before call.after) done
+  pub answer : Leaves (ScanAnswers stamp call.handed call.old call.new) done
   pub base : List ℕ
   pub leaves : LeavesBase done.files base
   pub becomes : new ≡ with_left net i done.files.packets base
@@ -67,21 +65,14 @@ pub record Purges (net : Net) (i : ℕ) (new : Net) : Type 0 where
   pub there : nth i net.stations ≡ Some station
   pub call : Call station
   pub done : Done
-  pub answer : Leaves (PurgeAnswers call.links call.base call.stopped call.old call.new call.before call.after) done
+  pub answer : Leaves (PurgeAnswers call.handed call.old call.new) done
   pub base : List ℕ
   pub leaves : LeavesBase done.files base
   pub becomes : new ≡ with_left net i [] base
 
--- what is known of a reader: the bytes that are still to come, and how often its device failed
-pub record Reader : Type 0 where
-  pub remaining : Option (List ℕ)
-  pub failures : ℕ
-
-abbrev pub remaining_of : Reader → Option (List ℕ)
-remaining_of reader = reader.remaining
-
-abbrev pub failures_of : Reader → ℕ
-failures_of reader = reader.failures
+-- a reader of which just this is known
+abbrev pub itself : Device → Device
+itself reader = reader
 
 -- a file that `toss` is given is the packet file of the index, or it cannot be used
 abbrev pub IsPacketAt : List (List ℕ) → ℕ → Coming → Type 0
@@ -100,12 +91,12 @@ pub record Tosses (indexes : List ℕ) (net : Net) (i : ℕ) (new : Net) : Type 
   pub station : Station
   pub there : nth i net.stations ≡ Some station
   pub call : Call station
-  pub went_on : call.stopped ≡ None
+  pub went_on : call.handed.stopped ≡ None
   pub files : List Coming
   pub are : Paired (IsPacketAt net.packets) indexes files
   pub left : List Coming
   pub done : Done
-  pub answer : IsTossed remaining_of failures_of call.links call.base files left call.old call.new call.before call.after done
+  pub answer : IsTossed itself call.handed files left call.old call.new done
   pub base : List ℕ
   pub leaves : LeavesBase done.files base
   pub becomes : new ≡ with_tossed net i base (whole_of indexes answer.stopped left)

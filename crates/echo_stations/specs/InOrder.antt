@@ -1,5 +1,6 @@
 -- What the files of a net are to show, whatever commands were run.
 use Rattle.std.specs.Prelude.{◌≡◌, ◌≢◌, ℕ, ◌⊎◌, ◌≤◌, IsTrue, List, drop, map, Option, Some, Ok}
+use Rattle.echo_commands.specs.Devices.{Device}
 use Rattle.echo_graph.specs.Walk.{Among, Different}
 use Rattle.echo_packet.specs.Packet.{PacketOf}
 use Rattle.echo_packet.specs.declared.limits.Limits.{Limits}
@@ -16,7 +17,7 @@ use Rattle.echo_commands.specs.declared.status.Status.TheVariants.{Good}
 use Rattle.echo_commands.specs.Checking.{CheckAnswers}
 use Rattle.echo_commands.specs.Ended.{Ends}
 use Rattle.echo_commands.specs.System.{IsBaseGiven}
-use Rattle.echo_commands.specs.Given.{AreLinkFiles}
+use Rattle.echo_commands.specs.Inputs.{AreLinkFiles}
 use Rattle.echo_stations.specs.Agreement.{file_address}
 use Rattle.echo_stations.specs.Commands.{CommandEvent, Happen}
 use Rattle.echo_stations.specs.Nets.{Net, Paired, Station, first_net}
@@ -83,6 +84,6 @@ FilesAreSound = (links : List (List ℕ)) (files : List LinkFile) → AreLinkFil
 
 -- where `check` ended with 0 for these link files and the area, any commands on them leave files that are in order
 abbrev pub HeadlineOnFiles : Type 0
-HeadlineOnFiles = (nodelist : Option (List ℕ)) (tag : List ℕ) (links : List (List ℕ)) (stopped : Option Fault) (old new : Option (List ℕ)) (before after : ℕ)
-    → Ends (CheckAnswers nodelist tag links stopped old new before after) Good
+HeadlineOnFiles = (nodelist : Option (List ℕ)) (tag : List ℕ) (links : List (List ℕ)) (stopped : Option Fault) (old new : Device)
+    → Ends (CheckAnswers nodelist tag links stopped old new) Good
     → (commands : List CommandEvent) (net : Net) → Happen commands (first_net links) net → InOrder net (upper tag)

@@ -1,19 +1,21 @@
 //! What holds of the definitions. Each law is the contract of a function that does nothing.
 
-ghost use Rattle.std.specs.Prelude.{ℕ, List, Option};
+ghost use Rattle.std.specs.Prelude.{List};
+ghost use Rattle.echo_commands.specs.Devices.{Device, device_of};
 ghost use Rattle.echo_commands.specs.declared.leaving.Done.{Done};
+ghost use Rattle.echo_commands.specs.Handed.{Handed};
 ghost use Rattle.echo_commands.specs.Coming.{Coming};
 ghost use Rattle.echo_commands.specs.Tossed.{IsTossed};
-ghost use Rattle.echo_stations.specs.Commands.{failures_of, remaining_of};
+ghost use Rattle.echo_stations.specs.Commands.{itself};
 ghost use Rattle.echo_stations.specs.Agreement.{EventIsEvents, EventsAreARun};
 ghost use Rattle.echo_stations.specs.InOrder.{FilesAreSound, HeadlineOnFiles};
 
 use echo_device::Source;
 
 /// What `toss` does over readers of any type it does over what is known of them.
-pub fn readers_are_what_they_tell<R: Source>()
-    ensures { (links : List ℕ) (base : Option (List ℕ)) (files left : List Coming) (old new : Option (List ℕ)) (before after : ℕ) (done : Done) →
-        IsTossed R.remaining R.failures links base files left old new before after done → IsTossed remaining_of failures_of links base files left old new before after done }
+pub fn readers_are_what_is_known<R: Source>()
+    ensures { (handed : Handed) (files left : List Coming) (old new : Device) (done : Done) →
+        IsTossed (device_of R.remaining R.failures) handed files left old new done → IsTossed itself handed files left old new done }
 {}
 
 /// A command that is called on the files of one station of a net, and whose files are put in place, is some
@@ -23,8 +25,8 @@ pub fn command_is_events()
     ensures { EventIsEvents }
 {}
 
-/// Whatever commands are run on stations that begin without base files, refused ones, faulty packets, want
-/// of memory and failing devices among them, the files agree with some run: each base file is what is saved
+/// Whatever commands are run on stations that begin without base files, refused ones, faulty packets,
+/// refused memory and failing devices among them, the files agree with some run: each base file is what is saved
 /// of a system's base, the packet files are the bytes of the packets, and the same packets were delivered.
 pub fn commands_are_a_run()
     ensures { EventsAreARun }

@@ -9,5 +9,5 @@ mod laws;
 
 pub use laws::{
     command_is_events, commands_are_a_run, files_are_in_order, files_are_sound,
-    readers_are_what_they_tell,
+    readers_are_what_is_known,
 };

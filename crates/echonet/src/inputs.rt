@@ -6,10 +6,10 @@ use echo_device::Watched;
 use echo_files::{InputFault, read_file_if_there, read_whole};
 
 /// How many bytes a packet given to `show`, or a nodelist, may have.
-pub const MOST_INPUT: usize = 67_108_864;
+pub const MAX_INPUT: usize = 67_108_864;
 
 /// How many bytes a link file, a script or a posted body may have.
-pub const MOST_LINKS: usize = 1_048_576;
+pub const MAX_TEXT_FILE: usize = 1_048_576;
 
 /// Why the file with this path was not read.
 pub fn input_fault(fault: InputFault, path: &str) -> Fault<'_> {
@@ -60,14 +60,14 @@ pub fn read_base<'a>(rt: &HostRuntime, path: &'a str) -> Result<Option<Vec<u8>>,
 
 /// The bytes of a script.
 pub fn read_script<'a>(rt: &HostRuntime, path: &'a str) -> Result<Vec<u8>, Fault<'a>> {
-    read_file(rt, path, MOST_LINKS)
+    read_file(rt, path, MAX_TEXT_FILE)
 }
 
 /// The bytes of link files one after another, and the fault of the first that cannot be read.
 pub fn read_links<'a>(rt: &HostRuntime, paths: &[&'a str]) -> (Vec<Items<u8>>, Option<Fault<'a>>) {
     let mut files = Vec::new(rt.alloc());
     for path in paths {
-        match read_file(rt, *path, MOST_LINKS) {
+        match read_file(rt, *path, MAX_TEXT_FILE) {
             Ok(bytes) => {
                 if files.push(Items::new(bytes)).is_err() {
                     return (files, Some(Fault::OutOfMemory));

@@ -12,9 +12,7 @@ use echo_commands::{
 };
 use echo_device::{Sink, Watched};
 use echo_words::{Ending, Words, explain, parse};
-use inputs::{
-    MOST_INPUT, read_base, read_file, read_given, read_if_given, read_links, read_script,
-};
+use inputs::{MAX_INPUT, read_base, read_file, read_given, read_if_given, read_links, read_script};
 use station::{run_post, run_purge, run_scan, run_toss};
 use std::collections::hash_map::RandomState;
 use std::process::ExitCode;
@@ -28,7 +26,7 @@ fn run_show<W: Sink, E: Sink>(
     out: &mut W,
     errors: &mut E,
 ) -> Status {
-    match read_given(rt, packet, MOST_INPUT) {
+    match read_given(rt, packet, MAX_INPUT) {
         Ok(input) => show(rt.alloc(), hex, &input, out, errors),
         Err(fault) => fault.report(errors),
     }
@@ -58,7 +56,7 @@ fn nodelist_input<'a>(
         Some(word) => Some(wanted(word)?),
         None => None,
     };
-    Ok((address, read_file(rt, file, MOST_INPUT)?))
+    Ok((address, read_file(rt, file, MAX_INPUT)?))
 }
 
 // `check [--nodelist LIST] TAG LINKS...`
@@ -70,7 +68,7 @@ fn run_check<W: Sink, E: Sink>(
     out: &mut W,
     errors: &mut E,
 ) -> Status {
-    let list = match read_if_given(rt, list, MOST_INPUT) {
+    let list = match read_if_given(rt, list, MAX_INPUT) {
         Ok(list) => list,
         Err(fault) => return fault.report(errors),
     };

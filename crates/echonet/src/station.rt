@@ -4,10 +4,11 @@
 ghost use Rattle.std.specs.Prelude.{map};
 ghost use Rattle.echo_commands.specs.Coming.{Unknown};
 
-use crate::inputs::{MOST_LINKS, input_fault, read_base, read_standard_input};
+use crate::inputs::{MAX_TEXT_FILE, input_fault, read_base, read_standard_input};
+use echo_addr::Items;
 use echo_base::BaseFault;
 use echo_commands::{
-    Done, Fault, NewMessage, PacketFile, PacketFiles, Status, post, purge, scan, serial_of,
+    Done, Fault, Given, NewMessage, PacketFile, PacketFiles, Status, post, purge, scan, serial_of,
     stamp_of, toss,
 };
 use echo_device::{Buffered, Sink, Watched};
@@ -21,23 +22,18 @@ use std::{fs, io, str};
 /// How many bytes of a packet file are read at once.
 const BUFFER: usize = 65_536;
 
-// The files of a system.
+// The link file of a system, locked, and what is read of it and of the base.
 #[derive(Drop)]
 struct Station<'a> {
-    // The link file, locked.
     locked: File,
-    links: Vec<u8>,
-    base: Option<Vec<u8>>,
-    // Why the base was not read.
-    stopped: Option<Fault<'a>>,
-    hasher: RandomState,
+    given: Given<'a, RandomState>,
 }
 
 // The link file under its lock.
 fn locked_links<'a>(rt: &HostRuntime, path: &'a str) -> Result<(File, Vec<u8>), Fault<'a>> {
     let file = fs::open(rt, path).map_err(|error| open_fault(&error, path))?;
     file.lock().map_err(|_| Fault::CannotUse(path))?;
-    let bytes = read_whole(rt.alloc(), &mut Watched::new(&file), MOST_LINKS);
+    let bytes = read_whole(rt.alloc(), &mut Watched::new(&file), MAX_TEXT_FILE);
     match bytes {
         Ok(bytes) => Ok((file, bytes)),
         Err(fault) => Err(input_fault(fault, path)),
@@ -60,16 +56,16 @@ fn read_station<'a>(
     let (locked, links) = locked_links(rt, links)?;
     let hasher = RandomState::new(rt).map_err(|_| Fault::Base(BaseFault::Read))?;
     let (base, stopped) = match read_base(rt, base) {
-        Ok(found) => (found, None),
+        Ok(found) => (found.map(|bytes| Items::new(bytes)), None),
         Err(fault) => (None, Some(fault)),
     };
-    Ok(Station {
-        locked,
-        links,
+    let given = Given {
+        links: Items::new(links),
         base,
         stopped,
         hasher,
-    })
+    };
+    Ok(Station { locked, given })
 }
 
 /// `post`: the serial and the stamp are judged first, then the files, then standard input.
@@ -83,31 +79,30 @@ pub fn run_post<W: Sink, E: Sink>(
         Ok(posting) => posting,
         Err(fault) => return fault.report(errors),
     };
-    let given = match read_station(rt, words.links, words.base) {
-        Ok(given) => given,
+    let Station { locked, given } = match read_station(rt, words.links, words.base) {
+        Ok(station) => station,
         Err(fault) => return fault.report(errors),
     };
+    let (body, given) = read_body(rt, given);
+    let done = post(rt.alloc(), posting, given, &body, out, errors);
+    let status = write_base(rt, done, words.base, errors);
+    let_go(locked, status)
+}
+
+// The body of a message, from standard input, and what is given, with why the body was not read. Nothing
+// is read where reading had stopped before.
+fn read_body<'a>(
+    rt: &HostRuntime,
+    given: Given<'a, RandomState>,
+) -> (Vec<u8>, Given<'a, RandomState>) {
     let (body, stopped) = match given.stopped {
         Some(fault) => (Vec::new(rt.alloc()), Some(fault)),
-        None => match read_standard_input(rt, MOST_LINKS) {
+        None => match read_standard_input(rt, MAX_TEXT_FILE) {
             Ok(body) => (body, None),
             Err(fault) => (Vec::new(rt.alloc()), Some(fault)),
         },
     };
-    let base = given.base.as_ref().map(|bytes| bytes.as_slice());
-    let done = post(
-        rt.alloc(),
-        posting,
-        &given.links,
-        base,
-        stopped,
-        &body,
-        given.hasher,
-        out,
-        errors,
-    );
-    let status = write_base(rt, done, words.base, errors);
-    let_go(given.locked, status)
+    (body, Given { stopped, ..given })
 }
 
 // What is to be posted, but for the body.
@@ -131,22 +126,13 @@ pub fn run_purge<W: Sink, E: Sink>(
     out: &mut W,
     errors: &mut E,
 ) -> Status {
-    let given = match read_station(rt, links, base_path) {
-        Ok(given) => given,
+    let Station { locked, given } = match read_station(rt, links, base_path) {
+        Ok(station) => station,
         Err(fault) => return fault.report(errors),
     };
-    let base = given.base.as_ref().map(|bytes| bytes.as_slice());
-    let done = purge(
-        rt.alloc(),
-        &given.links,
-        base,
-        given.stopped,
-        given.hasher,
-        out,
-        errors,
-    );
+    let done = purge(rt.alloc(), given, out, errors);
     let status = write_base(rt, done, base_path, errors);
-    let_go(given.locked, status)
+    let_go(locked, status)
 }
 
 /// `scan`: the stamp is judged first. The packets are written before the base.
@@ -163,26 +149,16 @@ pub fn run_scan<W: Sink, E: Sink>(
         Ok(stamp) => stamp,
         Err(fault) => return fault.report(errors),
     };
-    let given = match read_station(rt, links, base_path) {
-        Ok(given) => given,
+    let Station { locked, given } = match read_station(rt, links, base_path) {
+        Ok(station) => station,
         Err(fault) => return fault.report(errors),
     };
-    let base = given.base.as_ref().map(|bytes| bytes.as_slice());
-    let done = scan(
-        rt.alloc(),
-        stamp,
-        &given.links,
-        base,
-        given.stopped,
-        given.hasher,
-        out,
-        errors,
-    );
+    let done = scan(rt.alloc(), stamp, given, out, errors);
     let status = match write_packets(rt, folder, done.files.packets.as_slice(), errors) {
         Status::Good => write_base(rt, done, base_path, errors),
         failed => failed,
     };
-    let_go(given.locked, status)
+    let_go(locked, status)
 }
 
 /// `toss`: each packet file is opened when its turn comes.
@@ -194,23 +170,14 @@ pub fn run_toss<W: Sink, E: Sink>(
     out: &mut W,
     errors: &mut E,
 ) -> Status {
-    let given = match read_station(rt, links, base_path) {
-        Ok(given) => given,
+    let Station { locked, given } = match read_station(rt, links, base_path) {
+        Ok(station) => station,
         Err(fault) => return fault.report(errors),
     };
-    let base = given.base.as_ref().map(|bytes| bytes.as_slice());
-    let done = toss(
-        rt.alloc(),
-        &given.links,
-        base,
-        given.stopped,
-        given.hasher,
-        &mut PacketPaths { rt, paths: packets },
-        out,
-        errors,
-    );
+    let mut packets = PacketPaths { rt, paths: packets };
+    let done = toss(rt.alloc(), given, &mut packets, out, errors);
     let status = write_base(rt, done, base_path, errors);
-    let_go(given.locked, status)
+    let_go(locked, status)
 }
 
 // The packet files with these paths.
@@ -284,7 +251,7 @@ fn packet_path(rt: &HostRuntime, folder: &str, name: &[u8]) -> Result<String, Al
 }
 
 // Puts the base in place, where there is one to write, and answers the status. Where the command met a
-// fault, that one was told.
+// fault, that one was reported.
 fn write_base<E: Sink>(rt: &HostRuntime, done: Done, path: &str, errors: &mut E) -> Status {
     let status = done.status;
     let files = &done.files;
@@ -294,7 +261,7 @@ fn write_base<E: Sink>(rt: &HostRuntime, done: Done, path: &str, errors: &mut E)
     }
 }
 
-// Puts the base in place. A fault of the command is told in place of one of the disk.
+// Puts the base in place. A fault of the command is reported in place of one of the disk.
 fn put_base<E: Sink>(
     rt: &HostRuntime,
     status: Status,

@@ -1,4 +1,4 @@
-use Rattle.std.proofs.Common.{◌≡◌, ℕ, List, ◌∙◌}
+use Rattle.std.proofs.Common.{ℕ, List}
 use Rattle.std.specs.Option.{option_copied}
 use Rattle.echo_links.specs.Links.{LinkFile}
 use Rattle.echo_net.specs.Faults.{IsYes}

@@ -1,5 +1,6 @@
 -- What the run from here on does is what the whole run does.
 use Rattle.std.proofs.Common.{List, Option, length}
+use Rattle.echo_commands.specs.Devices.{device_of}
 use Rattle.echo_commands.specs.declared.fault.Fault.{Fault}
 use Rattle.echo_commands.specs.Coming.{Coming}
 use Rattle.echo_commands.specs.Tossed.{TossesEach}
@@ -9,8 +10,8 @@ use Rattle.echo_commands.proofs.unpacking.Run.each.Given as goal
 abbrev pub invariant-files : goal.invariant-files
 invariant-files g l =
     (stopped : Option Fault) (left : List Coming) (new : TossRun)
-    → TossesEach g.P.Reader.Read.remaining g.P.Reader.Source.failures (g.P.PacketFiles.coming l.packets) l.self stopped left new
-    → TossesEach g.P.Reader.Read.remaining g.P.Reader.Source.failures (g.P.PacketFiles.coming l.fn.packets) l.fn.self stopped left new
+    → TossesEach (device_of g.P.Reader.Read.remaining g.P.Reader.Source.failures) (g.P.PacketFiles.coming l.packets) l.self stopped left new
+    → TossesEach (device_of g.P.Reader.Read.remaining g.P.Reader.Source.failures) (g.P.PacketFiles.coming l.fn.packets) l.fn.self stopped left new
 
 abbrev pub decreases-files : goal.decreases-files
 decreases-files g l = length (g.P.PacketFiles.coming l.packets)

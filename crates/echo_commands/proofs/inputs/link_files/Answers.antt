@@ -1,9 +1,9 @@
-use Rattle.std.proofs.Common.{List, ◌++◌, ◌∷◌, [], take, ◌+◌, sym, subst}
+use Rattle.std.proofs.Common.{List, take, ◌+◌, sym, subst}
 use Rattle.std.proofs.lemmas.Result.{err_from_is_err_and}
 use Rattle.echo_links.specs.Links.{LinkFile}
-use Rattle.echo_commands.specs.Given.{AreLinkFiles}
+use Rattle.echo_commands.specs.Inputs.{AreLinkFiles}
 use Rattle.echo_commands.proofs.Giving.{link_refused, read_more}
-use Rattle.echo_commands.proofs.given.link_files.Goals as goal
+use Rattle.echo_commands.proofs.inputs.link_files.Goals as goal
 
 pub returns-in_err-file-clause-err : goal.returns-in_err-file-clause-err
 returns-in_err-file-clause-err c =
