@@ -3,10 +3,10 @@
 # it is to print, and `make cases` what each command prints and leaves in the runs of examples/cases. `make
 # story` runs three systems on real files, `make net-test` the scripts of
 # examples/net; `make manual-test` compares the manual page with the program's help; `make follow` does
-# what docs/OPERATORS.md says (it needs binkd); `make interop` runs a net with another tosser (it needs
-# binkd and crashmail); `make trials` tries the program from outside (docs/TRIALS.md). `make install` puts
-# the program and its manual page under PREFIX, or under DESTDIR and PREFIX, and `make uninstall` takes
-# them away.
+# what docs/OPERATORS.md says (it needs binkd); `make interop` runs a net with another tosser, and holds that
+# to the rules of docs/OPERATORS.md (it needs binkd and crashmail); `make trials` tries the program from
+# outside (docs/TRIALS.md). `make install` puts the program and its manual page under PREFIX, or under
+# DESTDIR and PREFIX, and `make uninstall` takes them away.
 .PHONY: all test demo show-examples cases story net-test manual-test follow interop trials install uninstall toolchain clean
 PREFIX = /usr/local
 

@@ -1,14 +1,15 @@
 #!/usr/bin/env bash
 # Three systems on this machine, of which Beta runs CrashMail II and the other two echonet, joined by binkd
-# daemons on local ports. What is posted at each is to come to each other one exactly once, unchanged.
+# daemons on local ports. What is posted at each is to come to each other one exactly once, unchanged. Then
+# CrashMail is held to the rules of docs/OPERATORS.md (rules.sh).
 # Word: the program. PORT is the first of the four ports that are used (24570 where it is not given).
-# Needs binkd and crashmail, and perl, flock and setsid, which Debian always has.
+# Needs binkd and crashmail, Python 3, and perl, flock and setsid, which Debian always has.
 set -euo pipefail
 here=$(cd "$(dirname "$0")" && pwd)
 export PATH=$PATH:/usr/sbin
-for command in binkd crashmail crashwrite perl flock setsid; do
+for command in binkd crashmail crashwrite python3 perl flock setsid; do
   if ! command -v $command > /dev/null; then
-    echo "interop: there is no $command here; try: apt-get install binkd crashmail" >&2
+    echo "interop: there is no $command here; try: apt-get install binkd crashmail python3" >&2
     exit 1
   fi
 done
@@ -136,8 +137,8 @@ for part in "$here"/parts/*.sh; do
 done
 stop_all
 echo "$passed checks passed, $failed failed"
-if [ $failed -ne 0 ]; then
-  echo "The stations are in $work" >&2
-  exit 1
-fi
-rm -rf "$work"
+if [ $failed -eq 0 ]; then rm -rf "$work"; else echo "The stations are in $work" >&2; fi
+echo "== The rules, one by one"
+cd "$here"
+./rules.sh || failed=$((failed + 1))
+[ $failed -eq 0 ]

@@ -78,33 +78,8 @@ END
 
 # The configuration of CrashMail at Beta. Word: the folder of all stations.
 crashmail_text() {
-  cat <<END
-SYSOP "Bob"
-LOGFILE "$1/two/crashmail.log"
-LOGLEVEL 5
-DUPEFILE "$1/two/dupes" 100000
-DUPEMODE BAD
-LOOPMODE LOG
-MAXPKTSIZE 2000
-MAXBUNDLESIZE 2000
-DEFAULTZONE 1
-INBOUND "$1/two/inbound"
-OUTBOUND "$1/two/outbound"
-TEMPDIR "$1/two/temp"
-CREATEPKTDIR "$1/two/create"
-PACKETDIR "$1/two/packets"
-STATSFILE "$1/two/stats"
-BEFORETOSS "$1/two/keep.sh %f"
-CHECKSEENBY
-CHECKPKTDEST
-IMPORTSEENBY
-AKA 1:10/2
-DOMAIN "fidonet"
-NODE 1:10/1 "" ""
-NODE 1:10/3 "" ""
-NETMAIL "NETMAIL" 1:10/2 MSG "$1/two/msg/netmail"
-AREA "BAD" 1:10/2 MSG "$1/two/msg/bad"
-END
+  sed "s,FOLDER,$1/two,g" "$here/crashmail.prefs"
+  printf 'NODE 1:10/%s "" ""\n' 1 3
   for area in $areas; do
     echo "AREA \"$area\" 1:10/2 MSG \"$1/two/msg/$(echo "$area" | tr A-Z a-z)\""
     echo "EXPORT $(linked "$area" 2 | sed 's,^,1:10/,' | tr '\n' ' ')"

@@ -76,7 +76,7 @@ run_words() {
       */\*) words+=("${word%\*}"*) ;;
       *) words+=("$word") ;;
     esac
-  done < <(xargs -r printf '%s\0' <<< "$1")
+  done < <(xargs -r printf '%b\0' <<< "$1")
   "$program" "${words[@]}" < "${2:-/dev/null}" > ../printed 2> ../fault
 }
 

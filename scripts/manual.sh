@@ -52,7 +52,7 @@ for command in $commands; do
   same "$command: options told" "$options" "$(page_options "$part")"
   # An option stands in brackets in the heading where the usage line leaves it out.
   same "$command: options that may be left out" "$(left_out "$help" "$options")" \
-    "$(grep -oE '\[--[a-z]+' <<< "$heading" | tr -d '[' | sort || true)"
+    "$(grep -oE '\[--[a-z-]+' <<< "$heading" | tr -d '[' | sort || true)"
   same "$command: words" "$(sed -n 's/^Usage: echonet [a-z]* //p' <<< "$help" |
     sed -E 's/\[OPTIONS\] ?//; s/--[a-z-]+ <[A-Z0-9]+> ?//g' | tr -d '<>')" \
     "$(sed -E 's/^[a-z]+ //; s/\[--[a-z-]+( [A-Z0-9]+)?\] ?//g; s/--[a-z-]+ [A-Z0-9]+ ?//g' <<< "$heading")"

@@ -85,14 +85,14 @@ echo FOO >> two/links
 status=0
 toss two > /dev/null 2> fault.txt || status=$?
 same "a faulty link file" "2 echonet: L1 UnknownWord line 5" "$status $(cat fault.txt)"
-same "the packet stays" kept.pkt "$(ls two/inbound)"
+same "the packet stays" "kept.pkt 00000001.name 00000001.pkt" "$(cat two/tossing/*.name) $(ls two/tossing | xargs)"
 cp two.links two/links
 cp two/base two.base
 echo x > two/base
 status=0
 toss two > /dev/null 2> fault.txt || status=$?
 same "a faulty base" "2 echonet: F1 NotBase" "$status $(cat fault.txt)"
-same "the packet stays again" kept.pkt "$(ls two/inbound)"
+same "the packet stays again" "00000001.name 00000001.pkt" "$(ls two/tossing | xargs)"
 cp two.base two/base
 toss two > /dev/null
 
@@ -101,7 +101,7 @@ before=$(counts two)
 mkdir -p two/scanned
 "$program" scan --at 2026-07-03T12:34:56 two/links two/base two/scanned > /dev/null
 cp two.base two/base
-touch two/scanned/1.10.3.7.pkt.new
+touch two/scanned/1.10.3.7.pkt.~1.10.2~.new
 same "the stopped scan left its packet" 1.10.3.0.pkt "$(ls two/scanned | grep 'pkt$')"
 same "and its cursor stood" "$before" "$(counts two)"
 post two Bob Third > /dev/null
@@ -131,9 +131,12 @@ touch two/outbound/$to_three.bsy
 post two Bob Fifth > /dev/null
 scan two > /dev/null
 same "the held link waits" "1 3" "$(ls two/scanned | wc -l) $(cat two/outbound/$to_three.flo | wc -l)"
-rm two/outbound/$to_three.bsy
+echo $$ > two/outbound/$to_three.bsy
 scan two > /dev/null
-same "and goes with the next run" "0 4" "$(ls two/scanned | wc -l) $(cat two/outbound/$to_three.flo | wc -l)"
+same "also while its process runs" 1 "$(ls two/scanned | wc -l)"
+sh -c 'echo $$' > two/outbound/$to_three.bsy
+scan two > /dev/null
+same "and goes once that runs no more" "0 4" "$(ls two/scanned | wc -l) $(cat two/outbound/$to_three.flo | wc -l)"
 carry two $to_three three
 toss three > /dev/null
 same "what Gamma has" "0 6" "$(counts three)"
@@ -157,7 +160,7 @@ carry one $to_two two
 for number in $(seq 1 5); do toss two > "tossed.$number" & done
 wait
 same "twenty were filed, once" 20 "$(cat tossed.* | awk '{ filed += $2 } END { print filed }')"
-same "and no packet is left" "" "$(ls two/inbound two/bad | grep pkt || true)"
+same "and no packet is left" "" "$(ls two/inbound two/tossing two/bad | grep pkt || true)"
 same "what Beta has" "7 27" "$(counts two)"
 
 # Scans and tosses that are killed at any moment.
@@ -168,7 +171,6 @@ for number in $(seq 1 15); do
     sleep "0.0$((RANDOM % 90 + 10))"
     kill -9 -- -$! 2> /dev/null || true
     wait $! 2> /dev/null || true
-    rm -f one/outbound/*.bsy
     if [ $((number % 3)) = 0 ] && [ -e one/outbound/$to_two.flo ]; then carry one $to_two two; fi
   done
 done

@@ -1,17 +1,64 @@
 #!/usr/bin/env bash
 # Proves one crate and says so in one line; what the prover prints goes to bin/NAME.log. Words: the
 # crate, the number of all, and `lib`, or `run` for a program, which is built, and the words to run it with.
+#
+# Two runs of `rt` wait for each other where both need some crate. So each crate is proved in a tree of its own,
+# which has the crate and, as hard links, the sources and the built libraries of those below it.
 set -u
 cd "$(dirname "$0")/.."
+top=$PWD
 name=$1 total=$2 kind=${3:-lib}
-log=bin/$name.log
+log=$top/bin/$name.log
+tree=$top/bin/trees/$name
 jobs=$(nproc)
 [ "$jobs" -le 4 ] || jobs=4
 mkdir -p bin/proved
+
+# The crates of this tree that a crate stands on, and it.
+below() {
+  awk -v wanted="$1" '
+    /^[a-z_]*:/ { split($0, parts, ":"); uses[parts[1]] = parts[2] }
+    function go(crate, list, n, i) {
+      if (!(crate in uses) || crate in seen) return
+      seen[crate] = 1
+      n = split(uses[crate], list, " ")
+      for (i = 1; i <= n; i++) go(list[i])
+      print crate
+    }
+    END { go(wanted) }' crates.txt
+}
+
+# Puts what is kept of earlier runs back, however this one ends.
+put_back() {
+  if [ -d "$tree/crates/$name/out" ]; then mv -T "$tree/crates/$name/out" "crates/$name/out"; fi
+  rm -rf "$tree"
+}
+
+# No `rt` of somebody else works in the crate meanwhile.
+exec 8< "crates/$name"
+flock 8
+put_back
+trap put_back EXIT
+trap 'exit 3' HUP INT TERM
+
+mkdir -p "$tree"
+for crate in $(below "$name"); do
+  grep "^$crate:" crates.txt >> "$tree/crates.txt"
+  mkdir -p "$tree/crates/$crate/out"
+  for part in "crates/$crate"/*; do
+    if [ "$part" != "crates/$crate/out" ]; then cp -al "$part" "$tree/crates/$crate"; fi
+  done
+  if [ "$crate" != "$name" ] && [ -d "crates/$crate/out/rlib" ]; then
+    cp -al "crates/$crate/out/rlib" "$tree/crates/$crate/out"
+  fi
+done
+rmdir "$tree/crates/$name/out"
+if [ -d "crates/$name/out" ]; then mv -T "crates/$name/out" "$tree/crates/$name/out"; fi
+
 if [ "$kind" = run ]; then
-  (cd "crates/$name" && rt run --jobs "$jobs" -- "${@:4}") > "$log" 2>&1
+  (cd "$tree/crates/$name" && rt run --jobs "$jobs" -- "${@:4}") > "$log" 2>&1
 else
-  (cd "crates/$name" && rt lib --jobs "$jobs") > "$log" 2>&1
+  (cd "$tree/crates/$name" && rt lib --jobs "$jobs") > "$log" 2>&1
 fi
 status=$?
 if [ $status -ne 0 ]; then

@@ -1,6 +1,6 @@
 # What devices.sh, refusals.sh and pieces.sh share: a run of each command, and how one is to have ended that
 # met a failure. They source it in their own folder, after setting.sh.
-commands="show nodelist check picture replay post toss scan purge list"
+commands="show nodelist check why picture replay post toss scan purge list"
 
 make_file links 1:10/1 TEST 1:10/2 1:10/3 1:10/4 > one.links
 cp "$top"/examples/nets/chain/*.links .
@@ -20,6 +20,7 @@ words_of() {
     show) echo show 05-areas.pkt ;;
     nodelist) echo nodelist --find 1:10/101 nested.lst ;;
     check) echo check --nodelist nested.lst TEST 1.links 2.links 3.links ;;
+    why) echo why TEST 1.links 3.links ;;
     picture) echo picture TEST 1.links 2.links 3.links ;;
     replay) echo replay chain.script 1.links 2.links 3.links ;;
     post) echo post --area TEST --to All --from Ann --subject Hi --serial 00000001 --at $stamp one.links base ;;
@@ -31,7 +32,7 @@ words_of() {
 }
 
 start() {
-  rm -rf out base base.new
+  rm -rf out base base.*.new
   mkdir out
   case $1 in scan) cp tossed.base base ;; *) cp old.base base ;; esac
 }

@@ -35,7 +35,7 @@ run_command() {
 }
 
 # The files as they are before a command.
-start() { rm -rf out base base.new; mkdir out; cp "$1.before" base; }
+start() { rm -rf out base base.*.new; mkdir out; cp "$1.before" base; }
 
 # What holds of the files after a command, whatever its status. Words: the command, the status.
 look_at_files() {
@@ -60,7 +60,7 @@ limit() {
   look_at_files "$1" "$status"
   if [ "$most" -gt $(($2 * 1024)) ]; then
     expect "$1 at $2 blocks: one line and 3" ended_with_fault "$status" 3 fault "echonet: cannot use "
-    expect "$1: nothing left beside" is_none base.new out/*.new
+    expect "$1: nothing left beside" is_none base.*.new out/*.new
   fi
   # Where the signal of a file that grows too large is not ignored, it may end the program.
   start "$1"
@@ -73,12 +73,12 @@ limit() {
 
 # What a stopped run left is in nobody's way: the command run again does all.
 start_again() {
-  if [ -e base.new ] || [ -n "$(ls out)" ]; then
+  if compgen -G "base.*.new" > list || [ -n "$(ls out)" ]; then
     rm -f out/*.pkt
     cp "$1.before" base
     expect "$1 again" eval "run_command $1 > /dev/null 2> fault"
     look_at_files "$1" 0
-    expect "$1 again: nothing left beside" is_none base.new out/*.new
+    expect "$1 again: nothing left beside" is_none base.*.new out/*.new
   fi
 }
 
@@ -95,7 +95,7 @@ fill() {
   status=${PIPESTATUS[0]}
   expect "$1 with $2 kB left on the disk: one line and 3" ended_with_fault "$status" 3 fault "echonet: cannot use "
   expect "$1: the old base" cmp -s disk/base "$1.before"
-  expect "$1: nothing left beside" is_none disk/base.new disk/out/*.new
+  expect "$1: nothing left beside" is_none disk/base.*.new disk/out/*.new
   for packet in disk/out/*.pkt; do
     [ -e "$packet" ] || continue
     expect "$1: a whole packet" cmp -s "$packet" "$(basename "$packet")"

@@ -41,7 +41,7 @@ after_toss() {
   expect "the toss again" eval "toss > said 2> fault"
   expect "its tally" [ "$(cat said)" = "$want notecho 0 badtag 0 noarea 0 notlinked 0" ]
   expect "the base at the end" cmp -s base tossed.base
-  expect "nothing beside it" is_none base.new
+  expect "nothing beside it" is_none base.*.new
 }
 
 # The same of a scan. What stands is taken by the mailer, and the scan run again where the cursor stayed.
@@ -58,7 +58,7 @@ after_scan() {
   fi
   expect "the scan again" eval "scan > said 2> fault"
   expect "the base at the end" cmp -s base scanned.base
-  expect "nothing beside it" is_none base.new out/*.new
+  expect "nothing beside it" is_none base.*.new out/*.new
   for link in 3 4; do
     for packet in out/1.10.$link.*; do
       expect "delivery" eval "'$program' toss $link.links $link.base $packet > said 2> fault"

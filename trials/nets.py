@@ -15,8 +15,6 @@ import running
 TOP = os.path.dirname(os.path.dirname(os.path.abspath(__file__)))
 PROGRAM = os.environ.get("ECHONET", os.path.join(TOP, "bin", "echonet"))
 MOST_RATIO, LEAST_SECONDS = 2.5, 0.2
-# What is known to grow as the square of the net.
-KNOWN_AS_SLOW, SLOW_RATIO = "polygons, one broken", 5.0
 
 
 def address(number):
@@ -76,6 +74,15 @@ def polygon(count, broken=False):
     return linked(size, pairs[:-1] if broken else pairs)
 
 
+def hubs(count, ringed=False):
+    """Systems that are all linked with each other, a leaf at each, and maybe a ring of four at the last leaf."""
+    size = int(math.sqrt(count))
+    pairs = [(one, other) for one in range(size) for other in range(one)] + [(hub, size + hub) for hub in range(size)]
+    last = 2 * size
+    ring = [(last - 1, last), (last, last + 1), (last + 1, last + 2), (last + 2, last - 1)]
+    return linked(last + 3 if ringed else last, pairs + ring if ringed else pairs)
+
+
 def one_sided(count):
     """A chain whose last system does not list the one before it."""
     links = chain(count)
@@ -89,6 +96,7 @@ NETS = [
     ("ladder", ladder, "no TEST V8"), ("polygons", polygons, "yes TEST"),
     ("polygons, one broken", lambda count: polygons(count, True), "no TEST V8"), ("polygon", polygon, "yes TEST"),
     ("polygon, broken", lambda count: polygon(count, True), "no TEST V8"), ("one-sided", one_sided, "no TEST V5"),
+    ("hubs", hubs, "yes TEST"), ("hubs, ring behind", lambda count: hubs(count, True), "no TEST V8"),
     ("no links", lambda count: [[] for _ in range(count)], "no TEST V7")]
 
 
@@ -120,9 +128,6 @@ def measure(make, count, command, folder):
 def try_net(row, command, count, folder):
     """Tries a net, prints its line, and answers whether all held."""
     name, make, verdict = row
-    most = MOST_RATIO
-    if name == KNOWN_AS_SLOW:
-        count, most = count // 5, SLOW_RATIO
 
     def timed(count):
         size, ended, _ = measure(make, count, command, folder)
@@ -136,9 +141,9 @@ def try_net(row, command, count, folder):
     if seconds > LEAST_SECONDS:
         half, shorter = timed(count // 2)
         ratio = seconds / shorter * 2 * half / size
-    if ratio > most:
+    if ratio > MOST_RATIO:
         ratio = running.steady_ratio(timed, count)
-    if ratio > most:
+    if ratio > MOST_RATIO:
         wrong.append("not linear")
     print("%-8s %-22s %9d bytes  status %d  %7.2f s  ratio %4.2f  %8d kB  %s %s" % (
         command, name, size, status, seconds, ratio, kilobytes, said[:60].strip(), ", ".join(wrong)), flush=True)
@@ -153,7 +158,6 @@ def main(words):
         held = [try_net(row, command, count, os.path.join(folder, "net")) for row in NETS for command in ("check", "picture")]
     finally:
         shutil.rmtree(folder)
-    print("%s is known as slow" % KNOWN_AS_SLOW)
     print("nets: %d passed, %d failed" % (held.count(True), held.count(False)))
     return 0 if all(held) else 1
 

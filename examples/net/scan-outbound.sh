@@ -4,9 +4,12 @@
 # `scan` writes into STATION/scanned. Each packet then gets a new name of eight characters and `.pkt` in
 # STATION/packets, and a line in the flow file of its link: STATION/outbound for links of the own zone,
 # STATION/outbound.00z for those of zone z. A link whose flow file is held by the mailer (NAME.bsy) is
-# left for the next run. Runs may start at the same moment: each waits for the one before it. The program
-# is `echonet` of the PATH, or the one that ECHONET names.
+# left for the next run. Runs may start at the same moment: each waits for the one before it, and for the
+# scan that one of them started, also where that run was killed. The program is `echonet` of the PATH, or
+# the one that ECHONET names.
 set -eu
+LC_ALL=C
+export LC_ALL
 
 if [ $# -ne 1 ]; then
   echo "usage: scan-outbound.sh STATION" >&2
@@ -70,8 +73,42 @@ flow_file() {
   printf '%s/%04x%04x\n' "$folder" "$2" "$3"
 }
 
+# A hold on a link is a file NAME.bsy with the number of the process that holds it. Whether one was left: its
+# process runs no more, or it names none and is an hour old.
+is_left() {
+  owner=$(awk 'match($0, /[0-9]+/) { print substr($0, RSTART, RLENGTH); exit }' "$1" 2> /dev/null || true)
+  if [ -n "$owner" ]; then
+    kill -0 "$owner" 2>&1 | grep -q 'No such process'
+  else
+    [ -n "$(find "$1" -mmin +60 2> /dev/null)" ]
+  fi
+}
+
+# Holds a link; a hold that was left is taken over. The status is 1 where somebody else holds it, and 3 where
+# the disk fails. The hold has its number when it gets its name. Word: the flow file, without its ending.
+hold() {
+  held=0
+  if [ -e "$1.bsy" ] && is_left "$1.bsy"; then rm -f "$1.bsy"; fi
+  if ! echo $$ > "$1.hold"; then
+    held=3
+  elif ! ln "$1.hold" "$1.bsy" 2> /dev/null; then
+    if [ -e "$1.bsy" ]; then held=1; else held=3; fi
+  fi
+  rm -f "$1.hold"
+  return $held
+}
+
+# Adds a line to a flow file, which is replaced whole. Words: the file, the line.
+add_line() {
+  if { if [ -e "$1" ]; then cat "$1"; fi && printf '%s\n' "$2"; } > "$1.new" && sync "$1.new" && mv "$1.new" "$1"; then
+    return 0
+  fi
+  rm -f "$1.new"
+  return 1
+}
+
 # Hands one packet to the mailer. The line comes first: whatever stops this, the packet is handed over by
-# a later run or stands under its new name.
+# a later run or stands under its new name. Who may read it is as the umask says.
 hand_over() {
   name=$(basename "$1")
   zone=${name%%.*}
@@ -79,22 +116,28 @@ hand_over() {
   net=${rest%%.*}
   rest=${rest#*.}
   flow=$(flow_file "$zone" "$net" "${rest%%.*}")
-  if ! (set -C && echo $$ > "$flow.bsy") 2> /dev/null; then return; fi
+  hold "$flow" || held=$?
+  case $held in
+    0) ;;
+    1) return 0 ;;
+    *) return 3 ;;
+  esac
   trap 'rm -f "$flow.bsy"' EXIT
   new=$station/packets/$(new_name)
-  printf '^%s\n' "$new" >> "$flow.flo"
-  mv "$1" "$new"
+  failed=0
+  chmod =rw "$1" && add_line "$flow.flo" "^$new" && mv "$1" "$new" || failed=3
   rm -f "$flow.bsy"
   trap - EXIT
+  return $failed
 }
 
 drop_unfinished
 status=0
 at=$(date +%Y-%m-%dT%H:%M:%S)
-"$program" scan --at "$at" "$station/links" "$station/base" "$station/scanned" 9>&- || status=$?
+"$program" scan --at "$at" "$station/links" "$station/base" "$station/scanned" || status=$?
 if [ $status -ne 0 ]; then drop_unfinished; fi
 sync "$station"
 for packet in "$station"/scanned/*.pkt; do
-  if [ -e "$packet" ]; then hand_over "$packet"; fi
+  if [ -e "$packet" ]; then hand_over "$packet" || status=3; fi
 done
 exit $status

@@ -7,7 +7,7 @@
 use crate::shared::{number, sum};
 use anyhow::{Context, Result, bail};
 use echo_device::{Buffered, Sink, Source, Watched};
-use echo_packet::{Header, Limits, Packed, PacketReader, PacketWriter, read_packet};
+use echo_packet::{Header, Limits, Packed, PacketFault, PacketReader, PacketWriter, read_packet};
 use std::alloc::{AllocError, Global};
 use std::fs::File;
 use std::io::{BufWriter, Write};
@@ -75,11 +75,11 @@ fn message(alloc: Global) -> Result<Packed> {
 
 /// Writes the packet of so many times the message.
 fn write_packet<W: Sink + Drop>(writer: W, message: &Packed, count: usize) -> Result<W> {
-    let mut packet = PacketWriter::begin(writer, &HEADER)?;
+    let mut packet = PacketWriter::begin(writer, &HEADER).map_err(PacketFault::from)?;
     for _ in 0..count {
         packet.put(message)?;
     }
-    Ok(packet.finish()?)
+    Ok(packet.finish().map_err(PacketFault::from)?)
 }
 
 /// The packet in memory.

@@ -9,6 +9,7 @@ use crate::shared::{number, sum};
 use anyhow::{Result, bail};
 use echo_replay::{read_script, replay};
 use std::alloc::{AllocError, Global};
+use std::hash::RandomState;
 
 fn push_posting(alloc: Global, text: &mut String, serial: usize) -> Result<(), AllocError> {
     let line = format!(in alloc; "POST 0 TEST {serial:08x} Hello\n")?;
@@ -45,11 +46,12 @@ fn script_of(alloc: Global, kind: &str, systems: usize, messages: usize) -> Resu
     Ok(text)
 }
 
-/// What the replay of the script on a tree of systems tells, in words.
-fn replayed(alloc: Global, systems: usize, script: &[u8]) -> Result<String> {
+/// What the replay of the script on a tree of systems gives, in words.
+fn replayed(rt: &HostRuntime, systems: usize, script: &[u8]) -> Result<String> {
+    let alloc = rt.alloc();
     let files = read_all(alloc, &files_of(alloc, "tens", systems)?)?;
     let events = read_script(alloc, script)?;
-    let world = replay(alloc, files, &events)?;
+    let world = replay(alloc, files, &events, RandomState::new(rt)?)?;
     Ok(format!(in alloc;
         "filed {} of {} packets {} undelivered {} settled {}",
         world.filed(0, b"TEST"),
@@ -68,7 +70,7 @@ pub(crate) fn run(rt: &HostRuntime, words: &[String]) -> Result<()> {
     let script = script_of(alloc, kind, systems, number(words.get(2), 2)?)?;
     let bytes = script.as_bytes();
     let answer = match words.get(3).map_or("replay", |word| word.as_str()) {
-        "replay" => replayed(alloc, systems, bytes)?,
+        "replay" => replayed(rt, systems, bytes)?,
         "read" => format!(in alloc; "{} events", read_script(alloc, bytes)?.len())?,
         "sum" => format!(in alloc; "{}", sum(bytes))?,
         _ => bail!("replay, read or sum"),

@@ -11,7 +11,7 @@ use anyhow::{Context, Result, bail};
 use echo_addr::Items;
 use echo_device::Watched;
 use echo_links::LinkFile;
-use echo_packet::{Header, Limits, Packed, PacketWriter};
+use echo_packet::{Header, Limits, Packed, PacketFault, PacketWriter};
 use echo_steps::{Draft, Stamp};
 use echo_toss::{Tally, Tosser};
 use std::alloc::{AllocError, Global};
@@ -83,11 +83,13 @@ fn message(alloc: Global, number: usize) -> Result<Packed> {
 
 /// The bytes of the packet.
 fn packet(alloc: Global, count: usize) -> Result<Vec<u8>> {
-    let mut packet = PacketWriter::begin(Watched::new(Vec::new(alloc)), &HEADER)?;
+    let mut packet = PacketWriter::begin(Watched::new(Vec::new(alloc)), &HEADER).map_err(
+        PacketFault::from,
+    )?;
     for number in 0..count {
         packet.put(&message(alloc, number)?)?;
     }
-    Ok(packet.finish()?.into_inner())
+    Ok(packet.finish().map_err(PacketFault::from)?.into_inner())
 }
 
 /// The link file of the system that the packet is for.

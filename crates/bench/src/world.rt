@@ -10,6 +10,7 @@ use echo_links::LinkFile;
 use echo_replay::{World, read_script, replay};
 use std::alloc::Global;
 use std::fs;
+use std::hash::RandomState;
 
 /// The net without words: two systems, and a message that goes from one to the other.
 const FILES: [&[u8]; 2] = [
@@ -67,7 +68,7 @@ fn put_packets(rt: &HostRuntime, folder: Option<&String>, world: &World) -> Resu
     Ok(all)
 }
 
-/// Replays the script on the net, and writes and tells what is left.
+/// Replays the script on the net, and writes and prints what is left.
 fn leave(
     rt: &HostRuntime,
     folder: Option<&String>,
@@ -76,7 +77,7 @@ fn leave(
 ) -> Result<()> {
     let systems = files.len();
     let events = read_script(rt.alloc(), script)?;
-    let world = replay(rt.alloc(), files, &events)?;
+    let world = replay(rt.alloc(), files, &events, RandomState::new(rt)?)?;
     let bases = put_bases(rt, folder, &world, systems)?;
     let packets = put_packets(rt, folder, &world)?;
     println!(rt;

@@ -6,16 +6,16 @@ use Rattle.std.proofs.lemmas.Bool.{cases_Bool, cond-false, ne_eqb}
 use Rattle.echo_addr.specs.Pieces.{without_empty_last}
 
 -- a split has a first piece
-record HasFirst (pieces : List (List ℕ)) : Type 0 where
-  first : List ℕ
-  more : List (List ℕ)
-  is : pieces ≡ first ∷ more
+pub record HasFirst (pieces : List (List ℕ)) : Type 0 where
+  pub first : List ℕ
+  pub more : List (List ℕ)
+  pub is : pieces ≡ first ∷ more
 
 first_onto : (b : ℕ) (pieces : List (List ℕ)) → HasFirst (onto_first b pieces)
 first_onto b [] = record { first = b ∷ []; more = []; is = refl }
 first_onto b (piece ∷ more) = record { first = b ∷ piece; more = more; is = refl }
 
-first_of_split : (p : ℕ → Bool) (text : List ℕ) → HasFirst (slice_split p text)
+pub first_of_split : (p : ℕ → Bool) (text : List ℕ) → HasFirst (slice_split p text)
 first_of_split p [] = record { first = []; more = []; is = refl }
 first_of_split p (b ∷ text) = elim (cases_Bool (p b)) [
   | inl y ↦ record { first = []; more = slice_split p text; is = slice_split-cons_yes p b text y }

@@ -1,10 +1,15 @@
-//! What holds of the definitions. Each law is the contract of a function that does nothing.
+//! What holds of the definitions. Each law is the contract of a function that does nothing; that of the
+//! order, which is derived, of one that compares.
 
 ghost use Rattle.std.specs.Prelude.{◌≡◌, ◌≤◌, ◌↔◌, ℕ, List, [], length, All};
+ghost use Rattle.std.specs.Ordering.{nat_cmp, ordering_then};
 ghost use Rattle.echo_addr.specs.declared.address.Address.{Address};
 ghost use Rattle.echo_addr.specs.declared.address.NetNode.{NetNode};
 ghost use Rattle.echo_addr.specs.Address.{AddressOf, IsAddress, address_text};
 ghost use Rattle.echo_addr.specs.ShortLines.{IsNetNode, ReadBack, ShortLines};
+
+use crate::address::Address;
+use std::cmp::Ordering;
 
 /// What is written of an address in range writes that address.
 pub fn address_read_back()
@@ -23,3 +28,10 @@ pub fn one_spelling()
     ensures same { (prefix : List ℕ) (list : List NetNode) (b c : List ℕ) → ShortLines prefix list b → ShortLines prefix list c → b ≡ c }
     ensures none { (prefix b : List ℕ) → ShortLines prefix [] b ↔ (b ≡ []) }
 {}
+
+/// The order of addresses, which sorting and maps have: by zone, then net, then node.
+pub fn address_order(a: &Address, b: &Address) -> Ordering
+    ensures { result ≡ ordering_then (nat_cmp a.now.zone b.now.zone) (ordering_then (nat_cmp a.now.net b.now.net) (nat_cmp a.now.node b.now.node)) }
+{
+    a.cmp(b)
+}

@@ -1,12 +1,13 @@
 //! Addresses of FidoNet systems, the shortened lists of SEEN-BY and PATH lines (FTS-0004), and what all
-//! formats share: decimal numbers, blanks, and the one small type for lists.
+//! formats share: decimal numbers, blanks, lists in ascending order, and the one small type for lists.
 //!
 //! The contract for the layers above: `read_list` of a written line gives its entries, none dropped
 //! (`written_lines_read_back`).
 //!
 //! Modules in reading order: `fault` (why bytes are no address), `digits` (decimal numbers), `blanks`,
 //! `places` (where a byte stands), `address`, `listing` (reading lists), `shortening` (writing them),
-//! `laws` (what holds of the definitions); `items` (a list that no later call grows).
+//! `laws` (what holds of the definitions); `items` (a list that no later call grows); `ascending`
+//! (values in ascending order, each once).
 //!
 //! A caller:
 //!
@@ -18,6 +19,7 @@
 #![tactic(auto)]
 
 mod address;
+mod ascending;
 mod blanks;
 mod digits;
 mod fault;
@@ -28,10 +30,11 @@ mod places;
 mod shortening;
 
 pub use address::{Address, NetNode};
+pub use ascending::put_in_order;
 pub use blanks::is_blank;
 pub use digits::number;
 pub use fault::AddrFault;
 pub use items::Items;
-pub use laws::{address_read_back, one_spelling, written_lines_read_back};
+pub use laws::{address_order, address_read_back, one_spelling, written_lines_read_back};
 pub use listing::{add_list, next_token, read_list};
 pub use shortening::{write_path, write_seen};

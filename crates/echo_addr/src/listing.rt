@@ -1,4 +1,4 @@
-ghost use Rattle.std.specs.Prelude.{◌≡◌, ◌<◌, [], ◌∷◌, ◌++◌, drop, length, not, position, Some, MatchOption, IfOk, IfSome, OnOk};
+ghost use Rattle.std.specs.Prelude.{◌≡◌, ◌<◌, [], ◌∷◌, ◌++◌, drop, length, take, not, position, Some, MatchOption, IfOk, IfSome, OnOk, OnErr};
 ghost use Rattle.std.specs.List.{position_or_len};
 ghost use Rattle.std.specs.Option.{option_or};
 ghost use Rattle.echo_addr.specs.Entries.{dropped, entries, entry_from, is_blank, pair_of, part_of, tokens};
@@ -27,10 +27,27 @@ pub fn read_list(alloc: Global, bytes: &[u8]) -> Result<(Vec<NetNode>, usize), A
     Ok((found, dropped))
 }
 
-/// Adds those entries to a list, and answers how many tokens were dropped.
+/// Adds those entries to a list, and answers how many tokens were dropped. Out of memory leaves the
+/// list as it was.
 pub fn add_list(found: &mut Vec<NetNode>, bytes: &[u8]) -> Result<usize, AllocError>
     ensures entries { OnOk result (found.new.items ≡ found.old.items ++ entries bytes.now) }
     ensures dropped { IfOk result (λ n. n ≡ dropped bytes.now) }
+    ensures err { OnErr result (found.new.items ≡ found.old.items) }
+{
+    let before = found.len();
+    let dropped = add_entries(found, bytes);
+    if dropped.is_err() {
+        found.truncate(before);
+    }
+    dropped
+}
+
+/// The same, but out of memory leaves some first entries behind the list.
+#[tactic(auto, using(crate::proofs::Carrying::kept_behind))]
+fn add_entries(found: &mut Vec<NetNode>, bytes: &[u8]) -> Result<usize, AllocError>
+    ensures entries { OnOk result (found.new.items ≡ found.old.items ++ entries bytes.now) }
+    ensures dropped { IfOk result (λ n. n ≡ dropped bytes.now) }
+    ensures err { OnErr result (take (length found.old.items) found.new.items ≡ found.old.items) }
 {
     found.reserve(bytes.len() / TOKEN_LEN)?;
     let mut dropped = 0;

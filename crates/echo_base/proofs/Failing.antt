@@ -20,7 +20,7 @@ use Rattle.echo_base.specs.declared.fault.BaseFault.{BaseFault}
 use Rattle.echo_base.specs.declared.fault.BaseFault.TheVariants as fault
 use Rattle.echo_base.specs.Base.{Base}
 use Rattle.echo_base.specs.BaseFile.{AreSound, BaseFaultOf, BaseOf, Begins, IsDamagedAt, LoadOf, Loaded, head_bytes, is_damaged, magic}
-use Rattle.echo_base.specs.Loading.{AnswersLoad, FailsToLoad, LoadFault, TakesAll, TakesBase, TakesDamaged, TakesHead, TakesStored, TakesNextStored, told_behind}
+use Rattle.echo_base.specs.Loading.{AnswersLoad, FailsToLoad, LoadFault, TakesAll, TakesBase, TakesDamaged, TakesHead, TakesStored, TakesNextStored, fault_behind}
 use Rattle.echo_base.proofs.Loading.{only_outcome, say_more, sound_more}
 
 if_any : {X : Type 0} (o : Option X) → IfSome o (λ _. Unit {0})
@@ -29,7 +29,7 @@ if_any (Some x) = tt
 
 -- behind some bytes, the input or the device ended inside a field
 pub cut_fails : {X : Type 0} {F : X → Type 0} {w : X → List ℕ} (n : ℕ) (front : List ℕ) (a b c : Option (List ℕ)) (e : Broken) → Consumes a b front
-    → ((came : List ℕ) → EndsIn X F w came → BaseFaultOf (front ++ came) (fault.Truncated n)) → Breaks X F w b c e → FailsToLoad a c (told_behind e n)
+    → ((came : List ℕ) → EndsIn X F w came → BaseFaultOf (front ++ came) (fault.Truncated n)) → Breaks X F w b c e → FailsToLoad a c (fault_behind e n)
 cut_fails n front a b c broken.Cut took is h = record {
   wrong = Consumes-whole a c (front ++ h.0.0) (λ bytes. LoadFault bytes (fault.Truncated n)) (Consumes-trans a b c front h.0.0 took h.0.1) h.1 (is h.0.0 h.0.2);
   inside = λ r. absurd (cc);
@@ -147,9 +147,9 @@ message_damaged version cursor number n messages a b c d fits within more many h
         }
 
 -- a message behind sound ones was not taken
-pub message_fails : (version : Version) (cursor number : ℕ) (messages messages' : List Filed) (a b c d : Option (List ℕ)) (told : BaseFault) → number < 2 ^ 32 → cursor ≤ number
+pub message_fails : (version : Version) (cursor number : ℕ) (messages messages' : List Filed) (a b c d : Option (List ℕ)) (answered : BaseFault) → number < 2 ^ 32 → cursor ≤ number
     → length messages < number → Consumes a b (head_bytes version cursor number) → HasTaken version cursor messages b c
-    → TakesStored {A = Unit {0}} version cursor messages messages' c d (Err told) → FailsToLoad a d told
+    → TakesStored {A = Unit {0}} version cursor messages messages' c d (Err answered) → FailsToLoad a d answered
 message_fails version cursor number messages messages' a b c d (fault.Truncated n) fits within more head so h =
     let many = h.0 in
     cut_fails n (head_bytes version cursor number ++ flat_map (stored_bytes version) so.all) a c d broken.Cut

@@ -10,3 +10,4 @@ pub mod Purges
 pub mod ShortForms
 pub mod StubBases
 pub mod SavedAgain
+pub mod NotedTags

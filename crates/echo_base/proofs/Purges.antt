@@ -13,7 +13,7 @@ use Rattle.std.proofs.Math.Seq.{drop-cons, set-append_seam}
 use Rattle.indexmap.specs.IndexMap.{set_value_at}
 use Rattle.echo_filed.specs.Filed.{Filed}
 use Rattle.echo_filed.specs.Stubs.{is_stub, lines_left, stub_of}
-use Rattle.echo_filed.proofs.Left.{stays}
+use Rattle.echo_filed.proofs.StubTests.{stays}
 
 -- a value written at a place
 pub values_written : {K X : Type 0} (es : List (K × X)) (i : ℕ) (w : X) → values_of (set_value_at es i w) ≡ set (values_of es) i w

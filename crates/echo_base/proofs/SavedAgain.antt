@@ -19,7 +19,7 @@ use Rattle.echo_filed.specs.Stored.{IsStored, Stored, has_tag, is_posted, is_sho
 use Rattle.echo_base.proofs.ShortForms.{id_told}
 use Rattle.echo_base.specs.BaseFile.{AreSound, BaseOf, has_wrong_form, has_wrong_last, has_wrong_sender, has_wrong_string, head_bytes, is_countable, is_damaged, is_other_kind, is_wrong_id, is_wrong_text, magic, saved_bytes, stored_at, stored_from}
 
--- the first byte is told by the sender and the form
+-- the first byte is given by the sender and the form
 kind_back : (k : ℕ) (sender : Address) → k ≤ 3 → kind_of ((k == 2) || (k == 3)) (cond (is_posted k) None (Some sender)) ≡ k
 kind_back zero sender h = refl
 kind_back (suc zero) sender h = refl
@@ -107,7 +107,7 @@ all_short [] sizes = refl
 all_short (s ∷ later) sizes =
     and_from (is_short_enough s) (list_all is_short_enough later) (lt-ltb (length s.last) (2 ^ 32) sizes.0.last) (all_short later sizes.1)
 
--- the version is told by the first bytes
+-- the version is given by the first bytes
 second_by : (version : Version) (cursor number : ℕ) (rest bytes : List ℕ) → bytes ≡ head_bytes version cursor number ++ rest → take 8 bytes ≡ magic Second → version ≡ Second
 unfolding head_bytes
 second_by First cursor number rest bytes whole front =

@@ -18,7 +18,7 @@ use Rattle.echo_filed.proofs.Stubs.{bare_echo}
 use Rattle.echo_filed.proofs.Texts.{says_accepted, says_one}
 use Rattle.echo_base.specs.Base.{is_known}
 use Rattle.echo_base.specs.BaseFile.{has_wrong_form, has_wrong_last, has_wrong_sender, has_wrong_string, is_damaged, is_other_kind, is_wrong_id, is_wrong_text}
-use Rattle.echo_base.specs.Loading.{UnlessWrong, is_wrong, told_last, wrong_last}
+use Rattle.echo_base.specs.Loading.{UnlessWrong, is_wrong, said_last, wrong_last}
 use Rattle.echo_base.proofs.Loaded.{filed_with, right_last}
 
 -- a text that says an echo is wrong where it is not the one that is written
@@ -45,16 +45,16 @@ bare_made tag id kept seen path right fine one no_seen no_path =
 
 -- a message whose fields are not wrong
 pub message_made : (version : Version) (s : Stored) (sender : Option Address) (echo : EchoText) → IsStored version s → has_wrong_string s ≡ false → sender ≡ sender_in s
-    → UnlessWrong (has_wrong_last version s) (told_last (has_tag version s.kind) s.tag s.last) (Some echo)
+    → UnlessWrong (has_wrong_last version s) (said_last (has_tag version s.kind) s.tag s.last) (Some echo)
     → IsFiled (record { sender = sender; date = s.date; to_name = s.to_name; from_name = s.from_name; subject = s.subject; echo = echo })
 message_made version s sender echo size strings same h =
     let sender' = sym same in
     let echo' = sym h.1 in
     subst IsFiled (λ i. record { sender = sender' i; date = s.date; to_name = s.to_name; from_name = s.from_name; subject = s.subject; echo = echo' i })
-    (filed_with version s (told_last (has_tag version s.kind) s.tag s.last) size strings (right_last (has_tag version s.kind) s h.0))
+    (filed_with version s (said_last (has_tag version s.kind) s.tag s.last) size strings (right_last (has_tag version s.kind) s h.0))
 
 pub message_is : (version : Version) (s : Stored) (sender : Option Address) (echo : EchoText) → sender ≡ sender_in s
-    → echo ≡ told_last (has_tag version s.kind) s.tag s.last
+    → echo ≡ said_last (has_tag version s.kind) s.tag s.last
     → record { sender = sender; date = s.date; to_name = s.to_name; from_name = s.from_name; subject = s.subject; echo = echo } ≡ message_in version s
 unfolding message_in
 message_is version s sender echo same told =
@@ -90,12 +90,12 @@ known_damaged version cursor place earlier s m known at_end right told is =
     ∙ ap (λ x. is_known earlier (key_of x)) (sym told)
     ∙ is
 
--- what stands after the subject, where its parts are told in another way
-pub last_told : (version : Version) (s : Stored) (with_tag : Bool) (last : List ℕ) (o : Option EchoText) (echo : EchoText) → with_tag ≡ has_tag version s.kind → last ≡ s.last
-    → o ≡ Some echo → UnlessWrong (wrong_last with_tag s.tag last) (told_last with_tag s.tag last) o
-    → UnlessWrong (has_wrong_last version s) (told_last (has_tag version s.kind) s.tag s.last) (Some echo)
-last_told version s with_tag last o echo tagged same is h =
-    let P : Bool → List ℕ → Option EchoText → Type 0 = λ t l x. UnlessWrong (wrong_last t s.tag l) (told_last t s.tag l) x in
+-- what stands after the subject, where its parts are named in another way
+pub last_said : (version : Version) (s : Stored) (with_tag : Bool) (last : List ℕ) (o : Option EchoText) (echo : EchoText) → with_tag ≡ has_tag version s.kind → last ≡ s.last
+    → o ≡ Some echo → UnlessWrong (wrong_last with_tag s.tag last) (said_last with_tag s.tag last) o
+    → UnlessWrong (has_wrong_last version s) (said_last (has_tag version s.kind) s.tag s.last) (Some echo)
+last_said version s with_tag last o echo tagged same is h =
+    let P : Bool → List ℕ → Option EchoText → Type 0 = λ t l x. UnlessWrong (wrong_last t s.tag l) (said_last t s.tag l) x in
     subst (P (has_tag version s.kind) s.last) is (subst (λ l. P (has_tag version s.kind) l o) same (subst (λ t. P t last o) tagged h))
 
 -- what is found is the value, and not wrong

@@ -1,6 +1,8 @@
 -- What a base keeps: its messages by their keys, and their tags.
 use Rattle.std.specs.Prelude.{◌≡◌, ◌≤◌, ℕ, true, List, map, take, bytes_eq}
 use Rattle.std.specs.List.{AllByRecursion, list_any}
+use Rattle.std.specs.Ordering.{is_eq, nat_cmp}
+use Rattle.std.specs.Cmp.Lexicographic.{slice_cmp}
 use Rattle.std.specs.Map.{keys_of, values_of}
 use Rattle.echo_filed.specs.declared.key.Key.{Key}
 use Rattle.echo_filed.specs.Filed.{Filed, key_of}
@@ -10,6 +12,11 @@ use Rattle.echo_base.specs.Base.{IsBase}
 -- the tag of the message is among these
 abbrev pub HasTagIn : List (List ℕ) → Filed → Type 0
 HasTagIn tags m = list_any (bytes_eq m.echo.tag) tags ≡ true
+
+-- each key that is kept in order is one of the tags
+abbrev pub AreAmong : {K : Type 0} → (K → List ℕ) → List K → List K → Type 0
+AreAmong tag_of sorted tags =
+    (tag : List ℕ) → list_any (λ k. is_eq (slice_cmp nat_cmp tag (tag_of k))) sorted ≡ true → list_any (bytes_eq tag) (map tag_of tags) ≡ true
 
 -- so many messages from the front were scanned and are stubs
 pub record ArePurged (messages : List Filed) (cursor purged : ℕ) : Type 0 where

@@ -30,8 +30,8 @@ UnlessWrong wrong x (Some found) = (wrong ≡ false) × (found ≡ x)
 abbrev pub wrong_last : Bool → List ℕ → List ℕ → Bool
 wrong_last with_tag tag last = if with_tag then not (is_tag tag) || is_wrong_id last else is_wrong_text last
 
-abbrev pub told_last : Bool → List ℕ → List ℕ → EchoText
-told_last with_tag tag last = if with_tag then bare tag last else echo_of last
+abbrev pub said_last : Bool → List ℕ → List ℕ → EchoText
+said_last with_tag tag last = if with_tag then bare tag last else echo_of last
 
 -- the first byte, the sender or a string is wrong; or what stands after the subject, too
 abbrev pub has_wrong_front : Version → Stored → Bool
@@ -58,11 +58,11 @@ abbrev pub Judges : Bool → Filed → Option (Key × Filed) → Type 0
 Judges wrong m None = wrong ≡ true
 Judges wrong m (Some found) = (wrong ≡ false) × (found.0 ≡ key_of m) × (found.1 ≡ m)
 
--- how a field that was not read is told, behind so many whole messages
-abbrev pub told_behind : Broken → ℕ → BaseFault
-told_behind broken.Cut messages = fault.Truncated messages
-told_behind broken.Device messages = fault.Read
-told_behind broken.Memory messages = fault.Memory
+-- the fault of a field that was not read, behind so many whole messages
+abbrev pub fault_behind : Broken → ℕ → BaseFault
+fault_behind broken.Cut messages = fault.Truncated messages
+fault_behind broken.Device messages = fault.Read
+fault_behind broken.Memory messages = fault.Memory
 
 -- the version that the bytes are the beginning of, or why they are none
 abbrev pub IsVersion : List ℕ → Result Version BaseFault → Type 0
@@ -75,21 +75,21 @@ IsVersion front (Err _) = ⊥
 abbrev pub IsUnfinished : List ℕ → Type 0
 IsUnfinished came = (length came < 8) ⊎ ((n : ℕ) × BaseFaultOf came (fault.Truncated n))
 
--- the fault of these bytes, or that the device failed, or want of memory
+-- the fault of these bytes, or that the device failed, or out of memory
 abbrev pub LoadFault : List ℕ → BaseFault → Type 0
 LoadFault bytes fault.Read = Unit {0}
 LoadFault bytes fault.Memory = Unit {0}
-LoadFault bytes told = BaseFaultOf bytes told
+LoadFault bytes answered = BaseFaultOf bytes answered
 
 -- why no base was read: a fault of the bytes, and where the device failed, what came before
-pub record FailsToLoad (old new : Option (List ℕ)) (told : BaseFault) : Type 0 where
-  pub wrong : IfSome old (λ bytes. LoadFault bytes told)
-  pub inside : told ≡ fault.Read → Came old new IsUnfinished
+pub record FailsToLoad (old new : Option (List ℕ)) (answered : BaseFault) : Type 0 where
+  pub wrong : IfSome old (λ bytes. LoadFault bytes answered)
+  pub inside : answered ≡ fault.Read → Came old new IsUnfinished
 
 -- the first bytes of a version were taken
 abbrev pub ReadsVersion : Option (List ℕ) → Option (List ℕ) → Result Version BaseFault → Type 0
 ReadsVersion old new (Ok version) = Consumes old new (magic version)
-ReadsVersion old new (Err told) = FailsToLoad old new told
+ReadsVersion old new (Err answered) = FailsToLoad old new answered
 
 -- the head of a base file was taken
 pub record TakesHead (head : Head) (old new : Option (List ℕ)) : Type 0 where
@@ -99,7 +99,7 @@ pub record TakesHead (head : Head) (old new : Option (List ℕ)) : Type 0 where
 
 abbrev pub ReadsHead : Option (List ℕ) → Option (List ℕ) → Result Head BaseFault → Type 0
 ReadsHead old new (Ok head) = TakesHead head old new
-ReadsHead old new (Err told) = FailsToLoad old new told
+ReadsHead old new (Err answered) = FailsToLoad old new answered
 
 -- a message came that may stand next, and was put at the end
 pub record TakesNextStored (version : Version) (cursor : ℕ) (base base' : List Filed) (old new : Option (List ℕ)) : Type 0 where
@@ -136,12 +136,12 @@ pub record TakesAll (head : Head) (base : Base) (old new : Option (List ℕ)) : 
 
 -- why they were not: these messages came, and then one that was cut or is damaged
 abbrev pub FailsBehindHead : Head → Option (List ℕ) → Option (List ℕ) → BaseFault → Type 0
-FailsBehindHead head old new told =
-    (old' : Option (List ℕ)) → Consumes old' old (head_bytes head.version head.cursor head.number) → head.number < 2 ^ 32 → head.cursor ≤ head.number → FailsToLoad old' new told
+FailsBehindHead head old new answered =
+    (old' : Option (List ℕ)) → Consumes old' old (head_bytes head.version head.cursor head.number) → head.number < 2 ^ 32 → head.cursor ≤ head.number → FailsToLoad old' new answered
 
 abbrev pub TakesMessages : {A : Type 0} → Head → Base → Option (List ℕ) → Option (List ℕ) → Result A BaseFault → Type 0
 TakesMessages head base old new (Ok _) = TakesAll head base old new
-TakesMessages head base old new (Err told) = FailsBehindHead head old new told
+TakesMessages head base old new (Err answered) = FailsBehindHead head old new answered
 
 -- just the bytes of this base were taken
 abbrev pub TakesBase : List Filed → ℕ → Option (List ℕ) → Option (List ℕ) → Type 0
@@ -158,4 +158,4 @@ abbrev pub AnswersLoad : Result Base BaseFault → Result Loaded BaseFault → T
 AnswersLoad (Ok base) other = (n : ℕ) × (other ≡ Ok (base.messages, base.cursor, n))
 AnswersLoad (Err fault.Read) other = Unit {0}
 AnswersLoad (Err fault.Memory) other = Unit {0}
-AnswersLoad (Err told) other = other ≡ Err told
+AnswersLoad (Err answered) other = other ≡ Err answered

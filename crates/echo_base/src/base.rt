@@ -10,9 +10,10 @@ mod loading;
 mod saving;
 
 use crate::purging::{lines_left, put_stubs};
+use crate::tags::Tags;
 use echo_filed::{Filed, Key, by_id};
+use indexmap::IndexMap;
 use indexmap::map::Entry;
-use indexmap::{IndexMap, IndexSet};
 use std::alloc::{AllocError, Global};
 use std::hash::BuildHasher;
 use std::marker::Model;
@@ -23,14 +24,13 @@ use std::marker::Model;
 pub struct Base<S: BuildHasher> {
     entries: IndexMap<Key, Filed, S>,
     // Each tag of a message, once.
-    tags: IndexSet<Vec<u8>>,
+    tags: Tags,
     cursor: usize,
     // So many messages from the front are known to be stubs.
     purged: usize,
 }
 
 impl<S: BuildHasher> Model for Base<S> {
-    ghost use Rattle.std.specs.Prelude.{map};
     ghost use Rattle.std.specs.Map.{values_of};
     ghost use Rattle.echo_base.specs.Base as model;
     ghost use Rattle.echo_base.specs.Entries.{AreEntries};
@@ -39,7 +39,7 @@ impl<S: BuildHasher> Model for Base<S> {
 
     ghost view = { λ b. record { messages = values_of b.entries.entries; cursor = b.cursor } };
 
-    ghost invariant = { λ b. AreEntries b.entries.entries (map (λ tag. tag.items) b.tags.keys) b.cursor b.purged };
+    ghost invariant = { λ b. AreEntries b.entries.entries b.tags b.cursor b.purged };
 }
 
 impl<S: BuildHasher> Base<S> {
@@ -50,7 +50,7 @@ impl<S: BuildHasher> Base<S> {
     {
         Base {
             entries: IndexMap::with_hasher(alloc, hasher),
-            tags: IndexSet::new(alloc),
+            tags: Tags::new(alloc),
             cursor: 0,
             purged: 0,
         }
@@ -182,18 +182,19 @@ fn push_new<S: BuildHasher>(
 // last one is looked at first.
 fn keep_tag<S: BuildHasher>(
     entries: &IndexMap<Key, Filed, S>,
-    tags: &mut IndexSet<Vec<u8>>,
+    tags: &mut Tags,
     tag: &[u8],
 ) -> Result<(), AllocError>
-    requires own { AllByRecursion (HasTagIn (map (λ t. t.items) tags.old.keys)) (values_of entries.now.entries) }
-    ensures found { OnOk result (list_any (bytes_eq tag.now) (map (λ t. t.items) tags.new.keys) ≡ true) }
-    ensures kept { (other : List ℕ) → list_any (bytes_eq other) (map (λ t. t.items) tags.old.keys) ≡ true
-        → list_any (bytes_eq other) (map (λ t. t.items) tags.new.keys) ≡ true }
+    requires own { AllByRecursion (HasTagIn tags.old) (values_of entries.now.entries) }
+    ensures found { OnOk result (list_any (bytes_eq tag.now) tags.new ≡ true) }
+    ensures kept { (other : List ℕ) → list_any (bytes_eq other) tags.old ≡ true
+        → list_any (bytes_eq other) tags.new ≡ true }
 {
     if is_tag_of_last(entries, tag) {
         return Ok(());
     }
-    note_tag(tags, tag)
+    let alloc = *entries.allocator();
+    tags.note(alloc, tag)
 }
 
 // Whether the last message has the tag.
@@ -204,18 +205,4 @@ fn is_tag_of_last<S: BuildHasher>(entries: &IndexMap<Key, Filed, S>, tag: &[u8])
         Some((_, last)) => last.echo.tag.as_slice() == tag,
         None => false,
     }
-}
-
-// Puts the tag among the tags, if it is not there.
-fn note_tag(tags: &mut IndexSet<Vec<u8>>, tag: &[u8]) -> Result<(), AllocError>
-    ensures found { OnOk result (list_any (bytes_eq tag.now) (map (λ t. t.items) tags.new.keys) ≡ true) }
-    ensures kept { (other : List ℕ) → list_any (bytes_eq other) (map (λ t. t.items) tags.old.keys) ≡ true
-        → list_any (bytes_eq other) (map (λ t. t.items) tags.new.keys) ≡ true }
-{
-    if tags.contains(tag) {
-        return Ok(());
-    }
-    let tag = Vec::from_slice(*tags.allocator(), tag)?;
-    tags.insert(tag)?;
-    Ok(())
 }

@@ -10,7 +10,7 @@ ghost use Rattle.echo_filed.specs.Filed.{key_of};
 ghost use Rattle.echo_filed.specs.Stubs.{bare};
 ghost use Rattle.echo_filed.specs.Stored.{IsStored, is_posted, message_in};
 ghost use Rattle.echo_base.specs.BaseFile.{has_wrong_last, has_wrong_sender, has_wrong_string, is_damaged, is_no_string, is_other_kind, is_wrong_id, is_wrong_text};
-ghost use Rattle.echo_base.specs.Loading.{IsShortOnceScanned, Judges, UnlessWrong, has_wrong_field, has_wrong_front, is_wrong, told_last, wrong_form, wrong_last};
+ghost use Rattle.echo_base.specs.Loading.{IsShortOnceScanned, Judges, UnlessWrong, has_wrong_field, has_wrong_front, is_wrong, said_last, wrong_form, wrong_last};
 
 use echo_addr::{Address, Items};
 use echo_filed::{Filed, Key, StoredMessage, Version, has_tag, is_short, lines_of_id};
@@ -123,7 +123,7 @@ fn echo_in(
     tag: Items<u8>,
     last: &[u8],
 ) -> Result<Option<Echo>, AllocError>
-    ensures { IfOk result (UnlessWrong (wrong_last with_tag tag last.now) (told_last with_tag tag last.now)) }
+    ensures { IfOk result (UnlessWrong (wrong_last with_tag tag last.now) (said_last with_tag tag last.now)) }
 {
     if with_tag {
         bare(alloc, tag, last)

@@ -1,5 +1,5 @@
 -- What a clause reads of a `Watched`.
-use Rattle.std.specs.Prelude.{ℕ}
+use Rattle.std.specs.Prelude.{ℕ, Bool}
 use Rattle.echo_device.specs.declared.watched.Watched.{Watched}
 
 -- the reader or the writer
@@ -9,3 +9,7 @@ watched_device w = w.device
 -- how often it failed
 abbrev pub watched_failures : {D : Type 0} → Watched D → ℕ
 watched_failures w = w.failures
+
+-- whether bytes may be held back that were not passed on
+abbrev pub watched_holds : {D : Type 0} → Watched D → Bool
+watched_holds w = w.holds

@@ -1,5 +1,5 @@
 //! Writers that count their failures.
-ghost use Rattle.std.specs.Prelude.{◌≡◌, ℕ, ◌<◌, length, IfOk, OnOk, OnErr};
+ghost use Rattle.std.specs.Prelude.{◌≡◌, ℕ, ◌<◌, Bool, false, length, IfOk, OnOk, OnErr};
 ghost use Rattle.std.specs.Io.{WritesAtMost};
 ghost use Rattle.std.specs.Io.KnownBytes.{Keeps, WriteAppends};
 ghost use Rattle.echo_device.specs.Device.{Failed, Sends};
@@ -15,6 +15,9 @@ pub trait Sink: Write {
     // How often the device failed: a count that stays at 2^64 - 1.
     ghost failures: { Self → ℕ };
 
+    // Whether bytes may be held back that were not passed on.
+    ghost holds: { Self → Bool };
+
     /// Writes some bytes from the front of `buf`: none only where `buf` is empty.
     fn write_some(&mut self, buf: &[u8]) -> Result<usize, Failure>
         ensures bound { WritesAtMost result buf.now }
@@ -26,12 +29,15 @@ pub trait Sink: Write {
     /// Passes on what the writer still holds back.
     fn flush_all(&mut self) -> Result<(), Failure>
         ensures bytes { Keeps (Self.contents self.old) (Self.contents self.new) }
+        ensures passed { OnOk result (holds self.new ≡ false) }
         ensures ok { OnOk result (failures self.new ≡ failures self.old) }
         ensures err { OnErr result (Failed (failures self.old) (failures self.new)) };
 }
 
 impl<S: Sink> Sink for &mut S {
     ghost failures = { λ sink. S.failures sink.now };
+
+    ghost holds = { λ sink. S.holds sink.now };
 
     fn write_some(&mut self, buf: &[u8]) -> Result<usize, Failure> {
         Sink::write_some(&mut **self, buf)

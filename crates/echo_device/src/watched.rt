@@ -1,10 +1,10 @@
 //! A source or a sink of any reader or writer.
-ghost use Rattle.std.specs.Prelude.{◌≡◌, ◌≢◌, ◌↔◌, ◌+◌, ◌<◌, [], length, IsTrue, IfOk, OnOk, IfErr, OnErr};
+ghost use Rattle.std.specs.Prelude.{◌≡◌, ◌≢◌, ◌↔◌, ◌+◌, ◌<◌, [], false, length, IsTrue, IfOk, OnOk, IfErr, OnErr};
 ghost use Rattle.std.specs.Io.{ReadsAtMost, WritesAtMost};
 ghost use Rattle.std.specs.Io.KnownBytes.{Keeps, ReadConsumes, WriteAppends};
 ghost use Rattle.std.specs.IoError.{error_kind};
 ghost use Rattle.echo_device.specs.Device.{Failed, counted};
-ghost use Rattle.echo_device.specs.Watched.{watched_device, watched_failures};
+ghost use Rattle.echo_device.specs.Watched.{watched_device, watched_failures, watched_holds};
 
 use crate::failure::Failure;
 use crate::sink::Sink;
@@ -23,6 +23,8 @@ const TRIES: u32 = 16;
 pub struct Watched<D> {
     device: D,
     failures: u64,
+    // Whether bytes were written since the last flush.
+    holds: bool,
 }
 
 impl<D> Watched<D> {
@@ -30,10 +32,12 @@ impl<D> Watched<D> {
     pub fn new(device: D) -> Watched<D>
         ensures device { watched_device result ≡ device }
         ensures failures { watched_failures result ≡ 0 }
+        ensures holds { watched_holds result ≡ false }
     {
         Watched {
             device,
             failures: 0,
+            holds: false,
         }
     }
 
@@ -165,6 +169,7 @@ impl<D: Write> Write for Watched<D> {
         ensures err { OnErr result (Failed (watched_failures self.old) (watched_failures self.new)) }
         ensures kind { IfErr result (λ error. error_kind error ≢ ErrorKind.Interrupted) }
     {
+        self.holds = true;
         let result = write_retrying(&mut self.device, buf);
         count_error(&mut self.failures, &result);
         result
@@ -172,12 +177,14 @@ impl<D: Write> Write for Watched<D> {
 
     fn flush(&mut self) -> io::Result<()>
         ensures bytes { Keeps (D.contents (watched_device self.old)) (D.contents (watched_device self.new)) }
+        ensures passed { OnOk result (watched_holds self.new ≡ false) }
         ensures ok { OnOk result (watched_failures self.new ≡ watched_failures self.old) }
         ensures once { OnErr result (watched_failures self.new ≡ counted (watched_failures self.old + 1)) }
         ensures err { OnErr result (Failed (watched_failures self.old) (watched_failures self.new)) }
         ensures kind { IfErr result (λ error. error_kind error ≢ ErrorKind.Interrupted) }
     {
         let result = flush_retrying(&mut self.device);
+        self.holds = self.holds && result.is_err();
         count_error(&mut self.failures, &result);
         result
     }
@@ -201,6 +208,8 @@ impl<D: Read> Source for Watched<D> {
 
 impl<D: Write> Sink for Watched<D> {
     ghost failures = { watched_failures };
+
+    ghost holds = { watched_holds };
 
     fn write_some(&mut self, buf: &[u8]) -> Result<usize, Failure> {
         Write::write(self, buf).map_err(|_| Failure)

@@ -1,13 +1,11 @@
 -- What a purge leaves of a message that it changes.
-use Rattle.std.proofs.Common.{◌≡◌, ℕ, ◌==◌, ◌&&◌, length, arith, true, false, List, [], ◌∷◌, Option, Some, None, refl, sym, ap, ◌∙◌}
-use Rattle.std.specs.Prelude.{bytes_eq, option_copied, unwrap_or}
+use Rattle.std.proofs.Common.{◌≡◌, ℕ, false, List, [], ◌∷◌, Option, Some, None, refl, sym, ap, ◌∙◌}
+use Rattle.std.specs.Prelude.{option_copied, unwrap_or}
 use Rattle.std.specs.Borrow.{Bor}
-use Rattle.std.specs.Cmp.Lexicographic.{pointwise}
-use Rattle.std.proofs.lemmas.Bool.{and_parts, eqb-true, true≢false}
+use Rattle.std.proofs.lemmas.Bool.{true≢false}
 use Rattle.echo_text.specs.Lines.{msgid_word}
 use Rattle.echo_text.specs.Echo.{msgid_of}
 use Rattle.echo_filed.specs.Filed.{Filed, id_line}
-use Rattle.echo_filed.proofs.Keys.{lines_decide}
 use Rattle.echo_filed.specs.Stubs.{is_stub, is_stub_with, stub_of, stub_with}
 
 -- the test of a message, where its id is told
@@ -45,32 +43,6 @@ pub left_line : (m : Filed) (has : Option (List ℕ)) → has ≡ msgid_of m.ech
 unfolding is_stub stub_of
 left_line m has told h =
     ap (λ o. id_line msgid_word (unwrap_or o []) ∷ []) told ∙ line_with m (msgid_of m.echo.kept) h
-
-no_items : {X : Type 0} (xs : List X) → (length xs == 0) ≡ true → xs ≡ []
-no_items [] h = refl
-no_items (x ∷ xs) h = let none : length (x ∷ xs) ≡ 0 = eqb-true (length (x ∷ xs)) 0 h in absurd (omega arith)
-
-kept_with : (m : Filed) (has : Option (List ℕ)) → is_stub_with m has ≡ true → stub_with m has ≡ m
-kept_with m None h = refl
-kept_with m (Some id) h =
-    let parts = and_parts (pointwise bytes_eq m.echo.kept (id_line msgid_word id ∷ [])) ((length m.echo.seen == 0) && (length m.echo.path == 0)) h in
-    let rest = and_parts (length m.echo.seen == 0) (length m.echo.path == 0) parts.1 in
-    let kept = (lines_decide m.echo.kept (id_line msgid_word id ∷ [])).0 parts.0 in
-    let seen = no_items m.echo.seen rest.0 in
-    let path = no_items m.echo.path rest.1 in
-    λ i. record {
-      sender = m.sender;
-      date = m.date;
-      to_name = m.to_name;
-      from_name = m.from_name;
-      subject = m.subject;
-      echo = record { tag = m.echo.tag; kept = sym kept i; seen = sym seen i; path = sym path i };
-    }
-
--- a message that is a stub is left as it is
-pub stays : (m : Filed) → is_stub m ≡ true → stub_of m ≡ m
-unfolding is_stub stub_of
-stays m h = kept_with m (msgid_of m.echo.kept) h
 
 -- the bytes of what is found, or else the empty ones
 pub copied_or : (o : Option (Bor (List ℕ))) (d : Bor (List ℕ)) → (unwrap_or o d).now ≡ unwrap_or (option_copied o) d.now

@@ -59,7 +59,7 @@ HasLength n s = length s ≡ n
 abbrev pub itself : List ℕ → List ℕ
 itself s = s
 
--- a string whose length one byte tells, or four bytes
+-- a string whose length one byte gives, or four bytes
 abbrev pub IsShortString : List ℕ → Type 0
 IsShortString s = IsByte (length s)
 

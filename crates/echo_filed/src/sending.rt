@@ -204,7 +204,7 @@ pub fn send_message<W: Sink>(
     }
 }
 
-// Whether so little is written for the echo that four bytes count it, told without writing it.
+// Whether so little is written for the echo that four bytes count it, found without writing it.
 fn is_little(echo: &Echo) -> bool
     ensures { IsTrue result → length (text_of echo.now) < 2 ^ 32 }
 {

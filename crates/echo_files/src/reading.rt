@@ -40,6 +40,15 @@ pub fn read_file_if_there<R: Files>(
     }
 }
 
+/// Opens the file with this path, where it is a regular one. A folder or a pipe is a fault at once.
+pub fn open_regular<R: Files>(files: &R, path: &str) -> Result<R::File, InputFault> {
+    match fs::metadata(files, path) {
+        Ok(found) if found.is_file() => fs::open(files, path).map_err(|error| input_fault(&error)),
+        Ok(_) => Err(InputFault::Device),
+        Err(error) => Err(input_fault(&error)),
+    }
+}
+
 // The bytes of an open file. It keeps no more room than they take.
 fn read_open<F: Read + Drop>(alloc: Global, file: F, most: usize) -> Result<Vec<u8>, InputFault>
     ensures bounded { IfOk result (λ bytes. length bytes.items ≤ most) }

@@ -13,6 +13,21 @@ const NEW: &[u8] = b"new of ten";
 /// More calls than any of these functions makes.
 const CALLS: u64 = 16;
 
+/// The files beside, for the system 1:10/2.
+const BESIDE_BASE: &str = "base.~1.10.2~.new";
+
+const BESIDE_PACKET: &str = "a.pkt.~1.10.2~.new";
+
+/// What is to be written there by that system.
+fn new_at(path: &str) -> NewFile<'_> {
+    NewFile {
+        path,
+        own: "1.10.2",
+        bytes: NEW,
+        known_by: 7,
+    }
+}
+
 /// A state whose calls from one number up to another fail, with these files.
 fn state(
     alloc: Global,
@@ -96,23 +111,48 @@ fn reads_files(rt: HostRuntime) -> Result<(), Fail> {
 #[test]
 fn replaces_and_creates(rt: HostRuntime) -> Result<(), Fail> {
     let alloc = rt.alloc();
-    let state = state(
-        alloc,
-        (CALLS, CALLS),
-        &[("base", b"old"), ("base.new", b"left by a stopped run")],
-    )?;
+    let state = state(alloc, (CALLS, CALLS), &[("base", b"old")])?;
     let disk = Disk::new(&state);
-    assert_eq!(rt; replace_file(alloc, &disk, "base", NEW), Ok(()));
-    assert!(rt; holds(&state, "base", Some(NEW))? && holds(&state, "base.new", None)?);
-    assert_eq!(rt; replace_file(alloc, &disk, "other", NEW), Ok(()));
-    assert!(rt; holds(&state, "other", Some(NEW))? && holds(&state, "other.new", None)?);
-    assert_eq!(rt; create_file(alloc, &disk, "a.pkt", NEW), Ok(()));
-    assert!(rt; holds(&state, "a.pkt", Some(NEW))? && holds(&state, "a.pkt.new", None)?);
-    assert_eq!(rt;
-        create_file(alloc, &disk, "base", b"x"),
-        Err(OutputFault::Device)
-    );
-    assert!(rt; holds(&state, "base", Some(NEW))? && holds(&state, "base.new", None)?);
+    assert_eq!(rt; replace_file(alloc, &disk, new_at("base")), Ok(()));
+    assert!(rt; holds(&state, "base", Some(NEW))? && holds(&state, BESIDE_BASE, None)?);
+    assert_eq!(rt; replace_file(alloc, &disk, new_at("other")), Ok(()));
+    assert!(rt; holds(&state, "other", Some(NEW))?);
+    assert_eq!(rt; create_file(alloc, &disk, new_at("a.pkt")), Ok(()));
+    assert!(rt; holds(&state, "a.pkt", Some(NEW))? && holds(&state, BESIDE_PACKET, None)?);
+    Ok(())
+}
+
+/// A packet whose name is taken is a fault, and what has the name stays.
+#[test]
+fn never_replaces_a_packet(rt: HostRuntime) -> Result<(), Fail> {
+    let alloc = rt.alloc();
+    let state = state(alloc, (CALLS, CALLS), &[("a.pkt", b"of another")])?;
+    let answer = create_file(alloc, &Disk::new(&state), new_at("a.pkt"));
+    assert_eq!(rt; answer, Err(OutputFault::Device));
+    assert!(rt; holds(&state, "a.pkt", Some(b"of another"))?);
+    assert!(rt; holds(&state, BESIDE_PACKET, None)?);
+    Ok(())
+}
+
+/// Beside a file, what a stopped run left is removed, and nothing else is.
+#[test]
+fn removes_what_a_stopped_run_left(rt: HostRuntime) -> Result<(), Fail> {
+    let alloc = rt.alloc();
+    for (left, goes) in [
+        ("", true),
+        ("new", true),
+        ("new of 9", true),
+        ("new!", false),
+    ] {
+        let left = left.as_bytes();
+        let state = state(alloc, (CALLS, CALLS), &[(BESIDE_BASE, left)])?;
+        let answer = replace_file(alloc, &Disk::new(&state), new_at("base"));
+        if answer != Err(OutputFault::Memory) {
+            assert!(rt; answer.is_ok() == goes);
+            assert!(rt; holds(&state, BESIDE_BASE, Some(left))? != goes);
+            assert!(rt; holds(&state, "base", Some(NEW))? == goes);
+        }
+    }
     Ok(())
 }
 
@@ -122,7 +162,7 @@ fn replaced(
     fails: (u64, u64),
 ) -> Result<(Result<(), OutputFault>, RefCell<State>), Fail> {
     let state = state(alloc, fails, &[("base", b"old")])?;
-    let answer = replace_file(alloc, &Disk::new(&state), "base", NEW);
+    let answer = replace_file(alloc, &Disk::new(&state), new_at("base"));
     Ok((answer, state))
 }
 
@@ -132,43 +172,42 @@ fn created(
     fails: (u64, u64),
 ) -> Result<(Result<(), OutputFault>, RefCell<State>), Fail> {
     let state = state(alloc, fails, &[("base", b"old")])?;
-    let answer = create_file(alloc, &Disk::new(&state), "a.pkt", NEW);
+    let answer = create_file(alloc, &Disk::new(&state), new_at("a.pkt"));
     Ok((answer, state))
 }
 
 /// Where one call fails, the old base stays and nothing is left beside it. The calls are: what the path
-/// is, its permissions, removing a leftover, making the file, its permissions, three writes, flushing it,
-/// renaming. Only that there is no leftover to remove is no fault.
+/// is, what has it, opening that for writing, opening the folder, making the file, its owner, its
+/// permissions, three writes, flushing it, renaming, flushing the folder. That the owner can't be set is
+/// no fault; where the folder is not flushed the new base stands.
 #[test]
 fn one_call_fails(rt: HostRuntime) -> Result<(), Fail> {
     let alloc = rt.alloc();
     for call in 0..CALLS {
         let (answer, state) = replaced(alloc, (call, call + 1))?;
-        assert!(rt; answer.is_err() == (call < 10 && call != 2), "call {call}");
-        let bytes = match answer {
-            Ok(()) => NEW,
-            Err(_) => b"old".as_slice(),
+        assert!(rt; answer.is_err() == (call < 13 && call != 5), "call {call}");
+        let bytes = if call < 12 && call != 5 {
+            b"old".as_slice()
+        } else {
+            NEW
         };
         assert!(rt; holds(&state, "base", Some(bytes))?, "call {call}");
-        assert!(rt; holds(&state, "base.new", None)?, "call {call}");
+        assert!(rt; holds(&state, BESIDE_BASE, None)?, "call {call}");
     }
     Ok(())
 }
 
-/// The same for a new packet: removing a leftover, making the file, three writes, flushing it, looking
-/// for its name, renaming.
+/// The same for a new packet: making the file, three writes, flushing it, linking, removing the name
+/// beside. Where that fails the packet stands.
 #[test]
 fn one_call_fails_at_a_packet(rt: HostRuntime) -> Result<(), Fail> {
     let alloc = rt.alloc();
     for call in 0..CALLS {
         let (answer, state) = created(alloc, (call, call + 1))?;
-        assert!(rt; answer.is_err() == (0 < call && call < 8), "call {call}");
-        let bytes = match answer {
-            Ok(()) => Some(NEW),
-            Err(_) => None,
-        };
+        assert!(rt; answer.is_err() == (call < 7), "call {call}");
+        let bytes = if call < 6 { None } else { Some(NEW) };
         assert!(rt; holds(&state, "a.pkt", bytes)?, "call {call}");
-        assert!(rt; holds(&state, "a.pkt.new", None)?, "call {call}");
+        assert!(rt; holds(&state, BESIDE_PACKET, None)?, "call {call}");
     }
     Ok(())
 }
@@ -179,15 +218,33 @@ fn one_call_fails_at_a_packet(rt: HostRuntime) -> Result<(), Fail> {
 fn stops_at_a_call(rt: HostRuntime) -> Result<(), Fail> {
     let alloc = rt.alloc();
     for call in 0..CALLS {
-        let (answer, state) = replaced(alloc, (call, u64::MAX))?;
+        let (_, state) = replaced(alloc, (call, u64::MAX))?;
         let old = holds(&state, "base", Some(b"old"))?;
-        assert!(rt; old == answer.is_err(), "call {call}");
+        assert!(rt; old == (call < 12), "call {call}");
         assert!(rt; old || holds(&state, "base", Some(NEW))?, "call {call}");
-        let (answer, state) = created(alloc, (call, u64::MAX))?;
+        let (_, state) = created(alloc, (call, u64::MAX))?;
         let none = holds(&state, "a.pkt", None)?;
-        assert!(rt; none == answer.is_err(), "call {call}");
+        assert!(rt; none == (call < 6), "call {call}");
         assert!(rt; none || holds(&state, "a.pkt", Some(NEW))?, "call {call}");
     }
+    Ok(())
+}
+
+/// The call that flushed the folder last.
+fn flushed_at(state: &RefCell<State>) -> Result<Option<u64>, Fail> {
+    let state = state.try_borrow().map_err(|_| Fail::from("borrowed"))?;
+    Ok(state.flushed_at)
+}
+
+/// The folder is flushed after the new base got its name, and where that is asked for.
+#[test]
+fn folders_are_flushed(rt: HostRuntime) -> Result<(), Fail> {
+    let alloc = rt.alloc();
+    let (answer, state) = replaced(alloc, (CALLS, CALLS))?;
+    assert_eq!(rt; answer, Ok(()));
+    assert_eq!(rt; flushed_at(&state)?, Some(13));
+    assert_eq!(rt; flush_folder(&Disk::new(&state), "."), Ok(()));
+    assert_eq!(rt; flushed_at(&state)?, Some(15));
     Ok(())
 }
 

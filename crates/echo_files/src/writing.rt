@@ -1,16 +1,18 @@
-//! Files that are written whole: the bytes go to a file beside it, whose name ends in `.new`, are flushed
-//! to the disk, and take the name at once. Where a step fails the file beside it is removed, and what had
-//! the name stays as it was.
-ghost use Rattle.std.specs.Prelude.{◌≡◌, IfErr, OnOk};
+//! Files that are written whole: the bytes go to a file beside it (`beside`), are flushed to the disk, and
+//! take the name at once. Where a step fails the file beside it is removed, and what had the name stays
+//! as it was.
+ghost use Rattle.std.specs.Prelude.{◌≡◌, take, IfErr, OnOk};
 ghost use Rattle.std.specs.Io.KnownBytes.{Appends};
 ghost use Rattle.echo_device.specs.Device.{Failed};
 ghost use Rattle.echo_files.specs.declared.writing.OutputFault.TheVariants.{Device, Memory};
 
+use crate::beside::{Access, access_of, give_access, make_beside, name_beside};
+use crate::owned::Owned;
 use crate::reading::is_missing;
 use echo_device::{Failure, Sink, Watched, send};
 use std::alloc::{AllocError, Global};
-use std::fs::{OpenFile, Permissions};
-use std::io::ErrorKind;
+use std::fs::OpenFile;
+use std::io::{ErrorKind, Write};
 use std::rt::Files;
 use std::{fs, io};
 
@@ -20,6 +22,17 @@ pub enum OutputFault {
     /// The file system failed, or something has the name of a file that was to be new.
     Device,
     Memory,
+}
+
+/// A file that is to be written: its path, its bytes, and how many of these show that a file is one of
+/// its kind. The address of the system that writes it, as `1.10.2`, stands in the name of the file beside
+/// it, so that no other system writes that one.
+#[derive(Clone, Copy)]
+pub struct NewFile<'a> {
+    pub path: &'a str,
+    pub own: &'a str,
+    pub bytes: &'a [u8],
+    pub known_by: usize,
 }
 
 impl From<AllocError> for OutputFault {
@@ -47,75 +60,95 @@ impl From<io::Error> for OutputFault {
     }
 }
 
-/// Puts the bytes in place of those of the file with this path, or makes the file. It keeps its
-/// permissions. Where the path is a symbolic link, the file that it leads to is replaced.
-pub fn replace_file<R: Files>(
-    alloc: Global,
-    files: &R,
-    path: &str,
-    bytes: &[u8],
-) -> Result<(), OutputFault> {
-    let target = target_of(alloc, files, path)?;
-    let permissions = permissions_of(files, target.as_str())?;
-    let beside = name_beside(alloc, target.as_str())?;
-    let done = write_over(files, beside.as_str(), target.as_str(), permissions, bytes);
+/// Puts the bytes in place of those of the file with this path, or makes the file, and flushes its folder
+/// to the disk. It keeps its permissions, and its owner where that is allowed. A file that may not be
+/// written is a fault. Where the path is a symbolic link, the file that it leads to is replaced.
+pub fn replace_file<R: Files>(alloc: Global, files: &R, new: NewFile<'_>) -> Result<(), OutputFault>
+where
+    R::File: Owned,
+{
+    let target = target_of(alloc, files, new.path)?;
+    let access = access_of(files, target.as_str())?;
+    let folder = fs::open(files, folder_of(target.as_str()))?;
+    let beside = name_beside(alloc, target.as_str(), new.own)?;
+    let file = make_beside(
+        alloc,
+        files,
+        beside.as_str(),
+        start_of(new.bytes, new.known_by),
+    )?;
+    let done = match write_flushed(file, access, new.bytes) {
+        Ok(()) => give_name(files, beside.as_str(), target.as_str()),
+        failed => failed,
+    };
+    tidied(files, beside.as_str(), done)?;
+    folder.sync_all()?;
+    Ok(())
+}
+
+/// Makes a file of these bytes. That something has the path already is a fault, and that stays. The
+/// folder is flushed by `flush_folder` alone, once for many files.
+pub fn create_file<R: Files>(alloc: Global, files: &R, new: NewFile<'_>) -> Result<(), OutputFault>
+where
+    R::File: Owned,
+{
+    let beside = name_beside(alloc, new.path, new.own)?;
+    let file = make_beside(
+        alloc,
+        files,
+        beside.as_str(),
+        start_of(new.bytes, new.known_by),
+    )?;
+    let done = match write_flushed(file, None, new.bytes) {
+        Ok(()) => give_new_name(files, beside.as_str(), new.path),
+        failed => failed,
+    };
     tidied(files, beside.as_str(), done)
 }
 
-/// Makes a file of these bytes. That something has the path already is a fault.
-pub fn create_file<R: Files>(
-    alloc: Global,
-    files: &R,
-    path: &str,
-    bytes: &[u8],
-) -> Result<(), OutputFault> {
-    let beside = name_beside(alloc, path)?;
-    let done = write_new(files, beside.as_str(), path, bytes);
-    tidied(files, beside.as_str(), done)
+/// Flushes a folder to the disk, so that a power cut takes none of its names away.
+pub fn flush_folder<R: Files>(files: &R, folder: &str) -> Result<(), OutputFault> {
+    fs::open(files, folder)?.sync_all()?;
+    Ok(())
 }
 
-// Writes the file beside it, and gives it the name.
-fn write_over<R: Files>(
-    files: &R,
-    beside: &str,
-    target: &str,
-    permissions: Option<Permissions>,
-    bytes: &[u8],
-) -> Result<(), OutputFault> {
-    write_flushed(files, beside, permissions, bytes)?;
+// The bytes by which a file of its kind is known.
+fn start_of(bytes: &[u8], known_by: usize) -> &[u8]
+    ensures { result.now ≡ take known_by bytes.now }
+{
+    &bytes[..known_by.min(bytes.len())]
+}
+
+// The folder of the file with this path.
+fn folder_of(path: &str) -> &str {
+    match path.rsplit_once('/') {
+        Some(("", _)) => "/",
+        Some((folder, _)) => folder,
+        None => ".",
+    }
+}
+
+// Gives the file beside it the name of the file that it replaces.
+fn give_name<R: Files>(files: &R, beside: &str, target: &str) -> Result<(), OutputFault> {
     fs::rename(files, beside, target)?;
     Ok(())
 }
 
-// The same, where nothing has the name.
-fn write_new<R: Files>(
-    files: &R,
-    beside: &str,
-    path: &str,
-    bytes: &[u8],
-) -> Result<(), OutputFault> {
-    write_flushed(files, beside, None, bytes)?;
-    match fs::symlink_metadata(files, path) {
-        Ok(_) => Err(OutputFault::Device),
-        Err(error) if is_missing(&error) => {
-            fs::rename(files, beside, path)?;
-            Ok(())
-        }
-        Err(error) => Err(OutputFault::from(error)),
-    }
+// Gives the file beside it a name that nothing has.
+fn give_new_name<R: Files>(files: &R, beside: &str, path: &str) -> Result<(), OutputFault> {
+    fs::hard_link(files, beside, path)?;
+    fs::remove_file(files, beside)?;
+    Ok(())
 }
 
-// Writes a file anew, whatever a stopped run left of it, and flushes it to the disk.
-fn write_flushed<R: Files>(
-    files: &R,
-    path: &str,
-    permissions: Option<Permissions>,
+// Writes a file that was just made, and flushes it to the disk.
+fn write_flushed<F: Write + OpenFile + Owned + Drop>(
+    file: F,
+    access: Option<Access>,
     bytes: &[u8],
 ) -> Result<(), OutputFault> {
-    let _ = fs::remove_file(files, path);
-    let file = fs::create(files, path)?;
-    if let Some(permissions) = permissions {
-        file.set_permissions(permissions)?;
+    if let Some(access) = access {
+        give_access(&file, access)?;
     }
     let mut device = Watched::new(file);
     put_bytes(&mut device, bytes)?;
@@ -155,18 +188,4 @@ fn target_of<R: Files>(alloc: Global, files: &R, path: &str) -> Result<String, O
         Err(error) if is_missing(&error) => Ok(String::from_str(alloc, path)?),
         Err(error) => Err(OutputFault::from(error)),
     }
-}
-
-// The permissions of the file, if there is one.
-fn permissions_of<R: Files>(files: &R, path: &str) -> Result<Option<Permissions>, OutputFault> {
-    match fs::metadata(files, path) {
-        Ok(found) => Ok(Some(found.permissions())),
-        Err(error) if is_missing(&error) => Ok(None),
-        Err(error) => Err(OutputFault::from(error)),
-    }
-}
-
-// The name of the file beside it.
-fn name_beside(alloc: Global, path: &str) -> Result<String, AllocError> {
-    format!(in alloc; "{path}.new")
 }

@@ -22,3 +22,5 @@ pub mod ForestGrowth
 pub mod Parents
 pub mod GraphTests
 pub mod Siblings
+pub mod BlockWalks
+pub mod BlockTests

@@ -12,3 +12,4 @@ pub mod Descents
 pub mod Family
 pub mod Renaming
 pub mod Forest
+pub mod Blocks

@@ -37,7 +37,3 @@ pub record FirstOther (linked : ℕ → ℕ → Bool) (b a c : ℕ) : Type 0 whe
 pub record FirstHere (linked : ℕ → ℕ → Bool) (b a c : ℕ) : Type 0 where
   pub pinch : IsPinch linked b a c
   pub first : (d f : ℕ) → IsPinch linked b d f → (a < d) ⊎ ((a ≡ d) × ((c < f) ⊎ (c ≡ f)))
-
--- some link of b after a is not linked with it
-abbrev pub HasUnlinkedAfter : (ℕ → ℕ → Bool) → ℕ → ℕ → Type 0
-HasUnlinkedAfter linked b a = (c : ℕ) × IsTrue (linked b c) × (a < c) × ¬ IsTrue (linked a c)

@@ -8,8 +8,9 @@
 //!
 //! Modules in reading order: `laws`, `graph` (members and their rows of links), `sound` (what rows must
 //! be), `levels` (a search by levels), `reach`, `polygons` (the answer), `forest` and `kin` (the quick
-//! test whether links are parted), `pinching` (the slow search for where they are not), `ring` and
-//! `writing` (the cycle of such a place, and how it is written).
+//! test whether links are parted), `pinching` (where they are not), by `blocks`, `division` (what tests
+//! them), `depth` (what finds them) and `fullness`; `ring` and `writing` (the cycle of such a place, and
+//! how it is written).
 //!
 //! The definitions stand in specs/: `Walk` (walks, and what a graph is), `Cycle`, `Beyond` (what stands
 //! on every walk), `Family` (what a search by levels gives) and `Renaming`; `Rows` (a graph as rows of
@@ -27,7 +28,11 @@
 //! ```
 #![tactic(auto)]
 
+mod blocks;
+mod depth;
+mod division;
 mod forest;
+mod fullness;
 mod graph;
 mod kin;
 mod laws;

@@ -3,8 +3,11 @@
 ghost use Rattle.std.specs.Prelude.{◌≡◌, ◌≢◌, ◌<◌, ◌↔◌, ℕ, IsTrue, IfOk, MatchOption, None, length};
 ghost use Rattle.echo_graph.specs.Rows.{linked, IsGraph};
 ghost use Rattle.echo_graph.specs.Levels.{level_of, AreLevels};
-ghost use Rattle.echo_graph.specs.Pinches.{IsPinch, FirstPinch, FirstOther, FirstHere, HasUnlinkedAfter};
+ghost use Rattle.echo_graph.specs.Pinches.{IsPinch, FirstPinch, FirstOther, FirstHere};
+ghost use Rattle.echo_graph.specs.Blocks.{block_of, top_of, rank_of, full_of, AreBlocks, AreFull, HasUnlinkedAfter, IsCovered};
 
+use crate::blocks::Blocks;
+use crate::division::blocks;
 use crate::graph::Graph;
 use crate::levels::levels_around;
 use std::alloc::{AllocError, Global};
@@ -23,31 +26,47 @@ pub struct Pinch {
 /// The first pinch of the graph: the smallest member, and of its pinches the one with the smallest
 /// links. `None` exactly where the graph has none. Fails only when out of memory.
 ///
-/// For each member a search is made from each link that has a later one which it is not linked with, so
-/// this takes at most about the square of the links.
+/// A search is made only from a link that has a later one in its block at that member which it is not
+/// linked with. With the blocks that a search in depth finds it finds a pinch, so it is the only one.
 pub fn first_pinch(alloc: Global, graph: &Graph) -> Result<Option<Pinch>, AllocError>
     ensures sound { IsGraph graph.now }
     ensures first { IfOk result (λ found. MatchOption found
         ((b a c : ℕ) → ¬ IsPinch (linked graph.now) b a c)
         (λ pinch. FirstPinch (linked graph.now) pinch.at pinch.one pinch.other)) }
 {
-    'members: for at in 0..graph.len() {
-        if let Some(pinch) = first_pinch_at(alloc, graph, at)? {
+    let members = graph.len();
+    let blocks = blocks(alloc, graph)?;
+    'members: for at in 0..members {
+        if let Some(pinch) = first_pinch_at(alloc, graph, &blocks, at)? {
             return Ok(Some(pinch));
         }
     }
     Ok(None)
 }
 
-/// The first pinch at this member.
-fn first_pinch_at(alloc: Global, graph: &Graph, at: usize) -> Result<Option<Pinch>, AllocError>
-    requires { at < length graph.now }
+/// The first pinch at this member. Where one of its links before it covers its links in one block, these
+/// have none: it would be a pinch of that link too.
+fn first_pinch_at(
+    alloc: Global,
+    graph: &Graph,
+    blocks: &Blocks,
+    at: usize,
+) -> Result<Option<Pinch>, AllocError>
+    requires inside { at < length graph.now }
+    requires earlier { (b a c : ℕ) → b < at → ¬ IsPinch (linked graph.now) b a c }
+    requires blocks { AreBlocks (linked graph.now) (length graph.now) (block_of blocks.now) (top_of blocks.now) (rank_of blocks.now) }
+    requires full { AreFull (linked graph.now) (length graph.now) (block_of blocks.now) (top_of blocks.now) (full_of blocks.now) }
     ensures { IfOk result (λ found. MatchOption found
         ((a c : ℕ) → ¬ IsPinch (linked graph.now) at a c)
         (λ pinch. (pinch.at ≡ at) × FirstHere (linked graph.now) at pinch.one pinch.other)) }
 {
+    let chosen = chosen_link(graph, blocks, at);
+    let covered = chosen < at && is_covered(graph, blocks, at, chosen);
     'links: for one in graph.links(at) {
-        if let Some(other) = first_around(alloc, graph, at, *one)? {
+        if covered && blocks.on_one_side(at, chosen, *one) {
+            continue;
+        }
+        if let Some(other) = first_around(alloc, graph, blocks, at, *one)? {
             return Ok(Some(Pinch {
                 at,
                 one: *one,
@@ -58,14 +77,47 @@ fn first_pinch_at(alloc: Global, graph: &Graph, at: usize) -> Result<Option<Pinc
     Ok(None)
 }
 
+/// The first link of `at` in a block that is not known to be full, or `at` itself.
+fn chosen_link(graph: &Graph, blocks: &Blocks, at: usize) -> usize
+    requires { at < length graph.now }
+{
+    'links: for one in graph.links(at) {
+        if !blocks.is_in_full(at, *one) {
+            return *one;
+        }
+    }
+    at
+}
+
+/// Is each link of `at` in the block of `chosen` there this one, or linked with it?
+fn is_covered(graph: &Graph, blocks: &Blocks, at: usize, chosen: usize) -> bool
+    requires inside { at < length graph.now }
+    requires within { chosen < length graph.now }
+    ensures { IsTrue result → IsCovered (linked graph.now) (block_of blocks.now) (top_of blocks.now) at chosen }
+{
+    'links: for other in graph.links(at) {
+        if *other != chosen
+            && blocks.on_one_side(at, chosen, *other)
+            && !graph.is_linked(chosen, *other)
+        {
+            return false;
+        }
+    }
+    true
+}
+
 /// The first link of `at` after `one` that is joined with it around `at`, though not linked with it. A
-/// search is made only where some link after `one` is not linked with it.
+/// search is made only where some link after `one`, in its block at `at`, is not linked with it.
 fn first_around(
     alloc: Global,
     graph: &Graph,
+    blocks: &Blocks,
     at: usize,
     one: usize,
 ) -> Result<Option<usize>, AllocError>
+    requires sound { IsGraph graph.now }
+    requires blocks { AreBlocks (linked graph.now) (length graph.now) (block_of blocks.now) (top_of blocks.now) (rank_of blocks.now) }
+    requires full { AreFull (linked graph.now) (length graph.now) (block_of blocks.now) (top_of blocks.now) (full_of blocks.now) }
     requires inside { at < length graph.now }
     requires within { one < length graph.now }
     requires apart { one ≢ at }
@@ -74,21 +126,21 @@ fn first_around(
         ((c : ℕ) → ¬ IsPinch (linked graph.now) at one c)
         (FirstOther (linked graph.now) at one)) }
 {
-    if !has_unlinked(graph, at, one) {
+    if blocks.is_in_full(at, one) || !has_unlinked(graph, blocks, at, one) {
         return Ok(None);
     }
     let levels = levels_around(alloc, graph, at, one)?;
     Ok(first_other(graph, at, one, &levels))
 }
 
-/// Is there a link of `at` after `one` that is not linked with it?
-fn has_unlinked(graph: &Graph, at: usize, one: usize) -> bool
+/// Is there a link of `at` after `one`, in its block at `at`, that is not linked with it?
+fn has_unlinked(graph: &Graph, blocks: &Blocks, at: usize, one: usize) -> bool
     requires inside { at < length graph.now }
     requires within { one < length graph.now }
-    ensures { IsTrue result ↔ HasUnlinkedAfter (linked graph.now) at one }
+    ensures { IsTrue result ↔ HasUnlinkedAfter (linked graph.now) (block_of blocks.now) (top_of blocks.now) at one }
 {
     'others: for other in graph.links(at) {
-        if one < *other && !graph.is_linked(one, *other) {
+        if one < *other && blocks.on_one_side(at, one, *other) && !graph.is_linked(one, *other) {
             return true;
         }
     }

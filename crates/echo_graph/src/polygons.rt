@@ -13,8 +13,9 @@ use crate::writing::written;
 use std::alloc::{AllocError, Global};
 
 /// `None` exactly where any two members of a cycle are linked; else a cycle with two members that
-/// are not linked. Fails only when out of memory. `None` takes about the time of one search; the cycle
-/// takes a search for each end of a link that has a later one unlinked.
+/// are not linked. Fails only when out of memory. `None` takes about the time of one search, and the
+/// cycle that of a few; only at a member whose links lie in many blocks that have such cycles may it take
+/// the square of that member's links.
 ///
 /// Of all members b with links a < c that are not linked, though a walk from a to c does not pass b,
 /// it takes the smallest b, then the smallest a, then the smallest c; of those walks it takes one with

@@ -6,4 +6,4 @@ pub mod LinkBytes
 pub mod LinkLoops
 pub mod LinkTaking
 pub mod LinkSteps
-pub mod AreaMaps
+pub mod Found

@@ -7,13 +7,14 @@ use Rattle.std.proofs.lemmas.Bool.{and_parts, cases_Bool, cond-false, cond-true,
 use Rattle.std.proofs.lemmas.List.{reverse-append}
 use Rattle.std.proofs.lemmas.List.Elements.{All-from_get_or}
 use Rattle.std.proofs.lemmas.List.Sums.{position_or_len_is}
-use Rattle.std.proofs.lemmas.List.Splits.{slice_split-cons_no, slice_split-cons_yes, slice_split_first, slice_split_none}
+use Rattle.std.proofs.lemmas.List.Splits.{slice_split_first, slice_split_none}
 use Rattle.memchr.specs.Find.{IsFirstByte, is_byte}
 use Rattle.echo_addr.specs.declared.address.Address.{Address}
 use Rattle.echo_addr.specs.declared.fault.AddrFault.{AddrFault}
 use Rattle.echo_addr.specs.Address.{AddressOf, address_in, answer_of, refusal}
 use Rattle.echo_addr.specs.Entries.{is_blank, tokens}
 use Rattle.echo_addr.proofs.Outcomes.{address_in-written, outcome-written}
+use Rattle.echo_addr.proofs.Pieces.{HasFirst, first_of_split}
 use Rattle.echo_text.specs.Lines.{is_feed}
 use Rattle.echo_text.specs.Lines.{trimmed, without_front_blanks}
 use Rattle.echo_links.specs.LinkLines.{ended_pieces, file_lines, first_of, is_control_byte, is_skipped, is_space_or_tab, name_in, without_front_spaces, without_return, without_spaces, words}
@@ -31,25 +32,6 @@ word_read word (Err f) ok err =
     (ap is_ok e, ap is_err e)
 
 -- ---- lines
-
--- a split has a first piece
-record HasFirst (pieces : List (List ℕ)) : Type 0 where
-  first : List ℕ
-  more : List (List ℕ)
-  is : pieces ≡ first ∷ more
-
-first_onto : (b : ℕ) (pieces : List (List ℕ)) → HasFirst (onto_first b pieces)
-first_onto b [] = record { first = b ∷ []; more = []; is = refl }
-first_onto b (piece ∷ more) = record { first = b ∷ piece; more = more; is = refl }
-
-first_of_split : (p : ℕ → Bool) (text : List ℕ) → HasFirst (slice_split p text)
-first_of_split p [] = record { first = []; more = []; is = refl }
-first_of_split p (b ∷ text) = elim (cases_Bool (p b)) [
-  | inl y ↦ record { first = []; more = slice_split p text; is = slice_split-cons_yes p b text y }
-  | inr n ↦
-      let onto = first_onto b (slice_split p text) in
-      record { first = onto.first; more = onto.more; is = slice_split-cons_no p b text n ∙ onto.is }
-]
 
 ended_first : (piece : List ℕ) (pieces : List (List ℕ)) → HasFirst pieces → ended_pieces (piece ∷ pieces) ≡ without_return piece ∷ ended_pieces pieces
 ended_first piece pieces h = ap (λ ps. ended_pieces (piece ∷ ps)) h.is ∙ ap (λ ps. without_return piece ∷ ended_pieces ps) (sym h.is)

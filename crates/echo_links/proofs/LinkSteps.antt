@@ -12,7 +12,7 @@ use Rattle.echo_links.specs.declared.link_file.reading.Reading.{Reading}
 use Rattle.echo_links.specs.Links.{Area}
 use Rattle.echo_links.specs.LinkLines.{area_in, file_fault, file_lines, file_of, first_fault, is_area_line, is_name_line, is_skipped, is_system_line, line_fault, name_in, no_address, system_in, tag_in}
 use Rattle.echo_links.specs.LinkReading.{Adds, Holds, Knows, areas_of, is_area_known, kept, name_of, system_of}
-use Rattle.echo_links.proofs.AreaMaps.{bytes_turned}
+use Rattle.echo_links.proofs.Found.{bytes_turned}
 use Rattle.echo_links.proofs.LinkBytes.{no_lines_left, skipped_word}
 use Rattle.echo_links.proofs.LinkTaking.{areas_one, name_one, or_none, system_one}
 

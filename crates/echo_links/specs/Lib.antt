@@ -1,3 +1,4 @@
 pub mod Links
 pub mod LinkLines
 pub mod LinkReading
+pub mod Found

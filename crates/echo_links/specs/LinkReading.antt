@@ -55,7 +55,7 @@ name_of lines = option_map name_in (find is_name_line (kept lines))
 unfoldable pub areas_of : List (List ℕ) → List Area
 areas_of lines = map area_in (filter is_area_line (kept lines))
 
--- what a reader holds tells which lines stood before
+-- what a reader holds shows which lines stood before
 pub record Knows (earlier : List (List ℕ)) (r : Reading) : Type 0 where
   pub system : list_any is_system_line earlier ≡ is_some r.system
   pub name : list_any is_name_line earlier ≡ is_some r.name

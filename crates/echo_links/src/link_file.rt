@@ -1,5 +1,5 @@
 //! What a link file says, and reading it: `lines` cuts the bytes, `reading` takes line by line, `addresses`
-//! the words behind the first, and `areas` holds what was found.
+//! the words behind the first, and `areas` and `links` hold what was found.
 ghost use Rattle.std.specs.Prelude.{◌≡◌, ◌⊎◌, length, slice_get, option_copied, option_map, unwrap_or, codes, Result, Err, IfOk};
 ghost use Rattle.echo_links.specs.declared.fault.LinkFault.{LinkFault};
 ghost use Rattle.echo_links.specs.declared.fault.LinkFault.TheVariants as link;
@@ -10,6 +10,7 @@ ghost use Rattle.echo_links.specs.Links.{IsFile, area_of, has_area, is_link};
 mod addresses;
 mod areas;
 mod lines;
+mod links;
 mod reading;
 
 use crate::fault::LinkFault;
@@ -130,7 +131,7 @@ impl LinkFile {
         ensures { result ≡ is_link self.now tag.now address }
     {
         match self.areas.links(tag) {
-            Some(links) => links.contains(&address),
+            Some(links) => links.contains(address),
             None => false,
         }
     }

@@ -11,8 +11,7 @@ ghost use Rattle.echo_net.specs.declared.link.Link.{Link};
 ghost use Rattle.echo_net.specs.Nets as net;
 
 use crate::link::Link;
-use crate::sorting::put_in_order;
-use echo_addr::Address;
+use echo_addr::{Address, put_in_order};
 use echo_links::LinkFile;
 use std::alloc::{AllocError, Global};
 

@@ -9,9 +9,9 @@ ghost use Rattle.echo_net.specs.Drawn.{IsDrawing, back, link_from, loop_links, l
 
 use crate::carriers::{carriers, is_before, links};
 use crate::link::Link;
-use crate::sorting::{holds, put_in_order};
+use crate::searching::holds;
 use crate::verdict::{NetFault, Verdict};
-use echo_addr::{Address, Items};
+use echo_addr::{Address, Items, put_in_order};
 use echo_links::LinkFile;
 use std::alloc::{AllocError, Global};
 

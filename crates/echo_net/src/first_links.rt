@@ -7,7 +7,7 @@ ghost use Rattle.echo_net.specs.Firsts.{IsFirstLink};
 ghost use Rattle.echo_net.specs.Nets.{link};
 
 use crate::link::Link;
-use crate::sorting::holds;
+use crate::searching::holds;
 use echo_addr::Address;
 
 /// The first link of a system to itself.

@@ -4,8 +4,8 @@
 //! tidy, and then every run on these files is orderly; a no names the first thing that is wrong. And
 //! that of `listed`: just the carriers that a nodelist does not hold.
 //!
-//! Modules in reading order: `verdict` (the answer and the faults), `link`, `sorting` (values in
-//! ascending order), `carriers` (the systems of an area and their links), `owners`, `first_links` and
+//! Modules in reading order: `verdict` (the answer and the faults), `link`, `searching` (where a
+//! value stands among values that ascend), `carriers` (the systems of an area and their links), `owners`, `first_links` and
 //! `same_net_node` (what sorted addresses decide), `link_faults` (the first of those faults), `rows` (the
 //! net as a graph), `graph_faults` (systems apart, and loops), `checker` (the whole), `presence` (carriers
 //! beside a nodelist), and `drawing` (an area as it is drawn).
@@ -22,7 +22,7 @@ mod owners;
 mod presence;
 mod rows;
 mod same_net_node;
-mod sorting;
+mod searching;
 mod verdict;
 
 pub use checker::check;

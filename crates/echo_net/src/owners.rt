@@ -7,8 +7,7 @@ ghost use Rattle.echo_net.specs.declared.owners.Owner.{Owner};
 ghost use Rattle.echo_net.specs.Firsts.{IsSmallest, StandsTwice};
 ghost use Rattle.echo_net.specs.Pairs.{FirstPair, NoPair};
 
-use crate::sorting::put_in_order;
-use echo_addr::Address;
+use echo_addr::{Address, put_in_order};
 use std::alloc::{AllocError, Global};
 
 /// An address, and its place among the systems.

@@ -9,8 +9,8 @@ ghost use Rattle.echo_net.specs.Rows.{AreRows};
 
 use crate::carriers::is_before;
 use crate::link::Link;
-use crate::sorting::{place, put_in_order};
-use echo_addr::Address;
+use crate::searching::place;
+use echo_addr::{Address, put_in_order};
 use echo_graph::Links;
 use std::alloc::{AllocError, Global};
 

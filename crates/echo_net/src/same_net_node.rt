@@ -7,8 +7,7 @@ ghost use Rattle.echo_net.specs.Firsts.{HasTwin, IsSmallestPair};
 ghost use Rattle.echo_net.specs.Pairs.{IsTwin, neighbour_of};
 
 use crate::link::Link;
-use crate::sorting::put_in_order;
-use echo_addr::{Address, NetNode};
+use echo_addr::{Address, NetNode, put_in_order};
 use std::alloc::{AllocError, Global};
 
 /// A system, ordered by net and node.

@@ -1,4 +1,4 @@
--- What is told of a line by those before it.
+-- What is found of a line by those before it.
 use Rattle.std.specs.Prelude.{MatchOption}
 use Rattle.std.proofs.Common.{◌≡◌, ◌≢◌, ℕ, ◌+◌, ◌<◌, ◌≤◌, nat_lt, ◌-◌, List, [], ◌∷◌, ◌++◌, length, get_or, take, reverse, cond, refl, sym, ap, ◌∙◌, subst, arith, Option, Some, None, Ok, Err, inl, inr}
 use Rattle.std.proofs.lemmas.List.{get_or-append_right, get_or_append_left, length-append, length-reverse, reverse-append, reverse-reverse, take-append-le, take_all}
@@ -6,14 +6,14 @@ use Rattle.std.proofs.Math.ListN.{get_or-eq_default}
 use Rattle.std.proofs.lemmas.Bool.{cases_lt, cond-false, cond-true, le-ltb, lt-ltb}
 use Rattle.echo_addr.specs.declared.address.Address.{Address}
 use Rattle.echo_nodelist.specs.declared.place.Place.{Place}
-use Rattle.echo_nodelist.specs.declared.place.Told.{Told}
+use Rattle.echo_nodelist.specs.declared.place.Located.{Located}
 use Rattle.echo_nodelist.specs.declared.keyword.Keyword.{Keyword}
 use Rattle.echo_nodelist.specs.declared.line.Line.{Line}
 use Rattle.echo_nodelist.specs.declared.line.Line.TheVariants.{Entry}
 use Rattle.echo_nodelist.specs.declared.fault.NodeFault.TheVariants.{NoZone}
 use Rattle.echo_nodelist.specs.Back.{Finds, address_back, each_back, lines_back, zone_back}
 use Rattle.echo_nodelist.specs.Nodelist.{in_zone, placed}
-use Rattle.echo_nodelist.specs.Place.{Follows, IsTold, IsPlaceAfter, Tells}
+use Rattle.echo_nodelist.specs.Place.{Follows, IsLocated, IsPlaceAfter, Locates}
 
 -- an entry with no Zone line up to it
 pub tell_none : (at : ℕ) (earlier : List Line) (k : Keyword) (n : ℕ) (fields : List (List ℕ)) (line : Line) → line ≡ Entry k n fields
@@ -24,25 +24,25 @@ tell_none at earlier k n fields line is none =
 -- an entry after a Zone line, or one itself
 pub tell_some : (at : ℕ) (earlier : List Line) (k : Keyword) (n : ℕ) (fields : List (List ℕ)) (line : Line) (here : Place) (address : Address)
     → line ≡ Entry k n fields → IsPlaceAfter (Entry k n fields ∷ earlier) (Some here) → address_back (Entry k n fields ∷ earlier) ≡ Some address
-    → Tells at earlier line (Ok (record { address = Some address; place = Some here }))
+    → Locates at earlier line (Ok (record { address = Some address; place = Some here }))
 tell_some at earlier k n fields line here address is stands address_is =
-    let whole : Tells at earlier (Entry k n fields) (Ok (record { address = Some address; place = Some here })) = (
+    let whole : Locates at earlier (Entry k n fields) (Ok (record { address = Some address; place = Some here })) = (
       ap (λ z. in_zone at z (Entry k n fields)) stands.0,
       record { place = stands; address = address_is },
     )
     in
-    subst (λ l. Tells at earlier l (Ok (record { address = Some address; place = Some here }))) (sym is) whole
+    subst (λ l. Locates at earlier l (Ok (record { address = Some address; place = Some here }))) (sym is) whole
 
 pub reverse-push : {A : Type 0} (xs : List A) (x : A) → reverse (xs ++ x ∷ []) ≡ x ∷ reverse xs
 reverse-push xs x = reverse-append xs (x ∷ [])
 
 -- one more line
-pub follows_more : (lines : List Line) (addresses : List (Option Address)) (place : Option Place) (line : Line) (told : Told)
-    → Follows lines addresses place → IsTold (reverse lines) line told → Follows (lines ++ line ∷ []) (addresses ++ told.address ∷ []) told.place
-follows_more lines addresses place line told before now = record {
-  stands = subst (λ ls. IsPlaceAfter ls told.place) (sym (reverse-push lines line)) now.place;
+pub follows_more : (lines : List Line) (addresses : List (Option Address)) (place : Option Place) (line : Line) (located : Located)
+    → Follows lines addresses place → IsLocated (reverse lines) line located → Follows (lines ++ line ∷ []) (addresses ++ located.address ∷ []) located.place
+follows_more lines addresses place line located before now = record {
+  stands = subst (λ ls. IsPlaceAfter ls located.place) (sym (reverse-push lines line)) now.place;
   address_each =
-      ap (λ l. l ++ told.address ∷ []) before.address_each
+      ap (λ l. l ++ located.address ∷ []) before.address_each
       ∙ ap (λ a. each_back address_back (reverse lines) ++ a ∷ []) (sym now.address)
       ∙ ap (each_back address_back) (sym (reverse-push lines line));
 }

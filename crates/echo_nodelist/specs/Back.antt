@@ -72,7 +72,7 @@ pub record IsFirstAt (lines : List Line) (a : Address) (i : ℕ) : Type 0 where
 abbrev pub Finds : List Line → Address → Option ℕ → Type 0
 Finds lines a found = MatchOption found ((i : ℕ) → address_at lines i ≢ Some a) (IsFirstAt lines a)
 
--- what is told of each line by looking back from it; the lines have the nearest first, the answers are in their order
+-- what is found of each line by looking back from it; the lines have the nearest first, the answers are in their order
 abbrev pub each_back : (List Line → Option Address) → List Line → List (Option Address)
 each_back f [] = []
 each_back f (line ∷ earlier) = each_back f earlier ++ f (line ∷ earlier) ∷ []

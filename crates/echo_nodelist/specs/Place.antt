@@ -2,7 +2,7 @@
 use Rattle.std.specs.Prelude.{◌≡◌, ℕ, List, ◌∷◌, reverse, Option, Some, None, Result, Ok, Err}
 use Rattle.echo_addr.specs.declared.address.Address.{Address}
 use Rattle.echo_nodelist.specs.declared.place.Place.{Place}
-use Rattle.echo_nodelist.specs.declared.place.Told.{Told}
+use Rattle.echo_nodelist.specs.declared.place.Located.{Located}
 use Rattle.echo_nodelist.specs.declared.line.Line.{Line}
 use Rattle.echo_nodelist.specs.declared.fault.NodeFault.{NodeFault}
 use Rattle.echo_nodelist.specs.Back.{address_back, each_back, net_back, zone_back}
@@ -13,15 +13,15 @@ abbrev pub IsPlaceAfter : List Line → Option Place → Type 0
 IsPlaceAfter earlier None = zone_back earlier ≡ None
 IsPlaceAfter earlier (Some here) = (zone_back earlier ≡ Some here.zone) × (net_back earlier ≡ Some here.net)
 
--- what is told of a line after earlier ones: its address and the place after it
-pub record IsTold (earlier : List Line) (line : Line) (told : Told) : Type 0 where
-  pub place : IsPlaceAfter (line ∷ earlier) told.place
-  pub address : address_back (line ∷ earlier) ≡ told.address
+-- what is found of a line after earlier ones: its address and the place after it
+pub record IsLocated (earlier : List Line) (line : Line) (located : Located) : Type 0 where
+  pub place : IsPlaceAfter (line ∷ earlier) located.place
+  pub address : address_back (line ∷ earlier) ≡ located.address
 
 -- the same, or that line `at` lacks a zone
-abbrev pub Tells : ℕ → List Line → Line → Result Told NodeFault → Type 0
-Tells at earlier line (Ok told) = (placed at earlier (Ok line) ≡ Ok line) × IsTold earlier line told
-Tells at earlier line (Err fault) = placed at earlier (Ok line) ≡ Err fault
+abbrev pub Locates : ℕ → List Line → Line → Result Located NodeFault → Type 0
+Locates at earlier line (Ok located) = (placed at earlier (Ok line) ≡ Ok line) × IsLocated earlier line located
+Locates at earlier line (Err fault) = placed at earlier (Ok line) ≡ Err fault
 
 -- what a reader keeps of the lines that it has read, in their order
 pub record Follows (lines : List Line) (addresses : List (Option Address)) (place : Option Place) : Type 0 where

@@ -23,7 +23,7 @@ unfoldable pub nodelist_text : List Line → List ℕ
 nodelist_text lines = flat_map line_and_end lines ++ 26 ∷ []
 
 -- What a call did that had these bytes to write. Ok: all of them went out. A write fault: the device failed, and so
--- many bytes went out, a beginning that lacks some. Want of memory: nothing went out.
+-- many bytes went out, a beginning that lacks some. Out of memory: nothing went out.
 abbrev pub WritesOut : {A : Type 0} → Option (List ℕ) → Option (List ℕ) → ℕ → ℕ → List ℕ → Result A NodeFault → Type 0
 WritesOut old new before after bytes (Ok done) = Appends old new bytes × (after ≡ before)
 WritesOut old new before after bytes (Err (Write n)) =

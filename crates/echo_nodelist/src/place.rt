@@ -2,7 +2,7 @@ ghost use Rattle.std.specs.Prelude.{◌≡◌, ℕ, List, ◌∷◌, Some};
 ghost use Rattle.echo_nodelist.specs.declared.line.Line.{Line};
 ghost use Rattle.echo_nodelist.specs.declared.line.Line.TheVariants.{Entry};
 ghost use Rattle.echo_nodelist.specs.Back.{address_back};
-ghost use Rattle.echo_nodelist.specs.Place.{IsPlaceAfter, Tells};
+ghost use Rattle.echo_nodelist.specs.Place.{IsPlaceAfter, Locates};
 
 use crate::fault::NodeFault;
 use crate::keyword::Keyword;
@@ -18,14 +18,14 @@ pub(crate) struct Place {
 
 /// What the lines up to a line say of it: its address, and the place after it.
 #[derive(Clone, Copy)]
-pub(crate) struct Told {
+pub(crate) struct Located {
     pub(crate) address: Option<Address>,
     pub(crate) place: Option<Place>,
 }
 
 /// What is known of a line after a place. `number` is the line's.
-pub(crate) fn tell(place: Option<Place>, number: usize, line: &Line) -> Result<Told, NodeFault>
-    ensures { (earlier : List Line) → IsPlaceAfter earlier place → Tells number earlier line.now result }
+pub(crate) fn locate(place: Option<Place>, number: usize, line: &Line) -> Result<Located, NodeFault>
+    ensures { (earlier : List Line) → IsPlaceAfter earlier place → Locates number earlier line.now result }
 {
     let Line::Entry {
         keyword,
@@ -33,7 +33,7 @@ pub(crate) fn tell(place: Option<Place>, number: usize, line: &Line) -> Result<T
         fields: _,
     } = line
     else {
-        return Ok(Told {
+        return Ok(Located {
             address: None,
             place,
         });
@@ -41,7 +41,7 @@ pub(crate) fn tell(place: Option<Place>, number: usize, line: &Line) -> Result<T
     let Some(here) = after(place, *keyword, *system) else {
         return Err(NodeFault::NoZone { line: number });
     };
-    Ok(Told {
+    Ok(Located {
         address: Some(address(here, *keyword, *system)),
         place: Some(here),
     })

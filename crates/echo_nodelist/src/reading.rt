@@ -7,7 +7,7 @@ ghost use Rattle.echo_nodelist.specs.Reading.{IsInStep, ReadsLines};
 use crate::cutting::split_line;
 use crate::fault::NodeFault;
 use crate::line::{Line, read_line};
-use crate::place::{Place, tell};
+use crate::place::{Place, locate};
 use echo_addr::Address;
 use std::alloc::Global;
 
@@ -28,10 +28,10 @@ impl Reading {
         ensures good { OnOk result (placed number (reverse self.old.lines.items) (Ok line) ≡ Ok line) }
         ensures fault { IfErr result (λ fault. (fault ≡ Memory) ⊎ (placed number (reverse self.old.lines.items) (Ok line) ≡ Err fault)) }
     {
-        let told = tell(self.place, number, &line)?;
-        self.addresses.push(told.address)?;
+        let located = locate(self.place, number, &line)?;
+        self.addresses.push(located.address)?;
         self.lines.push(line)?;
-        self.place = told.place;
+        self.place = located.place;
         Ok(())
     }
 }

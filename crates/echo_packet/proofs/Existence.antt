@@ -12,7 +12,7 @@ use Rattle.echo_packet.specs.Message.{Message, Numbers, DateTime, ToName, FromNa
 use Rattle.echo_packet.specs.Packet.{packet_bytes}
 use Rattle.echo_packet.specs.Fault.{IsTooLong, place_of}
 use Rattle.echo_packet.specs.Answer.{Answer, Describes}
-use Rattle.echo_packet.specs.Field.{IsShort, IsOpen, Never, TakesMessage}
+use Rattle.echo_packet.specs.Field.{IsShort, IsOpen, IsPast, Never, TakesMessage}
 use Rattle.echo_packet.specs.Next.{NextFault}
 use Rattle.echo_packet.specs.Run.{SoFar, IsOfCall}
 use Rattle.echo_packet.proofs.Headers.{AreBytes-take, AreBytes-drop, IsHeader-header_of, header_bytes-header_of}
@@ -110,8 +110,8 @@ text_on limits given start p all r m more bytes h = elim (string_cases limits.te
     bytes = x.bytes;
   })
   | inr wrong ↦ elim wrong [
-    | inl cut ↦ inr (fault.Truncated p, next-field limits given start p (Some all) (Some r) Text m (IsOpen limits.text) Never (IsTooLong limits.text) (fault.Truncated p) h (tells-text limits) more (refl, cut), λ c. c)
-    | inr long ↦ inr (fault.TextTooLong p, next-field limits given start p (Some all) (Some r) Text m (IsOpen limits.text) Never (IsTooLong limits.text) (fault.TextTooLong p) h (tells-text limits) more (refl, long), λ c. c)
+    | inl cut ↦ inr (fault.Truncated p, next-field limits given start p (Some all) (Some r) Text m (IsOpen limits.text) Never (IsTooLong limits.text) Never (IsPast limits.text) (fault.Truncated p) h (tells-text limits) more (refl, cut), λ c. c)
+    | inr long ↦ inr (fault.TextTooLong p, next-field limits given start p (Some all) (Some r) Text m (IsOpen limits.text) Never (IsTooLong limits.text) Never (IsPast limits.text) (fault.TextTooLong p) h (tells-text limits) more (refl, long), λ c. c)
   ]
 ]
 
@@ -121,8 +121,8 @@ subject_on limits given start p all r m more bytes h = elim (string_cases max_su
   | inl x ↦ text_on limits given start (place_of (p + length (zero_ended x.string))) all x.rest (record m { subject = x.string }) more x.bytes
       (has-subject limits.text start p (place_of (p + length (zero_ended x.string))) (Some all) (Some r) (Some x.rest) m x.string h x.fits x.is refl)
   | inr wrong ↦ elim wrong [
-    | inl cut ↦ inr (fault.Truncated p, next-field limits given start p (Some all) (Some r) Subject m (IsOpen max_subject) (IsTooLong max_subject) Never (fault.Truncated p) h (tells-subject limits) more (refl, cut), λ c. c)
-    | inr long ↦ inr (fault.FieldTooLong p, next-field limits given start p (Some all) (Some r) Subject m (IsOpen max_subject) (IsTooLong max_subject) Never (fault.FieldTooLong p) h (tells-subject limits) more (refl, long), λ c. c)
+    | inl cut ↦ inr (fault.Truncated p, next-field limits given start p (Some all) (Some r) Subject m (IsOpen max_subject) (IsTooLong max_subject) Never (IsPast max_subject) Never (fault.Truncated p) h (tells-subject limits) more (refl, cut), λ c. c)
+    | inr long ↦ inr (fault.FieldTooLong p, next-field limits given start p (Some all) (Some r) Subject m (IsOpen max_subject) (IsTooLong max_subject) Never (IsPast max_subject) Never (fault.FieldTooLong p) h (tells-subject limits) more (refl, long), λ c. c)
   ]
 ]
 
@@ -132,8 +132,8 @@ from_name_on limits given start p all r m more bytes h = elim (string_cases max_
   | inl x ↦ subject_on limits given start (place_of (p + length (zero_ended x.string))) all x.rest (record m { from_name = x.string }) more x.bytes
       (has-from_name limits.text start p (place_of (p + length (zero_ended x.string))) (Some all) (Some r) (Some x.rest) m x.string h x.fits x.is refl)
   | inr wrong ↦ elim wrong [
-    | inl cut ↦ inr (fault.Truncated p, next-field limits given start p (Some all) (Some r) FromName m (IsOpen max_name) (IsTooLong max_name) Never (fault.Truncated p) h (tells-from_name limits) more (refl, cut), λ c. c)
-    | inr long ↦ inr (fault.FieldTooLong p, next-field limits given start p (Some all) (Some r) FromName m (IsOpen max_name) (IsTooLong max_name) Never (fault.FieldTooLong p) h (tells-from_name limits) more (refl, long), λ c. c)
+    | inl cut ↦ inr (fault.Truncated p, next-field limits given start p (Some all) (Some r) FromName m (IsOpen max_name) (IsTooLong max_name) Never (IsPast max_name) Never (fault.Truncated p) h (tells-from_name limits) more (refl, cut), λ c. c)
+    | inr long ↦ inr (fault.FieldTooLong p, next-field limits given start p (Some all) (Some r) FromName m (IsOpen max_name) (IsTooLong max_name) Never (IsPast max_name) Never (fault.FieldTooLong p) h (tells-from_name limits) more (refl, long), λ c. c)
   ]
 ]
 
@@ -143,15 +143,15 @@ to_name_on limits given start p all r m more bytes h = elim (string_cases max_na
   | inl x ↦ from_name_on limits given start (place_of (p + length (zero_ended x.string))) all x.rest (record m { to_name = x.string }) more x.bytes
       (has-to_name limits.text start p (place_of (p + length (zero_ended x.string))) (Some all) (Some r) (Some x.rest) m x.string h x.fits x.is refl)
   | inr wrong ↦ elim wrong [
-    | inl cut ↦ inr (fault.Truncated p, next-field limits given start p (Some all) (Some r) ToName m (IsOpen max_name) (IsTooLong max_name) Never (fault.Truncated p) h (tells-to_name limits) more (refl, cut), λ c. c)
-    | inr long ↦ inr (fault.FieldTooLong p, next-field limits given start p (Some all) (Some r) ToName m (IsOpen max_name) (IsTooLong max_name) Never (fault.FieldTooLong p) h (tells-to_name limits) more (refl, long), λ c. c)
+    | inl cut ↦ inr (fault.Truncated p, next-field limits given start p (Some all) (Some r) ToName m (IsOpen max_name) (IsTooLong max_name) Never (IsPast max_name) Never (fault.Truncated p) h (tells-to_name limits) more (refl, cut), λ c. c)
+    | inr long ↦ inr (fault.FieldTooLong p, next-field limits given start p (Some all) (Some r) ToName m (IsOpen max_name) (IsTooLong max_name) Never (IsPast max_name) Never (fault.FieldTooLong p) h (tells-to_name limits) more (refl, long), λ c. c)
   ]
 ]
 
 date_on : (limits : Limits) (given start p : ℕ) (all r : List ℕ) (m : Message) → given < limits.messages → AreBytes r
     → HasFields limits.text start (Some all) (Some r) DateTime m p → SomeFields limits given start all
 date_on limits given start p all r m more bytes h = elim (cases_lt (length r) 20) [
-  | inl short ↦ inr (fault.Truncated p, next-field limits given start p (Some all) (Some r) DateTime m (IsShort 20) Never Never (fault.Truncated p) h (tells-date limits) more (refl, short), λ c. c)
+  | inl short ↦ inr (fault.Truncated p, next-field limits given start p (Some all) (Some r) DateTime m (IsShort 20) Never Never Never Never (fault.Truncated p) h (tells-date limits) more (refl, short), λ c. c)
   | inr long ↦
       let d = take 20 r in
       let size : length d ≡ 20 = length-take-le 20 r long in
@@ -166,7 +166,7 @@ some_fields limits given start r more bytes =
     elim (cases_lt (length r) 12) [
       | inl short ↦ inr (
         fault.Truncated p,
-        next-field limits given start p (Some r) (Some r) Numbers _ (IsShort 12) Never Never (fault.Truncated p)
+        next-field limits given start p (Some r) (Some r) Numbers _ (IsShort 12) Never Never Never Never (fault.Truncated p)
             (has-none limits.text start p (Some r) refl) (tells-numbers limits) more (refl, short),
         λ c. c,
       )

@@ -11,8 +11,8 @@ use Rattle.echo_packet.specs.declared.fault.PacketFault.TheVariants as fault
 use Rattle.echo_packet.specs.Header.{AreBytes, word, number_at}
 use Rattle.echo_packet.specs.Message.{Message, Part, Number, Numbers, DateTime, ToName, FromName, Subject, Text, IsString, IsMessage, before, zero_ended, numbers, message_bytes, max_name, max_subject}
 use Rattle.echo_packet.specs.Fault.{IsCut, IsLongField, IsLongText, IsTooLong, place_of}
-use Rattle.echo_packet.specs.Field.{FieldFault, IsShort, IsOpen, Never, FailsInField, TakesMessage}
-use Rattle.echo_packet.specs.Next.{AtPart, FailsBehind, FailsInMessage, NextFault}
+use Rattle.echo_packet.specs.Field.{Came, FieldFault, IsShort, IsOpen, IsPast, Never, FailsInField, TakesMessage}
+use Rattle.echo_packet.specs.Next.{AtPart, FailsBehind, FailsInMessage, IsOfField, LosesUpTo, NextFault}
 use Rattle.echo_packet.proofs.Headers.{word-number, word_then, number_at-fits}
 
 -- a message of these six numbers, its other fields empty
@@ -188,10 +188,12 @@ Consumes-front (Some x) None t Q p h = absurd p
 Consumes-front (Some x) (Some y) t Q p h = subst Q (sym p) (h y)
 
 -- what was read of a field that is wrong, as the definition of faults has it
-pub record Tells (limits : Limits) (field : Part) (Cut Long LongText : List ℕ → Type 0) : Type 0 where
+pub record Tells (limits : Limits) (field : Part) (Cut Long LongText Past PastText : List ℕ → Type 0) : Type 0 where
   pub cut : (r : List ℕ) → Cut r → IsCut limits field r
   pub long : (r : List ℕ) → Long r → IsLongField field r
   pub long_text : (r : List ℕ) → LongText r → IsLongText limits field r
+  pub past : (r : List ℕ) → Past r → IsOfField limits field r
+  pub past_text : (r : List ℕ) → PastText r → IsOfField limits field r
   pub later : field ≢ Number
 
 at-part : (limits : Limits) (given start p : ℕ) (a b : Option (List ℕ)) (field : Part) (m : Message) (at : ℕ) (Wrong : Part → List ℕ → Type 0) (bs r : List ℕ)
@@ -208,50 +210,70 @@ at-part limits given start p a b field m at Wrong bs r h more split here wrong =
   wrong = wrong;
 }
 
-told : (limits : Limits) (given start p : ℕ) (a b : Option (List ℕ)) (field : Part) (m : Message) (Cut Long LongText : List ℕ → Type 0) (bs r : List ℕ) (f : PacketFault)
-    (h : HasFields limits.text start a b field m p) → Tells limits field Cut Long LongText → given < limits.messages → bs ≡ h.came ++ r
+told : (limits : Limits) (given start p : ℕ) (a b : Option (List ℕ)) (field : Part) (m : Message) (Cut Long LongText Past PastText : List ℕ → Type 0) (bs r : List ℕ) (f : PacketFault)
+    (h : HasFields limits.text start a b field m p) → Tells limits field Cut Long LongText Past PastText → given < limits.messages → bs ≡ h.came ++ r
     → FieldFault Cut Long LongText p r f → NextFault limits given start (word 2 ++ bs) f
-told limits given start p a b field m Cut Long LongText bs r (fault.Truncated at) h tells more split is =
+told limits given start p a b field m Cut Long LongText Past PastText bs r (fault.Truncated at) h tells more split is =
     at-part limits given start p a b field m at (IsCut limits) bs r h more split is.0 (tells.cut r is.1)
-told limits given start p a b field m Cut Long LongText bs r (fault.FieldTooLong at) h tells more split is =
+told limits given start p a b field m Cut Long LongText Past PastText bs r (fault.FieldTooLong at) h tells more split is =
     at-part limits given start p a b field m at IsLongField bs r h more split is.0 (tells.long r is.1)
-told limits given start p a b field m Cut Long LongText bs r (fault.TextTooLong at) h tells more split is =
+told limits given start p a b field m Cut Long LongText Past PastText bs r (fault.TextTooLong at) h tells more split is =
     at-part limits given start p a b field m at (IsLongText limits) bs r h more split is.0 (tells.long_text r is.1)
-told limits given start p a b field m Cut Long LongText bs r (fault.Read at) h tells more split is = tt
-told limits given start p a b field m Cut Long LongText bs r fault.Memory h tells more split is = tt
-told limits given start p a b field m Cut Long LongText bs r (fault.NotType2 at) h tells more split is = absurd is
-told limits given start p a b field m Cut Long LongText bs r (fault.NotMessage at) h tells more split is = absurd is
-told limits given start p a b field m Cut Long LongText bs r fault.Stopped h tells more split is = absurd is
-told limits given start p a b field m Cut Long LongText bs r (fault.Write n) h tells more split is = absurd is
-told limits given start p a b field m Cut Long LongText bs r (fault.TooManyMessages at) h tells more split is = absurd is
-told limits given start p a b field m Cut Long LongText bs r (fault.BadField n) h tells more split is = absurd is
+told limits given start p a b field m Cut Long LongText Past PastText bs r (fault.Read at) h tells more split is = tt
+told limits given start p a b field m Cut Long LongText Past PastText bs r fault.Memory h tells more split is = tt
+told limits given start p a b field m Cut Long LongText Past PastText bs r (fault.NotType2 at) h tells more split is = absurd is
+told limits given start p a b field m Cut Long LongText Past PastText bs r (fault.NotMessage at) h tells more split is = absurd is
+told limits given start p a b field m Cut Long LongText Past PastText bs r fault.Stopped h tells more split is = absurd is
+told limits given start p a b field m Cut Long LongText Past PastText bs r (fault.Write n) h tells more split is = absurd is
+told limits given start p a b field m Cut Long LongText Past PastText bs r (fault.TooManyMessages at) h tells more split is = absurd is
+told limits given start p a b field m Cut Long LongText Past PastText bs r (fault.BadField n) h tells more split is = absurd is
 
 -- the next field of a message is wrong
-pub next-field : (limits : Limits) (given start p : ℕ) (a b : Option (List ℕ)) (field : Part) (m : Message) (Cut Long LongText : List ℕ → Type 0) (f : PacketFault)
-    (h : HasFields limits.text start a b field m p) → Tells limits field Cut Long LongText → given < limits.messages
+pub next-field : (limits : Limits) (given start p : ℕ) (a b : Option (List ℕ)) (field : Part) (m : Message) (Cut Long LongText Past PastText : List ℕ → Type 0) (f : PacketFault)
+    (h : HasFields limits.text start a b field m p) → Tells limits field Cut Long LongText Past PastText → given < limits.messages
     → IfSome b (λ r. FieldFault Cut Long LongText p r f) → IfSome a (λ bs. NextFault limits given start (word 2 ++ bs) f)
-next-field limits given start p a b field m Cut Long LongText f h tells more is =
+next-field limits given start p a b field m Cut Long LongText Past PastText f h tells more is =
     Consumes-known a b h.came (λ r. FieldFault Cut Long LongText p r f) (λ bs. NextFault limits given start (word 2 ++ bs) f)
-    h.took is (λ bs r split wrong. told limits given start p a b field m Cut Long LongText bs r f h tells more split wrong)
+    h.took is (λ bs r split wrong. told limits given start p a b field m Cut Long LongText Past PastText bs r f h tells more split wrong)
 
--- the device failed inside the next field
-inside : (limits : Limits) (given start p : ℕ) (a b c : Option (List ℕ)) (field : Part) (m : Message) (Cut Long LongText : List ℕ → Type 0) (f : PacketFault)
-    → HasFields limits.text start a b field m p → Tells limits field Cut Long LongText → given < limits.messages → FailsInField Cut p b c f
-    → FailsInMessage limits given start (word 2) a c f
-inside limits given start p a b c field m Cut Long LongText (fault.Read at) h tells more (here, (part, came, cut)) = (
+-- bytes of the next field came behind those before it
+behind : (limits : Limits) (given start p : ℕ) (a b c : Option (List ℕ)) (field : Part) (m : Message) (at : ℕ) (These : List ℕ → Type 0) (Of : Part → List ℕ → Type 0)
+    → HasFields limits.text start a b field m p → given < limits.messages → at ≡ p → ((r : List ℕ) → These r → Of field r) → Came b c These
+    → LosesUpTo limits given start (word 2) a c at Of
+behind limits given start p a b c field m at These Of h more here fits_in (part, came, these) = (
   h.came ++ part,
   Consumes-trans a b c h.came part h.took came,
-  at-part limits given start p a b field m at (IsCut limits) (h.came ++ part) part h more refl here (tells.cut part cut),
+  at-part limits given start p a b field m at Of (h.came ++ part) part h more refl here (fits_in part these),
 )
-inside limits given start p a b c field m Cut Long LongText _ h tells more _ = tt
+
+-- what the source lost where the next field is at fault
+inside : (limits : Limits) (given start p : ℕ) (a b c : Option (List ℕ)) (field : Part) (m : Message) (Cut Long LongText Past PastText : List ℕ → Type 0) (f : PacketFault)
+    → HasFields limits.text start a b field m p → Tells limits field Cut Long LongText Past PastText → given < limits.messages → FailsInField Cut Past PastText p b c f
+    → FailsInMessage limits given start (word 2) a c f
+inside limits given start p a b c field m Cut Long LongText Past PastText (fault.Truncated at) h tells more (here, came) =
+    behind limits given start p a b c field m at Cut (IsCut limits) h more here tells.cut came
+inside limits given start p a b c field m Cut Long LongText Past PastText (fault.Read at) h tells more (here, came) =
+    behind limits given start p a b c field m at Cut (IsCut limits) h more here tells.cut came
+inside limits given start p a b c field m Cut Long LongText Past PastText fault.Memory h tells more came =
+    (p, behind limits given start p a b c field m p Cut (IsCut limits) h more refl tells.cut came)
+inside limits given start p a b c field m Cut Long LongText Past PastText (fault.FieldTooLong at) h tells more (here, came) =
+    behind limits given start p a b c field m at Past (IsOfField limits) h more here tells.past came
+inside limits given start p a b c field m Cut Long LongText Past PastText (fault.TextTooLong at) h tells more (here, came) =
+    behind limits given start p a b c field m at PastText (IsOfField limits) h more here tells.past_text came
+inside limits given start p a b c field m Cut Long LongText Past PastText (fault.NotType2 at) h tells more lost = absurd lost
+inside limits given start p a b c field m Cut Long LongText Past PastText (fault.NotMessage at) h tells more lost = absurd lost
+inside limits given start p a b c field m Cut Long LongText Past PastText fault.Stopped h tells more lost = absurd lost
+inside limits given start p a b c field m Cut Long LongText Past PastText (fault.Write n) h tells more lost = absurd lost
+inside limits given start p a b c field m Cut Long LongText Past PastText (fault.TooManyMessages at) h tells more lost = absurd lost
+inside limits given start p a b c field m Cut Long LongText Past PastText (fault.BadField n) h tells more lost = absurd lost
 
 -- the next field of a message is at fault, as the call that read it says
-pub field-fails : (limits : Limits) (given start p : ℕ) (a b c : Option (List ℕ)) (field : Part) (m : Message) (Cut Long LongText : List ℕ → Type 0) (f : PacketFault)
-    → HasFields limits.text start a b field m p → Tells limits field Cut Long LongText → given < limits.messages
-    → IfSome b (λ r. FieldFault Cut Long LongText p r f) → FailsInField Cut p b c f → FailsBehind limits given start a c f
-field-fails limits given start p a b c field m Cut Long LongText f h tells more is lost = record {
-  fault = next-field limits given start p a b field m Cut Long LongText f h tells more is;
-  inside = inside limits given start p a b c field m Cut Long LongText f h tells more lost;
+pub field-fails : (limits : Limits) (given start p : ℕ) (a b c : Option (List ℕ)) (field : Part) (m : Message) (Cut Long LongText Past PastText : List ℕ → Type 0) (f : PacketFault)
+    → HasFields limits.text start a b field m p → Tells limits field Cut Long LongText Past PastText → given < limits.messages
+    → IfSome b (λ r. FieldFault Cut Long LongText p r f) → FailsInField Cut Past PastText p b c f → FailsBehind limits given start a c f
+field-fails limits given start p a b c field m Cut Long LongText Past PastText f h tells more is lost = record {
+  fault = next-field limits given start p a b field m Cut Long LongText Past PastText f h tells more is;
+  inside = inside limits given start p a b c field m Cut Long LongText Past PastText f h tells more lost;
 }
 
 -- what an error says, where the call answered it
@@ -263,23 +285,23 @@ pub at_exit_if : {A : Type 0} (a : Option (List ℕ)) (r : Result A PacketFault)
     → IfSome a (λ bs. Q bs y) → IfSome a (λ bs. IfErr r (Q bs))
 at_exit_if a r y Q e h = subst (λ x. IfSome a (λ bs. IfErr x (Q bs))) (sym e) h
 
-pub tells-numbers : (limits : Limits) → Tells limits Numbers (IsShort 12) Never Never
-tells-numbers limits = record { cut = λ r h. h; long = λ r h. absurd h; long_text = λ r h. absurd h; later = λ e. cc }
+pub tells-numbers : (limits : Limits) → Tells limits Numbers (IsShort 12) Never Never Never Never
+tells-numbers limits = record { cut = λ r h. h; long = λ r h. absurd h; long_text = λ r h. absurd h; past = λ r h. absurd h; past_text = λ r h. absurd h; later = λ e. cc }
 
-pub tells-date : (limits : Limits) → Tells limits DateTime (IsShort 20) Never Never
-tells-date limits = record { cut = λ r h. h; long = λ r h. absurd h; long_text = λ r h. absurd h; later = λ e. cc }
+pub tells-date : (limits : Limits) → Tells limits DateTime (IsShort 20) Never Never Never Never
+tells-date limits = record { cut = λ r h. h; long = λ r h. absurd h; long_text = λ r h. absurd h; past = λ r h. absurd h; past_text = λ r h. absurd h; later = λ e. cc }
 
-pub tells-to_name : (limits : Limits) → Tells limits ToName (IsOpen max_name) (IsTooLong max_name) Never
-tells-to_name limits = record { cut = λ r h. h; long = λ r h. h; long_text = λ r h. absurd h; later = λ e. cc }
+pub tells-to_name : (limits : Limits) → Tells limits ToName (IsOpen max_name) (IsTooLong max_name) Never (IsPast max_name) Never
+tells-to_name limits = record { cut = λ r h. h; long = λ r h. h; long_text = λ r h. absurd h; past = λ r h. (h.0, omega (arith, h.1)); past_text = λ r h. absurd h; later = λ e. cc }
 
-pub tells-from_name : (limits : Limits) → Tells limits FromName (IsOpen max_name) (IsTooLong max_name) Never
-tells-from_name limits = record { cut = λ r h. h; long = λ r h. h; long_text = λ r h. absurd h; later = λ e. cc }
+pub tells-from_name : (limits : Limits) → Tells limits FromName (IsOpen max_name) (IsTooLong max_name) Never (IsPast max_name) Never
+tells-from_name limits = record { cut = λ r h. h; long = λ r h. h; long_text = λ r h. absurd h; past = λ r h. (h.0, omega (arith, h.1)); past_text = λ r h. absurd h; later = λ e. cc }
 
-pub tells-subject : (limits : Limits) → Tells limits Subject (IsOpen max_subject) (IsTooLong max_subject) Never
-tells-subject limits = record { cut = λ r h. h; long = λ r h. h; long_text = λ r h. absurd h; later = λ e. cc }
+pub tells-subject : (limits : Limits) → Tells limits Subject (IsOpen max_subject) (IsTooLong max_subject) Never (IsPast max_subject) Never
+tells-subject limits = record { cut = λ r h. h; long = λ r h. h; long_text = λ r h. absurd h; past = λ r h. (h.0, omega (arith, h.1)); past_text = λ r h. absurd h; later = λ e. cc }
 
-pub tells-text : (limits : Limits) → Tells limits Text (IsOpen limits.text) Never (IsTooLong limits.text)
-tells-text limits = record { cut = λ r h. h; long = λ r h. absurd h; long_text = λ r h. (refl, h); later = λ e. cc }
+pub tells-text : (limits : Limits) → Tells limits Text (IsOpen limits.text) Never (IsTooLong limits.text) Never (IsPast limits.text)
+tells-text limits = record { cut = λ r h. h; long = λ r h. absurd h; long_text = λ r h. (refl, h); past = λ r h. absurd h; past_text = λ r h. (h.0, omega (arith, h.1)); later = λ e. cc }
 
 -- the message that was made of the fields
 pub made_of : (ns d to_name from_name subject text : List ℕ) (a b e f h i : ℕ) (m : Message)

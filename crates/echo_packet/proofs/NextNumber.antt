@@ -9,8 +9,8 @@ use Rattle.echo_packet.specs.declared.fault.PacketFault.TheVariants as fault
 use Rattle.echo_packet.specs.Header.{AreBytes, word, number_at}
 use Rattle.echo_packet.specs.Message.{Message, Part, Number, message_bytes}
 use Rattle.echo_packet.specs.Fault.{IsCut, IsOtherNumber, IsOneTooMany}
-use Rattle.echo_packet.specs.Field.{FailsInField, FixedFault, IsShort, TakesMessage}
-use Rattle.echo_packet.specs.Next.{AtPart, FailsInMessage, NextFault}
+use Rattle.echo_packet.specs.Field.{Came, FailsInFixed, FixedFault, IsShort, TakesMessage}
+use Rattle.echo_packet.specs.Next.{AtPart, FailsInMessage, IsOfField, LosesUpTo, NextFault}
 use Rattle.echo_packet.proofs.Headers.{word-number}
 use Rattle.echo_packet.proofs.FieldsSoFar.{numbered, numbered-fits, Consumes-known, Consumes-front}
 
@@ -47,11 +47,30 @@ pub number-cut : (limits : Limits) (given start : ℕ) (a : Option (List ℕ)) (
 number-cut limits given start None f fits h = tt
 number-cut limits given start (Some bs) f fits h = number_told limits given start bs f fits h
 
--- the device failed inside the number
-pub number-inside : (limits : Limits) (given start : ℕ) (a b : Option (List ℕ)) (f : PacketFault) → start < 2 ^ 64 → FailsInField (IsShort 2) start a b f
+-- the source lost bytes of the number and nothing else
+of_number : (limits : Limits) (given start at : ℕ) (a b : Option (List ℕ)) (These : List ℕ → Type 0) (Of : Part → List ℕ → Type 0) → start < 2 ^ 64 → at ≡ start
+    → ((r : List ℕ) → These r → Of Number r) → Came a b These → LosesUpTo limits given start [] a b at Of
+of_number limits given start at a b These Of fits here fits_in (part, came, these) = (part, came, at_number limits given start at part Of fits here (fits_in part these))
+
+-- what it lost where the number is cut
+pub number-inside : (limits : Limits) (given start : ℕ) (a b : Option (List ℕ)) (f : PacketFault) → start < 2 ^ 64 → FailsInFixed 2 start a b f
     → FailsInMessage limits given start [] a b f
-number-inside limits given start a b (fault.Read at) fits (here, (part, came, cut)) = (part, came, at_number limits given start at part (IsCut limits) fits here cut)
-number-inside limits given start a b _ fits _ = tt
+number-inside limits given start a b (fault.Truncated at) fits (here, came) = of_number limits given start at a b (IsShort 2) (IsCut limits) fits here (λ r cut. cut) came
+number-inside limits given start a b (fault.Read at) fits (here, came) = of_number limits given start at a b (IsShort 2) (IsCut limits) fits here (λ r cut. cut) came
+number-inside limits given start a b fault.Memory fits came = (start, of_number limits given start start a b (IsShort 2) (IsCut limits) fits refl (λ r cut. cut) came)
+number-inside limits given start a b (fault.FieldTooLong at) fits lost = absurd lost.1.2
+number-inside limits given start a b (fault.TextTooLong at) fits lost = absurd lost.1.2
+number-inside limits given start a b (fault.NotType2 at) fits lost = absurd lost
+number-inside limits given start a b (fault.NotMessage at) fits lost = absurd lost
+number-inside limits given start a b fault.Stopped fits lost = absurd lost
+number-inside limits given start a b (fault.Write n) fits lost = absurd lost
+number-inside limits given start a b (fault.TooManyMessages at) fits lost = absurd lost
+number-inside limits given start a b (fault.BadField n) fits lost = absurd lost
+
+-- what it lost where the number is there and wrong
+pub number-lost : (limits : Limits) (given start : ℕ) (a b : Option (List ℕ)) (ns : List ℕ) → start < 2 ^ 64 → length ns ≡ 2 → Consumes a b ns
+    → LosesUpTo limits given start [] a b start (IsOfField limits)
+number-lost limits given start a b ns fits size took = (ns, took, at_number limits given start start ns (IsOfField limits) fits refl (omega arith))
 
 -- the number at the front
 pub number_at-front : (ns r : List ℕ) → length ns ≡ 2 → number_at 0 (ns ++ r) ≡ number_at 0 ns
@@ -88,13 +107,26 @@ number-then limits given start a b ns f bytes size took two wrong =
     Consumes-known a b ns (λ bs. NextFault limits given start (word 2 ++ bs) f) (λ bs. NextFault limits given start bs f) took wrong
     (λ bs r split h. subst (λ x. NextFault limits given start x f) (sym (split ∙ ap (λ t. t ++ r) is)) h)
 
--- the device failed inside a field after the number 2
-pub then-inside : (limits : Limits) (given start : ℕ) (a b c : Option (List ℕ)) (ns : List ℕ) (f : PacketFault) → AreBytes ns → length ns ≡ 2 → Consumes a b ns
-    → number_at 0 ns ≡ 2 → FailsInMessage limits given start (word 2) b c f → FailsInMessage limits given start [] a c f
-then-inside limits given start a b c ns (fault.Read at) bytes size took two (came, lost, cut) =
-    let is : ns ≡ word 2 = number-bytes ns bytes size ∙ ap word two in
-    (ns ++ came, Consumes-trans a b c ns came took lost, subst (λ t. AtPart limits given start (t ++ came) at (IsCut limits)) (sym is) cut)
-then-inside limits given start a b c ns _ bytes size took two _ = tt
+-- what the source lost behind the number 2, and the number itself
+then_lost : (limits : Limits) (given start at : ℕ) (a b c : Option (List ℕ)) (ns : List ℕ) (Of : Part → List ℕ → Type 0) → ns ≡ word 2 → Consumes a b ns
+    → LosesUpTo limits given start (word 2) b c at Of → LosesUpTo limits given start [] a c at Of
+then_lost limits given start at a b c ns Of is took (came, lost, so) =
+    (ns ++ came, Consumes-trans a b c ns came took lost, subst (λ t. AtPart limits given start (t ++ came) at Of) (sym is) so)
+
+-- what it lost where a field after the number 2 is at fault
+pub then-inside : (limits : Limits) (given start : ℕ) (a b c : Option (List ℕ)) (ns : List ℕ) (f : PacketFault) → ns ≡ word 2 → Consumes a b ns
+    → FailsInMessage limits given start (word 2) b c f → FailsInMessage limits given start [] a c f
+then-inside limits given start a b c ns (fault.Truncated at) is took lost = then_lost limits given start at a b c ns (IsCut limits) is took lost
+then-inside limits given start a b c ns (fault.Read at) is took lost = then_lost limits given start at a b c ns (IsCut limits) is took lost
+then-inside limits given start a b c ns fault.Memory is took (at, lost) = (at, then_lost limits given start at a b c ns (IsCut limits) is took lost)
+then-inside limits given start a b c ns (fault.NotMessage at) is took lost = then_lost limits given start at a b c ns (IsOfField limits) is took lost
+then-inside limits given start a b c ns (fault.FieldTooLong at) is took lost = then_lost limits given start at a b c ns (IsOfField limits) is took lost
+then-inside limits given start a b c ns (fault.TextTooLong at) is took lost = then_lost limits given start at a b c ns (IsOfField limits) is took lost
+then-inside limits given start a b c ns (fault.TooManyMessages at) is took lost = then_lost limits given start at a b c ns (IsOfField limits) is took lost
+then-inside limits given start a b c ns (fault.NotType2 at) is took lost = absurd lost
+then-inside limits given start a b c ns fault.Stopped is took lost = absurd lost
+then-inside limits given start a b c ns (fault.Write n) is took lost = absurd lost
+then-inside limits given start a b c ns (fault.BadField n) is took lost = absurd lost
 
 -- the number 2 and then the rest of a message
 pub takes-whole : (most start at : ℕ) (a b c : Option (List ℕ)) (ns : List ℕ) (m : Message) → AreBytes ns → length ns ≡ 2 → Consumes a b ns

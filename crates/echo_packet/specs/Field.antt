@@ -1,11 +1,14 @@
 -- What reading one field takes from a source, and why it fails.
-use Rattle.std.specs.Prelude.{◌≡◌, ℕ, ◌+◌, ◌<◌, ◌≤◌, List, ◌++◌, length, take, slice_index, Option, Result, Ok, Err, Bool, true, false}
+use Rattle.std.specs.Prelude.{◌≡◌, ℕ, ◌+◌, ◌<◌, ◌≤◌, List, ◌++◌, length, take, slice_index, Option, Result, Ok, Err}
 use Rattle.std.specs.Io.KnownBytes.{Consumes, IsAtEnd}
-use Rattle.echo_device.specs.Device.{Failed}
-use Rattle.echo_packet.specs.declared.field.Broken.{Broken}
-use Rattle.echo_packet.specs.declared.field.Broken.TheVariants as broken
+use Rattle.echo_device.specs.declared.fixed.Broken.{Broken}
+use Rattle.echo_device.specs.declared.fixed.Broken.TheVariants as broken
 use Rattle.echo_packet.specs.declared.field.Piece.{Piece}
 use Rattle.echo_packet.specs.declared.field.Piece.TheVariants as piece
+use Rattle.echo_packet.specs.declared.field.Taken.{Taken}
+use Rattle.echo_packet.specs.declared.field.Taken.TheVariants as taken
+use Rattle.echo_packet.specs.declared.fault.Field.{Field}
+use Rattle.echo_packet.specs.declared.fault.Field.TheVariants as field
 use Rattle.echo_packet.specs.declared.fault.PacketFault.{PacketFault}
 use Rattle.echo_packet.specs.declared.fault.PacketFault.TheVariants as fault
 use Rattle.echo_packet.specs.Header.{word}
@@ -16,24 +19,19 @@ use Rattle.echo_packet.specs.Fault.{IsTooLong, place_of}
 abbrev pub Came : Option (List ℕ) → Option (List ℕ) → (List ℕ → Type 0) → Type 0
 Came old new P = (came : List ℕ) × Consumes old new came × P came
 
--- the field has a fixed size, and fewer bytes of it came
-abbrev pub BreaksFixed : ℕ → Option (List ℕ) → Option (List ℕ) → Broken → Type 0
-BreaksFixed size old new broken.Cut = Came old new (λ came. length came < size) × IsAtEnd new
-BreaksFixed size old new broken.Device = Came old new (λ came. length came < size)
-BreaksFixed size old new _ = ⊥
+-- the bytes end inside a string of at most so many bytes
+abbrev pub IsOpen : ℕ → List ℕ → Type 0
+IsOpen most bs = HasNoZero bs × (length bs ≤ most)
+
+-- the bytes are one more than a string may have, and none of them is 00
+abbrev pub IsPast : ℕ → List ℕ → Type 0
+IsPast most bs = HasNoZero bs × (length bs ≡ most + 1)
 
 -- the bytes without 00 of a string that came, of which so many have room
 abbrev pub BreaksString : ℕ → Option (List ℕ) → Option (List ℕ) → Broken → Type 0
-BreaksString room old new broken.Cut = Came old new (λ came. HasNoZero came × (length came ≤ room)) × IsAtEnd new
-BreaksString room old new broken.Device = Came old new (λ came. HasNoZero came × (length came ≤ room))
-BreaksString room old new broken.TooLong = Came old new (λ came. HasNoZero came × (length came ≡ room + 1))
-BreaksString room old new broken.Memory = Unit {0}
-
--- the count of failures rose where the device failed, and only there
-abbrev pub CountsBroken : {A : Type 0} → Result A Broken → ℕ → ℕ → Type 0
-CountsBroken (Err broken.Device) old new = Failed old new
-CountsBroken (Err _) old new = new ≡ old
-CountsBroken (Ok _) old new = new ≡ old
+BreaksString room old new broken.Cut = Came old new (IsOpen room) × IsAtEnd new
+BreaksString room old new broken.Device = Came old new (IsOpen room)
+BreaksString room old new broken.Memory = Came old new (IsOpen room)
 
 -- where the 00 of a string stands in the bytes, of which so many have room before it
 abbrev pub IsPiece : ℕ → List ℕ → Piece → Type 0
@@ -41,12 +39,13 @@ IsPiece room bs (piece.Whole n) = (n < length bs) × (n ≤ room) × HasNoZero (
 IsPiece room bs piece.Open = HasNoZero bs × (length bs ≤ room)
 IsPiece room bs piece.TooLong = IsTooLong room bs
 
--- one step of reading a string put some bytes behind those that it had, the last step took its 00 too
-abbrev pub StepsString : ℕ → List ℕ → List ℕ → Option (List ℕ) → Option (List ℕ) → Result Bool Broken → Type 0
-StepsString room had has old new (Ok false) =
+-- one step of reading a string put some bytes behind those that it had, or its last ones and took its 00 too, or came past its room
+abbrev pub StepsString : ℕ → List ℕ → List ℕ → Option (List ℕ) → Option (List ℕ) → Result Taken Broken → Type 0
+StepsString room had has old new (Ok taken.Part) =
     (t : List ℕ) × (has ≡ had ++ t) × Consumes old new t × HasNoZero t × (0 < length t) × (length t ≤ room)
-StepsString room had has old new (Ok true) =
+StepsString room had has old new (Ok taken.Whole) =
     (t : List ℕ) × (has ≡ had ++ t) × Consumes old new (zero_ended t) × HasNoZero t × (length t ≤ room)
+StepsString room had has old new (Ok taken.TooLong) = Came old new (IsPast room)
 StepsString room had has old new (Err b) = BreaksString room old new b
 
 -- the fault of a field that begins at the place, by what is so of the bytes from there on
@@ -58,18 +57,18 @@ FieldFault Cut Long LongText place bs (fault.Read at) = Unit {0}
 FieldFault Cut Long LongText place bs fault.Memory = Unit {0}
 FieldFault Cut Long LongText place bs _ = ⊥
 
--- where the device failed, the bytes that came end inside the field that begins at the place
-abbrev pub FailsInField : (List ℕ → Type 0) → ℕ → Option (List ℕ) → Option (List ℕ) → PacketFault → Type 0
-FailsInField Cut place old new (fault.Read at) = (at ≡ place) × Came old new Cut
-FailsInField Cut place old new _ = Unit {0}
+-- At a fault the source lost nothing behind the field that begins at the place: the bytes that came end inside it, or show that it is too long.
+abbrev pub FailsInField : (List ℕ → Type 0) → (List ℕ → Type 0) → (List ℕ → Type 0) → ℕ → Option (List ℕ) → Option (List ℕ) → PacketFault → Type 0
+FailsInField Cut Past PastText place old new (fault.Truncated at) = (at ≡ place) × Came old new Cut
+FailsInField Cut Past PastText place old new (fault.Read at) = (at ≡ place) × Came old new Cut
+FailsInField Cut Past PastText place old new fault.Memory = Came old new Cut
+FailsInField Cut Past PastText place old new (fault.FieldTooLong at) = (at ≡ place) × Came old new Past
+FailsInField Cut Past PastText place old new (fault.TextTooLong at) = (at ≡ place) × Came old new PastText
+FailsInField Cut Past PastText place old new _ = ⊥
 
 -- the bytes end inside a field of that size
 abbrev pub IsShort : ℕ → List ℕ → Type 0
 IsShort size bs = length bs < size
-
--- the bytes end inside a string of at most so many bytes
-abbrev pub IsOpen : ℕ → List ℕ → Type 0
-IsOpen most bs = HasNoZero bs × (length bs ≤ most)
 
 -- nothing is so
 abbrev pub Never : List ℕ → Type 0
@@ -87,19 +86,38 @@ NameFault most = FieldFault (IsOpen most) (IsTooLong most) Never
 abbrev pub TextFault : ℕ → ℕ → List ℕ → PacketFault → Type 0
 TextFault most = FieldFault (IsOpen most) Never (IsTooLong most)
 
--- how a field that was not read is told, by its place
-abbrev pub name_fault_at : ℕ → Broken → PacketFault
-name_fault_at at broken.Cut = fault.Truncated at
-name_fault_at at broken.TooLong = fault.FieldTooLong at
-name_fault_at at broken.Device = fault.Read at
-name_fault_at at broken.Memory = fault.Memory
+-- the fault of the string of a field
+abbrev pub StringFault : Field → ℕ → ℕ → List ℕ → PacketFault → Type 0
+StringFault field.Text most = TextFault most
+StringFault _ most = NameFault most
 
--- how a text that was not read is told, by its place
-abbrev pub text_fault_at : ℕ → Broken → PacketFault
-text_fault_at at broken.Cut = fault.Truncated at
-text_fault_at at broken.TooLong = fault.TextTooLong at
-text_fault_at at broken.Device = fault.Read at
-text_fault_at at broken.Memory = fault.Memory
+-- what the source lost at the fault of a field of that size
+abbrev pub FailsInFixed : ℕ → ℕ → Option (List ℕ) → Option (List ℕ) → PacketFault → Type 0
+FailsInFixed size = FailsInField (IsShort size) Never Never
+
+-- what it lost at the fault of a name or the subject
+abbrev pub FailsInName : ℕ → ℕ → Option (List ℕ) → Option (List ℕ) → PacketFault → Type 0
+FailsInName most = FailsInField (IsOpen most) (IsPast most) Never
+
+-- what it lost at the fault of a text
+abbrev pub FailsInText : ℕ → ℕ → Option (List ℕ) → Option (List ℕ) → PacketFault → Type 0
+FailsInText most = FailsInField (IsOpen most) Never (IsPast most)
+
+-- what it lost at the fault of the string of a field
+abbrev pub FailsInString : Field → ℕ → ℕ → Option (List ℕ) → Option (List ℕ) → PacketFault → Type 0
+FailsInString field.Text most = FailsInText most
+FailsInString _ most = FailsInName most
+
+-- the fault of a field that was not read, by its place
+abbrev pub broken_fault_at : ℕ → Broken → PacketFault
+broken_fault_at at broken.Cut = fault.Truncated at
+broken_fault_at at broken.Device = fault.Read at
+broken_fault_at at broken.Memory = fault.Memory
+
+-- the fault of a string that is too long, by its field and its place
+abbrev pub long_fault_at : Field → ℕ → PacketFault
+long_fault_at field.Text at = fault.TextTooLong at
+long_fault_at _ at = fault.FieldTooLong at
 
 -- behind its number 2 a whole message came from the source, up to the place
 pub record TakesMessage (most start : ℕ) (old new : Option (List ℕ)) (m : Message) (at : ℕ) : Type 0 where

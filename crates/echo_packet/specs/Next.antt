@@ -1,12 +1,12 @@
 -- What stands where a message or the terminator begins, or what is wrong there.
-use Rattle.std.specs.Prelude.{◌≡◌, ◌≢◌, ℕ, ◌+◌, ◌<◌, List, ◌++◌, length, Option, None, Some, IfSome, Result, Ok, Err}
+use Rattle.std.specs.Prelude.{◌≡◌, ◌≢◌, ℕ, ◌+◌, ◌<◌, ◌≤◌, List, ◌++◌, length, Option, None, Some, IfSome, Result, Ok, Err}
 use Rattle.std.specs.Io.KnownBytes.{Consumes}
 use Rattle.echo_device.specs.Device.{Failed}
 use Rattle.echo_packet.specs.declared.limits.Limits.{Limits}
 use Rattle.echo_packet.specs.declared.fault.PacketFault.{PacketFault}
 use Rattle.echo_packet.specs.declared.fault.PacketFault.TheVariants as fault
 use Rattle.echo_packet.specs.Header.{word}
-use Rattle.echo_packet.specs.Message.{Message, Part, Number, before, message_bytes, IsMessage}
+use Rattle.echo_packet.specs.Message.{Message, Part, Number, Numbers, DateTime, before, message_bytes, most_of, HasNoZero, IsMessage}
 use Rattle.echo_packet.specs.Field.{Came}
 use Rattle.echo_packet.specs.Fault.{IsCut, IsLongField, IsLongText, IsOtherNumber, IsOneTooMany, place_of}
 
@@ -32,10 +32,27 @@ NextFault limits given start bs (fault.Read at) = Unit {0}
 NextFault limits given start bs fault.Memory = Unit {0}
 NextFault limits given start bs _ = ⊥
 
--- Where the device failed, the bytes that came behind these end inside the field at the place: with no more of them they would be truncated there.
+-- no more bytes than the field has; of a string at most one more than it may have, and none that is 00
+abbrev pub IsOfField : Limits → Part → List ℕ → Type 0
+IsOfField limits Number r = length r ≤ 2
+IsOfField limits Numbers r = length r ≤ 12
+IsOfField limits DateTime r = length r ≤ 20
+IsOfField limits field r = HasNoZero r × (length r ≤ most_of limits.text field + 1)
+
+-- Behind these bytes the source lost the earlier fields of one more message and, of the field at the place, only bytes that are so.
+abbrev pub LosesUpTo : Limits → ℕ → ℕ → List ℕ → Option (List ℕ) → Option (List ℕ) → ℕ → (Part → List ℕ → Type 0) → Type 0
+LosesUpTo limits given start front old new at Of = Came old new (λ came. AtPart limits given start (front ++ came) at Of)
+
+-- At a fault the source lost nothing behind the field at the place. Where it ended, the device failed or memory ran out, the bytes end inside that field.
 abbrev pub FailsInMessage : Limits → ℕ → ℕ → List ℕ → Option (List ℕ) → Option (List ℕ) → PacketFault → Type 0
-FailsInMessage limits given start front old new (fault.Read at) = Came old new (λ came. AtPart limits given start (front ++ came) at (IsCut limits))
-FailsInMessage limits given start front old new _ = Unit {0}
+FailsInMessage limits given start front old new (fault.Truncated at) = LosesUpTo limits given start front old new at (IsCut limits)
+FailsInMessage limits given start front old new (fault.Read at) = LosesUpTo limits given start front old new at (IsCut limits)
+FailsInMessage limits given start front old new fault.Memory = (at : ℕ) × LosesUpTo limits given start front old new at (IsCut limits)
+FailsInMessage limits given start front old new (fault.NotMessage at) = LosesUpTo limits given start front old new at (IsOfField limits)
+FailsInMessage limits given start front old new (fault.FieldTooLong at) = LosesUpTo limits given start front old new at (IsOfField limits)
+FailsInMessage limits given start front old new (fault.TextTooLong at) = LosesUpTo limits given start front old new at (IsOfField limits)
+FailsInMessage limits given start front old new (fault.TooManyMessages at) = LosesUpTo limits given start front old new at (IsOfField limits)
+FailsInMessage limits given start front old new _ = ⊥
 
 -- why the fields behind the number 2 were not read
 pub record FailsBehind (limits : Limits) (given start : ℕ) (old new : Option (List ℕ)) (f : PacketFault) : Type 0 where

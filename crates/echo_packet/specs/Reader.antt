@@ -8,7 +8,7 @@ use Rattle.echo_packet.specs.declared.reader.PacketReader.{PacketReader}
 use Rattle.echo_packet.specs.declared.reader.Stage.TheVariants as stage
 use Rattle.echo_packet.specs.Header.{number_at}
 use Rattle.echo_packet.specs.Message.{Message}
-use Rattle.echo_packet.specs.Field.{FailsInField, IsShort}
+use Rattle.echo_packet.specs.Field.{Came, IsShort}
 use Rattle.echo_packet.specs.Next.{CountsFailures}
 
 -- the source that is left
@@ -60,9 +60,16 @@ FrontFault bs (fault.NotType2 at) = (at ≡ 18) × (58 ≤ length bs) × (number
 FrontFault bs (fault.Read at) = at ≡ 0
 FrontFault bs _ = ⊥
 
--- A call failed that took the source by value: this is how it was left. At a read fault, and only there, the count of
--- failures rose, and the bytes that it lost end inside the header.
+-- at a fault the source lost no more than the header: fewer bytes than that has, or all of them where the packet type is another
+abbrev pub FailsInFront : Option (List ℕ) → Option (List ℕ) → PacketFault → Type 0
+FailsInFront old new (fault.Truncated at) = (at ≡ 0) × Came old new (IsShort 58)
+FailsInFront old new (fault.Read at) = (at ≡ 0) × Came old new (IsShort 58)
+FailsInFront old new (fault.NotType2 at) = (at ≡ 18) × Came old new (λ came. length came ≡ 58)
+FailsInFront old new _ = ⊥
+
+-- A call failed that took the source by value: this is how it was left. It lost no more than the header, and the count of
+-- failures rose at a read fault and only there.
 pub record IsDropped {R : Type 0} (remaining : R → Option (List ℕ)) (failures : R → ℕ) (source : R) (f : PacketFault) : Type 0 where
   pub left : R
-  pub inside : FailsInField (IsShort 58) 0 (remaining source) (remaining left) f
+  pub inside : FailsInFront (remaining source) (remaining left) f
   pub device : CountsFailures {A = Header} (Err f) (failures source) (failures left)

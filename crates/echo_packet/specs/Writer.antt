@@ -2,7 +2,7 @@
 use Rattle.std.specs.Prelude.{◌≡◌, ℕ, Bool, List, Option}
 use Rattle.echo_device.specs.Device.{Failed, SendsFront}
 use Rattle.echo_packet.specs.declared.writer.PacketWriter.{PacketWriter}
-use Rattle.echo_packet.specs.declared.fault.PacketFault.{PacketFault}
+use Rattle.echo_packet.specs.declared.fault.Unfinished.{Unfinished}
 use Rattle.echo_packet.specs.declared.fault.PacketFault.TheVariants.{Write}
 
 -- the writer that takes the bytes
@@ -17,11 +17,10 @@ bytes_sent p = p.sent
 abbrev pub has_stopped : {W : Type 0} → PacketWriter W → Bool
 has_stopped p = p.stopped
 
--- A call failed that took the writer by value: this is how it was left, after a front of the bytes that lacks some. The
--- fault counts them and those that went out before.
-pub record IsLost {W : Type 0} (contents : W → Option (List ℕ)) (failures : W → ℕ) (writer : W) (bytes : List ℕ) (before : ℕ) (fault : PacketFault) : Type 0 where
-  pub left : W
+-- A call that took the writer by value failed and gives it back: a front of the bytes, which lacks some, went out and
+-- nothing else. The fault counts it and the bytes before.
+pub record IsCutOff {W : Type 0} (contents : W → Option (List ℕ)) (failures : W → ℕ) (writer : W) (bytes : List ℕ) (before : ℕ) (left : Unfinished W) : Type 0 where
   pub sent : ℕ
-  pub front : SendsFront (contents writer) (contents left) bytes before sent
-  pub counts : fault ≡ Write sent
-  pub failed : Failed (failures writer) (failures left)
+  pub front : SendsFront (contents writer) (contents left.device) bytes before sent
+  pub counts : left.fault ≡ Write sent
+  pub failed : Failed (failures writer) (failures left.device)

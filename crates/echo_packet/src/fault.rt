@@ -70,3 +70,21 @@ impl<T: Drop> From<AllocFailed<T>> for PacketFault {
         PacketFault::Memory
     }
 }
+
+/// A call that took a device by value answered this fault, and gives the device back as the call left
+/// it.
+#[derive(Drop)]
+pub struct Unfinished<D> {
+    pub fault: PacketFault,
+    pub device: D,
+}
+
+impl<D: Drop> From<Unfinished<D>> for PacketFault {
+    ghost use Rattle.std.specs.Prelude.{◌≡◌};
+
+    ghost from_gives = { λ unfinished e. e ≡ unfinished.fault };
+
+    fn from(unfinished: Unfinished<D>) -> PacketFault {
+        unfinished.fault
+    }
+}

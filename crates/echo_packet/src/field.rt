@@ -1,58 +1,13 @@
-//! One field of a message, taken from a source.
-ghost use Rattle.std.specs.Prelude.{◌≡◌, ◌<◌, ◌≤◌, List, length, IfOk, IfErr, OnOk};
+//! A string of a message, taken from a source.
+ghost use Rattle.std.specs.Prelude.{◌≡◌, ◌<◌, ◌≤◌, List, length, IfNone, IfSome, IfOk, IfErr};
 ghost use Rattle.std.specs.Io.KnownBytes.{Consumes};
+ghost use Rattle.echo_device.specs.Fixed.{CountsBreak};
 ghost use Rattle.echo_packet.specs.Message.{IsString, zero_ended};
-ghost use Rattle.echo_packet.specs.Field.{BreaksFixed, BreaksString, CountsBroken, IsPiece, StepsString};
+ghost use Rattle.echo_packet.specs.Field.{BreaksString, Came, IsPast, IsPiece, StepsString};
 
-use echo_device::{Failure, Source, are_bytes, fill};
+use echo_device::{Broken, Source, are_bytes};
 use memchr::memchr;
-use std::alloc::{AllocError, AllocFailed, Global};
-
-/// Why a field was not read.
-#[derive(Clone, Copy, Debug, PartialEq, Eq)]
-pub(crate) enum Broken {
-    /// The input ends inside it.
-    Cut,
-    /// No 00 came in as many bytes as it may have.
-    TooLong,
-    /// The device failed.
-    Device,
-    /// A growth was refused.
-    Memory,
-}
-
-impl From<Failure> for Broken {
-    ghost use Rattle.std.specs.Prelude.{◌≡◌};
-    ghost use Rattle.echo_packet.specs.declared.field.Broken.TheVariants as broken;
-
-    ghost from_gives = { λ _ e. e ≡ broken.Device };
-
-    fn from(_failure: Failure) -> Broken {
-        Broken::Device
-    }
-}
-
-impl From<AllocError> for Broken {
-    ghost use Rattle.std.specs.Prelude.{◌≡◌};
-    ghost use Rattle.echo_packet.specs.declared.field.Broken.TheVariants as broken;
-
-    ghost from_gives = { λ _ e. e ≡ broken.Memory };
-
-    fn from(_error: AllocError) -> Broken {
-        Broken::Memory
-    }
-}
-
-impl<T: Drop> From<AllocFailed<T>> for Broken {
-    ghost use Rattle.std.specs.Prelude.{◌≡◌};
-    ghost use Rattle.echo_packet.specs.declared.field.Broken.TheVariants as broken;
-
-    ghost from_gives = { λ _ e. e ≡ broken.Memory };
-
-    fn from(_failed: AllocFailed<T>) -> Broken {
-        Broken::Memory
-    }
-}
+use std::alloc::Global;
 
 /// What stands at the front of bytes where a string goes on.
 #[derive(Clone, Copy, Debug, PartialEq, Eq)]
@@ -65,17 +20,15 @@ pub(crate) enum Piece {
     TooLong,
 }
 
-// Fills the field from the source.
-pub(crate) fn read_fixed<R: Source>(reader: &mut R, field: &mut [u8]) -> Result<(), Broken>
-    ensures taken { OnOk result (Consumes (R.remaining reader.old) (R.remaining reader.new) field.new) }
-    ensures broken { IfErr result (BreaksFixed (length field.old) (R.remaining reader.old) (R.remaining reader.new)) }
-    ensures device { CountsBroken result (R.failures reader.old) (R.failures reader.new) }
-{
-    let count = fill(reader, field)?;
-    if count < field.len() {
-        return Err(Broken::Cut);
-    }
-    Ok(())
+/// What one more step took of a string.
+#[derive(Clone, Copy, Debug, PartialEq, Eq)]
+pub(crate) enum Taken {
+    /// Some bytes, and more are to come.
+    Part,
+    /// The last bytes, and the 00 behind them.
+    Whole,
+    /// One byte more than there is room for, and no 00.
+    TooLong,
 }
 
 // The string's part of the bytes. At most `room` of these are looked at, and one more.
@@ -95,9 +48,9 @@ fn find_end(held: &[u8], room: usize) -> Piece
 }
 
 // Takes one byte of the string, or its 00.
-fn take_byte<R: Source>(reader: &mut R, string: &mut Vec<u8>, room: usize) -> Result<bool, Broken>
+fn take_byte<R: Source>(reader: &mut R, string: &mut Vec<u8>, room: usize) -> Result<Taken, Broken>
     ensures step { StepsString room string.old.items string.new.items (R.remaining reader.old) (R.remaining reader.new) result }
-    ensures device { CountsBroken result (R.failures reader.old) (R.failures reader.new) }
+    ensures device { CountsBreak result (R.failures reader.old) (R.failures reader.new) }
 {
     let mut byte = [0u8; 1];
     let count = reader.read_some(&mut byte)?;
@@ -105,44 +58,44 @@ fn take_byte<R: Source>(reader: &mut R, string: &mut Vec<u8>, room: usize) -> Re
         return Err(Broken::Cut);
     }
     if byte[0] == 0 {
-        return Ok(true);
+        return Ok(Taken::Whole);
     }
     if room == 0 {
-        return Err(Broken::TooLong);
+        return Ok(Taken::TooLong);
     }
     string.push(byte[0])?;
-    Ok(false)
+    Ok(Taken::Part)
 }
 
 // Takes the string's part of the bytes that are already there.
-fn take_held<R: Source>(reader: &mut R, string: &mut Vec<u8>, room: usize) -> Result<bool, Broken>
+fn take_held<R: Source>(reader: &mut R, string: &mut Vec<u8>, room: usize) -> Result<Taken, Broken>
     requires { 0 < length (R.held reader.old) }
     ensures step { StepsString room string.old.items string.new.items (R.remaining reader.old) (R.remaining reader.new) result }
-    ensures device { CountsBroken result (R.failures reader.old) (R.failures reader.new) }
+    ensures device { CountsBreak result (R.failures reader.old) (R.failures reader.new) }
 {
     let held = reader.held();
     match find_end(held, room) {
         Piece::Whole(count) => {
             string.extend_from_slice(&held[..count])?;
             reader.skip(count + 1);
-            Ok(true)
+            Ok(Taken::Whole)
         }
         Piece::Open => {
             let count = held.len();
             string.extend_from_slice(held)?;
             reader.skip(count);
-            Ok(false)
+            Ok(Taken::Part)
         }
         Piece::TooLong => {
             reader.skip(room + 1);
-            Err(Broken::TooLong)
+            Ok(Taken::TooLong)
         }
     }
 }
 
-fn take_piece<R: Source>(reader: &mut R, string: &mut Vec<u8>, room: usize) -> Result<bool, Broken>
+fn take_piece<R: Source>(reader: &mut R, string: &mut Vec<u8>, room: usize) -> Result<Taken, Broken>
     ensures step { StepsString room string.old.items string.new.items (R.remaining reader.old) (R.remaining reader.new) result }
-    ensures device { CountsBroken result (R.failures reader.old) (R.failures reader.new) }
+    ensures device { CountsBreak result (R.failures reader.old) (R.failures reader.new) }
 {
     if reader.held().is_empty() {
         take_byte(reader, string, room)
@@ -151,23 +104,30 @@ fn take_piece<R: Source>(reader: &mut R, string: &mut Vec<u8>, room: usize) -> R
     }
 }
 
-/// A string of at most `most` bytes, without the 00 that ends it. No byte after the 00 is taken.
+/// A string of at most `most` bytes, without the 00 that ends it, or none where no 00 stands within
+/// `most + 1` bytes. No byte after the 00 is taken.
 pub(crate) fn read_string<R: Source>(
     alloc: Global,
     reader: &mut R,
     most: usize,
-) -> Result<Vec<u8>, Broken>
-    ensures found { IfOk result (λ s. IsString most s.items) }
-    ensures taken { IfOk result (λ s. Consumes (R.remaining reader.old) (R.remaining reader.new) (zero_ended s.items)) }
+) -> Result<Option<Vec<u8>>, Broken>
+    ensures found { IfOk result (λ read. IfSome read (λ s. IsString most s.items)) }
+    ensures taken { IfOk result (λ read. IfSome read (λ s. Consumes (R.remaining reader.old) (R.remaining reader.new) (zero_ended s.items))) }
+    ensures too_long { IfOk result (λ read. IfNone read (Came (R.remaining reader.old) (R.remaining reader.new) (IsPast most))) }
     ensures broken { IfErr result (BreaksString most (R.remaining reader.old) (R.remaining reader.new)) }
-    ensures device { CountsBroken result (R.failures reader.old) (R.failures reader.new) }
+    ensures device { CountsBreak result (R.failures reader.old) (R.failures reader.new) }
 {
     let mut string = Vec::new(alloc);
     'pieces: loop {
         let room = most - string.len();
-        if take_piece(reader, &mut string, room)? {
-            are_bytes(&string);
-            return Ok(string);
+        match take_piece(reader, &mut string, room)? {
+            Taken::Part => {}
+            Taken::Whole => {
+                // For the prover alone: each byte is below 256.
+                are_bytes(&string);
+                return Ok(Some(string));
+            }
+            Taken::TooLong => return Ok(None),
         }
     }
 }

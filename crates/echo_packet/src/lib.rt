@@ -33,10 +33,10 @@ mod reading;
 mod sending;
 mod writer;
 
-pub use fault::{Field, PacketFault};
+pub use fault::{Field, PacketFault, Unfinished};
 pub use header::{HEADER_BYTES, Header};
 pub use laws::{header_laws, one_answer, one_next_fault, whole_runs, written_packet_reads_back};
-pub use limits::{Limits, MAX_NAME, MAX_SUBJECT};
+pub use limits::{Limits, MAX_NAME, MAX_SUBJECT, no_limits};
 pub use message::read_next;
 pub use packed::Packed;
 pub use reader::{PacketReader, read_header};

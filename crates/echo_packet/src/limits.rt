@@ -1,3 +1,5 @@
+ghost use Rattle.std.specs.Prelude.{◌≡◌};
+
 /// How many bytes a name may have before its 00 (FTS-0001).
 pub const MAX_NAME: usize = 35;
 
@@ -18,3 +20,8 @@ impl Limits {
         messages: u64::MAX,
     };
 }
+
+/// A law: `Limits::NONE` takes texts of any length and any number of messages.
+pub fn no_limits()
+    ensures { Limits.NONE ≡ record { text = usize.MAX; messages = u64.MAX } }
+{}

@@ -4,9 +4,9 @@ ghost use Rattle.echo_device.specs.Device.{Failed, Sends};
 ghost use Rattle.echo_packet.specs.declared.fault.PacketFault.TheVariants.{Stopped, Write};
 ghost use Rattle.echo_packet.specs.Header.{IsHeader, header_bytes, word};
 ghost use Rattle.echo_packet.specs.Message.{IsMessage, message_bytes};
-ghost use Rattle.echo_packet.specs.Writer.{IsLost, bytes_sent, has_stopped, writer_below};
+ghost use Rattle.echo_packet.specs.Writer.{IsCutOff, bytes_sent, has_stopped, writer_below};
 
-use crate::fault::PacketFault;
+use crate::fault::{PacketFault, Unfinished};
 use crate::header::Header;
 use crate::packed::Packed;
 use crate::sending::{send_header, send_message, send_terminator};
@@ -22,13 +22,14 @@ pub struct PacketWriter<W> {
 }
 
 impl<W: Sink + Drop> PacketWriter<W> {
-    /// Writes the header. A fault is `Write` with the number of bytes that went out.
-    pub fn begin(writer: W, header: &Header) -> Result<PacketWriter<W>, PacketFault>
+    /// Writes the header. A fault is `Write` with the number of bytes that went out; nothing is sent
+    /// after it, and the writer is given back.
+    pub fn begin(writer: W, header: &Header) -> Result<PacketWriter<W>, Unfinished<W>>
         ensures bytes { IfOk result (λ packet. Appends (W.contents writer) (W.contents (writer_below packet)) (header_bytes header.now)) }
         ensures count { IfOk result (λ packet. bytes_sent packet ≡ 58) }
         ensures ready { IfOk result (λ packet. has_stopped packet ≡ false) }
         ensures same { IfOk result (λ packet. W.failures (writer_below packet) ≡ W.failures writer) }
-        ensures fault { IfErr result (IsLost W.contents W.failures writer (header_bytes header.now) 0) }
+        ensures fault { IfErr result (IsCutOff W.contents W.failures writer (header_bytes header.now) 0) }
         ensures header { IsHeader header.now }
     {
         let mut writer = writer;
@@ -39,7 +40,10 @@ impl<W: Sink + Drop> PacketWriter<W> {
                 sent,
                 stopped: false,
             }),
-            Err(Failure) => Err(PacketFault::Write { bytes: sent }),
+            Err(Failure) => Err(Unfinished {
+                fault: PacketFault::Write { bytes: sent },
+                device: writer,
+            }),
         }
     }
 
@@ -67,22 +71,28 @@ impl<W: Sink + Drop> PacketWriter<W> {
         }
     }
 
-    /// Writes the terminator 00 00 and gives the writer back. What that holds back is left to its
-    /// owner. Faults are those of `put`.
-    pub fn finish(self) -> Result<W, PacketFault>
+    /// Writes the terminator 00 00 and gives the writer back, with a fault too. What that holds back
+    /// is left to its owner. Faults are those of `put`: after an error nothing is sent.
+    pub fn finish(self) -> Result<W, Unfinished<W>>
         ensures bytes { IfOk result (λ writer. Appends (W.contents (writer_below self)) (W.contents writer) (word 0)) }
         ensures same { IfOk result (λ writer. W.failures writer ≡ W.failures (writer_below self)) }
-        ensures fault { has_stopped self ≡ false → IfErr result (IsLost W.contents W.failures (writer_below self) (word 0) (bytes_sent self)) }
-        ensures stopped { has_stopped self ≡ true → result ≡ Err Stopped }
+        ensures fault { has_stopped self ≡ false → IfErr result (IsCutOff W.contents W.failures (writer_below self) (word 0) (bytes_sent self)) }
+        ensures stopped { has_stopped self ≡ true → result ≡ Err (record { fault = Stopped; device = writer_below self }) }
     {
         if self.stopped {
-            return Err(PacketFault::Stopped);
+            return Err(Unfinished {
+                fault: PacketFault::Stopped,
+                device: self.writer,
+            });
         }
         let mut writer = self.writer;
         let mut sent = self.sent;
         match send_terminator(&mut writer, &mut sent) {
             Ok(()) => Ok(writer),
-            Err(Failure) => Err(PacketFault::Write { bytes: sent }),
+            Err(Failure) => Err(Unfinished {
+                fault: PacketFault::Write { bytes: sent },
+                device: writer,
+            }),
         }
     }
 }

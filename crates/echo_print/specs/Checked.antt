@@ -3,6 +3,7 @@ use Rattle.std.specs.Prelude.{◌≡◌, ℕ, ◌↔◌, true, AllPairs, Contain
 use Rattle.std.specs.List.{flat_map}
 use Rattle.echo_addr.specs.declared.address.Address.{Address}
 use Rattle.echo_addr.specs.Address.{address_text}
+use Rattle.echo_escape.specs.Words.{printed_word}
 use Rattle.echo_links.specs.Links.{LinkFile}
 use Rattle.echo_filed.specs.Sets.{address_before}
 use Rattle.echo_nodelist.specs.declared.line.Line.{Line}
@@ -14,15 +15,15 @@ use Rattle.echo_net.specs.declared.verdict.Verdict.TheVariants.{Yes, No}
 use Rattle.echo_net.specs.Absent.{IsAbsent}
 use Rattle.echo_net.specs.Printed.{fault_text}
 
--- an area in order, with how many systems and links it has; the tag is printed as it stands
+-- an area in order, with how many systems and links it has; the tag is printed as a word is
 abbrev pub yes_text : List ℕ → ℕ → ℕ → List ℕ
 yes_text tag systems links =
-    codes "yes " ++ (tag ++ (codes " " ++ (decimal systems ++ (codes " systems " ++ (decimal links ++ codes " links")))))
+    codes "yes " ++ (printed_word tag ++ (codes " " ++ (decimal systems ++ (codes " systems " ++ (decimal links ++ codes " links")))))
 
 -- a verdict
 abbrev pub verdict_text : List ℕ → Verdict → List ℕ
 verdict_text tag (Yes systems links) = yes_text tag systems links
-verdict_text tag (No fault) = codes "no " ++ (tag ++ (codes " " ++ fault_text fault))
+verdict_text tag (No fault) = codes "no " ++ (printed_word tag ++ (codes " " ++ fault_text fault))
 
 -- its line
 abbrev pub verdict_line : List ℕ → Verdict → List ℕ

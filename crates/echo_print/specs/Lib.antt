@@ -1,10 +1,7 @@
-pub mod Escaped
 pub mod Pushed
 pub mod Said
 pub mod Shown
 pub mod Listed
 pub mod Checked
 pub mod Pictured
-pub mod Told
 pub mod BaseListed
-pub mod Replayed

@@ -11,7 +11,7 @@ use Rattle.echo_nodelist.specs.declared.line.Line.{Line}
 use Rattle.echo_nodelist.specs.declared.line.Line.TheVariants.{Note, Entry}
 use Rattle.echo_nodelist.specs.Back.{Finds, address_at}
 use Rattle.echo_nodelist.specs.Line.{keyword_text}
-use Rattle.echo_print.specs.Escaped.{escaped_line}
+use Rattle.echo_escape.specs.Escaped.{escaped_line}
 use Rattle.echo_print.specs.Shown.{zero_padded}
 
 -- the line on a checksum that differs

@@ -2,6 +2,7 @@
 use Rattle.std.specs.Prelude.{ℕ, ◌==◌, ◌||◌, Bool, true, false, if◌then◌else◌, List, [], ◌∷◌, ◌++◌, codes}
 use Rattle.std.specs.List.{flat_map}
 use Rattle.echo_addr.specs.Address.{address_text}
+use Rattle.echo_escape.specs.Words.{printed_word}
 use Rattle.echo_net.specs.declared.drawing.DrawnLink.{DrawnLink}
 use Rattle.echo_net.specs.declared.drawing.DrawnSystem.{DrawnSystem}
 use Rattle.echo_net.specs.declared.drawing.Drawing.{Drawing}
@@ -57,7 +58,7 @@ link_line l = ends_text l ++ (side_marks l.sides ++ (loop_marks l.on_loop ++ cod
 
 -- the lines before the systems: the tag is the name of the graph, the verdict its label
 abbrev pub head_lines : List ℕ → Verdict → List ℕ
-head_lines tag verdict = codes "graph " ++ (quoted tag ++ (codes " {\nlabel=" ++ (quoted (verdict_text tag verdict) ++ codes ";\n")))
+head_lines tag verdict = codes "graph " ++ (quoted (printed_word tag) ++ (codes " {\nlabel=" ++ (quoted (verdict_text tag verdict) ++ codes ";\n")))
 
 -- all lines
 abbrev pub picture_lines : List ℕ → Verdict → Drawing → List ℕ

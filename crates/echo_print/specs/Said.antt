@@ -4,7 +4,7 @@ use Rattle.echo_text.specs.declared.fault.TextFault.{TextFault}
 use Rattle.echo_text.specs.declared.fault.TextFault.TheVariants.{BadTag, NotEcho}
 use Rattle.echo_text.specs.Echo.{EchoOf, EchoText, msgid_of, origin_of, reply_of, tear_of}
 use Rattle.echo_text.specs.Refusal.{text_refusal}
-use Rattle.echo_print.specs.Escaped.{escaped_line}
+use Rattle.echo_escape.specs.Escaped.{escaped_line}
 
 -- the line of the tag, which is printed as it stands
 abbrev pub area_line : List ℕ → List ℕ

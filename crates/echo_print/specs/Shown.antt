@@ -5,7 +5,7 @@ use Rattle.echo_addr.specs.Address.{address_text}
 use Rattle.hex.specs.Hex.{encode_lower}
 use Rattle.echo_packet.specs.declared.header.Header.{Header}
 use Rattle.echo_packet.specs.Message.{Message, message_bytes}
-use Rattle.echo_print.specs.Escaped.{escaped_line}
+use Rattle.echo_escape.specs.Escaped.{escaped_line}
 use Rattle.echo_print.specs.Said.{TextShown}
 
 -- a number in decimal, with leading zeros where it has fewer digits than asked for
@@ -24,20 +24,20 @@ time h = zero_padded 2 h.hour ++ (codes ":" ++ (zero_padded 2 h.minute ++ (codes
 abbrev pub product : Header → List ℕ
 product h = codes " product " ++ (decimal h.prod_code ++ (codes " serial " ++ (decimal h.serial_no ++ codes "\n")))
 
--- the told_systems that the header names
-abbrev pub told_sender : Header → Address
-told_sender h = record { zone = h.orig_zone; net = h.orig_net; node = h.orig_node }
+-- the systems that the header names
+abbrev pub named_sender : Header → Address
+named_sender h = record { zone = h.orig_zone; net = h.orig_net; node = h.orig_node }
 
-abbrev pub told_receiver : Header → Address
-told_receiver h = record { zone = h.dest_zone; net = h.dest_net; node = h.dest_node }
+abbrev pub named_receiver : Header → Address
+named_receiver h = record { zone = h.dest_zone; net = h.dest_net; node = h.dest_node }
 
 -- from which system to which
-abbrev pub told_systems : Header → List ℕ
-told_systems h = codes "packet " ++ (address_text (told_sender h) ++ (codes " to " ++ address_text (told_receiver h)))
+abbrev pub named_systems : Header → List ℕ
+named_systems h = codes "packet " ++ (address_text (named_sender h) ++ (codes " to " ++ address_text (named_receiver h)))
 
--- the line of the two told_systems, the moment and the product
+-- the line of the two systems, the moment and the product
 abbrev pub packet_line : Header → List ℕ
-packet_line h = told_systems h ++ (codes " at " ++ (date h ++ (codes " " ++ (time h ++ product h))))
+packet_line h = named_systems h ++ (codes " at " ++ (date h ++ (codes " " ++ (time h ++ product h))))
 
 -- the three lines of a header
 abbrev pub header_lines : Header → List ℕ
@@ -53,16 +53,16 @@ abbrev pub route : Message → List ℕ
 route m = net_node m.orig_net m.orig_node ++ (codes " to " ++ net_node m.dest_net m.dest_node)
 
 -- a message's number and the place where it begins
-abbrev pub told_number : ℕ → ℕ → List ℕ
-told_number number place = codes "message " ++ (decimal number ++ (codes " at " ++ (decimal place ++ codes ": ")))
+abbrev pub message_number : ℕ → ℕ → List ℕ
+message_number number place = codes "message " ++ (decimal number ++ (codes " at " ++ (decimal place ++ codes ": ")))
 
 -- a message's attribute word and its cost
 abbrev pub costing : Message → List ℕ
 costing m = codes " attribute " ++ (decimal m.attribute ++ (codes " cost " ++ (decimal m.cost ++ codes "\n")))
 
--- the line of a message's number, the place where it begins, its told_systems and numbers
+-- the line of a message's number, the place where it begins, its systems and numbers
 abbrev pub message_line : ℕ → ℕ → Message → List ℕ
-message_line number place m = told_number number place ++ (route m ++ costing m)
+message_line number place m = message_number number place ++ (route m ++ costing m)
 
 -- the line of the length of a text
 abbrev pub text_line : ℕ → List ℕ

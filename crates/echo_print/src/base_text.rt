@@ -2,10 +2,10 @@
 ghost use Rattle.std.specs.Prelude.{◌≡◌, ◌++◌, codes, decimal, OnOk};
 ghost use Rattle.std.specs.List.{flat_map};
 ghost use Rattle.echo_print.specs.BaseListed.{echo_text, fields_text, head_text, is_purged, mark_text, message_text, origin_text, total_text};
-ghost use Rattle.echo_print.specs.Escaped.{escaped_line};
+ghost use Rattle.echo_escape.specs.Escaped.{escaped_line};
 
-use crate::escape::{push_escaped, written};
 use echo_addr::Address;
+use echo_escape::{push_escaped, written};
 use echo_filed::{Filed, is_stub};
 use echo_text::{Echo, Lines, split_line};
 use std::alloc::AllocError;

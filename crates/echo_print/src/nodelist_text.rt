@@ -5,8 +5,8 @@ ghost use Rattle.echo_addr.specs.Address.{address_text};
 ghost use Rattle.echo_print.specs.Listed.{RestListed, crc_text, listed_entry, found_text, is_entry, keyword_word, line_number, mismatch_line, first_field, total_line};
 ghost use Rattle.echo_print.specs.Pushed.{Pushes};
 
-use crate::escape::{push_escaped, written};
 use echo_addr::{Address, Items};
+use echo_escape::{push_escaped, written};
 use echo_nodelist::{CrcLine, Keyword, Line, Nodelist};
 use std::alloc::AllocError;
 use std::io::Write;

@@ -3,8 +3,8 @@ ghost use Rattle.std.specs.Prelude.{◌≡◌, ◌++◌, OnOk};
 ghost use Rattle.std.specs.List.{flat_map};
 ghost use Rattle.echo_print.specs.Pictured.{carrier_marks, ends_text, head_lines, link_line, loop_marks, picture_lines, quoted, quoted_byte, side_marks, system_line, system_marks};
 
-use crate::escape::written;
 use crate::verdict_text::push_verdict_text;
+use echo_escape::{push_word, written};
 use echo_net::{Drawing, DrawnLink, DrawnSystem, Mark, Sides, Verdict};
 use std::alloc::{AllocError, Global};
 use std::io::Write;
@@ -34,10 +34,12 @@ fn push_head(
 ) -> Result<(), AllocError>
     ensures { OnOk result (lines.new.items ≡ lines.old.items ++ head_lines tag.now verdict.now) }
 {
+    let mut name = Vec::new(alloc);
+    push_word(&mut name, tag)?;
     let mut label = Vec::new(alloc);
     push_verdict_text(&mut label, tag, verdict)?;
     lines.extend_from_slice(b"graph ")?;
-    push_quoted(lines, tag)?;
+    push_quoted(lines, &name)?;
     lines.extend_from_slice(b" {\nlabel=")?;
     push_quoted(lines, &label)?;
     lines.extend_from_slice(b";\n")

@@ -2,7 +2,7 @@
 ghost use Rattle.std.specs.Prelude.{◌≡◌, ◌++◌, length, option_copied, codes, OnOk};
 ghost use Rattle.echo_print.specs.Said.{area_line, counts_line, echo_lines, found_line, found_lines};
 
-use crate::escape::{push_escaped, written};
+use echo_escape::{push_escaped, written};
 use echo_text::EchoView;
 use std::alloc::AllocError;
 use std::io::Write;

@@ -1,16 +1,16 @@
 //! The lines of a packet's header, and the first ones of a message.
 ghost use Rattle.std.specs.Prelude.{◌≡◌, ◌++◌, OnOk};
-ghost use Rattle.echo_print.specs.Shown.{costing, date, end_line, header_lines, message_line, message_lines, told_number, packet_line, product, route, told_systems, text_line, time};
+ghost use Rattle.echo_print.specs.Shown.{costing, date, end_line, header_lines, message_line, message_lines, message_number, packet_line, product, route, named_systems, text_line, time};
 
-use crate::escape::{push_escaped, written};
 use echo_addr::Address;
+use echo_escape::{push_escaped, written};
 use echo_packet::{Header, Packed};
 use std::alloc::{AllocError, Global};
 use std::io::Write;
 
 // Adds from which system to which.
 fn push_systems(lines: &mut Vec<u8>, h: &Header) -> Result<(), AllocError>
-    ensures { OnOk result (lines.new.items ≡ lines.old.items ++ told_systems h.now) }
+    ensures { OnOk result (lines.new.items ≡ lines.old.items ++ named_systems h.now) }
 {
     let from = Address {
         zone: h.orig_zone,
@@ -89,7 +89,7 @@ fn push_route(lines: &mut Vec<u8>, m: &Packed) -> Result<(), AllocError>
 
 // Adds a message's number and its place.
 fn push_number(lines: &mut Vec<u8>, number: u64, place: u64) -> Result<(), AllocError>
-    ensures { OnOk result (lines.new.items ≡ lines.old.items ++ told_number number place) }
+    ensures { OnOk result (lines.new.items ≡ lines.old.items ++ message_number number place) }
 {
     written(write!(lines, "message {number} at {place}: "))
 }

@@ -4,15 +4,15 @@ ghost use Rattle.std.specs.List.{flat_map};
 ghost use Rattle.echo_print.specs.Checked.{AbsencesShown, absence_line, absence_word, verdict_line, verdict_text, yes_text};
 ghost use Rattle.echo_print.specs.Pushed.{Pushes};
 
-use crate::escape::written;
 use echo_addr::Address;
+use echo_escape::{push_word, written};
 use echo_links::LinkFile;
 use echo_net::{Absence, Verdict, listed};
 use echo_nodelist::Nodelist;
 use std::alloc::{AllocError, Global};
 use std::io::Write;
 
-/// Adds the line of the verdict on the area with this tag, which is printed as it stands.
+/// Adds the line of the verdict on the area with this tag, which is printed as a word is.
 pub fn push_verdict(lines: &mut Vec<u8>, tag: &[u8], verdict: &Verdict) -> Result<(), AllocError>
     ensures { OnOk result (lines.new.items ≡ lines.old.items ++ verdict_line tag.now verdict.now) }
 {
@@ -33,7 +33,7 @@ pub(crate) fn push_verdict_text(
         Verdict::Yes { systems, links } => push_yes(lines, tag, *systems, *links),
         Verdict::No(fault) => {
             lines.extend_from_slice(b"no ")?;
-            lines.extend_from_slice(tag)?;
+            push_word(lines, tag)?;
             written(write!(lines, " {fault}"))
         }
     }
@@ -44,7 +44,7 @@ fn push_yes(lines: &mut Vec<u8>, tag: &[u8], systems: usize, links: u128) -> Res
     ensures { OnOk result (lines.new.items ≡ lines.old.items ++ yes_text tag.now systems links) }
 {
     lines.extend_from_slice(b"yes ")?;
-    lines.extend_from_slice(tag)?;
+    push_word(lines, tag)?;
     written(write!(lines, " {systems} systems {links} links"))
 }
 

@@ -33,6 +33,12 @@ exported-bytes delivered k i [] = refl
 exported-bytes delivered k zero (p ∷ ps) = refl
 exported-bytes delivered k (suc i) (p ∷ ps) = exported-bytes delivered (k + 1) i ps
 
+-- whom the packet of an index is for
+pub exported-to : (delivered : List ℕ) (k i : ℕ) (ps : List Packet) → option_map (λ e. e.to) (nth i (exported_from delivered k ps)) ≡ option_map destination (nth i ps)
+exported-to delivered k i [] = refl
+exported-to delivered k zero (p ∷ ps) = refl
+exported-to delivered k (suc i) (p ∷ ps) = exported-to delivered (k + 1) i ps
+
 -- how many did not come
 turned : (b : Bool) → ◌≡◌ {A = ℕ} (cond (not b) 1 0) (cond b 0 1)
 turned true = refl

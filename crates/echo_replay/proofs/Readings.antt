@@ -1,15 +1,16 @@
 -- What is read off a world is what is read off its run.
 use Rattle.std.proofs.Common.{◌≡◌, ℕ, zero, suc, cond, arith, ◌+◌, ◌<◌, ◌≤◌, ◌==◌, ◌&&◌, not, Bool, false, List, [], ◌∷◌, length, drop, map, refl, sym, ap, ◌∙◌, Option, Some, None}
+use Rattle.std.proofs.lemmas.List.{length-map}
 use Rattle.std.proofs.lemmas.List.Sums.{sum_by-cons}
 use Rattle.echo_filed.specs.Filed.{Filed}
 use Rattle.std.specs.Prelude.{bytes_eq, count_by, nat_le, option_map, slice_get, unwrap_or}
 use Rattle.std.specs.List.{list_all}
 use Rattle.std.proofs.lemmas.List.Folds.{list_all-map}
 use Rattle.echo_steps.specs.SystemState.{SystemState}
-use Rattle.echo_run.specs.Run.{Run, System, nth}
+use Rattle.echo_run.specs.Run.{Run, System, destination, nth}
 use Rattle.echo_run.specs.World.{area_count, filed_at, is_settled, undelivered, waiting_at}
 use Rattle.echo_replay.specs.Worlds.{Exported, IsWorldOf, WorldState, encoded, exported_from, state_of}
-use Rattle.echo_replay.proofs.Exports.{exported-bytes, exported-length, exported-missing, nth-map, nth-slice_get}
+use Rattle.echo_replay.proofs.Exports.{exported-bytes, exported-length, exported-missing, exported-to, nth-map, nth-slice_get}
 
 -- how many packets did not come
 pub missing-is : (world : WorldState) (run : Run) → IsWorldOf world run → count_by (λ e. not e.came) world.packets ≡ undelivered run
@@ -39,6 +40,17 @@ bytes-are world run is k =
     ap (λ (es : List Exported). option_map (λ e. e.bytes) (slice_get es k)) is.packets
     ∙ ap (option_map (λ e. e.bytes)) (nth-slice_get k (exported_from run.delivered 0 run.packets))
     ∙ exported-bytes run.delivered 0 k run.packets
+
+-- whom the packet of an index is for
+pub destinations-are : (world : WorldState) (run : Run) → IsWorldOf world run → (k : ℕ) → option_map (λ e. e.to) (slice_get world.packets k) ≡ option_map destination (nth k run.packets)
+destinations-are world run is k =
+    ap (λ (es : List Exported). option_map (λ e. e.to) (slice_get es k)) is.packets
+    ∙ ap (option_map (λ e. e.to)) (nth-slice_get k (exported_from run.delivered 0 run.packets))
+    ∙ exported-to run.delivered 0 k run.packets
+
+-- how many systems there are
+pub system_count : (world : WorldState) (run : Run) → IsWorldOf world run → length world.systems ≡ length run.systems
+system_count world run is = ap (λ (ss : List SystemState). length ss) is.systems ∙ length-map run.systems state_of
 
 -- how many packets there are
 pub packet_count : (world : WorldState) (run : Run) → IsWorldOf world run → length world.packets ≡ length run.packets

@@ -1,6 +1,6 @@
 -- What happens to a world happens to its run.
 use Rattle.std.proofs.Common.{◌≡◌, ℕ, zero, suc, ◌+◌, ◌<◌, ◌≤◌, nat_lt, not, Bool, true, false, cond, List, [], ◌∷◌, ◌++◌, length, get_or, take, ◌==◌, map, refl, sym, ap, subst, ◌∙◌, Option, Some, None, arith, inl, inr}
-use Rattle.std.specs.Prelude.{option_map, option_to_list}
+use Rattle.std.specs.Prelude.{option_map}
 use Rattle.std.specs.List.{All, list_any, position_or_len}
 use Rattle.std.proofs.lemmas.List.{append-nil, length-append, length-map, map-append, take_all, take_more}
 use Rattle.std.proofs.lemmas.List.Elements.{All-append}
@@ -19,10 +19,11 @@ use Rattle.echo_steps.specs.SystemState.{SystemState, state_at_first, state_with
 use Rattle.echo_steps.specs.Posting.{posting}
 use Rattle.echo_steps.specs.Scanning.{scanned}
 use Rattle.echo_steps.specs.Stamps.{is_stamp}
-use Rattle.echo_steps.specs.Tossing.{sender_of, tossed, tossing}
+use Rattle.echo_steps.specs.Tossing.{sender_of}
 use Rattle.echo_run.specs.Event.{run_event}
 use Rattle.echo_run.specs.declared.event.Event.{Event}
 use Rattle.echo_run.proofs.LaterSystems.{after-append}
+use Rattle.echo_run.proofs.States.{tossing-state}
 use Rattle.echo_run.specs.Run.{Run, System, after_event, change, changing, coming, delivery, destination, filing, fresh, nth, posting_at, purging_at, receiver, run_of, scanning, scanning_at, start, taking, tossing_at}
 use Rattle.echo_replay.specs.Worlds.{Exported, Fits, IsWorldOf, ScanFits, WorldState, own_addresses, after_posting, after_purge, after_scan, after_toss, arrived, encoded, exported_packet, exported_from, first_at, made, made_by, scanned_world, state_of, with_change, world_after}
 use Rattle.echo_replay.proofs.Changes.{read-nth}
@@ -57,24 +58,10 @@ posted-run world run i tag draft serial stamp is =
 pub purged-run : (world : WorldState) (run : Run) (i : ℕ) → IsWorldOf world run → IsWorldOf (with_change world i after_purge) (changing run i purging_at)
 purged-run world run i is = changed-run world run i purging_at after_purge (λ s. refl) is
 
--- the toss of messages, without the history
-state-tossing : (sender : Address) (ms : List Message) (s : System)
-    → state_of (tossing_at sender ms s) ≡ record { file = s.file; base = tossed s.file s.base sender ms; cursor = s.cursor }
-state-tossing sender [] s = refl
-state-tossing sender (m ∷ ms) s = by (tossing s.file s.base sender m) (state-tossing sender ms)
-  where
-    by : (o : Option Filed)
-        → ((z : System) → state_of (tossing_at sender ms z) ≡ record { file = z.file; base = tossed z.file z.base sender ms; cursor = z.cursor })
-        → state_of (tossing_at sender ms (filing s o)) ≡ record { file = s.file; base = tossed s.file (s.base ++ option_to_list o) sender ms; cursor = s.cursor }
-    by None later =
-        later s
-        ∙ (let e = sym (append-nil s.base) in λ i. record { file = s.file; base = tossed s.file (e i) sender ms; cursor = s.cursor })
-    by (Some x) later = later (filing s (Some x))
-
 state-taking : (p : Packet) (s : System) → state_of (taking p (length p.messages) s) ≡ after_toss p (state_of s)
 state-taking p s =
     ap (λ (ms : List Message). state_of (tossing_at (sender_of s.file p.header) ms s)) (take_all (length p.messages) p.messages whole)
-    ∙ state-tossing (sender_of s.file p.header) p.messages s
+    ∙ tossing-state (sender_of s.file p.header) p.messages s
   where
     whole : length p.messages ≤ length p.messages
     whole = omega arith

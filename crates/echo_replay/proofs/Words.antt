@@ -1,5 +1,5 @@
 -- The words of a script's lines.
-use Rattle.std.proofs.Common.{◌≡◌, ◌≢◌, ℕ, ◌<◌, ◌≤◌, ◌^◌, ◌==◌, ◌&&◌, nat_lt, not, Bool, true, false, cond, List, [], ◌∷◌, length, drop, codes, refl, sym, ap, ◌∙◌, None, arith}
+use Rattle.std.proofs.Common.{◌≡◌, ◌≢◌, ℕ, ◌<◌, ◌≤◌, ◌^◌, ◌&&◌, nat_lt, not, Bool, true, false, cond, List, [], ◌∷◌, length, drop, codes, refl, sym, ap, ◌∙◌, None, arith}
 use Rattle.std.specs.Prelude.{bytes_eq, nat_le, option_map}
 use Rattle.std.specs.Char.{is_ascii_uppercase}
 use Rattle.std.specs.List.{list_any, position_or_len}

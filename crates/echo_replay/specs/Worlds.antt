@@ -18,6 +18,7 @@ use Rattle.echo_steps.specs.Scanning.{scanned}
 use Rattle.echo_steps.specs.Stamps.{is_stamp}
 use Rattle.echo_steps.specs.Tossing.{sender_of, tossed}
 use Rattle.echo_run.specs.Run.{Run, System, change, destination, nth}
+pub use Rattle.echo_run.specs.Run.{state_of}
 
 -- an exported_packet packet: its bytes, whom it is for, and whether it came
 pub record Exported : Type 0 where
@@ -29,10 +30,6 @@ pub record Exported : Type 0 where
 pub record WorldState : Type 0 where
   pub systems : List SystemState
   pub packets : List Exported
-
--- a system without its history
-abbrev pub state_of : System → SystemState
-state_of s = record { file = s.file; base = s.base; cursor = s.cursor }
 
 -- the bytes of a packet
 abbrev pub encoded : Packet → List ℕ

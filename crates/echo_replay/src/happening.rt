@@ -11,13 +11,14 @@ ghost use Rattle.echo_steps.specs.SystemState.{SystemState};
 ghost use Rattle.echo_replay.specs.Worlds.{Fits, IsWorldOf, LeadsToFirst, ScanFits, own_addresses, after_posting, after_purge, after_scan, after_toss, arrived, encoded, made, made_by, scanned_world, with_change, world_after};
 
 use crate::receivers::Receivers;
-use crate::world::{Exported, Hashing, World};
+use crate::world::{Exported, World};
 use echo_addr::{Address, Items};
 use echo_packet::{Header, Limits};
 use echo_run::Event;
 use echo_steps::{Draft, Packet, PostFault, ScanFault, Stamp};
 use echo_toss::Tosser;
 use std::alloc::{AllocError, Global};
+use std::hash::RandomState;
 
 /// The event happens. Fails only when out of memory, and the world is then of no run.
 pub(crate) fn happen(
@@ -65,7 +66,7 @@ fn post(
 
 // A refused posting leaves the system as it was.
 fn post_at(
-    tosser: &mut Tosser<Hashing>,
+    tosser: &mut Tosser<RandomState>,
     tag: &[u8],
     draft: &Draft,
     serial: u32,
@@ -107,7 +108,7 @@ fn purge(world: &mut World, system: usize) -> Result<(), AllocError>
     purge_at(tosser)
 }
 
-fn purge_at(tosser: &mut Tosser<Hashing>) -> Result<(), AllocError>
+fn purge_at(tosser: &mut Tosser<RandomState>) -> Result<(), AllocError>
     ensures file { tosser.new.file ≡ tosser.old.file }
     ensures purged { OnOk result (tosser.new ≡ after_purge tosser.old) }
 {
@@ -132,7 +133,7 @@ fn scan(alloc: Global, world: &mut World, system: usize, stamp: Stamp) -> Result
 // The packets of the scan, none where its stamp is out of range.
 fn scan_at(
     alloc: Global,
-    tosser: &mut Tosser<Hashing>,
+    tosser: &mut Tosser<RandomState>,
     stamp: Stamp,
 ) -> Result<Vec<Packet>, AllocError>
     ensures file { tosser.new.file ≡ tosser.old.file }
@@ -220,7 +221,7 @@ fn arrive(world: &mut World, packet: usize, system: usize) -> Result<(), AllocEr
 }
 
 // A system tosses the bytes of a packet that is for it.
-fn toss_at(tosser: &mut Tosser<Hashing>, bytes: &[u8]) -> Result<(), AllocError>
+fn toss_at(tosser: &mut Tosser<RandomState>, bytes: &[u8]) -> Result<(), AllocError>
     ensures file { tosser.new.file ≡ tosser.old.file }
     ensures tossed { OnOk result ((p : Packet) → Fits p → bytes.now ≡ encoded p → destination p ≡ tosser.old.file.system → tosser.new ≡ after_toss p tosser.old) }
 {

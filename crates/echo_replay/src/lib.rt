@@ -16,6 +16,7 @@ mod script;
 mod world;
 
 pub use laws::replay_laws;
+pub use receivers::Receivers;
 pub use replaying::replay;
 pub use script::{ScriptFault, read_script};
 pub use world::World;

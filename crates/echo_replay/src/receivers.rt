@@ -10,19 +10,24 @@ use echo_addr::Address;
 use echo_links::LinkFile;
 use indexmap::IndexMap;
 use std::alloc::{AllocError, Global};
+use std::hash::RandomState;
 
 /// The index of the first system of each address.
 #[derive(Drop)]
-pub(crate) struct Receivers {
-    first: IndexMap<Address, usize>,
+pub struct Receivers {
+    first: IndexMap<Address, usize, RandomState>,
 }
 
 impl Receivers {
-    /// The systems of these files.
-    pub(crate) fn new(alloc: Global, files: &[LinkFile]) -> Result<Receivers, AllocError>
+    /// The systems of these files, found by the hasher.
+    pub fn new(
+        alloc: Global,
+        files: &[LinkFile],
+        hasher: RandomState,
+    ) -> Result<Receivers, AllocError>
         ensures { IfOk result (λ r. LeadsToFirst r.first.entries (map (λ f. f.system) files.now)) }
     {
-        let mut first = IndexMap::new(alloc);
+        let mut first = IndexMap::with_hasher(alloc, hasher);
         for (i, file) in files.iter().enumerate() {
             note_system(&mut first, file.system(), i)?;
         }
@@ -30,7 +35,7 @@ impl Receivers {
     }
 
     /// The first system of the address.
-    pub(crate) fn of(&self, to: Address) -> Option<usize>
+    pub fn of(&self, to: Address) -> Option<usize>
         ensures { (systems : List Address) → LeadsToFirst self.now.first.entries systems → IsFirst result (λ b. same_address b to) systems }
     {
         self.first.get(&to).copied()
@@ -39,7 +44,7 @@ impl Receivers {
 
 // The system of this index has the address; an earlier one that has it stays the first.
 fn note_system(
-    first: &mut IndexMap<Address, usize>,
+    first: &mut IndexMap<Address, usize, RandomState>,
     system: Address,
     i: usize,
 ) -> Result<(), AllocError>

@@ -8,22 +8,28 @@ ghost use Rattle.echo_steps.specs.SystemState.{state_at_first};
 
 use crate::happening::happen;
 use crate::receivers::Receivers;
-use crate::world::{Hashing, World};
+use crate::world::World;
 use echo_links::LinkFile;
 use echo_run::Event;
 use echo_toss::Tosser;
 use std::alloc::{AllocError, Global};
+use std::hash::RandomState;
 
 /// What becomes of a net on which these events happen, one after another. Each system begins with an
 /// empty base. Packets travel as their bytes and are tossed by the packet reader; one comes to the first
 /// system that has its destination. An event that names nothing, or whose posting or scan is refused,
-/// does nothing. Fails only when out of memory.
-pub fn replay(alloc: Global, files: Vec<LinkFile>, events: &[Event]) -> Result<World, AllocError>
+/// does nothing. Look-ups go by the hasher. Fails only when out of memory.
+pub fn replay(
+    alloc: Global,
+    files: Vec<LinkFile>,
+    events: &[Event],
+    hasher: RandomState,
+) -> Result<World, AllocError>
     ensures { IfOk result (λ world. IsWorldOf world (run_of files.items (map run_event events.now))) }
 {
-    let receivers = Receivers::new(alloc, &files)?;
+    let receivers = Receivers::new(alloc, &files, hasher)?;
     let mut world = World {
-        systems: systems(alloc, files)?,
+        systems: systems(alloc, files, hasher)?,
         packets: Vec::new(alloc),
     };
     'events: for event in events {
@@ -33,11 +39,15 @@ pub fn replay(alloc: Global, files: Vec<LinkFile>, events: &[Event]) -> Result<W
 }
 
 // The systems of these files, which have filed nothing.
-fn systems(alloc: Global, files: Vec<LinkFile>) -> Result<Vec<Tosser<Hashing>>, AllocError>
+fn systems(
+    alloc: Global,
+    files: Vec<LinkFile>,
+    hasher: RandomState,
+) -> Result<Vec<Tosser<RandomState>>, AllocError>
     ensures { IfOk result (λ all. all.items ≡ map state_at_first files.items) }
 {
     files
         .into_iter()
-        .map(|file| Tosser::new(alloc, file, Hashing::new()))
+        .map(|file| Tosser::new(alloc, file, hasher))
         .collect(alloc)
 }

@@ -5,7 +5,7 @@ ghost use Rattle.std.specs.Io.KnownBytes.{Keeps};
 ghost use Rattle.std.specs.List.{list_all};
 ghost use Rattle.echo_base.specs.BaseFile.{is_countable, saved_bytes};
 ghost use Rattle.echo_base.specs.Saving.{CountsSaved, Saves, TellsTooMany};
-ghost use Rattle.echo_run.specs.Run.{Run, nth};
+ghost use Rattle.echo_run.specs.Run.{Run, destination, nth};
 ghost use Rattle.echo_run.specs.World.{area_count, filed_at, waiting_at, is_settled, undelivered};
 ghost use Rattle.echo_replay.specs.Worlds.{IsWorldOf, OfSystem, encoded, message_at};
 
@@ -15,11 +15,8 @@ use echo_device::Sink;
 use echo_filed::Filed;
 use echo_links::LinkFile;
 use echo_toss::Tosser;
-use std::hash::{BuildHasher, BuildHasherDefault, FoldHasher};
+use std::hash::{BuildHasher, RandomState};
 use std::marker::Model;
-
-/// The hasher of the look-ups in bases: the one that maps have where none is handed in.
-pub type Hashing = BuildHasherDefault<FoldHasher>;
 
 /// A packet that was made: its bytes, whom it is for, and whether it came.
 #[derive(Drop)]
@@ -41,7 +38,7 @@ impl Model for Exported {
 /// of export, both from 0.
 #[derive(Drop)]
 pub struct World {
-    pub(crate) systems: Vec<Tosser<Hashing>>,
+    pub(crate) systems: Vec<Tosser<RandomState>>,
     pub(crate) packets: Vec<Exported>,
 }
 
@@ -73,6 +70,14 @@ impl World {
             Some(tosser) => count_from(tosser, tosser.filed() - tosser.waiting(), tag),
             None => 0,
         }
+    }
+
+    /// How many systems there are.
+    pub fn systems(&self) -> usize
+        ensures { (run : Run) → IsWorldOf self.now run → result ≡ length run.systems }
+    {
+        let systems = self.systems.as_slice();
+        systems.len()
     }
 
     /// How many packets were made.
@@ -109,6 +114,13 @@ impl World {
         ensures { (run : Run) → IsWorldOf self.now run → option_copied result ≡ message_at run system i }
     {
         self.systems.get(system)?.message(i)
+    }
+
+    /// Whom the packet is for.
+    pub fn packet_to(&self, k: usize) -> Option<Address>
+        ensures { (run : Run) → IsWorldOf self.now run → result ≡ option_map destination (nth k run.packets) }
+    {
+        destination_at(&self.packets, k)
     }
 
     /// The bytes of the packet.
@@ -166,10 +178,18 @@ fn count_missing(packets: &[Exported]) -> usize
 }
 
 // Whether no message waits for a scan at any of the systems.
-fn all_scanned(systems: &[Tosser<Hashing>]) -> bool
+fn all_scanned(systems: &[Tosser<RandomState>]) -> bool
     ensures { result ≡ list_all (λ s. nat_le (length s.base) s.cursor) systems.now }
 {
     systems.iter().all(|tosser| tosser.waiting() == 0)
+}
+
+// Whom the packet of this index is for.
+fn destination_at(packets: &[Exported], k: usize) -> Option<Address>
+    ensures { result ≡ option_map (λ e. e.to) (slice_get packets.now k) }
+{
+    let packet = packets.get(k)?;
+    Some(packet.to)
 }
 
 // The bytes of the packet of this index.

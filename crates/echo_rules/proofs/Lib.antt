@@ -7,3 +7,4 @@ pub mod SmallNets
 pub mod Chain
 pub mod Needed
 pub mod Telling
+pub mod Eras

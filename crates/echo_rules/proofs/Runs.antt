@@ -7,18 +7,36 @@ use Rattle.echo_graph.proofs.Members.{CanTell}
 use Rattle.echo_graph.proofs.Cuts.{along_ways}
 use Rattle.echo_rules.specs.Nets.{Net, Tidy}
 use Rattle.echo_rules.specs.Events.{Filed, Event, Posts, Exports, Comes, filed, copies, Has}
-use Rattle.echo_rules.specs.Rules.{Always, IsPossible, Kept, Rule, filing, keeping, sending, telling, keys}
+use Rattle.echo_rules.specs.Rules.{Always, FilesOnce, IsPossible, Keeps, Kept, NewKeys, Rule, SendsOnce, Tells, filing, keeping, sending, telling, keys}
 use Rattle.echo_rules.specs.Orderly.{Compares, IsSettled, Orderly, place, goal}
 use Rattle.echo_rules.proofs.Invariant.{Invariant, view_of}
 use Rattle.echo_rules.proofs.Targets.{simple, parted, none_some}
 use Rattle.echo_rules.proofs.Lists.{Among-map_from}
 use Rattle.echo_rules.proofs.Steps.{Has-cases, posting-keeps, arrival-keeps, coming-keeps, exporting-keeps}
 
-module _ {A N K C : Type 0} (can : CanTell A) (can_keys : CanTell K) (net : Net A N) (tidy : Tidy net)
-    (Same : C → C → Type 0) (compares : Compares Same) where
-  -- what is known of a run by the rules, a rule at a time
-  abbrev ByRules : List (Event A N K C) → Type 0
+module _ {A N K C : Type 0} (net : Net A N) (Same : C → C → Type 0) where
+  -- what is known of a run by the rules
+  abbrev pub ByRules : List (Event A N K C) → Type 0
   ByRules run = Always (IsPossible net) run × ((rule : Rule) → Kept net Same run rule)
+
+  -- an event by the rules, after these
+  pub record IsByRules (run : List (Event A N K C)) (event : Event A N K C) : Type 0 where
+    pub possible : IsPossible net run event
+    pub files_once : FilesOnce net run event
+    pub keeps : Keeps Same run event
+    pub sends_once : SendsOnce net run event
+    pub tells : Tells net run event
+    pub new_keys : NewKeys run event
+
+  pub one_more : (run : List (Event A N K C)) (event : Event A N K C) → ByRules run → IsByRules run event → ByRules (event ∷ run)
+  one_more run event h e = ((e.possible, h.0), each)
+    where
+      each : (rule : Rule) → Kept net Same (event ∷ run) rule
+      each filing = (e.files_once, h.1 filing)
+      each keeping = (e.keeps, h.1 keeping)
+      each sending = (e.sends_once, h.1 sending)
+      each telling = (e.tells, h.1 telling)
+      each keys = (e.new_keys, h.1 keys)
 
   earlier-by_rules : (event : Event A N K C) (run : List (Event A N K C)) → ByRules (event ∷ run) → ByRules run
   earlier-by_rules event run h = (h.0.1, each)
@@ -30,6 +48,19 @@ module _ {A N K C : Type 0} (can : CanTell A) (can_keys : CanTell K) (net : Net 
       each telling = (h.1 telling).1
       each keys = (h.1 keys).1
 
+-- before anything happened nothing was against them
+pub nothing-by_rules : {A N : Type 0} (K C : Type 0) (net : Net A N) (Same : C → C → Type 0) → ByRules {K = K} net Same []
+nothing-by_rules K C net Same = (tt, each)
+  where
+    each : (rule : Rule) → Kept {K = K} net Same [] rule
+    each filing = tt
+    each keeping = tt
+    each sending = tt
+    each telling = tt
+    each keys = tt
+
+module _ {A N K C : Type 0} (can : CanTell A) (can_keys : CanTell K) (net : Net A N) (tidy : Tidy net)
+    (Same : C → C → Type 0) (compares : Compares Same) where
   -- before anything happened
   nothing-yet : Invariant {K = K} net Same (view_of [])
   nothing-yet = record {
@@ -46,7 +77,7 @@ module _ {A N K C : Type 0} (can : CanTell A) (can_keys : CanTell K) (net : Net 
   true_false : (let no_bit : Bool = false in no_bit ≡ true) → ⊥
   true_false e = cc
 
-  event-keeps : (event : Event A N K C) (run : List (Event A N K C)) → Invariant net Same (view_of run) → ByRules (event ∷ run) →
+  event-keeps : (event : Event A N K C) (run : List (Event A N K C)) → Invariant net Same (view_of run) → ByRules net Same (event ∷ run) →
       Invariant net Same (view_of (event ∷ run))
   event-keeps (Posts at text) run old h =
       let new = (h.1 keys).0 in
@@ -66,9 +97,9 @@ module _ {A N K C : Type 0} (can : CanTell A) (can_keys : CanTell K) (net : Net 
         | inr none ↦ absurd (true_false ((h.1 filing).0.1 ((old.sent c h.0.0).parent.way.link, none)))
       ])
 
-  always : (run : List (Event A N K C)) → ByRules run → Invariant net Same (view_of run)
+  pub always : (run : List (Event A N K C)) → ByRules net Same run → Invariant net Same (view_of run)
   always [] h = nothing-yet
-  always (event ∷ run) h = event-keeps event run (always run (earlier-by_rules event run h)) h
+  always (event ∷ run) h = event-keeps event run (always run (earlier-by_rules net Same event run h)) h
 
   module _ (run : List (Event A N K C)) (inv : Invariant net Same (view_of run)) where
     -- no system is sent what it posted

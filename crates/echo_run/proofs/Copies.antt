@@ -1,8 +1,7 @@
 -- What stands in the packets of a scan.
-use Rattle.std.proofs.Common.{◌≡◌, ◌≢◌, inl, inr, refl, sym, subst, ap, ◌∙◌, ℕ, ◌+◌, ◌≤◌, arith, List, [], ◌∷◌, ◌++◌, map, cond, Option, Some, None}
+use Rattle.std.proofs.Common.{◌≡◌, ◌≢◌, inl, inr, refl, sym, subst, ap, ◌∙◌, ℕ, List, [], ◌∷◌, ◌++◌, map, Option, Some, None}
 use Rattle.std.specs.Prelude.{Bool, true, false, filter, not, ◌&&◌, is_none, unwrap_or, option_map}
 use Rattle.std.specs.List.{flat_map}
-use Rattle.std.proofs.lemmas.Bool.{cond-true, cond-false}
 use Rattle.echo_addr.specs.declared.address.Address.{Address}
 use Rattle.echo_addr.specs.declared.address.NetNode.{NetNode}
 use Rattle.echo_addr.specs.Address.{net_node_of}
@@ -14,18 +13,16 @@ use Rattle.echo_text.specs.Refusal.{text_refusal}
 use Rattle.echo_text.specs.declared.fault.TextFault.{TextFault}
 use Rattle.echo_steps.specs.declared.stamp.Stamp.{Stamp}
 use Rattle.echo_links.specs.Links.{LinkFile, is_link, links_of, same_address}
-use Rattle.echo_filed.specs.declared.key.Key.{Key}
 use Rattle.echo_filed.specs.Sets.{same_entry}
-use Rattle.echo_filed.specs.Filed.{Filed, key_of, key_with, same_key}
+use Rattle.echo_filed.specs.Filed.{Filed, key_of, key_with}
 use Rattle.echo_steps.specs.Tossing.{received}
 use Rattle.echo_steps.specs.Scanning.{packet_to, header_to, copy_to, exported, goes_to, targets, is_sender, is_seen_by, recipients}
 use Rattle.echo_run.specs.Run.{destination}
 use Rattle.echo_run.specs.Orderly.{copies}
 use Rattle.echo_links.specs.Links.{IsFile}
-use Rattle.echo_run.proofs.Counts.{one_if, count}
 use Rattle.echo_run.proofs.TosserPremises.{Laws}
-use Rattle.echo_run.proofs.Lists.{not_both, yes_or_no, and-parts, and-from, any-to, any-from, filter-yes, filter-no, Among-filter_from, Among-filter_to}
-use Rattle.echo_run.proofs.AreaView.{content_of, chosen}
+use Rattle.echo_run.proofs.Lists.{not_both, yes_or_no, and-parts, and-from, any-to, any-from, filter-yes, Among-filter_from, Among-filter_to}
+use Rattle.echo_run.specs.Keeping.{content_of}
 
 -- the copy of a message, as whoever gets it files it
 unfoldable pub copied : LinkFile → Filed → Filed
@@ -53,10 +50,6 @@ copied-tag file m = refl
 pub copied-content : (file : LinkFile) (m : Filed) → content_of (copied file m) ≡ content_of m
 unfolding copied exported
 copied-content file m = refl
-
-pub copied-sender : (file : LinkFile) (m : Filed) → (copied file m).sender ≡ Some file.system
-unfolding copied
-copied-sender file m = refl
 
 module _ (laws : Laws) (file : LinkFile) where
   pub copied-seen : (m : Filed) (n : NetNode) → Among n (copied file m).echo.seen → Among n (m.echo.seen ++ map net_node_of (file.system ∷ links_of file m.echo.tag))
@@ -184,42 +177,3 @@ module _ (laws : Laws) (file : LinkFile) where
   pub recipients-differ : (waiting : List Filed) → Different (recipients file waiting)
   unfolding recipients
   recipients-differ waiting = laws.addresses_once (flat_map (targets file) waiting)
-
-  -- copies have the keys of their messages, so none is there oftener
-  abbrev weight : (Key → Bool) → Key → Key → ℕ
-  weight of k own = cond (of own) (one_if (same_key own k)) 0
-
-  tally-cons : (of : Key → Bool) (k : Key) (m : Filed) (ms : List Filed) →
-      count key_of same_key k (filter (chosen of) (m ∷ ms)) ≡ weight of k (key_of m) + count key_of same_key k (filter (chosen of) ms)
-  tally-cons of k m ms =
-      let size : List Filed → ℕ = λ ns. count key_of same_key k ns in
-      elim (yes_or_no (chosen of m)) [
-        | inl t ↦ omega (
-          arith,
-          ap size (filter-yes (chosen of) m ms t),
-          cond-true (chosen of m) (one_if (same_key (key_of m) k)) 0 t,
-        )
-        | inr f ↦ omega (
-          arith,
-          ap size (filter-no (chosen of) m ms f),
-          cond-false (chosen of m) (one_if (same_key (key_of m) k)) 0 f,
-        )
-      ]
-
-  pub copies-few : (of : Key → Bool) (k : Key) (address : Address) (ms : List Filed) →
-      count key_of same_key k (filter (chosen of) (map (copied file) (filter (goes_to file address) ms))) ≤ count key_of same_key k (filter (chosen of) ms)
-  copies-few of k address [] = omega arith
-  copies-few of k address (m ∷ ms) =
-      let size : List Filed → ℕ = λ ns. count key_of same_key k (filter (chosen of) (map (copied file) ns)) in
-      let later = copies-few of k address ms in
-      elim (yes_or_no (goes_to file address m)) [
-        | inl t ↦ omega (
-          arith,
-          later,
-          ap size (filter-yes (goes_to file address) m ms t),
-          tally-cons of k m ms,
-          tally-cons of k (copied file m) (map (copied file) (filter (goes_to file address) ms)),
-          ap (λ (own : Key). weight of k own) (copied-key file m),
-        )
-        | inr f ↦ omega (arith, later, ap size (filter-no (goes_to file address) m ms f), tally-cons of k m ms)
-      ]

@@ -1,8 +1,8 @@
 -- How many messages of a list have a key.
-use Rattle.std.proofs.Common.{◌≡◌, ◌≢◌, ◌⊎◌, inl, inr, refl, sym, subst, ◌∙◌, ℕ, ◌+◌, ◌≤◌, arith, Bool, IsTrue, List, [], ◌∷◌, ◌++◌, cond}
+use Rattle.std.proofs.Common.{◌≡◌, ◌≢◌, ◌⊎◌, inl, inr, refl, sym, subst, ap, ◌∙◌, ℕ, ◌+◌, ◌≤◌, arith, Bool, IsTrue, List, [], ◌∷◌, ◌++◌, cond, map}
 use Rattle.std.specs.Prelude.{true, false}
 use Rattle.std.proofs.lemmas.Bool.{cases_Bool, both_ways}
-use Rattle.echo_graph.specs.Walk.{Among}
+use Rattle.echo_graph.specs.Walk.{Among, Different}
 
 -- a test of equality
 pub record Tells {K : Type 0} (same : K → K → Bool) : Type 0 where
@@ -89,3 +89,19 @@ module _ {K M : Type 0} (key : M → K) (same : K → K → Bool) (tells : Tells
           | inr t ↦ count-names_one k ms (omega arith) a b s t e q
         ]
       ]
+
+  -- where no two are alike a key is there at most once
+  pub count-different : (k : K) (ms : List M) → Different (map key ms) → count key same k ms ≤ 1
+  count-different k [] d = omega arith
+  count-different k (x ∷ ms) d =
+      elim (Tells-can same tells (key x) k) [
+        | inl e ↦ omega (arith, one_if-most (same (key x) k), count-none k ms (λ m i q. d.0 (alike m i (e ∙ sym q))))
+        | inr other ↦ omega (arith, none k x other, count-different k ms d.1)
+      ]
+    where
+      alike : (m : M) → Among m ms → key x ≡ key m → Among (key x) (map key ms)
+      alike m i e = found ms i
+        where
+          found : (ns : List M) → Among m ns → Among (key x) (map key ns)
+          found [] h = h
+          found (n ∷ ns) h = elim h [ inl q ↦ inl (e ∙ ap key q) | inr t ↦ inr (found ns t) ]

@@ -10,7 +10,7 @@ use Rattle.echo_steps.specs.Stamps.{is_stamp}
 use Rattle.echo_run.specs.Event.{RunEvent, Posting, Scanning, Delivery, PartDelivery, Purging}
 use Rattle.echo_run.specs.Run.{System, Run, after_event, change, coming, delivery, nth, part_delivery, receiver, run_of, scanning, scanning_at, start}
 use Rattle.echo_run.proofs.Lists.{nth-append, with_index-different, with_index-from}
-use Rattle.echo_run.proofs.TidyRuns.{along}
+use Rattle.echo_run.proofs.WholeRuns.{along}
 
 pub record IsDeliveredOnce (run : Run) : Type 0 where
   pub once : Different run.delivered

@@ -16,7 +16,7 @@ use Rattle.echo_run.specs.Event.{RunEvent, Posting, Scanning, Delivery, PartDeli
 use Rattle.echo_run.specs.Run.{System, Run, after_event, change, coming, delivery, filing, fresh, nth, part_delivery, posting_at, purging_at, receiver, run_of, scanning, scanning_at, start, taking, tossing_at}
 use Rattle.echo_run.proofs.Lists.{Among-map_from, change-all}
 use Rattle.echo_run.proofs.Bases.{Kept, Kept-filed, Kept-purged, Kept-scanned}
-use Rattle.echo_run.proofs.TidyRuns.{along}
+use Rattle.echo_run.proofs.WholeRuns.{along}
 use Rattle.echo_run.proofs.TosserPremises.{Laws}
 
 module _ (P : System → Type 0) (filed : (s : System) (o : Option Filed) → P s → P (filing s o))
@@ -70,10 +70,10 @@ module _ (P : System → Type 0) (filed : (s : System) (o : Option Filed) → P 
       subst P (sym e) (begins file))
 
 -- bases are what was filed
-abbrev IsBaseKept : System → Type 0
+abbrev pub IsBaseKept : System → Type 0
 IsBaseKept s = Kept s.cursor s.base s.history
 
-filing-kept : (s : System) (o : Option Filed) → IsBaseKept s → IsBaseKept (filing s o)
+pub filing-kept : (s : System) (o : Option Filed) → IsBaseKept s → IsBaseKept (filing s o)
 filing-kept s None k = k
 filing-kept s (Some m) k = Kept-filed s.cursor s.base s.history m k
 

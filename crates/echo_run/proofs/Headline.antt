@@ -10,8 +10,8 @@ use Rattle.echo_run.specs.Tidy.{Tidy}
 use Rattle.echo_run.specs.Fits.{FilesFit}
 use Rattle.echo_run.specs.Epochs.{Epoch, TidyThroughout, addresses}
 use Rattle.echo_run.proofs.TosserPremises.{Laws}
-use Rattle.echo_run.proofs.AreaView.{area-carries}
-use Rattle.echo_run.proofs.TidyRuns.{along, event-files, files_of, fresh-files}
+use Rattle.echo_run.proofs.Areas.{area-carries}
+use Rattle.echo_run.proofs.WholeRuns.{along, event-files, files_of, fresh-files}
 use Rattle.echo_run.proofs.Throughout.{orderly-throughout}
 
 -- the files of a run stay

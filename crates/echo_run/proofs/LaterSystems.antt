@@ -16,13 +16,13 @@ use Rattle.echo_run.specs.Event.{RunEvent, Posting, Scanning, Delivery, PartDeli
 use Rattle.echo_run.specs.Run.{IsLater, System, Run, after_event, after_events, change, coming, delivery, filing, nth, part_delivery, posting_at, purging_at, receiver, run_of, scanning, scanning_at, start, taking, tossing_at}
 use Rattle.echo_run.proofs.TosserPremises.{Laws}
 use Rattle.echo_run.proofs.Lists.{nth-among, nth-changed}
-use Rattle.echo_run.proofs.Bases.{Kept-cursor, Kept-length}
+use Rattle.echo_run.proofs.Bases.{Kept, Kept-cursor, Kept-length}
 use Rattle.echo_run.proofs.EachSystem.{AllKept, event-kept, run-kept}
 
-later-itself : (s : System) → IsLater s s
+pub later-itself : (s : System) → IsLater s s
 later-itself s = record { file = refl; cursor = omega arith; filed = ([], sym (append-nil s.history)) }
 
-later-still : (s t z : System) → IsLater s t → IsLater t z → IsLater s z
+pub later-still : (s t z : System) → IsLater s t → IsLater t z → IsLater s z
 later-still s t z a b = record {
   file = b.file ∙ a.file;
   cursor = omega (arith, a.cursor, b.cursor);
@@ -32,9 +32,19 @@ later-still s t z a b = record {
   );
 }
 
-filing-later : (s : System) (o : Option Filed) → IsLater s (filing s o)
+pub filing-later : (s : System) (o : Option Filed) → IsLater s (filing s o)
 filing-later s None = later-itself s
 filing-later s (Some m) = record { file = refl; cursor = omega arith; filed = (m ∷ [], refl) }
+
+pub scanning-later : (s : System) → Kept s.cursor s.base s.history → IsLater s (scanning_at s)
+scanning-later s kept = record {
+  file = refl;
+  cursor = omega (arith, Kept-cursor s.cursor s.base s.history kept, Kept-length s.cursor s.base s.history kept);
+  filed = ([], sym (append-nil s.history));
+}
+
+pub purging-later : (s : System) → IsLater s (purging_at s)
+purging-later s = record { file = refl; cursor = omega arith; filed = ([], sym (append-nil s.history)) }
 
 tossing-later : (sender : Address) (ms : List Message) (s : System) → IsLater s (tossing_at sender ms s)
 tossing-later sender [] s = later-itself s
@@ -64,13 +74,7 @@ scanning-last run kept i stamp None = same-last run.systems
 scanning-last run kept i stamp (Some s) = scans (is_stamp stamp)
   where
     to_end : (t : System) → nth i run.systems ≡ Some t → IsLater t (scanning_at t)
-    to_end t e =
-        let at = kept t (nth-among i t run.systems e) in
-        record {
-          file = refl;
-          cursor = omega (arith, Kept-cursor t.cursor t.base t.history at, Kept-length t.cursor t.base t.history at);
-          filed = ([], sym (append-nil t.history));
-        }
+    to_end t e = scanning-later t (kept t (nth-among i t run.systems e))
 
     scans : (b : Bool) → Lasts run.systems (if b then record {
       systems = change i scanning_at run.systems;
@@ -99,7 +103,7 @@ event-last run kept (Scanning i stamp) = scanning-last run kept i stamp (nth i r
 event-last run kept (Delivery k) = delivery-last run k (nth k run.packets)
 event-last run kept (PartDelivery k messages) = part-last run messages (nth k run.packets)
 event-last run kept (Purging i) =
-    change-last i purging_at run.systems (λ s _. record { file = refl; cursor = omega arith; filed = ([], sym (append-nil s.history)) })
+    change-last i purging_at run.systems (λ s _. purging-later s)
 
 pub events-last : Laws → (events : List RunEvent) (run : Run) → AllKept run → Lasts run.systems (after_events run events).systems
 events-last laws [] run kept = same-last run.systems

@@ -29,7 +29,6 @@ pub record Split {X : Type 0} (i : ℕ) (x : X) (xs : List X) : Type 0 where
   pub before : List X
   pub after : List X
   pub whole : xs ≡ before ++ x ∷ after
-  pub changed : (f : X → X) → change i f xs ≡ before ++ f x ∷ after
   pub index : length before ≡ i
 
 pub nth-cases : {X : Type 0} (i : ℕ) (xs : List X) → (nth i xs ≡ None) ⊎ ((x : X) × (nth i xs ≡ Some x))
@@ -51,7 +50,6 @@ nth-split zero x (y ∷ xs) h = record {
   before = [];
   after = xs;
   whole = cc;
-  changed = λ f. (let e : y ≡ x = cc in cc);
   index = refl;
 }
 nth-split (suc i) x (y ∷ xs) h =
@@ -60,7 +58,6 @@ nth-split (suc i) x (y ∷ xs) h =
       before = y ∷ s.before;
       after = s.after;
       whole = (let e = s.whole in cc);
-      changed = λ f. (let e = s.changed f in cc);
       index = (let e = s.index in omega arith);
     }
 
@@ -116,10 +113,6 @@ first_passes {X} p x (y ∷ xs) h =
 
     negated-false : {b : Bool} → b ≡ false → not b ≡ true
     negated-false e = ap not e
-
-pub Among-middle : {X : Type 0} (x : X) (before after : List X) → Among x (before ++ x ∷ after)
-Among-middle x [] after = inl refl
-Among-middle x (y ∷ before) after = inr (Among-middle x before after)
 
 pub Among-map_to : {X Y : Type 0} (g : X → Y) (x : X) (xs : List X) → Among x xs → Among (g x) (map g xs)
 Among-map_to g x [] h = h

@@ -17,8 +17,8 @@ use Rattle.echo_run.specs.Epochs.{Epoch, HasGrown, IsOfSome, TidyThroughout, add
 use Rattle.echo_run.proofs.TosserPremises.{Laws}
 use Rattle.echo_run.proofs.Lists.{not_both, yes_or_no, and-parts, and-from, any-from, any-to}
 use Rattle.echo_run.proofs.WellFormed.{RunOk}
-use Rattle.echo_run.proofs.AreaView.{address_of, map-map, one_name}
-use Rattle.echo_run.proofs.TidyRuns.{along, event-files, files_of, fresh-files}
+use Rattle.echo_run.proofs.Areas.{address_of, map-map, one_name}
+use Rattle.echo_run.proofs.WholeRuns.{along, event-files, files_of, fresh-files}
 use Rattle.echo_run.proofs.Unchanged.{one-message}
 use Rattle.echo_run.proofs.Renewal.{renewed-files, renewed-ok}
 use Rattle.echo_run.proofs.OverChanges.{Outlives, change-outlives, epoch-ok, events-outlive}

@@ -11,7 +11,7 @@ use Rattle.echo_steps.specs.declared.draft.Draft.{Draft}
 use Rattle.echo_steps.specs.declared.stamp.Stamp.{Stamp}
 use Rattle.echo_links.specs.Links.{LinkFile}
 use Rattle.echo_filed.specs.Filed.{Filed, key_of}
-use Rattle.echo_steps.specs.Posting.{posted, posting}
+use Rattle.echo_steps.specs.Posting.{posting}
 use Rattle.echo_steps.specs.Tossing.{received, tossing, sender_of}
 use Rattle.echo_steps.specs.Scanning.{goes_to, scanned}
 use Rattle.echo_run.specs.Run.{System, Run, fresh, filing, posting_at, tossing_at, scanning_at, purging_at, nth, change, receiver, changing, scanning, taking, coming, delivery, part_delivery, after_event, after_events, run_of, start}
@@ -20,13 +20,14 @@ use Rattle.echo_run.specs.Fits.{FilesFit}
 use Rattle.echo_steps.specs.Stamps.{is_stamp}
 use Rattle.echo_run.specs.Orderly.{copies, origin}
 use Rattle.echo_run.proofs.TosserPremises.{Laws}
-use Rattle.echo_run.proofs.Lists.{Among-change, Among-map_from, Among-map_to, Among-filter_from, Among-filter_to, Among-drop, Among-take, nth-among, none_some, some_same}
-use Rattle.echo_run.proofs.TosserCases.{posting-cases, tossing-cases}
+use Rattle.echo_run.proofs.Lists.{Among-change, Among-map_from, Among-map_to, Among-filter_from, Among-filter_to, Among-drop, Among-take, nth-among}
+use Rattle.echo_steps.proofs.Posted.{posted_own}
+use Rattle.echo_steps.proofs.Received.{tossing_received}
 use Rattle.echo_run.proofs.Bases.{Kept-waiting, SystemOk}
 use Rattle.echo_run.proofs.WellFormed.{RunOk, event-ok, start-ok, scanned-from, waiting-valid}
-use Rattle.echo_run.proofs.AreaView.{content_of}
+use Rattle.echo_run.specs.Keeping.{content_of}
 use Rattle.echo_run.proofs.Copies.{copied, copied-content, copied-key, copies-are}
-use Rattle.echo_run.proofs.DeliveryView.{origin-is}
+use Rattle.echo_run.proofs.StandingTosses.{origin-is}
 
 -- a posting of some system has the key and the content of the message
 abbrev pub Origin : List System → Filed → Type 0
@@ -90,16 +91,9 @@ tossing-new sender (q ∷ ms) s m h =
       | inr later ↦ inr (later.0, inr later.1, later.2)
       | inl now ↦ elim (filing-new s (tossing s.file s.base sender q) m now) [
         | inl old ↦ inl old
-        | inr e ↦ elim (tossing-cases s.file s.base sender q) [
-          | inl none ↦ absurd (none_some (sym none.not_filed ∙ e))
-          | inr done ↦ inr (q, inl refl, some_same (sym e ∙ done.filed))
-        ]
+        | inr e ↦ inr (q, inl refl, (tossing_received s.file s.base sender q m e).1)
       ]
     ]
-
-posted-own : (file : LinkFile) (tag : List ℕ) (draft : Draft) (serial : ℕ) (stamp : Stamp) → (posted file tag draft serial stamp).sender ≡ None
-unfolding posted
-posted-own file tag draft serial stamp = refl
 
 module _ (laws : Laws) where
   -- one system changes: what is new there has an origin
@@ -139,11 +133,7 @@ module _ (laws : Laws) where
   posting-new tag draft serial stamp ss t h m j =
       elim (filing-new t (posting t.file t.base tag draft serial stamp) m j) [
         | inl old ↦ inl old
-        | inr e ↦ elim (posting-cases t.file t.base tag draft serial stamp) [
-          | inl none ↦ absurd (none_some (sym none ∙ e))
-          | inr some ↦ (let own = ap (λ (n : Filed). n.sender) (some_same (sym e ∙ some.0)) ∙ posted-own t.file tag draft serial stamp in
-              inr (posting_at tag draft serial stamp t, h, (m, j, own, refl, refl)))
-        ]
+        | inr e ↦ inr (posting_at tag draft serial stamp t, h, (m, j, (posted_own t.file t.base tag draft serial stamp m e).0, refl, refl))
       ]
 
   taking-new : (run : Run) → Traced run → RunOk run → (p : Packet) → Among p run.packets → (n : ℕ) (t : System) (m : Filed) →

@@ -1,16 +1,14 @@
 -- Systems that get other link files keep what they have.
-use Rattle.std.proofs.Common.{◌≡◌, inl, inr, refl, sym, subst, ap, ◌∙◌, arith, List, [], ◌∷◌, map, length, cond}
-use Rattle.echo_addr.specs.declared.address.Address.{Address}
+use Rattle.std.proofs.Common.{◌≡◌, inl, inr, refl, sym, subst, ap, arith, List, [], ◌∷◌, map, length}
 use Rattle.echo_graph.specs.Walk.{Among}
-use Rattle.echo_links.specs.Links.{LinkFile, same_address}
-use Rattle.echo_filed.specs.Filed.{Filed}
+use Rattle.echo_links.specs.Links.{LinkFile}
 use Rattle.echo_run.specs.Run.{System, Run}
 use Rattle.echo_run.specs.Fits.{FilesFit}
 use Rattle.echo_run.specs.Epochs.{addresses, changed_to, with_file, with_files}
 use Rattle.echo_run.proofs.TosserPremises.{Laws}
 use Rattle.echo_run.proofs.Bases.{SystemOk}
 use Rattle.echo_run.proofs.WellFormed.{RunOk, start-ok}
-use Rattle.echo_run.proofs.AreaView.{address_of, part_at}
+use Rattle.echo_run.proofs.Areas.{address_of}
 
 -- the files are of these systems, in order
 abbrev pub SameSystems : List System → List LinkFile → Type 0
@@ -61,21 +59,6 @@ renewed-files [] [] same = refl
 renewed-files (file ∷ files) [] same = absurd (none_left same)
 renewed-files [] (s ∷ ss) same = absurd (none_left (sym same))
 renewed-files (file ∷ files) (s ∷ ss) same = ap (λ (fs : List LinkFile). file ∷ fs) (renewed-files files ss (later_same same))
-
--- what does not hang on the file is seen as before
-pub part_at-renewed : (part : System → List Filed) → ((file : LinkFile) (s : System) → part (with_file file s) ≡ part s) → (a : Address) →
-    (files : List LinkFile) (ss : List System) → SameSystems ss files → part_at part a (with_files files ss) ≡ part_at part a ss
-part_at-renewed part keeps a [] [] same = refl
-part_at-renewed part keeps a (file ∷ files) [] same = absurd (none_left same)
-part_at-renewed part keeps a [] (s ∷ ss) same = absurd (none_left (sym same))
-part_at-renewed part keeps a (file ∷ files) (s ∷ ss) same =
-    let first = first_same same in
-    let here = keeps file s in
-    let later = part_at-renewed part keeps a files ss (later_same same) in
-    let arm : Address → List Filed → List Filed → List Filed = λ b xs ys. cond (same_address b a) xs ys in
-    ap (λ (b : Address). arm b (part (with_file file s)) (part_at part a (with_files files ss))) (sym first)
-    ∙ (ap (λ (xs : List Filed). arm (address_of s) xs (part_at part a (with_files files ss))) here
-    ∙ ap (λ (ys : List Filed). arm (address_of s) (part s) ys) later)
 
 module _ (laws : Laws) where
   -- what holds of systems on every net holds of them with files that were read, whichever systems they are of

@@ -16,10 +16,10 @@ use Rattle.echo_run.specs.Run.{System, destination}
 use Rattle.echo_run.specs.Orderly.{SameContent, copies, count, origin, sent_count}
 use Rattle.echo_run.specs.Exports.{IsSentCopy}
 use Rattle.echo_run.proofs.TosserPremises.{Laws}
-use Rattle.echo_run.proofs.Lists.{not_both, yes_or_no, any-from, any-to, filter-none, Among-filter_from, Among-map_from}
+use Rattle.echo_run.proofs.Lists.{not_both, yes_or_no, any-from, any-to, filter-none, Among-filter_from, Among-filter_to, Among-map_from, Among-map_to}
 use Rattle.echo_run.proofs.Bases.{Kept-waiting, SystemOk}
 use Rattle.echo_run.proofs.WellFormed.{scanned-from, waiting-valid}
-use Rattle.echo_run.proofs.Copies.{copied, copied-key, copies-are, goes-from, packet-destination, target-recipient, targets-to, recipients-differ}
+use Rattle.echo_run.proofs.Copies.{Targeted, copied, copied-key, copies-are, goes-from, goes-to, packet-destination, target-recipient, targets-to, recipients-differ}
 
 packet-origin : (file : LinkFile) (stamp : Stamp) (waiting : List Filed) (address : Address) → origin (packet_to file stamp waiting address) ≡ file.system
 unfolding packet_to header_to
@@ -54,36 +54,61 @@ module _ (laws : Laws) (s : System) (ok : SystemOk s) (stamp : Stamp) where
   copies-of : (a : Address) → copies (packet_to s.file stamp waits a) ≡ map (copied s.file) (filter (goes_to s.file a) waits)
   copies-of a = copies-are laws s.file ok.file stamp waits a (waiting-valid laws s ok)
 
+  made-are : scanned s.file s.base s.cursor stamp ≡ map (packet_to s.file stamp waits) (recipients s.file waits)
+  unfolding scanned packets_of
+  made-are = refl
+
   pub scanned-origin : (p : Packet) → Among p (scanned s.file s.base s.cursor stamp) → origin p ≡ s.file.system
   scanned-origin p h =
       let (address, _, e) = scanned-from laws s.file s.base s.cursor stamp p h in
       ap (λ (q : Packet). origin q) e ∙ packet-origin s.file stamp waits address
 
-  -- each message of a packet is a copy of one that waits
-  pub scanned-copy : (p : Packet) → Among p (scanned s.file s.base s.cursor stamp) → (c : Filed) → Among c (copies p) →
-      (m : Filed) × Among m (drop s.cursor s.history) × IsSentCopy s.file m (destination p) c
-  scanned-copy p h c i =
+  -- each message of a packet is the copy of one that waits, for one of its targets
+  pub scanned-copied : (p : Packet) → Among p (scanned s.file s.base s.cursor stamp) → (c : Filed) → Among c (copies p) →
+      (m : Filed) × Among m (drop s.cursor s.history) × Targeted laws s.file m (destination p) × (c ≡ copied s.file m)
+  scanned-copied p h c i =
       let (address, _, e) = scanned-from laws s.file s.base s.cursor stamp p h in
       let P : Packet → Type 0 = λ q. Among c (copies q) in
       let Q : List Filed → Type 0 = λ ms. Among c ms in
       let (m, j, is_copy) = Among-map_from (copied s.file) c (filter (goes_to s.file address) waits) (subst Q (copies-of address) (subst P e i)) in
       let (k, goes) = Among-filter_from (goes_to s.file address) m waits j in
-      let target = goes-from laws s.file m address goes in
-      let to : address ≡ destination p =
-      sym (packet-destination laws s.file stamp waits address) ∙ ap (λ (q : Packet). destination q) (sym e) in
+      let to : address ≡ destination p = sym (packet-destination laws s.file stamp waits address) ∙ ap (λ (q : Packet). destination q) (sym e) in
       let R : List Filed → Type 0 = λ ms. Among m ms in
-      let S : Address → Type 0 = λ a. IsSentCopy s.file m a c in
-      let T : Filed → Type 0 = λ n. IsSentCopy s.file m address n in (
+      let S : Address → Type 0 = λ a. Targeted laws s.file m a in
+      (m, subst R waits-kept k, subst S to (goes-from laws s.file m address goes), is_copy)
+
+  pub scanned-copy : (p : Packet) → Among p (scanned s.file s.base s.cursor stamp) → (c : Filed) → Among c (copies p) →
+      (m : Filed) × Among m (drop s.cursor s.history) × IsSentCopy s.file m (destination p) c
+  scanned-copy p h c i =
+      let (m, j, target, is_copy) = scanned-copied p h c i in
+      let T : Filed → Type 0 = λ n. IsSentCopy s.file m (destination p) n in (
         m,
-        subst R waits-kept k,
-        subst S to (subst T (sym is_copy) (record {
+        j,
+        subst T (sym is_copy) (record {
           sender = copied-sent s.file m;
           content = copied-same s.file m;
           text = copied-text s.file m;
           key = copied-key s.file m;
-          target = targets-to laws s.file m address target;
+          target = targets-to laws s.file m (destination p) target;
+          not_sender = target.not_sender;
           unlisted = target.not_seen;
-        })),
+        }),
+      )
+
+  -- and each target of one that waits is sent it
+  pub target-packet : (m : Filed) → Among m (drop s.cursor s.history) → (a : Address) → Targeted laws s.file m a →
+      (p : Packet) × Among p (scanned s.file s.base s.cursor stamp) × (origin p ≡ s.file.system) × (destination p ≡ a) × Among (copied s.file m) (copies p)
+  target-packet m h a target =
+      let P : List Filed → Type 0 = λ ms. Among m ms in
+      let Q : List Packet → Type 0 = λ ps. Among (packet_to s.file stamp waits a) ps in
+      let R : List Filed → Type 0 = λ ms. Among (copied s.file m) ms in
+      let i = subst P (sym waits-kept) h in (
+        packet_to s.file stamp waits a,
+        subst Q (sym made-are) (Among-map_to (packet_to s.file stamp waits) a (recipients s.file waits) (target-recipient laws s.file waits m a i target)),
+        packet-origin s.file stamp waits a,
+        packet-destination laws s.file stamp waits a,
+        subst R (sym (copies-of a)) (Among-map_to (copied s.file) m (filter (goes_to s.file a) waits)
+            (Among-filter_to (goes_to s.file a) m waits i (goes-to laws s.file m a target))),
       )
 
   abbrev sent_among : Address → Key → List Address → ℕ
@@ -135,10 +160,6 @@ module _ (laws : Laws) (s : System) (ok : SystemOk s) (stamp : Stamp) where
         (any-to (same_address a) a (recipients s.file waits) h (laws.addresses.full a a refl)) f in
         to-none a k (recipients s.file waits) not_there ∙ ap (λ (ms : List Filed). count k ms) (sym (none-goes a not_there)))
   ]
-
-  made-are : scanned s.file s.base s.cursor stamp ≡ map (packet_to s.file stamp waits) (recipients s.file waits)
-  unfolding scanned packets_of
-  made-are = refl
 
   -- each target of a message that waits gets one copy of it
   pub scanned-count : (a : Address) (k : Key) →

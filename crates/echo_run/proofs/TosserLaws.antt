@@ -23,7 +23,7 @@ use Rattle.echo_filed.proofs.Choices.{contained_in, in_contained}
 use Rattle.echo_filed.proofs.Sets.{IsOrder, Ascending, set_ascending, set_only, set_keeps}
 use Rattle.echo_filed.proofs.Orders.{address_order, entry_set_is_set, same_entry_decides}
 use Rattle.echo_filed.proofs.Keys.{same_key_decides, stub_keeps_key, stub_of_stub}
-use Rattle.echo_steps.proofs.Posted.{allowed, posted_id, posted_is_echo}
+use Rattle.echo_steps.proofs.Posted.{posted_id, posted_is_echo}
 use Rattle.echo_steps.proofs.Copies.{exported_is_echo}
 use Rattle.echo_filed.proofs.Texts.{written_accepted, written_back}
 use Rattle.echo_run.proofs.Lists.{not_both}
@@ -90,8 +90,7 @@ the_laws = record {
   stub_key = stub_keeps_key;
   stub_again = stub_of_stub;
   posted_key = posted-key;
-  posted_text = λ file base tag draft serial stamp fits none.
-      posted_is_echo file base tag draft serial stamp fits (allowed file base tag draft serial stamp none);
+  posted_text = λ file base tag draft serial stamp fits allowed. posted_is_echo file base tag draft serial stamp fits allowed;
   exported_text = λ file e fits echo. exported_is_echo file fits e echo;
   read_back = λ e echo. (written_accepted e echo, written_back e echo);
   ids = ids-differ;

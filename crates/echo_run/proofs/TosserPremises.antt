@@ -14,7 +14,7 @@ use Rattle.echo_filed.specs.Sets.{address_set, entry_set, same_entry}
 use Rattle.echo_filed.specs.Filed.{Filed, key_of, same_key}
 use Rattle.echo_text.specs.Ids.{id_of}
 use Rattle.echo_links.specs.Links.{upper}
-use Rattle.echo_steps.specs.Posting.{posted, post_refusal}
+use Rattle.echo_steps.specs.Posting.{IsAllowed, posted}
 use Rattle.echo_filed.specs.Stubs.{stub_of}
 use Rattle.echo_steps.specs.Scanning.{exported}
 use Rattle.echo_links.specs.Links.{IsFile}
@@ -30,7 +30,7 @@ pub record Laws : Type 0 where
   pub posted_key : (file : LinkFile) (tag : List ℕ) (draft : Draft) (serial : ℕ) (stamp : Stamp) → IsFile file →
       key_of (posted file tag draft serial stamp) ≡ ById (upper tag) (id_of file.system serial)
   pub posted_text : (file : LinkFile) (base : List Filed) (tag : List ℕ) (draft : Draft) (serial : ℕ) (stamp : Stamp) → IsFile file →
-      post_refusal file base tag draft serial stamp ≡ None → IsEcho (posted file tag draft serial stamp).echo
+      IsAllowed file base tag draft serial stamp → IsEcho (posted file tag draft serial stamp).echo
   pub exported_text : (file : LinkFile) (e : EchoText) → IsFile file → IsEcho e → IsEcho (exported file e)
   pub read_back : (e : EchoText) → IsEcho e → (text_refusal (text_of e) ≡ None) × (echo_of (text_of e) ≡ e)
   pub ids : (a b : Address) (serial other : ℕ) → IsAddress a → IsAddress b → id_of a serial ≡ id_of b other → a ≡ b

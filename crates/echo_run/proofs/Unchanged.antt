@@ -1,15 +1,24 @@
--- A posting that a system filed once, unchanged, stays so.
-use Rattle.std.proofs.Common.{◌≡◌, ◌⊎◌, inl, inr, refl, sym, subst, ap, ◌∙◌, ◌≤◌, arith, List, ◌++◌}
+-- What a system filed once, unchanged.
+use Rattle.std.proofs.Common.{◌≡◌, ◌⊎◌, refl, sym, subst, ap, ◌∙◌, ◌≤◌, arith}
 use Rattle.echo_graph.specs.Walk.{Among}
-use Rattle.echo_graph.proofs.Members.{Among-append_left}
 use Rattle.echo_filed.specs.Filed.{Filed, key_of, same_key}
 use Rattle.echo_filed.specs.Stubs.{stub_of}
 use Rattle.echo_run.specs.Run.{System}
+use Rattle.echo_run.specs.Keeping.{Content, content_of}
 use Rattle.echo_run.specs.Orderly.{FiledUnchanged, SameContent, count}
 use Rattle.echo_run.proofs.Counts as counts
 use Rattle.echo_run.proofs.TosserPremises.{Laws}
 use Rattle.echo_run.proofs.Bases.{Kept-back, Kept-count, SystemOk, count-is}
-use Rattle.echo_run.proofs.ExportLists.{count-append}
+
+-- two messages of one content have the same content, part by part
+pub same-parts : (m o : Filed) → content_of m ≡ content_of o → SameContent m o
+same-parts m o e = record {
+  date = ap (λ (c : Content). c.date) e;
+  to_name = ap (λ (c : Content). c.to_name) e;
+  from_name = ap (λ (c : Content). c.from_name) e;
+  subject = ap (λ (c : Content). c.subject) e;
+  kept = ap (λ (c : Content). c.kept) e;
+}
 
 module _ (laws : Laws) where
   -- what a system filed with one key is one message
@@ -29,21 +38,3 @@ module _ (laws : Laws) where
         subst P (one-message s ok h n at_h j (sym kept.key ∙ (e ∙ sym e'))) kept.form;
     unchanged = same;
   }
-
-  -- a system that filed more since
-  pub unchanged-since : (s z : System) (since : List Filed) → SystemOk z → z.history ≡ s.history ++ since → (o : Filed) →
-      FiledUnchanged s o → FiledUnchanged z o
-  unchanged-since s z since ok more o filed =
-      let (h, i, e) = has in
-      let P : List Filed → Type 0 = λ ms. Among h ms in
-      let there : Among h z.history = subst P (sym more) (Among-append_left h s.history since i) in
-      let Q : Filed → Type 0 = λ n. SameContent n o in
-      filed-unchanged z ok o
-      (omega (arith, ok.once (key_of o), filed.filed_once, ap (λ (ms : List Filed). count (key_of o) ms) more, count-append (key_of o) s.history since))
-      (λ m j q. subst Q (one-message z ok h m there j (e ∙ sym q)) (filed.unchanged h i e))
-    where
-      has : (h : Filed) × Among h s.history × (key_of h ≡ key_of o)
-      has = elim (counts.count-cases key_of same_key laws.keys (key_of o) s.history) [
-        | inr found ↦ found
-        | inl none ↦ absurd (omega (arith, none, count-is (key_of o) s.history, filed.filed_once))
-      ]

@@ -29,8 +29,9 @@ use Rattle.echo_links.specs.Links.{IsFile}
 use Rattle.echo_run.specs.Fits.{FilesFit}
 use Rattle.echo_run.specs.Orderly.{count}
 use Rattle.echo_run.proofs.TosserPremises.{Laws}
-use Rattle.echo_run.proofs.Lists.{not_both, Among-map_from, Among-filter_from, Among-take, Among-drop, change-all, nth-among, none_some, some_same}
-use Rattle.echo_run.proofs.TosserCases.{posting-cases, tossing-cases}
+use Rattle.echo_run.proofs.Lists.{not_both, Among-map_from, Among-filter_from, Among-take, Among-drop, change-all, nth-among}
+use Rattle.echo_steps.proofs.Posted.{posting_posted}
+use Rattle.echo_steps.proofs.Received.{tossing_received}
 use Rattle.echo_run.proofs.Bases.{Kept-count, Kept-scanned, Kept-purged, Kept-waiting, SystemOk, HasKey, known-from_history, id-from_history, filing-ok}
 
 -- of a packet at any time
@@ -57,14 +58,12 @@ module _ (laws : Laws) where
 
   pub posting-ok : (tag : List ℕ) (draft : Draft) (serial : ℕ) (stamp : Stamp) (s : System) → SystemOk s → SystemOk (posting_at tag draft serial stamp s)
   posting-ok tag draft serial stamp s ok = filed_ok s (posting s.file s.base tag draft serial stamp) ok (λ m e.
-      elim (posting-cases s.file s.base tag draft serial stamp) [
-        | inl none ↦ absurd (none_some (sym none ∙ e))
-        | inr some ↦ (let P : Filed → Type 0 = λ n. IsEcho n.echo × (¬ HasKey (key_of n) s.history) in
-            subst P (some_same (sym some.0 ∙ e)) (
-              laws.posted_text s.file s.base tag draft serial stamp ok.file some.1,
-              posted-fresh s ok tag draft serial stamp some.3,
-            ))
-      ])
+      let done = posting_posted s.file s.base tag draft serial stamp m e in
+      let P : Filed → Type 0 = λ n. IsEcho n.echo × (¬ HasKey (key_of n) s.history) in
+      subst P (sym done.is) (
+        laws.posted_text s.file s.base tag draft serial stamp ok.file done.allowed,
+        posted-fresh s ok tag draft serial stamp done.allowed.new,
+      ))
 
   pub received-echo : (sender : Address) (q : Message) → (received sender q).echo ≡ echo_of q.text
   unfolding received
@@ -73,21 +72,16 @@ module _ (laws : Laws) where
   pub tossed-fresh : (s : System) → SystemOk s → (m : Filed) → is_known s.base (key_of m) ≡ false → ¬ HasKey (key_of m) s.history
   tossed-fresh s ok m new has = not_both (is_known s.base (key_of m)) (known-from_history laws s ok (key_of m) has) new
 
-  pub tossing_one-ok : (sender : Address) (q : Message) (s : System) → SystemOk s → IsEcho (echo_of q.text) →
+  pub tossing_one-ok : (sender : Address) (q : Message) (s : System) → SystemOk s → (text_refusal q.text ≡ None → IsEcho (echo_of q.text)) →
       SystemOk (filing s (tossing s.file s.base sender q))
   tossing_one-ok sender q s ok echo = filed_ok s (tossing s.file s.base sender q) ok (λ m e.
-      elim (tossing-cases s.file s.base sender q) [
-        | inl none ↦ absurd (none_some (sym none.not_filed ∙ e))
-        | inr some ↦ (let P : Filed → Type 0 = λ n. IsEcho n.echo × (¬ HasKey (key_of n) s.history) in
-            let Q : EchoText → Type 0 = λ e. IsEcho e in
-            subst P (some_same (sym some.filed ∙ e)) (
-              subst Q (sym (received-echo sender q)) echo,
-              tossed-fresh s ok (received sender q) some.unknown,
-            ))
-      ])
+      let (to_file, is) = tossing_received s.file s.base sender q m e in
+      let P : Filed → Type 0 = λ n. IsEcho n.echo × (¬ HasKey (key_of n) s.history) in
+      let Q : EchoText → Type 0 = λ e. IsEcho e in
+      subst P (sym is) (subst Q (sym (received-echo sender q)) (echo to_file.text), tossed-fresh s ok (received sender q) to_file.new))
 
   pub tossing-ok : (sender : Address) (ms : List Message) (s : System) → SystemOk s →
-      ((q : Message) → Among q ms → IsEcho (echo_of q.text)) → SystemOk (tossing_at sender ms s)
+      ((q : Message) → Among q ms → text_refusal q.text ≡ None → IsEcho (echo_of q.text)) → SystemOk (tossing_at sender ms s)
   tossing-ok sender [] s ok h = ok
   tossing-ok sender (q ∷ ms) s ok h =
       tossing-ok sender ms (filing s (tossing s.file s.base sender q)) (tossing_one-ok sender q s ok (h q (inl refl))) (λ r i. h r (inr i))
@@ -145,11 +139,11 @@ module _ (laws : Laws) where
       let P : Packet → Type 0 = λ q. PacketOk q in
       subst P (sym e) (packet-ok s.file stamp (drop s.cursor s.base) address ok.file (waiting-valid s ok))
 
-  changing-ok : (run : Run) (i : ℕ) (f : System → System) → ((s : System) → SystemOk s → SystemOk (f s)) → RunOk run → RunOk (changing run i f)
+  pub changing-ok : (run : Run) (i : ℕ) (f : System → System) → ((s : System) → SystemOk s → SystemOk (f s)) → RunOk run → RunOk (changing run i f)
   changing-ok run i f keeps ok = record { systems = change-all (λ s. SystemOk s) i f keeps run.systems ok.systems; packets = ok.packets }
 
   taking-ok : (p : Packet) → PacketOk p → (n : ℕ) (s : System) → SystemOk s → SystemOk (taking p n s)
-  taking-ok p ok n s at_s = tossing-ok (sender_of s.file p.header) (take n p.messages) s at_s (λ q h. (ok.messages q (Among-take n q p.messages h)).1)
+  taking-ok p ok n s at_s = tossing-ok (sender_of s.file p.header) (take n p.messages) s at_s (λ q h _. (ok.messages q (Among-take n q p.messages h)).1)
 
   scanning-step : (run : Run) (i : ℕ) (stamp : Stamp) (found : Option System) → ((s : System) → found ≡ Some s → SystemOk s) →
       RunOk run → RunOk (scanning run i stamp found)
@@ -193,12 +187,15 @@ module _ (laws : Laws) where
   event-ok run (PartDelivery k n) ok = part-step run n (nth k run.packets) (λ p e. ok.packets p (nth-among k p run.packets e)) ok
   event-ok run (Purging i) ok = changing-ok run i purging_at purging-ok ok
 
+  pub fresh-ok : (file : LinkFile) → IsFile file → SystemOk (fresh file)
+  fresh-ok file fits = record { file = fits; kept = refl; valid = λ m j. absurd j; once = λ key. omega arith }
+
   pub start-ok : (files : List LinkFile) → FilesFit files → RunOk (start files)
   start-ok files fits = record {
     systems = λ s h.
         let (file, i, e) = Among-map_from fresh s files h in
         let P : System → Type 0 = λ t. SystemOk t in
-        subst P (sym e) (record { file = fits file i; kept = refl; valid = λ m j. absurd j; once = λ key. omega arith });
+        subst P (sym e) (fresh-ok file (fits file i));
     packets = λ p h. absurd h;
   }
 

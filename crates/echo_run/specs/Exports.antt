@@ -1,5 +1,5 @@
 -- Which scan of which system made each packet of a run.
-use Rattle.std.specs.Prelude.{◌≡◌, ℕ, ◌+◌, ◌==◌, List, [], ◌∷◌, ◌++◌, map, filter, Option, Some, None, if◌then◌else◌}
+use Rattle.std.specs.Prelude.{◌≡◌, ◌≢◌, ℕ, ◌+◌, ◌==◌, List, [], ◌∷◌, ◌++◌, map, filter, Option, Some, None, if◌then◌else◌}
 use Rattle.echo_addr.specs.declared.address.Address.{Address}
 use Rattle.echo_addr.specs.Address.{net_node_of}
 use Rattle.echo_graph.specs.Walk.{Among}
@@ -48,11 +48,13 @@ abbrev pub sent_by : ℕ → List Export → List Packet
 sent_by i all = map (λ e. e.packet) (filter (λ e. e.system == i) all)
 
 -- what a system sends of a message to an address: a copy of the same content, whose text says who has
--- seen it; the address is a target, and the message's SEEN-BY does not list its net and node
+-- seen it; the address is a target, did not send the message, and the message's SEEN-BY does not list its
+-- net and node
 pub record IsSentCopy (file : LinkFile) (m : Filed) (to : Address) (copy : Filed) : Type 0 where
   pub sender : copy.sender ≡ Some file.system
   pub content : SameContent copy m
   pub text : copy.echo ≡ exported file m.echo
   pub key : key_of copy ≡ key_of m
   pub target : Among to (targets file m)
+  pub not_sender : m.sender ≢ Some to
   pub unlisted : ¬ Among (net_node_of to) m.echo.seen

@@ -3,6 +3,8 @@ pub mod Run
 pub mod Orderly
 pub mod Exports
 pub mod Tidy
+pub mod AreaNets
+pub mod Keeping
 pub mod Fits
 pub mod World
 pub mod Epochs

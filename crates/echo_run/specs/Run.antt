@@ -8,6 +8,7 @@ use Rattle.echo_steps.specs.declared.stamp.Stamp.{Stamp}
 use Rattle.echo_steps.specs.declared.draft.Draft.{Draft}
 use Rattle.echo_links.specs.Links.{LinkFile, same_address}
 use Rattle.echo_filed.specs.Filed.{Filed}
+use Rattle.echo_steps.specs.SystemState.{SystemState}
 use Rattle.echo_steps.specs.Posting.{posting}
 use Rattle.echo_steps.specs.Tossing.{tossing, sender_of}
 use Rattle.echo_steps.specs.Scanning.{scanned}
@@ -21,6 +22,10 @@ pub record System : Type 0 where
   pub base : List Filed
   pub cursor : ℕ
   pub history : List Filed
+
+-- a system without its history
+abbrev pub state_of : System → SystemState
+state_of s = record { file = s.file; base = s.base; cursor = s.cursor }
 
 -- the systems, all packets ever exported, and the indexes of those that were delivered, each once
 pub record Run : Type 0 where

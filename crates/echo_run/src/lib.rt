@@ -12,6 +12,7 @@
 mod epoch_laws;
 mod event;
 mod laws;
+mod rules_laws;
 
 pub use epoch_laws::{
     changes_of_other_areas_need_no_settling, each_message_is_filed_once_over_changes,
@@ -24,4 +25,7 @@ pub use laws::{
     each_message_is_filed_once, each_message_was_posted, every_run_of_a_tidy_area_is_orderly,
     exports_go_to_targets, packets_are_exports, packets_hold_echomail,
     settled_runs_settle_each_area, trees_are_tidy, what_is_filed_stays,
+};
+pub use rules_laws::{
+    any_tossers_on_tidy_files_are_orderly, this_tosser_keeps_the_rules, tidy_files_are_a_tidy_net,
 };

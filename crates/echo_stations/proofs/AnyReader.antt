@@ -1,12 +1,13 @@
 -- A toss from any readers is one from what is known of them.
 use Rattle.std.proofs.Common.{List, [], ◌∷◌, Option, None, Ok, Err, inl, inr}
-use Rattle.echo_commands.specs.Devices.{Device}
-use Rattle.echo_commands.specs.declared.fault.Fault.{Fault}
-use Rattle.echo_commands.specs.declared.leaving.Done.{Done}
-use Rattle.echo_commands.specs.Coming.{Coming, Fails, Holds, Opens, Unknown}
-use Rattle.echo_commands.specs.Handed.{Handed}
-use Rattle.echo_commands.specs.Tossed.{IsTossed, TossesEach, TossesFile, run_begun}
-use Rattle.echo_commands.specs.Unpacked.{TossRun}
+use Rattle.echo_packet.specs.declared.limits.Limits.{Limits}
+use Rattle.echo_status.specs.Devices.{Device, Output}
+use Rattle.echo_status.specs.declared.fault.Fault.{Fault}
+use Rattle.echo_changing.specs.declared.leaving.Done.{Done}
+use Rattle.echo_changing.specs.Coming.{Coming, Fails, Holds, Opens, Unknown}
+use Rattle.echo_changing.specs.Handed.{Handed}
+use Rattle.echo_changing.specs.Tossed.{IsTossed, TossesEach, TossesFile, run_begun}
+use Rattle.echo_changing.specs.TossedPacket.{TossRun}
 use Rattle.echo_stations.specs.Commands.{itself}
 
 module _ {R : Type 0} (device : R → Device) where
@@ -36,13 +37,13 @@ module _ {R : Type 0} (device : R → Device) where
   each-known (file ∷ files) old stopped left new (inl (run, first, more)) = inl (run, file-known file old None run first, each-known files run stopped left new more)
   each-known (file ∷ files) old stopped left new (inr (fault, is, same, last)) = inr (fault, is, same, file-known file old stopped new last)
 
-  pub tossed-known : (handed : Handed) (files left : List Coming) (old new : Device) (done : Done)
-      → IsTossed device handed files left old new done → IsTossed itself handed files left old new done
-  tossed-known handed files left old new done h = record {
+  pub tossed-known : (limits : Limits) (handed : Handed) (files left : List Coming) (old new : Output) (done : Done)
+      → IsTossed limits device handed files left old new done → IsTossed limits itself handed files left old new done
+  tossed-known limits handed files left old new done h = record {
     system = h.system;
     given = h.given;
     run = h.run;
     stopped = h.stopped;
-    each = each-known files (run_begun h.system) h.stopped left h.run h.each;
+    each = each-known files (run_begun limits h.system) h.stopped left h.run h.each;
     ends = h.ends;
   }

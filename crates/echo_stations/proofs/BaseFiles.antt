@@ -15,7 +15,8 @@ use Rattle.echo_base.proofs.OneBase.{only_base, only_length}
 use Rattle.echo_base.proofs.Saved.{saved_is_base}
 use Rattle.echo_steps.specs.SystemState.{SystemState}
 use Rattle.echo_run.specs.Run.{System}
-use Rattle.echo_commands.specs.System.{IsBaseGiven, IsSystemGiven}
+use Rattle.echo_status.specs.Inputs.{IsBaseGiven}
+use Rattle.echo_changing.specs.System.{IsSystemGiven}
 use Rattle.echo_stations.specs.Agreement.{HasBase, HasFiles, IsBaseFile}
 use Rattle.echo_stations.specs.Nets.{Station}
 

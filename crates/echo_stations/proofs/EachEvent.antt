@@ -7,9 +7,9 @@ use Rattle.echo_filed.specs.Filed.{Filed}
 use Rattle.echo_run.specs.Event.{Posting, Purging, RunEvent, Scanning}
 use Rattle.echo_run.specs.Run.{Run, System, after_events, fresh, start}
 use Rattle.echo_run.proofs.LaterSystems.{after-append}
-use Rattle.echo_commands.specs.Inputs.{AreLinkFiles}
-use Rattle.echo_commands.specs.Posted.{draft_given}
-use Rattle.echo_stations.specs.Agreement.{Agrees, AreEventsOf, EventIsEvents, EventsAreARun, HasFiles, file_address, own_address}
+use Rattle.echo_status.specs.Inputs.{AreLinkFiles}
+use Rattle.echo_changing.specs.Posted.{draft_given}
+use Rattle.echo_stations.specs.Agreement.{Agrees, AreEventsOf, AreEventsOfAll, EventIsEvents, EventsAreARun, HasFiles, file_address, own_address}
 use Rattle.echo_stations.specs.Commands.{Command, CommandEvent, Happen, Leads, Post, Purge, Scan, Toss}
 use Rattle.echo_stations.specs.Nets.{Net, Paired, first_net, new_station}
 use Rattle.echo_stations.proofs.OfPost.{post-agrees}
@@ -35,12 +35,12 @@ event-is-events event net new run apart agrees (inr leads) =
 
 -- one event after another
 pub events-are-events : (commands : List CommandEvent) (net new : Net) (run : Run) → Different (map own_address run.systems) → Agrees net run → Happen commands net new
-    → (events : List RunEvent) × Agrees new (after_events run events)
-events-are-events [] net new run apart agrees same = ([], subst (λ (n : Net). Agrees n run) (sym same) agrees)
+    → (events : List RunEvent) × AreEventsOfAll commands events × Agrees new (after_events run events)
+events-are-events [] net new run apart agrees same = ([], refl, subst (λ (n : Net). Agrees n run) (sym same) agrees)
 events-are-events (command ∷ later) net new run apart agrees (next, happens, rest) =
     let (events, are, then) = event-is-events command net next run apart agrees happens in
-    let (more, last) = events-are-events later next new (after_events run events) (addresses-stay events run apart) then rest in
-    (events ++ more, subst (Agrees new) (sym (after-append events more run)) last)
+    let (more, of, last) = events-are-events later next new (after_events run events) (addresses-stay events run apart) then rest in
+    (events ++ more, (events, more, refl, are, of), subst (Agrees new) (sym (after-append events more run)) last)
 
 -- stations without base files
 first-stations : (links : List (List ℕ)) (files : List LinkFile) → AreLinkFiles links files → Paired HasFiles (map new_station links) (map fresh files)

@@ -1,10 +1,10 @@
 -- What a command left, and on which files it was called.
 use Rattle.std.proofs.Common.{◌≡◌, sym, subst, ap, ◌∙◌, ℕ, List, Option, Some, None, Result, Ok, Err}
-use Rattle.echo_commands.specs.declared.fault.Fault.{Fault}
-use Rattle.echo_commands.specs.declared.leaving.Done.{Done}
-use Rattle.echo_commands.specs.declared.leaving.Files.{Files}
-use Rattle.echo_commands.specs.Files.{Leaves, done_of}
-use Rattle.echo_commands.specs.System.{IsSystemGiven}
+use Rattle.echo_status.specs.declared.fault.Fault.{Fault}
+use Rattle.echo_changing.specs.declared.leaving.Done.{Done}
+use Rattle.echo_changing.specs.declared.leaving.Files.{Files}
+use Rattle.echo_changing.specs.Files.{Leaves, done_of}
+use Rattle.echo_changing.specs.System.{IsSystemGiven}
 use Rattle.echo_steps.specs.SystemState.{SystemState}
 use Rattle.echo_run.specs.Run.{System}
 use Rattle.echo_run.proofs.Lists.{none_some}

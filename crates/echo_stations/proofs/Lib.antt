@@ -11,6 +11,7 @@ pub mod OfScan
 pub mod Tossed
 pub mod OfToss
 pub mod EachEvent
+pub mod Unpurged
 pub mod Sound
 pub mod Headline
 pub mod AnyReader

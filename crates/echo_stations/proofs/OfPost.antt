@@ -15,9 +15,9 @@ use Rattle.echo_steps.proofs.Kept.{posting_keeps}
 use Rattle.echo_run.specs.Event.{Posting}
 use Rattle.echo_run.specs.Run.{Run, System, after_event, filing, posting_at}
 use Rattle.echo_run.proofs.Lists.{nth-among, some_same}
-use Rattle.echo_commands.specs.declared.leaving.Files.{Files}
-use Rattle.echo_commands.specs.declared.posting.NewMessage.{NewMessage}
-use Rattle.echo_commands.specs.Posted.{base_after, draft_given, refusal_given}
+use Rattle.echo_changing.specs.declared.leaving.Files.{Files}
+use Rattle.echo_changing.specs.declared.posting.NewMessage.{NewMessage}
+use Rattle.echo_changing.specs.Posted.{base_after, draft_given, refusal_given}
 use Rattle.echo_stations.specs.Agreement.{Agrees, HasFiles, HasPosting}
 use Rattle.echo_stations.specs.Commands.{Posts}
 use Rattle.echo_stations.specs.Nets.{Net, with_base}
@@ -33,7 +33,7 @@ unfolding posting
 is-filed file base tag draft serial stamp allowed =
     ap (λ (o : Option PostFault). cond (is_none o) (Some (posted file tag draft serial stamp)) None) allowed
 
-posted-own : (file : LinkFile) (tag : List ℕ) (draft : Draft) (serial : ℕ) (stamp : Stamp) → (posted file tag draft serial stamp).sender ≡ None
+pub posted-own : (file : LinkFile) (tag : List ℕ) (draft : Draft) (serial : ℕ) (stamp : Stamp) → (posted file tag draft serial stamp).sender ≡ None
 unfolding posted
 posted-own file tag draft serial stamp = refl
 
@@ -55,8 +55,8 @@ module _ (words : NewMessage) (body : List ℕ) (net new : Net) (i : ℕ) (run :
       let base = posts.base in
       let (s, there, has) = paired-nth HasFiles i posts.station net.stations run.systems agrees.stations posts.there in
       let answered = left _ posts.done base posts.answer posts.leaves.base in
-      let right = answered.so.0.0 in
-      let same : right.system ≡ state_of s = called-on posts.station s posts.call right.system has answered.so.0.1 right.given in
+      let right = answered.so.right.0 in
+      let same : right.system ≡ state_of s = called-on posts.station s posts.call right.system has answered.so.right.1 right.given in
       let allowed = subst (λ (x : SystemState). refusal_given x words body ≡ None) same right.allowed in
       let m = posted s.file tag draft serial stamp in
       let written : base ≡ saved_bytes (base_after right.system words body) right.system.cursor =

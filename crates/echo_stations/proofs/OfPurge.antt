@@ -8,7 +8,7 @@ use Rattle.echo_steps.proofs.Purged.{purge_keeps}
 use Rattle.echo_run.specs.Event.{Purging}
 use Rattle.echo_run.specs.Run.{Run, after_event, purging_at}
 use Rattle.echo_run.proofs.Lists.{nth-among, some_same}
-use Rattle.echo_commands.specs.declared.leaving.Files.{Files}
+use Rattle.echo_changing.specs.declared.leaving.Files.{Files}
 use Rattle.echo_stations.specs.Agreement.{Agrees, HasFiles, IsPacketFile}
 use Rattle.echo_stations.specs.Commands.{Purges}
 use Rattle.echo_stations.specs.Nets.{Net, Paired, with_base}
@@ -22,8 +22,8 @@ purge-agrees net new i run agrees purges =
     let base = purges.base in
     let (s, there, has) = paired-nth HasFiles i purges.station net.stations run.systems agrees.stations purges.there in
     let answered = left _ purges.done base purges.answer purges.leaves.base in
-    let right = answered.so.0.0 in
-    let same : right.system ≡ state_of s = called-on purges.station s purges.call right.system has answered.so.0.1 right.given in
+    let right = answered.so.right.0 in
+    let same : right.system ≡ state_of s = called-on purges.station s purges.call right.system has answered.so.right.1 right.given in
     let written : base ≡ saved_bytes (purged right.system.base right.system.cursor) right.system.cursor =
     some_same (sym purges.leaves.base ∙ ap (λ (f : Files). f.base) (answered.are ∙ right.left)) in
     let saved : base ≡ saved_bytes (purged s.base s.cursor) s.cursor = subst (λ (x : SystemState). base ≡ saved_bytes (purged x.base x.cursor) x.cursor) same written in

@@ -14,9 +14,9 @@ use Rattle.echo_steps.specs.SystemState.{SystemState}
 use Rattle.echo_run.specs.Event.{Scanning}
 use Rattle.echo_run.specs.Run.{Run, System, after_event, change, nth, scanning, scanning_at}
 use Rattle.echo_run.proofs.Lists.{nth-among, some_same}
-use Rattle.echo_commands.specs.declared.leaving.Files.{Files}
-use Rattle.echo_commands.specs.declared.leaving.PacketFile.{PacketFile}
-use Rattle.echo_commands.specs.Scanned.{file_sent}
+use Rattle.echo_changing.specs.declared.leaving.Files.{Files}
+use Rattle.echo_changing.specs.declared.leaving.PacketFile.{PacketFile}
+use Rattle.echo_changing.specs.Scanned.{file_sent}
 use Rattle.echo_stations.specs.Agreement.{Agrees, HasFiles, IsPacketFile}
 use Rattle.echo_stations.specs.Commands.{Scans}
 use Rattle.echo_stations.specs.Nets.{Net, Paired, bytes_of, with_base, with_left}
@@ -54,8 +54,8 @@ scan-agrees stamp net new i run agrees scans =
     let base = scans.base in
     let (s, there, has) = paired-nth HasFiles i scans.station net.stations run.systems agrees.stations scans.there in
     let answered = left _ scans.done base scans.answer scans.leaves.base in
-    let right = answered.so.0.0 in
-    let same : right.system ≡ state_of s = called-on scans.station s scans.call right.system has answered.so.0.1 right.given in
+    let right = answered.so.right.0 in
+    let same : right.system ≡ state_of s = called-on scans.station s scans.call right.system has answered.so.right.1 right.given in
     let ps = scanned s.file s.base s.cursor stamp in
     let written : base ≡ saved_bytes right.system.base (length right.system.base) =
     some_same (sym scans.leaves.base ∙ ap (λ (f : Files). f.base) (answered.are ∙ right.left)) in

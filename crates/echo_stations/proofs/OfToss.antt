@@ -2,7 +2,7 @@
 use Rattle.std.proofs.Common.{◌≡◌, ◌≢◌, ◌⊎◌, inl, inr, refl, sym, subst, ap, ◌∙◌, ℕ, suc, ◌+◌, ◌-◌, ◌≤◌, arith, true, append-nil, List, [], ◌∷◌, ◌++◌, length, map, take, Option, Some, None, Result, Ok, Err}
 use Rattle.std.specs.Prelude.{is_some}
 use Rattle.std.proofs.lemmas.List.{take_all}
-use Rattle.echo_commands.specs.Devices.{Device}
+use Rattle.echo_status.specs.Devices.{Device, Output}
 use Rattle.echo_graph.specs.Walk.{Among, Different}
 use Rattle.echo_links.specs.Links.{IsFile, LinkFile}
 use Rattle.echo_links.specs.LinkLines.{LinksOf}
@@ -13,18 +13,17 @@ use Rattle.echo_steps.specs.declared.packet.Packet.{Packet}
 use Rattle.echo_steps.specs.SystemState.{SystemState}
 use Rattle.echo_toss.specs.declared.fault.TossFault.{TossFault}
 use Rattle.echo_toss.specs.declared.tally.Tally.{Tally}
-use Rattle.echo_toss.specs.Unpacked.{IsForUs, PacketStep}
+use Rattle.echo_toss.specs.PacketSteps.{IsForUs, PacketStep}
 use Rattle.echo_run.specs.Event.{Delivery, PartDelivery, RunEvent}
 use Rattle.echo_run.specs.Run.{Run, System, after_events, change, coming, delivery, destination, nth, part_delivery, receiver, taking, with_index}
 use Rattle.echo_run.proofs.LaterSystems.{after-append}
 use Rattle.echo_run.proofs.Lists.{none_some, nth-among, some_same}
-use Rattle.echo_commands.specs.declared.fault.Fault.{Fault}
-use Rattle.echo_commands.specs.declared.leaving.Done.{Done}
-use Rattle.echo_commands.specs.declared.leaving.Files.{Files}
-use Rattle.echo_commands.specs.Showing.{show_limits}
-use Rattle.echo_commands.specs.Coming.{Coming, Fails, Holds, Opens, Unknown}
-use Rattle.echo_commands.specs.Tossed.{EndsRun, RunEnds, TossesEach, TossesFile, run_begun, run_done}
-use Rattle.echo_commands.specs.Unpacked.{HasTossedPacket, TellsPacket, TossRun, TossesPacket}
+use Rattle.echo_status.specs.declared.fault.Fault.{Fault}
+use Rattle.echo_changing.specs.declared.leaving.Done.{Done}
+use Rattle.echo_changing.specs.declared.leaving.Files.{Files}
+use Rattle.echo_changing.specs.Coming.{Coming, Fails, Holds, Opens, Unknown}
+use Rattle.echo_changing.specs.Tossed.{EndsRun, RunEnds, TossesEach, TossesFile, run_begun, run_done}
+use Rattle.echo_changing.specs.TossedPacket.{HasTossedPacket, ReportsPacket, TossRun, TossesPacket}
 use Rattle.echo_stations.specs.Agreement.{Agrees, AreTossesOf, HasFiles, HasPosting, IsPacketFile, IsTossOf, own_address}
 use Rattle.echo_stations.specs.Commands.{IsPacketAt, Tosses, itself, whole_of}
 use Rattle.echo_stations.specs.Nets.{Net, Paired, with_base, with_indexes, with_tossed}
@@ -152,13 +151,13 @@ read-packet : (packets : List (List ℕ)) (run : Run) (s : System) (k : ℕ) (fi
 read-packet packets run s k file old new stopped reader left paired same at opened h =
     let (bytes, there, reads) = opened-bytes packets k file reader at opened in
     let (p, at_p, is) = paired-nth IsPacketFile k bytes packets run.packets paired there in
-    let P : Option (List ℕ) → Type 0 = λ o. PacketStep show_limits old.system o left.contents h.answer new.system in
-    let so = tossed-so p bytes left.contents old.system new.system h.answer is (subst P reads h.step) in
+    let P : Option (List ℕ) → Type 0 = λ o. PacketStep old.limits old.system o left.contents h.answer new.system in
+    let so = tossed-so old.limits p bytes left.contents old.system new.system h.answer is (subst P reads h.step) in
     record { p = p; bytes = bytes; there = at_p; is = is; so = subst (λ (x : SystemState). TossedSo p x new.system h.answer) same so }
 
 -- a packet after which the run went on was tossed whole
 went-on : (packets : List (List ℕ)) (run : Run) (i : ℕ) (s : System) (k : ℕ) (answer : Result Tally TossFault) (old new : List ℕ) (system : SystemState) → Before run i s
-    → TellsPacket old new answer None → Read packets run s k answer system → Tossing (IsTossOf k) run i s (k ∷ []) system
+    → ReportsPacket old new answer None → Read packets run s k answer system → Tossing (IsTossOf k) run i s (k ∷ []) system
 went-on packets run i s k (Ok tally) old new system before told r = delivered run i s k r.p r.bytes system before r.there r.is r.so
 went-on packets run i s k (Err f) old new system before told r = absurd (none_some told.0)
 
@@ -169,7 +168,7 @@ whole-file packets run i s k file old new before paired same at (inl opened) = b
     by : TossesPacket old opened.reader opened.left None new
         → Tossing (IsTossOf k) run i s (k ∷ []) new.system
     by (inl none) = absurd (none_some none.0)
-    by (inr h) = went-on packets run i s k h.answer old.lines new.lines new.system before h.told
+    by (inr h) = went-on packets run i s k h.answer old.lines new.lines new.system before h.line
         (read-packet packets run s k file old new None opened.reader opened.left paired same at opened.opened h)
 whole-file packets run i s k file old new before paired same at (inr unopened) = absurd (none_some unopened.is)
 
@@ -180,7 +179,7 @@ stays run i s k old new before same e =
     subst (Tossing (IsTossOf k) run i s []) (sym system) (nothing (IsTossOf k) (inl refl) run i s before)
 
 stopped-at : (packets : List (List ℕ)) (run : Run) (i : ℕ) (s : System) (k : ℕ) (answer : Result Tally TossFault) (old new : List ℕ) (fault : Fault) (system : SystemState)
-    → Before run i s → TellsPacket old new answer (Some fault) → Read packets run s k answer system → Tossing (IsTossOf k) run i s [] system
+    → Before run i s → ReportsPacket old new answer (Some fault) → Read packets run s k answer system → Tossing (IsTossOf k) run i s [] system
 stopped-at packets run i s k (Ok tally) old new fault system before told r = absurd (none_some (sym told.0))
 stopped-at packets run i s k (Err f) old new fault system before told r = by r.so
   where
@@ -196,7 +195,7 @@ last-file packets run i s k file old new fault before paired same at (inl opened
     by : TossesPacket old opened.reader opened.left (Some fault) new
         → Tossing (IsTossOf k) run i s [] new.system
     by (inl none) = stays run i s k old new before same none.1
-    by (inr h) = stopped-at packets run i s k h.answer old.lines new.lines fault new.system before h.told
+    by (inr h) = stopped-at packets run i s k h.answer old.lines new.lines fault new.system before h.line
         (read-packet packets run s k file old new (Some fault) opened.reader opened.left paired same at opened.opened h)
 last-file packets run i s k file old new fault before paired same at (inr unopened) = stays run i s k old new before same unopened.same
 
@@ -254,7 +253,7 @@ last-toss k later run i s whole new t = record {
 }
 
 -- as many files are left as stand behind the last that was opened
-left-behind : (files : List Coming) (old : TossRun) (fault : Fault) (left : List Coming) (new : TossRun) → TossesEach itself files old (Some fault) left new
+pub left-behind : (files : List Coming) (old : TossRun) (fault : Fault) (left : List Coming) (new : TossRun) → TossesEach itself files old (Some fault) left new
     → length left + 1 ≤ length files
 left-behind [] old fault left new (none, rest, end) = absurd (none_some (sym none))
 left-behind (file ∷ files) old fault left new (inl (run, first, more)) = let less = left-behind files run fault left new more in omega (arith, less)
@@ -302,11 +301,11 @@ each-toss packets i (k ∷ later) (file ∷ files) run s old stopped left new be
     (subst (λ (n : ℕ). Tossing Kind run i s (take n (k ∷ later)) new.system) (sym none) (last-toss k later run i s [] new.system at_last))
 
 -- the base that a toss leaves
-record LeftBase (run : TossRun) (base : List ℕ) : Type 0 where
-  saved : base ≡ saved_bytes run.system.base run.system.cursor
-  countable : is_countable run.system.base run.system.cursor ≡ true
+pub record LeftBase (run : TossRun) (base : List ℕ) : Type 0 where
+  pub saved : base ≡ saved_bytes run.system.base run.system.cursor
+  pub countable : is_countable run.system.base run.system.cursor ≡ true
 
-left-base : (run : TossRun) (stopped : Option Fault) (old new : Device) (done : Done) (base : List ℕ) → EndsRun run stopped old new done
+pub left-base : (run : TossRun) (stopped : Option Fault) (old new : Output) (done : Done) (base : List ℕ) → EndsRun run stopped old new done
     → done.files.base ≡ Some base → LeftBase run base
 left-base run None old new done base ends there = by ends.answer ends.so ends.is
   where
@@ -336,7 +335,7 @@ toss-agrees indexes net new i run apart agrees tosses =
       file = file-fits tosses.station.links s.file has.links;
       base = kept-base tosses.station.base s.base s.cursor has.base;
     } in
-    let t = each-toss net.packets i indexes tosses.files run s (run_begun tossed.system) tossed.stopped tosses.left tossed.run before agrees.packets same tosses.are tossed.each in
+    let t = each-toss net.packets i indexes tosses.files run s (run_begun tosses.limits tossed.system) tossed.stopped tosses.left tossed.run before agrees.packets same tosses.are tossed.each in
     let z = t.now in
     let written = left-base tossed.run tossed.stopped tosses.call.old tosses.call.new tosses.done base tossed.ends tosses.leaves.base in
     let saved : base ≡ saved_bytes z.base z.cursor = subst (λ (x : SystemState). base ≡ saved_bytes x.base x.cursor) (sym t.state) written.saved in

@@ -36,14 +36,6 @@ paired-among {X} R x (z ∷ xs) (y ∷ ys) p h = elim h [
   | inr t ↦ (let (w, j, r) = paired-among R x xs ys p.1 t in (w, inr j, r))
 ]
 
-pub among-paired : {X Y : Type 0} (R : X → Y → Type 0) (y : Y) (xs : List X) (ys : List Y) → Paired R xs ys → Among y ys → (x : X) × Among x xs × R x y
-among-paired R y xs [] p h = absurd h
-among-paired R y [] (z ∷ ys) p h = absurd p
-among-paired {X} {Y} R y (x ∷ xs) (z ∷ ys) p h = elim h [
-  | inl e ↦ (x, inl refl, (let P : Y → Type 0 = λ w. R x w in subst P (sym e) p.0))
-  | inr t ↦ (let (w, j, r) = among-paired R y xs ys p.1 t in (w, inr j, r))
-]
-
 pub paired-append : {X Y : Type 0} (R : X → Y → Type 0) (xs us : List X) (ys vs : List Y) → Paired R xs ys → Paired R us vs → Paired R (xs ++ us) (ys ++ vs)
 paired-append R [] us [] vs p q = q
 paired-append R [] us (y ∷ ys) vs p q = absurd p

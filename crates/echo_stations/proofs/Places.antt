@@ -9,7 +9,7 @@ use Rattle.echo_links.proofs.Addresses.{same_address_decides}
 use Rattle.echo_run.specs.Event.{RunEvent}
 use Rattle.echo_run.specs.Run.{Run, System, after_events, nth}
 use Rattle.echo_run.proofs.Lists.{Among-map_to, none_some, nth-among, some_same, yes_or_no}
-use Rattle.echo_run.proofs.TidyRuns.{along, event-files, files_of}
+use Rattle.echo_run.proofs.WholeRuns.{along, event-files, files_of}
 use Rattle.echo_stations.specs.Agreement.{file_address, own_address}
 
 -- the first system of its address is the only one

@@ -15,13 +15,12 @@ use Rattle.echo_toss.specs.declared.fault.TossCause.{TossCause}
 use Rattle.echo_toss.specs.declared.fault.TossCause.TheVariants as stop
 use Rattle.echo_toss.specs.declared.fault.TossFault.{TossFault}
 use Rattle.echo_toss.specs.declared.tally.Tally.{Tally}
-use Rattle.echo_toss.specs.Unpacked.{BeginsWith, TossesUpToFault, FailsInHeader, HasTossed, IsForUs, PacketStep, TossesAll, TossesPart, TossesSome}
+use Rattle.echo_toss.specs.PacketSteps.{BeginsWith, TossesUpToFault, FailsInHeader, HasTossed, IsForUs, PacketStep, TossesAll, TossesPart, TossesSome}
 use Rattle.echo_toss.proofs.Parsed.{first_messages, one_header, one_list}
-use Rattle.echo_commands.specs.Showing.{show_limits}
 use Rattle.echo_stations.specs.Agreement.{IsPacketFile, limits_of}
 
 -- limits that both are within
-abbrev both : Limits → Limits → Limits
+abbrev pub both : Limits → Limits → Limits
 both a b = record { text = a.text + b.text; messages = a.messages + b.messages }
 
 wider : (most more : ℕ) → most ≤ more → (m : Message) → IsMessage most m → IsMessage more m
@@ -44,13 +43,13 @@ all-wider : (most more : ℕ) → most ≤ more → (ms : List Message) → AllB
 all-wider most more room [] all = tt
 all-wider most more room (m ∷ ms) all = (wider most more room m all.0, all-wider most more room ms all.1)
 
-in-both : (a b : Limits) (ms : List Message) → AreMessages a ms → AreMessages (both a b) ms
+pub in-both : (a b : Limits) (ms : List Message) → AreMessages a ms → AreMessages (both a b) ms
 in-both a b ms are = record {
   each = all-wider a.text (a.text + b.text) (omega arith) ms are.each;
   room = (let room = are.room in omega (arith, room));
 }
 
-both-in : (a b : Limits) (ms : List Message) → AreMessages b ms → AreMessages (both a b) ms
+pub both-in : (a b : Limits) (ms : List Message) → AreMessages b ms → AreMessages (both a b) ms
 both-in a b ms are = record {
   each = all-wider b.text (a.text + b.text) (omega arith) ms are.each;
   room = (let room = are.room in omega (arith, room));
@@ -108,47 +107,47 @@ these-of p header all ms old new tally same_header same_messages for_us done = r
       ∙ (λ i. record { file = old.file; base = tossed old.file old.base (sender_of old.file (same_header i)) (same_messages i); cursor = old.cursor });
 }
 
-whole : (p : Packet) (bytes : List ℕ) (rest : Option (List ℕ)) (old new : SystemState) (tally : Tally) → IsPacketFile bytes p
-    → TossesAll show_limits old (Some bytes) rest tally new → TossedThese p p.messages old new
-whole p bytes None old new tally is step = absurd step.bytes.1
-whole p bytes (Some left) old new tally is step =
-    let one = one-packet (limits_of bytes) show_limits p.header step.header p.messages step.messages bytes step.bytes.0 left is.packet step.bytes.2 step.bytes.1 in
+whole : (limits : Limits) (p : Packet) (bytes : List ℕ) (rest : Option (List ℕ)) (old new : SystemState) (tally : Tally) → IsPacketFile bytes p
+    → TossesAll limits old (Some bytes) rest tally new → TossedThese p p.messages old new
+whole limits p bytes None old new tally is step = absurd step.bytes.1
+whole limits p bytes (Some left) old new tally is step =
+    let one = one-packet (limits_of bytes) limits p.header step.header p.messages step.messages bytes step.bytes.0 left is.packet step.bytes.2 step.bytes.1 in
     these-of p step.header step.messages p.messages old new tally one.0 one.1 step.for_us step.done
 
-some : (p : Packet) (bytes : List ℕ) (old new : SystemState) (tally : Tally) → IsPacketFile bytes p → TossesSome show_limits old (Some bytes) tally new → TossedFront p old new
-some p bytes old new tally is step =
-    let one = front-packet (limits_of bytes) show_limits p.header step.header p.messages step.messages bytes is.packet step.begins in
+some : (limits : Limits) (p : Packet) (bytes : List ℕ) (old new : SystemState) (tally : Tally) → IsPacketFile bytes p → TossesSome limits old (Some bytes) tally new → TossedFront p old new
+some limits p bytes old new tally is step =
+    let one = front-packet (limits_of bytes) limits p.header step.header p.messages step.messages bytes is.packet step.begins in
     record {
       number = one.1.0;
       these = these-of p step.header step.messages (take one.1.0 p.messages) old new tally one.0 one.1.2 step.for_us step.done;
     }
 
 -- a fault of the header, or behind it
-where-failed : (old new : SystemState) (before after : Option (List ℕ)) (tally : Tally) (f : PacketFault) → TossesPart show_limits old before after tally (stop.Packet f) new
-    → FailsInHeader old before after tally f new ⊎ TossesUpToFault show_limits old before after tally f new
-where-failed old new before after tally fault.Memory h = absurd h
-where-failed old new before after tally (fault.Truncated at) h = h
-where-failed old new before after tally (fault.NotType2 at) h = h
-where-failed old new before after tally (fault.NotMessage at) h = h
-where-failed old new before after tally (fault.FieldTooLong at) h = h
-where-failed old new before after tally (fault.TextTooLong at) h = h
-where-failed old new before after tally (fault.Read at) h = h
-where-failed old new before after tally fault.Stopped h = h
-where-failed old new before after tally (fault.Write n) h = h
-where-failed old new before after tally (fault.TooManyMessages at) h = h
-where-failed old new before after tally (fault.BadField n) h = h
+pub where-failed : (limits : Limits) (old new : SystemState) (before after : Option (List ℕ)) (tally : Tally) (f : PacketFault) → TossesPart limits old before after tally (stop.Packet f) new
+    → FailsInHeader old before after tally f new ⊎ TossesUpToFault limits old before after tally f new
+where-failed limits old new before after tally fault.Memory h = absurd h
+where-failed limits old new before after tally (fault.Truncated at) h = h
+where-failed limits old new before after tally (fault.NotType2 at) h = h
+where-failed limits old new before after tally (fault.NotMessage at) h = h
+where-failed limits old new before after tally (fault.FieldTooLong at) h = h
+where-failed limits old new before after tally (fault.TextTooLong at) h = h
+where-failed limits old new before after tally (fault.Read at) h = h
+where-failed limits old new before after tally fault.Stopped h = h
+where-failed limits old new before after tally (fault.Write n) h = h
+where-failed limits old new before after tally (fault.TooManyMessages at) h = h
+where-failed limits old new before after tally (fault.BadField n) h = h
 
-part : (p : Packet) (bytes : List ℕ) (rest : Option (List ℕ)) (old new : SystemState) (tally : Tally) (cause : TossCause) → IsPacketFile bytes p
-    → TossesPart show_limits old (Some bytes) rest tally cause new → (new ≡ old) ⊎ TossedFront p old new
-part p bytes rest old new tally (stop.NotForUs a) is step = inl step.nothing.0
-part p bytes rest old new tally stop.Memory is step = inr (some p bytes old new tally is step)
-part p bytes rest old new tally (stop.Packet f) is step = elim (where-failed old new (Some bytes) rest tally f step) [
+part : (limits : Limits) (p : Packet) (bytes : List ℕ) (rest : Option (List ℕ)) (old new : SystemState) (tally : Tally) (cause : TossCause) → IsPacketFile bytes p
+    → TossesPart limits old (Some bytes) rest tally cause new → (new ≡ old) ⊎ TossedFront p old new
+part limits p bytes rest old new tally (stop.NotForUs a) is step = inl step.nothing.0
+part limits p bytes rest old new tally stop.Memory is step = inr (some limits p bytes old new tally is step)
+part limits p bytes rest old new tally (stop.Packet f) is step = elim (where-failed limits old new (Some bytes) rest tally f step) [
   | inl front ↦ inl front.nothing.0
-  | inr behind ↦ inr (some p bytes old new tally is behind.some)
+  | inr behind ↦ inr (some limits p bytes old new tally is behind.some)
 ]
 
 -- the toss of a packet file
-pub tossed-so : (p : Packet) (bytes : List ℕ) (rest : Option (List ℕ)) (old new : SystemState) (answer : Result Tally TossFault) → IsPacketFile bytes p
-    → PacketStep show_limits old (Some bytes) rest answer new → TossedSo p old new answer
-tossed-so p bytes rest old new (Ok tally) is step = whole p bytes rest old new tally is step
-tossed-so p bytes rest old new (Err f) is step = part p bytes rest old new f.tally f.cause is step
+pub tossed-so : (limits : Limits) (p : Packet) (bytes : List ℕ) (rest : Option (List ℕ)) (old new : SystemState) (answer : Result Tally TossFault) → IsPacketFile bytes p
+    → PacketStep limits old (Some bytes) rest answer new → TossedSo p old new answer
+tossed-so limits p bytes rest old new (Ok tally) is step = whole limits p bytes rest old new tally is step
+tossed-so limits p bytes rest old new (Err f) is step = part limits p bytes rest old new f.tally f.cause is step

@@ -25,7 +25,7 @@ use Rattle.echo_stations.proofs.Postings.{Lengthens}
 use Rattle.echo_stations.proofs.Readings.{after_messages}
 
 -- the state of a system that tosses messages
-tossing-state : (sender : Address) (ms : List Message) (s : System)
+pub tossing-state : (sender : Address) (ms : List Message) (s : System)
     → state_of (tossing_at sender ms s) ≡ record { file = s.file; base = tossed s.file s.base sender ms; cursor = s.cursor }
 tossing-state sender [] s = refl
 tossing-state sender (m ∷ ms) s = by (tossing s.file s.base sender m) (tossing-state sender ms)
@@ -42,7 +42,7 @@ pub taking-state : (p : Packet) (n : ℕ) (s : System) → state_of (taking p n 
 taking-state p n s = tossing-state (sender_of s.file p.header) (take n p.messages) s
 
 -- its history is longer
-tossing-longer : (sender : Address) (ms : List Message) (s : System) (m : Filed) → Among m s.history → Among m (tossing_at sender ms s).history
+pub tossing-longer : (sender : Address) (ms : List Message) (s : System) (m : Filed) → Among m s.history → Among m (tossing_at sender ms s).history
 tossing-longer sender [] s m h = h
 tossing-longer sender (q ∷ ms) s m h =
     tossing-longer sender ms (filing s (tossing s.file s.base sender q)) m (filing-lengthens (λ x. tossing x.file x.base sender q) s m h)
@@ -65,7 +65,7 @@ no-posting : (sender : Address) (q : Message) → (received sender q).sender ≡
 unfolding received
 no-posting sender q e = none_some (sym e)
 
-tossing-posted : (sender : Address) (ms : List Message) (s : System) (m : Filed) → HasPosting m (tossing_at sender ms s) → HasPosting m s
+pub tossing-posted : (sender : Address) (ms : List Message) (s : System) (m : Filed) → HasPosting m (tossing_at sender ms s) → HasPosting m s
 tossing-posted sender [] s m has = has
 tossing-posted sender (q ∷ ms) s m has =
     filing-posted s (tossing s.file s.base sender q) m (λ x e own.
@@ -76,7 +76,7 @@ pub taking-posted : (p : Packet) (n : ℕ) (s : System) (m : Filed) → HasPosti
 taking-posted p n s m has = tossing-posted (sender_of s.file p.header) (take n p.messages) s m has
 
 -- a base stays a base
-tossed-base : (most : ℕ) (file : LinkFile) (sender : Address) → HasSmallSender (Some sender) → (ms : List Message) → AllByRecursion (IsMessage most) ms
+pub tossed-base : (most : ℕ) (file : LinkFile) (sender : Address) → HasSmallSender (Some sender) → (ms : List Message) → AllByRecursion (IsMessage most) ms
     → (base : List Filed) (cursor : ℕ) → IsBase base cursor → IsBase (tossed file base sender ms) cursor
 tossed-base most file sender small [] all base cursor is = is
 tossed-base most file sender small (q ∷ ms) all base cursor is =
@@ -87,7 +87,7 @@ tossed-base most file sender small (q ∷ ms) all base cursor is =
     one (Some m) e = tossing_keeps most file base cursor sender q m small all.0 is e
 
 -- the sender of a packet is of two-byte numbers
-small-zone : (file : LinkFile) (zone : ℕ) → IsFile file → zone < 2 ^ 16 → zone_of file zone < 2 ^ 16
+pub small-zone : (file : LinkFile) (zone : ℕ) → IsFile file → zone < 2 ^ 16 → zone_of file zone < 2 ^ 16
 small-zone file zone fits small =
     let P : ℕ → Type 0 = λ z. z < 2 ^ 16 in
     let most = fits.address.zone.1 in

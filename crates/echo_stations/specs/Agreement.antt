@@ -12,8 +12,8 @@ use Rattle.echo_base.specs.BaseFile.{BaseOf, saved_bytes}
 use Rattle.echo_steps.specs.declared.packet.Packet.{Packet}
 use Rattle.echo_run.specs.Event.{Delivery, PartDelivery, Posting, Purging, RunEvent, Scanning}
 use Rattle.echo_run.specs.Run.{Run, System, after_events, run_of}
-use Rattle.echo_commands.specs.Inputs.{AreLinkFiles}
-use Rattle.echo_commands.specs.Posted.{draft_given}
+use Rattle.echo_status.specs.Inputs.{AreLinkFiles}
+use Rattle.echo_changing.specs.Posted.{draft_given}
 use Rattle.echo_stations.specs.Commands.{Command, CommandEvent, Happen, Happens, Post, Purge, Scan, Toss}
 use Rattle.echo_stations.specs.Nets.{Net, Paired, Station, first_net}
 
@@ -80,12 +80,19 @@ AreEventsOf (Scan stamp) i events = events ≡ Scanning i stamp ∷ []
 AreEventsOf Purge i events = events ≡ Purging i ∷ []
 AreEventsOf (Toss indexes) i events = AreTossesOf indexes events
 
+-- the events of some commands, one after another: those of the first, or none, and then those of the later ones
+abbrev pub AreEventsOfAll : List CommandEvent → List RunEvent → Type 0
+AreEventsOfAll [] events = events ≡ []
+AreEventsOfAll (command ∷ later) events =
+    (first : List RunEvent) × (rest : List RunEvent) × (events ≡ first ++ rest) × ((first ≡ []) ⊎ AreEventsOf command.command command.station first) × AreEventsOfAll later rest
+
 -- A command event that leads from a net to another is these events of the run that the net agrees with, or none.
 abbrev pub EventIsEvents : Type 0
 EventIsEvents = (event : CommandEvent) (net new : Net) (run : Run) → Different (map own_address run.systems) → Agrees net run → Happens event net new
     → (events : List RunEvent) × ((events ≡ []) ⊎ AreEventsOf event.command event.station events) × Agrees new (after_events run events)
 
--- after any command events, from stations without bases, the net agrees with some run
+-- after any command events, from stations without bases, the net agrees with a run of the events of these commands
 abbrev pub EventsAreARun : Type 0
 EventsAreARun = (links : List (List ℕ)) (files : List LinkFile) → AreLinkFiles links files → Different (map file_address files)
-    → (commands : List CommandEvent) (net : Net) → Happen commands (first_net links) net → (events : List RunEvent) × Agrees net (run_of files events)
+    → (commands : List CommandEvent) (net : Net) → Happen commands (first_net links) net
+    → (events : List RunEvent) × AreEventsOfAll commands events × Agrees net (run_of files events)

@@ -1,24 +1,25 @@
 -- What a command may do to a net of files: it is called on the files of one station, and what it leaves is put in place.
 use Rattle.std.specs.Prelude.{◌≡◌, ℕ, ◌⊎◌, ◌+◌, ◌-◌, List, [], ◌∷◌, length, take, Option, Some, None, Ok}
 use Rattle.std.specs.List.{AllByRecursion}
-use Rattle.echo_commands.specs.Devices.{Device}
+use Rattle.echo_packet.specs.declared.limits.Limits.{Limits}
+use Rattle.echo_status.specs.Devices.{Device, Output}
 use Rattle.echo_packet.specs.Header.{AreBytes}
 use Rattle.echo_links.specs.Links.{LinkFile}
 use Rattle.echo_links.specs.LinkLines.{LinksOf}
 use Rattle.echo_steps.specs.declared.stamp.Stamp.{Stamp}
 use Rattle.echo_steps.specs.Posting.{posted}
 use Rattle.echo_run.specs.Run.{nth}
-use Rattle.echo_commands.specs.declared.fault.Fault.{Fault}
-use Rattle.echo_commands.specs.declared.leaving.Done.{Done}
-use Rattle.echo_commands.specs.declared.leaving.Files.{Files}
-use Rattle.echo_commands.specs.declared.posting.NewMessage.{NewMessage}
-use Rattle.echo_commands.specs.Files.{Leaves}
-use Rattle.echo_commands.specs.Handed.{Handed}
-use Rattle.echo_commands.specs.Posted.{PostAnswers, draft_given}
-use Rattle.echo_commands.specs.Purged.{PurgeAnswers}
-use Rattle.echo_commands.specs.Scanned.{ScanAnswers}
-use Rattle.echo_commands.specs.Coming.{Coming, Fails, Holds, Unknown}
-use Rattle.echo_commands.specs.Tossed.{IsTossed}
+use Rattle.echo_status.specs.declared.fault.Fault.{Fault}
+use Rattle.echo_changing.specs.declared.leaving.Done.{Done}
+use Rattle.echo_changing.specs.declared.leaving.Files.{Files}
+use Rattle.echo_changing.specs.declared.posting.NewMessage.{NewMessage}
+use Rattle.echo_changing.specs.Files.{Leaves}
+use Rattle.echo_changing.specs.Handed.{Handed}
+use Rattle.echo_changing.specs.Posted.{PostAnswers, draft_given}
+use Rattle.echo_changing.specs.Purged.{PurgeAnswers}
+use Rattle.echo_changing.specs.Scanned.{ScanAnswers}
+use Rattle.echo_changing.specs.Coming.{Coming, Fails, Holds, Unknown}
+use Rattle.echo_changing.specs.Tossed.{IsTossed}
 use Rattle.echo_stations.specs.Nets.{Net, Paired, Station, with_left, with_posting, with_tossed}
 
 -- A call of a command on the files of a station: what it was handed, which is these files unless the reading of
@@ -26,8 +27,8 @@ use Rattle.echo_stations.specs.Nets.{Net, Paired, Station, with_left, with_posti
 pub record Call (station : Station) : Type 0 where
   pub handed : Handed
   pub whole : handed.stopped ≡ None → (handed.links ≡ station.links) × (handed.base ≡ station.base)
-  pub old : Device
-  pub new : Device
+  pub old : Output
+  pub new : Output
 
 -- a base file is among the files to write, and what is to be written is bytes
 pub record LeavesBase (files : Files) (bytes : List ℕ) : Type 0 where
@@ -92,11 +93,12 @@ pub record Tosses (indexes : List ℕ) (net : Net) (i : ℕ) (new : Net) : Type 
   pub there : nth i net.stations ≡ Some station
   pub call : Call station
   pub went_on : call.handed.stopped ≡ None
+  pub limits : Limits
   pub files : List Coming
   pub are : Paired (IsPacketAt net.packets) indexes files
   pub left : List Coming
   pub done : Done
-  pub answer : IsTossed itself call.handed files left call.old call.new done
+  pub answer : IsTossed limits itself call.handed files left call.old call.new done
   pub base : List ℕ
   pub leaves : LeavesBase done.files base
   pub becomes : new ≡ with_tossed net i base (whole_of indexes answer.stopped left)

@@ -1,6 +1,6 @@
 -- What the files of a net are to show, whatever commands were run.
-use Rattle.std.specs.Prelude.{◌≡◌, ◌≢◌, ℕ, ◌⊎◌, ◌≤◌, IsTrue, List, drop, map, Option, Some, Ok}
-use Rattle.echo_commands.specs.Devices.{Device}
+use Rattle.std.specs.Prelude.{◌≡◌, ◌≢◌, ℕ, ◌⊎◌, ◌≤◌, IsTrue, List, drop, map, take, Option, Some, Ok}
+use Rattle.echo_status.specs.Devices.{Output}
 use Rattle.echo_graph.specs.Walk.{Among, Different}
 use Rattle.echo_packet.specs.Packet.{PacketOf}
 use Rattle.echo_packet.specs.declared.limits.Limits.{Limits}
@@ -12,14 +12,12 @@ use Rattle.echo_filed.specs.Stubs.{stub_of}
 use Rattle.echo_steps.specs.declared.packet.Packet.{Packet}
 use Rattle.echo_run.specs.Orderly.{IsPosting, SameContent, copies, count, sent_count, tag_of}
 use Rattle.echo_run.specs.Run.{nth}
-use Rattle.echo_commands.specs.declared.fault.Fault.{Fault}
-use Rattle.echo_commands.specs.declared.status.Status.TheVariants.{Good}
-use Rattle.echo_commands.specs.Checking.{CheckAnswers}
-use Rattle.echo_commands.specs.Ended.{Ends}
-use Rattle.echo_commands.specs.System.{IsBaseGiven}
-use Rattle.echo_commands.specs.Inputs.{AreLinkFiles}
+use Rattle.echo_status.specs.declared.fault.Fault.{Fault}
+use Rattle.echo_status.specs.declared.status.Status.TheVariants.{Good}
+use Rattle.echo_reading.specs.Checking.{CheckAnswers}
+use Rattle.echo_status.specs.Inputs.{IsBaseGiven, AreLinkFiles}
 use Rattle.echo_stations.specs.Agreement.{file_address}
-use Rattle.echo_stations.specs.Commands.{CommandEvent, Happen}
+use Rattle.echo_stations.specs.Commands.{CommandEvent, Happen, Purge}
 use Rattle.echo_stations.specs.Nets.{Net, Paired, Station, first_net}
 
 -- what a station's files say: its link file, and the messages and the cursor of its base file
@@ -27,63 +25,77 @@ pub record StationSays (station : Station) (file : LinkFile) (messages : List Fi
   pub links : LinksOf station.links (Ok file)
   pub base : IsBaseGiven station.base messages cursor
 
--- a station of the net says this
-pub record StationHolds (net : Net) (file : LinkFile) (messages : List Filed) (cursor : ℕ) : Type 0 where
+-- the station of this index says this
+pub record StationHolds (net : Net) (i : ℕ) (file : LinkFile) (messages : List Filed) (cursor : ℕ) : Type 0 where
   pub station : Station
-  pub there : Among station net.stations
+  pub there : nth i net.stations ≡ Some station
   pub says : StationSays station file messages cursor
 
 -- the bytes are a packet
 abbrev pub ReadsAs : List ℕ → Packet → Type 0
 ReadsAs bytes p = (limits : Limits) × PacketOf limits p.header p.messages bytes
 
--- a message that has the DateTime, names, subject and kept lines of a posting, or is what a purge leaves of such a one
-abbrev pub IsUnchanged : Filed → Filed → Type 0
-IsUnchanged m posting = SameContent m posting ⊎ ((filed : Filed) × (m ≡ stub_of filed) × SameContent filed posting)
+-- `purge` was called at the station of the index
+abbrev pub WasPurged : List CommandEvent → ℕ → Type 0
+WasPurged commands i = Among (record { station = i; command = Purge }) commands
+
+-- A message is what a purge leaves of one with the content of a posting: it was scanned, and `purge` was called at its
+-- station.
+pub record IsLeftByPurge (commands : List CommandEvent) (i : ℕ) (scanned : List Filed) (m posting : Filed) : Type 0 where
+  pub purged : WasPurged commands i
+  pub scanned_before : Among m scanned
+  pub filed : Filed
+  pub stub : m ≡ stub_of filed
+  pub same : SameContent filed posting
+
+-- a message of a base has the DateTime, names, subject and kept lines of a posting, or a purge took them
+abbrev pub IsUnchanged : List CommandEvent → ℕ → List Filed → ℕ → Filed → Filed → Type 0
+IsUnchanged commands i messages cursor m posting = SameContent m posting ⊎ IsLeftByPurge commands i (take cursor messages) m posting
 
 -- what the files of a net show of all areas
-pub record IsSound (net : Net) : Type 0 where
+pub record IsSound (commands : List CommandEvent) (net : Net) : Type 0 where
   -- each packet file is a packet, and each base file is read
   pub packets : (bytes : List ℕ) → Among bytes net.packets → (p : Packet) × ReadsAs bytes p
   pub bases : (station : Station) → Among station net.stations → (file : LinkFile) × (messages : List Filed) × (cursor : ℕ) × StationSays station file messages cursor
   -- it has each message at most once
-  pub filed_once : (file : LinkFile) (messages : List Filed) (cursor : ℕ) → StationHolds net file messages cursor → (key : Key) → count key messages ≤ 1
-  -- and only messages that were posted, unchanged
-  pub only_posted : (file : LinkFile) (messages : List Filed) (cursor : ℕ) → StationHolds net file messages cursor → (m : Filed) → Among m messages →
-      (posting : Filed) × Among posting net.postings × (posting.echo.tag ≡ m.echo.tag) × IsUnchanged m posting
+  pub filed_once : (i : ℕ) (file : LinkFile) (messages : List Filed) (cursor : ℕ) → StationHolds net i file messages cursor → (key : Key) → count key messages ≤ 1
+  -- and only messages that were posted, unchanged where no purge took what was scanned
+  pub only_posted : (i : ℕ) (file : LinkFile) (messages : List Filed) (cursor : ℕ) → StationHolds net i file messages cursor → (m : Filed) → Among m messages →
+      (posting : Filed) × Among posting net.postings × (posting.echo.tag ≡ m.echo.tag) × IsUnchanged commands i messages cursor m posting
 
 -- no message of the area waits for a scan, and each packet file that holds one was tossed whole
 pub record IsSettled (net : Net) (tag : List ℕ) : Type 0 where
-  pub scanned : (file : LinkFile) (messages : List Filed) (cursor : ℕ) → StationHolds net file messages cursor → (m : Filed) → Among m (drop cursor messages) → m.echo.tag ≢ tag
+  pub scanned : (i : ℕ) (file : LinkFile) (messages : List Filed) (cursor : ℕ) → StationHolds net i file messages cursor → (m : Filed) → Among m (drop cursor messages) → m.echo.tag ≢ tag
   pub tossed : (k : ℕ) (bytes : List ℕ) (p : Packet) → nth k net.packets ≡ Some bytes → ReadsAs bytes p →
       (m : Filed) → Among m (copies p) → m.echo.tag ≡ tag → Among k net.delivered
 
--- the messages have the posting exactly once, unchanged
-pub record HasUnchanged (messages : List Filed) (posting : Filed) : Type 0 where
+-- the messages of a station's base have the posting exactly once, unchanged
+pub record HasUnchanged (commands : List CommandEvent) (i : ℕ) (messages : List Filed) (cursor : ℕ) (posting : Filed) : Type 0 where
   pub once : count (key_of posting) messages ≡ 1
-  pub same : (m : Filed) → Among m messages → key_of m ≡ key_of posting → IsUnchanged m posting
+  pub same : (m : Filed) → Among m messages → key_of m ≡ key_of posting → IsUnchanged commands i messages cursor m posting
 
 -- what the files of a net show of an area that was checked
-pub record InOrder (net : Net) (tag : List ℕ) : Type 0 where
-  pub sound : IsSound net
+pub record InOrder (commands : List CommandEvent) (net : Net) (tag : List ℕ) : Type 0 where
+  pub sound : IsSound commands net
   -- over all packet files each station that has the area was sent each message at most once, and none of its own
   pub sent_once : (packets : List Packet) → Paired ReadsAs net.packets packets →
-      (file : LinkFile) (messages : List Filed) (cursor : ℕ) → StationHolds net file messages cursor → IsTrue (has_area file tag) →
+      (i : ℕ) (file : LinkFile) (messages : List Filed) (cursor : ℕ) → StationHolds net i file messages cursor → IsTrue (has_area file tag) →
       (key : Key) → tag_of key ≡ tag → sent_count file.system key packets ≤ 1
   pub never_own : (packets : List Packet) → Paired ReadsAs net.packets packets →
-      (file : LinkFile) (messages : List Filed) (cursor : ℕ) → StationHolds net file messages cursor → IsTrue (has_area file tag) →
+      (i : ℕ) (file : LinkFile) (messages : List Filed) (cursor : ℕ) → StationHolds net i file messages cursor → IsTrue (has_area file tag) →
       (m : Filed) → Among m messages → IsPosting tag m → sent_count file.system (key_of m) packets ≡ 0
   -- and where nothing waits its base file has each posting once, unchanged
   pub all_came : IsSettled net tag → (posting : Filed) → Among posting net.postings → posting.echo.tag ≡ tag →
-      (file : LinkFile) (messages : List Filed) (cursor : ℕ) → StationHolds net file messages cursor → IsTrue (has_area file tag) → HasUnchanged messages posting
+      (i : ℕ) (file : LinkFile) (messages : List Filed) (cursor : ℕ) → StationHolds net i file messages cursor → IsTrue (has_area file tag) →
+      HasUnchanged commands i messages cursor posting
 
 -- any commands on stations of different addresses leave files that are sound
 abbrev pub FilesAreSound : Type 0
 FilesAreSound = (links : List (List ℕ)) (files : List LinkFile) → AreLinkFiles links files → Different (map file_address files)
-    → (commands : List CommandEvent) (net : Net) → Happen commands (first_net links) net → IsSound net
+    → (commands : List CommandEvent) (net : Net) → Happen commands (first_net links) net → IsSound commands net
 
 -- where `check` ended with 0 for these link files and the area, any commands on them leave files that are in order
 abbrev pub HeadlineOnFiles : Type 0
-HeadlineOnFiles = (nodelist : Option (List ℕ)) (tag : List ℕ) (links : List (List ℕ)) (stopped : Option Fault) (old new : Device)
-    → Ends (CheckAnswers nodelist tag links stopped old new) Good
-    → (commands : List CommandEvent) (net : Net) → Happen commands (first_net links) net → InOrder net (upper tag)
+HeadlineOnFiles = (nodelist : Option (List ℕ)) (tag : List ℕ) (links : List (List ℕ)) (stopped : Option Fault) (old new : Output)
+    → CheckAnswers nodelist tag links stopped old new (Ok Good)
+    → (commands : List CommandEvent) (net : Net) → Happen commands (first_net links) net → InOrder commands net (upper tag)

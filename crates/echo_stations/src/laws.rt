@@ -1,11 +1,12 @@
 //! What holds of the definitions. Each law is the contract of a function that does nothing.
 
 ghost use Rattle.std.specs.Prelude.{List};
-ghost use Rattle.echo_commands.specs.Devices.{Device, device_of};
-ghost use Rattle.echo_commands.specs.declared.leaving.Done.{Done};
-ghost use Rattle.echo_commands.specs.Handed.{Handed};
-ghost use Rattle.echo_commands.specs.Coming.{Coming};
-ghost use Rattle.echo_commands.specs.Tossed.{IsTossed};
+ghost use Rattle.echo_packet.specs.declared.limits.Limits.{Limits};
+ghost use Rattle.echo_status.specs.Devices.{Output, device_of};
+ghost use Rattle.echo_changing.specs.declared.leaving.Done.{Done};
+ghost use Rattle.echo_changing.specs.Handed.{Handed};
+ghost use Rattle.echo_changing.specs.Coming.{Coming};
+ghost use Rattle.echo_changing.specs.Tossed.{IsTossed};
 ghost use Rattle.echo_stations.specs.Commands.{itself};
 ghost use Rattle.echo_stations.specs.Agreement.{EventIsEvents, EventsAreARun};
 ghost use Rattle.echo_stations.specs.InOrder.{FilesAreSound, HeadlineOnFiles};
@@ -14,8 +15,8 @@ use echo_device::Source;
 
 /// What `toss` does over readers of any type it does over what is known of them.
 pub fn readers_are_what_is_known<R: Source>()
-    ensures { (handed : Handed) (files left : List Coming) (old new : Device) (done : Done) →
-        IsTossed (device_of R.remaining R.failures) handed files left old new done → IsTossed itself handed files left old new done }
+    ensures { (limits : Limits) (handed : Handed) (files left : List Coming) (old new : Output) (done : Done) →
+        IsTossed limits (device_of R.remaining R.failures) handed files left old new done → IsTossed limits itself handed files left old new done }
 {}
 
 /// A command that is called on the files of one station of a net, and whose files are put in place, is some

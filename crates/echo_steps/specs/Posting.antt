@@ -93,7 +93,7 @@ unfoldable pub posting : LinkFile → List Filed → List ℕ → Draft → ℕ 
 posting file base tag draft serial stamp =
     if is_none (post_refusal file base tag draft serial stamp) then Some (posted file tag draft serial stamp) else None
 
--- what a refused posting may answer: the first refusal that applies, and want of memory once the draft is in order
+-- what a refused posting may answer: the first refusal that applies, and out of memory once the draft is in order
 abbrev pub IsPostFault : LinkFile → List Filed → List ℕ → Draft → ℕ → Stamp → PostFault → Type 0
 IsPostFault file base tag draft serial stamp fault.Memory =
     (post_refusal file base tag draft serial stamp ≡ None) ⊎ (post_refusal file base tag draft serial stamp ≡ Some fault.KnownSerial)

@@ -39,9 +39,9 @@ exported file e = record {
   path = e.path ++ net_node_of file.system ∷ [];
 }
 
--- the copy of a message that goes to an address
-unfoldable pub copy_to : LinkFile → Address → Filed → Message
-copy_to file address m = record {
+-- a message with this text, as it goes to an address
+abbrev pub message_out : LinkFile → Address → Filed → List ℕ → Message
+message_out file address m text = record {
   orig_node = file.system.node;
   dest_node = address.node;
   orig_net = file.system.net;
@@ -52,8 +52,12 @@ copy_to file address m = record {
   to_name = m.to_name;
   from_name = m.from_name;
   subject = m.subject;
-  text = text_of (exported file m.echo);
+  text = text;
 }
+
+-- the copy of a message that goes to an address
+unfoldable pub copy_to : LinkFile → Address → Filed → Message
+copy_to file address m = message_out file address m (text_of (exported file m.echo))
 
 -- the header of a packet to an address
 unfoldable pub header_to : LinkFile → Stamp → Address → Header

@@ -1,5 +1,5 @@
 -- The state of a system: what posting, tossing, scanning and purging read and change.
-use Rattle.std.specs.Prelude.{ℕ, List, [], ◌∷◌, ◌++◌, Option, option_to_list}
+use Rattle.std.specs.Prelude.{ℕ, List, [], ◌++◌, Option, option_to_list}
 use Rattle.echo_links.specs.Links.{LinkFile}
 use Rattle.echo_filed.specs.Filed.{Filed}
 

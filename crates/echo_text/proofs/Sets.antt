@@ -1,16 +1,15 @@
--- Entries sorted, with each kept once, are the set of the entries.
+-- Entries in ascending order, each once, are the set of the entries.
 use Rattle.std.proofs.Common.{◌≡◌, ℕ, ◌<◌, ◌==◌, ◌&&◌, Bool, true, List, [], ◌∷◌, refl, ap, ◌∙◌, arith, inl, inr, ◌⊎◌}
+use Rattle.std.specs.Prelude.{◌↔◌, Contains}
 use Rattle.std.specs.declared.cmp.Ordering.{Ordering}
 use Rattle.std.specs.declared.cmp.Ordering.TheVariants.{Less, Equal, Greater}
-use Rattle.std.specs.Ordering.{MatchOrdering, eq_by_cmp, nat_cmp, ordering_then}
-use Rattle.std.specs.Cmp.{IsEquivalence, IsTotalOrder, and_equiv, both_tied, nat_cmp_total, nat_eq_equiv, on_equiv, on_total, then_total, unsigned_ties}
-use Rattle.std.specs.List.{AllPairs, dedup}
-use Rattle.std.specs.List.Sorted.{IsPermutation, IsSorted, IsStrictlySortedBy}
+use Rattle.std.specs.Ordering.{MatchOrdering, nat_cmp, ordering_then}
+use Rattle.std.specs.List.{AllPairs}
+use Rattle.std.specs.List.Sorted.{IsStrictlySortedBy}
 use Rattle.std.proofs.lemmas.Bool.{and_parts, eqb-true}
 use Rattle.std.proofs.lemmas.Cmp.{ranked}
 use Rattle.std.proofs.lemmas.List.Elements.{All-from_recursion, All-weaker}
-use Rattle.std.proofs.lemmas.List.Kept.{AllPairs-cons, Contains-dedup, Contains-from_dedup, IsStrictlySortedBy-dedup}
-use Rattle.std.proofs.lemmas.List.Sorted.{Contains-permutation, IsPermutation-sym}
+use Rattle.std.proofs.lemmas.List.Kept.{AllPairs-cons}
 use Rattle.echo_addr.specs.declared.address.NetNode.{NetNode}
 use Rattle.echo_addr.specs.ShortLines.{ComesBefore}
 use Rattle.echo_text.specs.Echo.{IsSetOf}
@@ -22,19 +21,10 @@ order x y = ordering_then (nat_cmp x.net y.net) (nat_cmp x.node y.node)
 abbrev pub same : NetNode → NetNode → Bool
 same x y = (x.net == y.net) && (x.node == y.node)
 
-total : IsTotalOrder order
-total = then_total (on_total (λ (x : NetNode). x.net) nat_cmp_total) (on_total (λ (x : NetNode). x.node) nat_cmp_total)
-
-ties : (x y : NetNode) → same x y ≡ eq_by_cmp order x y
-ties x y = both_tied (x.net == y.net) (x.node == y.node) (nat_cmp x.net y.net) (nat_cmp x.node y.node) (unsigned_ties x.net y.net) (unsigned_ties x.node y.node)
-
-equivalence : IsEquivalence same
-equivalence = and_equiv (on_equiv (λ (x : NetNode). x.net) nat_eq_equiv) (on_equiv (λ (x : NetNode). x.node) nat_eq_equiv)
-
 same_entry : (x y : NetNode) → x.net ≡ y.net → x.node ≡ y.node → x ≡ y
 same_entry x y net node = ap (λ n. record x { net = n }) net ∙ ap (λ n. record { net = y.net; node = n }) node
 
-same_is : (x y : NetNode) → same x y ≡ true → x ≡ y
+pub same_is : (x y : NetNode) → same x y ≡ true → x ≡ y
 same_is x y is =
     let parts = and_parts (x.net == y.net) (x.node == y.node) is in
     same_entry x y (eqb-true x.net y.net parts.0) (eqb-true x.node y.node parts.1)
@@ -61,11 +51,5 @@ ascending (e ∷ es) h =
     (All-weaker (λ y. order e y ≡ Less) (ComesBefore e) (less_before e) es (All-from_recursion (λ y. order e y ≡ Less) es h.0))
     (ascending es h.1)
 
-pub set_of_sorted : (all sorted : List NetNode) → IsPermutation all sorted → IsSorted order sorted → IsSetOf (dedup same sorted) all
-set_of_sorted all sorted moved is = record {
-  ascending = ascending (dedup same sorted) (IsStrictlySortedBy-dedup total ties sorted is);
-  members = λ entry. (
-    λ h. Contains-permutation sorted all entry (IsPermutation-sym all sorted moved) (Contains-from_dedup same sorted entry h),
-    λ h. Contains-dedup equivalence same_is sorted entry (Contains-permutation all sorted entry moved h),
-  );
-}
+pub set_in_order : (all set : List NetNode) → IsStrictlySortedBy order set → ((entry : NetNode) → Contains set entry ↔ Contains all entry) → IsSetOf set all
+set_in_order all set sorted same_members = record { ascending = ascending set sorted; members = same_members }

@@ -6,7 +6,6 @@ ghost use Rattle.echo_text.specs.Refusal.{refusal_of};
 
 use crate::fault::TextFault;
 use crate::words::{AREA, after_word, trimmed};
-use std::alloc::{AllocError, Global};
 
 /// The most bytes of a tag.
 pub const MAX_TAG: usize = 60;
@@ -65,11 +64,4 @@ fn is_tag_byte(byte: u8) -> bool
     ensures { result ≡ is_tag_byte byte }
 {
     byte.is_ascii_graphic() && !byte.is_ascii_lowercase()
-}
-
-/// The bytes, with ASCII letters in upper case.
-pub fn in_upper_case(alloc: Global, bytes: &[u8]) -> Result<Vec<u8>, AllocError>
-    ensures { IfOk result (λ v. v.items ≡ map to_ascii_uppercase bytes.now) }
-{
-    bytes.iter().map(|b| b.to_ascii_uppercase()).collect(alloc)
 }

@@ -34,7 +34,7 @@ mod tail;
 mod words;
 mod writing;
 
-pub use area::{MAX_TAG, in_upper_case, is_kept_tag, is_tag};
+pub use area::{MAX_TAG, is_kept_tag, is_tag};
 pub use echo::{Echo, EchoView};
 pub use fault::TextFault;
 pub use id_laws::{

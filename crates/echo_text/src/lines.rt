@@ -1,4 +1,4 @@
-ghost use Rattle.std.specs.Prelude.{◌≡◌, ◌+◌, ◌<◌, ◌≤◌, [], ◌∷◌, ◌++◌, length, take, drop, if◌then◌else◌, OnOk};
+ghost use Rattle.std.specs.Prelude.{◌≡◌, ◌+◌, ◌<◌, ◌≤◌, [], ◌∷◌, ◌++◌, length, take, drop, if◌then◌else◌, OnOk, OnErr};
 ghost use Rattle.std.specs.List.{flat_map};
 ghost use Rattle.echo_text.specs.Lines.{first_line, later_lines, lines};
 ghost use Rattle.echo_text.specs.Echo.{HasEndedLines, ended};
@@ -36,22 +36,38 @@ pub(crate) fn last_line_start(text: &[u8]) -> usize
     }
 }
 
-/// Adds the line and its 0D to a text (FTS-0001).
+/// Adds the line and its 0D to a text (FTS-0001). Out of memory leaves the text as it was.
 pub fn push_line(text: &mut Vec<u8>, line: &[u8]) -> Result<(), AllocError>
-    ensures { OnOk result (text.new.items ≡ text.old.items ++ ended line.now) }
+    ensures ok { OnOk result (text.new.items ≡ text.old.items ++ ended line.now) }
+    ensures err { OnErr result (text.new.items ≡ text.old.items) }
 {
+    let before = text.len();
     text.extend_from_slice(line)?;
-    text.push(RETURN)?;
-    Ok(())
+    push_return(text, before)
 }
 
-/// Adds the lines of the bytes to a text, each with its 0D, the last one too (FTS-0001).
+/// Adds the lines of the bytes to a text, each with its 0D, the last one too (FTS-0001). Out of memory
+/// leaves the text as it was.
 pub fn push_lines(text: &mut Vec<u8>, bytes: &[u8]) -> Result<(), AllocError>
-    ensures { OnOk result (text.new.items ≡ text.old.items ++ flat_map ended (lines bytes.now)) }
+    ensures ok { OnOk result (text.new.items ≡ text.old.items ++ flat_map ended (lines bytes.now)) }
+    ensures err { OnErr result (text.new.items ≡ text.old.items) }
 {
+    let before = text.len();
     text.extend_from_slice(bytes)?;
-    if !is_ended(bytes) {
-        text.push(RETURN)?;
+    if is_ended(bytes) {
+        return Ok(());
+    }
+    push_return(text, before)
+}
+
+/// Adds a 0D, or leaves the first `before` bytes alone.
+fn push_return(text: &mut Vec<u8>, before: usize) -> Result<(), AllocError>
+    ensures ok { OnOk result (text.new.items ≡ text.old.items ++ 13 ∷ []) }
+    ensures err { OnErr result (text.new.items ≡ take before text.old.items) }
+{
+    if text.push(RETURN).is_err() {
+        text.truncate(before);
+        return Err(AllocError);
     }
     Ok(())
 }

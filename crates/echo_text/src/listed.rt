@@ -5,7 +5,7 @@ ghost use Rattle.echo_text.specs.Tail.{all_dropped, all_entries, lists_of};
 
 use crate::lines::split_line;
 use crate::words::after_word;
-use echo_addr::{NetNode, add_list};
+use echo_addr::{NetNode, add_list, put_in_order};
 use std::alloc::{AllocError, Global};
 
 /// The entries of the lines that begin with the word, in order, and how many tokens were dropped.
@@ -36,7 +36,6 @@ pub(crate) fn set_of(entries: Vec<NetNode>) -> Vec<NetNode>
     ensures { IsSetOf result.items entries.items }
 {
     let mut set = entries;
-    set.sort_unstable();
-    set.dedup();
+    put_in_order(&mut set);
     set
 }

@@ -3,7 +3,7 @@ ghost use Rattle.echo_text.specs.Echo.{HasNoZero, Says};
 ghost use Rattle.echo_text.specs.Lines.{lines};
 ghost use Rattle.echo_text.specs.Refusal.{TextAnswers};
 
-use crate::area::{in_upper_case, tag_of};
+use crate::area::tag_of;
 use crate::echo::{Echo, EchoView};
 use crate::fault::TextFault;
 use crate::kept::KeptView;
@@ -22,7 +22,7 @@ pub fn view_text<'a>(alloc: Global, text: &'a [u8]) -> Result<(EchoView<'a>, usi
 {
     let (first, rest) = split_line(text);
     let raw = tag_of(first)?;
-    let tag = in_upper_case(alloc, raw)?;
+    let tag = raw.to_ascii_uppercase(alloc)?;
     let parts = parts_of(alloc, rest)?;
     let view = EchoView {
         tag: Items::new(tag),

@@ -94,7 +94,7 @@ is_fault file base tag draft serial stamp fault.BadReply h = h
 is_fault file base tag draft serial stamp fault.KnownSerial h = h
 is_fault file base tag draft serial stamp fault.Memory h = absurd ((refusal_first file base tag draft serial stamp fault.Memory).0 h)
 
--- want of memory may be answered once the draft is in order
+-- out of memory may be answered once the draft is in order
 pub memory_fault : (file : LinkFile) (base : List Filed) (tag : List ℕ) (draft : Draft) (serial : ℕ) (stamp : Stamp)
     → draft_refusal file tag draft stamp ≡ None → IsPostFault file base tag draft serial stamp fault.Memory
 memory_fault file base tag draft serial stamp h = elim (cases_Bool (list_any (has_id (id_of file.system serial)) base)) [

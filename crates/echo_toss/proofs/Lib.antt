@@ -1,14 +1,14 @@
 pub mod Tossed
 pub mod Dates
 pub mod Judged
-pub mod Raised
+pub mod LongTags
 pub mod Replies
 pub mod Drafted
 pub mod AscendingSets
 pub mod Searches
 pub mod Exports
 pub mod Counted
-pub mod Unpacked
+pub mod PacketTosses
 pub mod Stops
 pub mod Parsed
 pub mod WholePackets

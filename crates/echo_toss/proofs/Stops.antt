@@ -18,7 +18,7 @@ use Rattle.echo_steps.specs.SystemState.{SystemState}
 use Rattle.echo_toss.specs.declared.tally.Tally.{Tally}
 use Rattle.echo_toss.specs.declared.fault.TossCause.{TossCause}
 use Rattle.echo_toss.specs.declared.fault.TossCause.TheVariants as stop
-use Rattle.echo_toss.specs.Unpacked.{BeginsWith, HasTossed, TossesPart, TossesSome}
+use Rattle.echo_toss.specs.PacketSteps.{BeginsWith, HasTossed, TossesPart, TossesSome}
 use Rattle.echo_toss.specs.Messages.{HasTaken, IsOpened, TakesSome}
 
 -- known bytes begin with the header and the messages that were lost

@@ -20,7 +20,7 @@ use Rattle.echo_toss.specs.declared.fault.TossCause.{TossCause}
 use Rattle.echo_toss.specs.declared.fault.TossCause.TheVariants as stop
 use Rattle.echo_toss.specs.declared.fault.TossFault.{TossFault}
 use Rattle.echo_toss.specs.Tallies.{tally_of}
-use Rattle.echo_toss.specs.Unpacked.{CountsCause, CountsToss, TossesUpToFault, FailsInHeader, HasTossed, IsForUs, PacketStep, StopsBehind, TossesAll, TossesPart, TossesSome, WholeStep}
+use Rattle.echo_toss.specs.PacketSteps.{CountsCause, CountsToss, TossesUpToFault, FailsInHeader, HasTossed, IsForUs, PacketStep, StopsBehind, TossesAll, TossesPart, TossesSome, WholeStep}
 use Rattle.echo_toss.proofs.Parsed.{first_messages, one_header, one_list, opens}
 
 -- a packet and what follows it, part by part

@@ -11,7 +11,7 @@ use Rattle.echo_filed.specs.Sets.{address_set}
 use Rattle.echo_filed.specs.Written.{text_of}
 use Rattle.echo_steps.specs.declared.packet.Packet.{Packet}
 use Rattle.echo_steps.specs.declared.stamp.Stamp.{Stamp}
-use Rattle.echo_steps.specs.Scanning.{exported, header_to, targets}
+use Rattle.echo_steps.specs.Scanning.{exported, header_to, message_out, targets}
 
 -- a message, whom it goes to, and the text that goes out
 pub record Outgoing : Type 0 where
@@ -22,22 +22,6 @@ pub record Outgoing : Type 0 where
 -- what goes out of a message
 abbrev pub outgoing_of : LinkFile → Filed → Outgoing
 outgoing_of file m = record { message = m; targets = targets file m; text = text_of (exported file m.echo) }
-
--- a message with this text, as it goes to an address
-abbrev pub message_out : LinkFile → Address → Filed → List ℕ → Message
-message_out file address m text = record {
-  orig_node = file.system.node;
-  dest_node = address.node;
-  orig_net = file.system.net;
-  dest_net = address.net;
-  attribute = 0;
-  cost = 0;
-  date = m.date;
-  to_name = m.to_name;
-  from_name = m.from_name;
-  subject = m.subject;
-  text = text;
-}
 
 -- the copy of what goes out that goes to an address
 abbrev pub copy_out : LinkFile → Address → Outgoing → Message

@@ -2,6 +2,6 @@ pub mod Tallies
 pub mod Refusals
 pub mod Wanted
 pub mod Exports
-pub mod Unpacked
+pub mod PacketSteps
 pub mod Messages
 pub mod Stored

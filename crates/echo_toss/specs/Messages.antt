@@ -9,16 +9,15 @@ use Rattle.echo_packet.specs.declared.fault.PacketFault.TheVariants as fault
 use Rattle.echo_packet.specs.Header.{IsHeader, header_bytes, word}
 use Rattle.echo_packet.specs.Message.{AreMessages, Message, messages_bytes}
 use Rattle.echo_packet.specs.Fault.{place_of}
-use Rattle.echo_packet.specs.Field.{FailsInField, IsShort}
 use Rattle.echo_packet.specs.Next.{FailsInMessage, NextFault}
-use Rattle.echo_packet.specs.Reader.{FrontFault}
+use Rattle.echo_packet.specs.Reader.{FailsInFront, FrontFault}
 use Rattle.echo_links.specs.Links.{LinkFile}
 use Rattle.echo_steps.specs.SystemState.{SystemState}
 use Rattle.echo_steps.specs.Tossing.{destination_of, sender_of}
 use Rattle.echo_toss.specs.declared.tally.Tally.{Tally}
 use Rattle.echo_toss.specs.declared.fault.TossCause.{TossCause}
 use Rattle.echo_toss.specs.declared.fault.TossCause.TheVariants as stop
-use Rattle.echo_toss.specs.Unpacked.{CountsCause, HasTossed}
+use Rattle.echo_toss.specs.PacketSteps.{CountsCause, HasTossed}
 
 -- the reader lost a header, of a packet for this system from the sender
 pub record IsOpened (file : LinkFile) (before after : Option (List ℕ)) (sender : Address) : Type 0 where
@@ -39,7 +38,7 @@ pub record IsRefused (file : LinkFile) (before after : Option (List ℕ)) (desti
 -- no header was read
 pub record IsHeaderless (before after : Option (List ℕ)) (f : PacketFault) : Type 0 where
   pub fault : IfSome before (λ bs. FrontFault bs f)
-  pub inside : FailsInField (IsShort 58) 0 before after f
+  pub inside : FailsInFront before after f
 
 -- why no message is looked at
 abbrev pub IsUnopened : LinkFile → Option (List ℕ) → Option (List ℕ) → TossCause → Type 0

@@ -2,7 +2,6 @@
 ghost use Rattle.std.specs.Prelude.{◌≡◌, ◌++◌, All, None, IfOk, OnOk};
 ghost use Rattle.std.specs.List.{flat_map};
 ghost use Rattle.echo_text.specs.Echo.{IsLine, ended};
-ghost use Rattle.echo_links.specs.Links.{upper};
 ghost use Rattle.echo_filed.specs.Filed.{id_line};
 ghost use Rattle.echo_steps.specs.Posting.{origin_line, posted, posted_lines, reply_lines};
 ghost use Rattle.echo_toss.specs.Refusals.{draft_refusal};
@@ -27,8 +26,9 @@ pub(crate) fn posted(
     requires { draft_refusal links.now tag.now draft.now stamp ≡ None }
     ensures { IfOk result (λ m. m ≡ posted links.now tag.now draft.now serial stamp) }
 {
+    // For the prover alone: the link file keeps its rules.
     links.system();
-    let tag = in_upper_case(alloc, tag)?;
+    let tag = Items::new(tag.to_ascii_uppercase(alloc)?);
     let kept = posted_lines(alloc, links, draft, serial)?;
     let to_name = copied(alloc, draft.to_name.as_slice())?;
     let from_name = copied(alloc, draft.from_name.as_slice())?;
@@ -47,14 +47,6 @@ pub(crate) fn posted(
         subject,
         echo,
     })
-}
-
-// The tag with ASCII letters in upper case.
-fn in_upper_case(alloc: Global, tag: &[u8]) -> Result<Items<u8>, AllocError>
-    ensures { IfOk result (λ raised. raised ≡ upper tag.now) }
-{
-    let raised = tag.iter().map(|b| b.to_ascii_uppercase()).collect(alloc)?;
-    Ok(Items::new(raised))
 }
 
 // The bytes as a list of their own.

@@ -31,7 +31,7 @@ impl From<AllocError> for TossCause {
 
 impl From<PacketFault> for TossCause {
     ghost use Rattle.std.specs.Prelude.{◌≡◌};
-    ghost use Rattle.echo_toss.specs.Unpacked.{cause_of};
+    ghost use Rattle.echo_toss.specs.PacketSteps.{cause_of};
 
     ghost from_gives = { λ fault cause. cause ≡ cause_of fault };
 

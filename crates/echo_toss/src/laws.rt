@@ -12,11 +12,11 @@ ghost use Rattle.echo_toss.specs.declared.fault.TossCause.TheVariants as stop;
 ghost use Rattle.echo_toss.specs.declared.fault.TossFault.{TossFault};
 ghost use Rattle.echo_toss.specs.declared.tally.Tally.{Tally};
 ghost use Rattle.echo_toss.specs.Tallies.{tally_of};
-ghost use Rattle.echo_toss.specs.Unpacked.{CountsToss, IsForUs, PacketStep, WholeStep};
+ghost use Rattle.echo_toss.specs.PacketSteps.{CountsToss, IsForUs, PacketStep, WholeStep};
 
 /// The toss of a packet's bytes, whatever follows them, from a reader that does not fail.
 pub fn packet_laws()
-    // At the system that the packet is for it is the toss of its messages, in order; want of memory comes behind the first of them.
+    // At the system that the packet is for it is the toss of its messages, in order; out of memory comes behind the first of them.
     ensures whole { (limits : Limits) (header : Header) (ms : List Message) (bytes rest : List ℕ) (after : Option (List ℕ)) (old new : SystemState) (result : Result Tally TossFault) →
         PacketOf limits header ms bytes → IsForUs old header → PacketStep limits old (Some (bytes ++ rest)) after result new → CountsToss result 0 0 →
         WholeStep old (sender_of old.file header) ms result new }

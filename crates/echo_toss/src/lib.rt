@@ -7,7 +7,7 @@
 //! Modules in reading order: `tosser` (the type), `moment`, `refusing`, `drafting` and `posting` (a
 //! draft is judged, made a message and filed), `receiving` and `tossing` (the same of a received
 //! message), `sets`, `outgoing`, `packing` and `scanning` (what waits, its packets, and the scan),
-//! `purging`, `tally` (what became of the messages of a packet), `fault` and `unpacking` (a whole packet
+//! `purging`, `tally` (what became of the messages of a packet), `fault` and `packets` (a whole packet
 //! is tossed), `storing` (the base is written and read), and `laws` (what holds of the definitions).
 #![tactic(auto)]
 
@@ -16,6 +16,7 @@ mod fault;
 mod laws;
 mod moment;
 mod outgoing;
+mod packets;
 mod packing;
 mod posting;
 mod purging;
@@ -27,7 +28,6 @@ mod storing;
 mod tally;
 mod tosser;
 mod tossing;
-mod unpacking;
 
 pub use echo_base::BaseFault;
 pub use echo_filed::Filed;

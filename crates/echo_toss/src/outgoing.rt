@@ -47,6 +47,7 @@ pub(crate) fn waiting<'a, S: BuildHasher>(
 ) -> Result<Vec<Outgoing<'a>>, AllocError>
     ensures { IfOk result (λ all. all.items ≡ map (outgoing_of links.now) (drop base.now.cursor base.now.messages)) }
 {
+    // For the prover alone: the cursor is within the base.
     base.len();
     let mut all = Vec::new(alloc);
     let mut at = base.cursor();

@@ -3,9 +3,9 @@ ghost use Rattle.std.specs.Prelude.{◌≡◌, [], ◌∷◌, ◌++◌, true, ma
 ghost use Rattle.std.specs.List.{flat_map};
 ghost use Rattle.echo_packet.specs.Message.{HasNoZero};
 ghost use Rattle.echo_filed.specs.Sets.{address_set};
-ghost use Rattle.echo_steps.specs.Scanning.{header_to};
+ghost use Rattle.echo_steps.specs.Scanning.{header_to, message_out};
 ghost use Rattle.echo_steps.specs.Stamps.{is_stamp};
-ghost use Rattle.echo_toss.specs.Exports.{goes_ready, message_out, nowhere, packet_ready, packets_out, ready_copy, ready_of};
+ghost use Rattle.echo_toss.specs.Exports.{goes_ready, nowhere, packet_ready, packets_out, ready_copy, ready_of};
 
 use crate::outgoing::Outgoing;
 use crate::sets::address_set;

@@ -1,6 +1,5 @@
 //! Why a draft is refused, whatever the base.
-ghost use Rattle.std.specs.Prelude.{◌≡◌, ◌==◌, ◌||◌, length, map, nat_lt, Some, None, MatchResult};
-ghost use Rattle.std.specs.Char.{to_ascii_uppercase};
+ghost use Rattle.std.specs.Prelude.{◌≡◌, ◌==◌, ◌||◌, length, nat_lt, Some, None, MatchResult};
 ghost use Rattle.std.specs.List.{list_any};
 ghost use Rattle.echo_text.specs.Ids.{is_id, is_zero};
 ghost use Rattle.echo_links.specs.Links.{has_area, upper};
@@ -45,23 +44,15 @@ fn has_area(links: &LinkFile, tag: &[u8]) -> bool
     ensures { result ≡ has_area links.now (upper tag.now) }
 {
     if tag.len() > MAX_TAG {
+        // For the prover alone: no area of a link file has a longer tag.
         links.system();
         return false;
     }
     let mut raised = [0u8; MAX_TAG];
     let raised = &mut raised[..tag.len()];
     raised.copy_from_slice(tag);
-    raise(raised);
+    raised.make_ascii_uppercase();
     links.has_area(raised)
-}
-
-// Puts ASCII letters into upper case.
-fn raise(bytes: &mut [u8])
-    ensures { bytes.new ≡ map to_ascii_uppercase bytes.old }
-{
-    'bytes: for byte in bytes.iter_mut() {
-        *byte = byte.to_ascii_uppercase();
-    }
 }
 
 fn holds_zero(draft: &Draft) -> bool

@@ -2,15 +2,14 @@
 ghost use Rattle.std.specs.Prelude.{◌≡◌};
 ghost use Rattle.echo_filed.specs.Sets.{address_set, entry_set};
 
-use echo_addr::{Address, NetNode};
+use echo_addr::{Address, NetNode, put_in_order};
 
 /// The entries as a set.
 pub(crate) fn entry_set(entries: Vec<NetNode>) -> Vec<NetNode>
     ensures { result.items ≡ entry_set entries.items }
 {
     let mut set = entries;
-    set.sort_unstable();
-    set.dedup();
+    put_in_order(&mut set);
     set
 }
 
@@ -19,7 +18,6 @@ pub(crate) fn address_set(addresses: Vec<Address>) -> Vec<Address>
     ensures { result.items ≡ address_set addresses.items }
 {
     let mut set = addresses;
-    set.sort_unstable();
-    set.dedup();
+    put_in_order(&mut set);
     set
 }

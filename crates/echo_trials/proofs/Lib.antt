@@ -9,4 +9,5 @@ mod IdLineExamples
 mod HostileExamples
 pub mod NetExamples
 mod TidyExamples
+mod VainExamples
 mod EpochExamples

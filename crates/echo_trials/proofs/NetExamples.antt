@@ -56,17 +56,17 @@ scan i = Scanning i stamp
 
 -- what is printed of a run: messages of the area filed and waiting, system by system; packets, and packets
 -- that did not come; whether all has settled
-record Shown : Type 0 where
-  filed_there : List ℕ
-  waiting_there : List ℕ
-  packets : ℕ
-  not_delivered : ℕ
-  settled : Bool
+pub record Shown : Type 0 where
+  pub filed_there : List ℕ
+  pub waiting_there : List ℕ
+  pub packets : ℕ
+  pub not_delivered : ℕ
+  pub settled : Bool
 
-abbrev line : List ℕ → List ℕ → ℕ → ℕ → Bool → Shown
+abbrev pub line : List ℕ → List ℕ → ℕ → ℕ → Bool → Shown
 line filed waiting count missed all = record { filed_there = filed; waiting_there = waiting; packets = count; not_delivered = missed; settled = all }
 
-abbrev shown : Run → Shown
+abbrev pub shown : Run → Shown
 shown run = record {
   filed_there = map (λ s. area_count (codes "TEST") s.base) run.systems;
   waiting_there = map (λ s. area_count (codes "TEST") (drop s.cursor s.base)) run.systems;
@@ -94,7 +94,7 @@ chain_run = run_of chain (post 0 ∷ (scan 0 ∷ (Delivery 0 ∷ (scan 1 ∷ (De
 abbrev star_run : Run
 star_run = run_of star (post 0 ∷ (scan 0 ∷ (Delivery 0 ∷ (Delivery 2 ∷ (scan 1 ∷ (scan 3 ∷ []))))))
 
-abbrev triangle_run : Run
+abbrev pub triangle_run : Run
 triangle_run = run_of triangle (post 0 ∷ (scan 0 ∷ (Delivery 0 ∷ (Delivery 1 ∷ (scan 1 ∷ (scan 2 ∷ []))))))
 
 abbrev ring_run : Run
@@ -117,7 +117,7 @@ abbrev tossed_again_run : Run
 tossed_again_run = run_of chain (two_posted ++ PartDelivery 0 1 ∷ (Delivery 0 ∷ []))
 
 -- the id of the one posting
-abbrev first_key : Key
+abbrev pub first_key : Key
 first_key = ById (codes "TEST") (codes "1:10/1 00000001")
 
 -- On the chain and on the triangle all have the message, and nothing waits; on the star the packet to
@@ -177,7 +177,7 @@ abbrev pub beside : List LinkFile
 beside = file 4 [] ∷ triangle
 
 -- a posting at the first system, and then all scans and deliveries
-abbrev all_done : List LinkFile → Run
+abbrev pub all_done : List LinkFile → Run
 all_done files = run_of files (post 0 ∷ (scan 0 ∷ (Delivery 0 ∷ (scan 1 ∷ (Delivery 1 ∷ (scan 2 ∷ []))))))
 
 -- what becomes of them once nothing waits and every packet came: none is orderly

@@ -35,7 +35,7 @@ post_refuses : PostStep {A = Unit {0}} (at first_file (first_posting ∷ []) 1) 
 unfolding post_refusal posted posted_lines id_of trimmed lines digits msgid_of begins after_word
 post_refuses = (refl, refl)
 
--- want of memory may stand in its place, and leaves the base too
+-- out of memory may stand in its place, and leaves the base too
 post_wants_memory : PostStep {A = Unit {0}} (at first_file (first_posting ∷ []) 1) (codes "test") draft 1 stamp (Err post.Memory) (at first_file (first_posting ∷ []) 1)
 unfolding post_refusal posted posted_lines id_of trimmed lines digits msgid_of begins after_word
 post_wants_memory = (inr refl, refl)

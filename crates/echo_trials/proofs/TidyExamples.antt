@@ -13,7 +13,7 @@ use Rattle.echo_graph.proofs.Members.{Among-at}
 use Rattle.echo_run.proofs.Lists.{and-parts, any-from, not_both, Among-map_to}
 use Rattle.echo_trials.proofs.NetExamples.{address, beside, far, file, one_sided, over_zones, own_link, ring, triangle, two_files}
 
-abbrev test : List ℕ
+abbrev pub test : List ℕ
 test = codes "TEST"
 
 is_false : (let no_bit = false in no_bit ≡ true) → ⊥
@@ -188,7 +188,7 @@ walk-three a (c ∷ rest) b walk x h =
       | inr t ↦ walk-three c rest b walk.1 x t
     ]
 
-triangle_tidy : Tidy triangle test
+pub triangle_tidy : Tidy triangle test
 triangle_tidy = record {
   joined = record {
     some = refl;

@@ -25,6 +25,8 @@ enum Form {
     One,
     /// `NAME...`, one or more
     Many,
+    /// the same, or in its place this option
+    ManyUnless(&'static str),
 }
 
 /// A word that a command takes: its name, how it is given, and its help.
@@ -105,6 +107,12 @@ const COMMANDS: &[Entry] = &[
         ],
     ),
     Entry(
+        "why",
+        "Prints a run in which an area that is not in order goes wrong, as a script for replay",
+        ending!("echonet why TEST links/* > wrong.script"),
+        &[TAG, ALL_LINKS],
+    ),
+    Entry(
         "picture",
         "Prints an area as a graph that Graphviz draws, with what is wrong marked",
         ending!("echonet picture TEST links/* | dot -Tsvg > area.svg"),
@@ -141,9 +149,23 @@ const COMMANDS: &[Entry] = &[
         "Files the messages of packets",
         ending!("echonet toss links base inbound/*.pkt"),
         &[
+            Word(
+                "packets-from",
+                Form::Option("FILE"),
+                "The packet files stand in this file, or - for standard input: one a line, or each ended by 00",
+            ),
+            Word(
+                "text-limit",
+                Form::Option("N"),
+                "How many bytes a text in a packet may have, at most 16777216",
+            ),
             LINKS,
             BASE,
-            Word("PACKET", Form::Many, "The packet files, in order"),
+            Word(
+                "PACKET",
+                Form::ManyUnless("packets-from"),
+                "The packet files, in order",
+            ),
         ],
     ),
     Entry(
@@ -197,16 +219,20 @@ const COMMANDS: &[Entry] = &[
 ];
 
 // The word, as the parser has it.
-fn argument<'a>(alloc: Global, word: Word) -> Arg<'a> {
+fn argument<'a>(alloc: Global, word: Word) -> Result<Arg<'a>, AllocError> {
     let Word(name, form, help) = word;
     let arg = Arg::new(alloc, name).help(help);
-    match form {
+    Ok(match form {
         Form::Flag => arg.long(name).action(ArgAction::SetTrue),
         Form::Option(value) => arg.long(name).value_name(value),
         Form::Needed(value) => arg.long(name).value_name(value).required(true),
         Form::One => arg.required(true),
         Form::Many => arg.required(true).num_args(1..),
-    }
+        Form::ManyUnless(option) => {
+            let many = arg.num_args(1..).required_unless_present(option)?;
+            many.conflicts_with(option)?
+        }
+    })
 }
 
 // The command, as the parser has it.
@@ -214,7 +240,7 @@ fn subcommand<'a>(alloc: Global, entry: Entry) -> Result<Command<'a>, AllocError
     let Entry(name, about, ending, words) = entry;
     let mut command = Command::new(alloc, name).about(about).after_help(ending);
     for word in words {
-        command = command.arg(argument(alloc, *word))?;
+        command = command.arg(argument(alloc, *word)?)?;
     }
     Ok(command)
 }

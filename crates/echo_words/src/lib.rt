@@ -7,4 +7,4 @@ mod refusing;
 mod words;
 
 pub use refusing::{Ending, explain};
-pub use words::{PostWords, Words, parse};
+pub use words::{PostWords, TossWords, Words, parse};

@@ -24,6 +24,10 @@ pub enum Words<'a> {
         tag: &'a str,
         links: Vec<&'a str>,
     },
+    Why {
+        tag: &'a str,
+        links: Vec<&'a str>,
+    },
     Replay {
         script: &'a str,
         links: Vec<&'a str>,
@@ -34,11 +38,7 @@ pub enum Words<'a> {
         base: &'a str,
     },
     Post(PostWords<'a>),
-    Toss {
-        links: &'a str,
-        base: &'a str,
-        packets: Vec<&'a str>,
-    },
+    Toss(TossWords<'a>),
     Scan {
         at: &'a str,
         links: &'a str,
@@ -63,6 +63,16 @@ pub struct PostWords<'a> {
     pub reply: Option<&'a str>,
     pub links: &'a str,
     pub base: &'a str,
+}
+
+/// The words of `toss`: the packets, or the file that lists them, and how many bytes a text may have.
+#[derive(Drop)]
+pub struct TossWords<'a> {
+    pub text_limit: Option<&'a str>,
+    pub links: &'a str,
+    pub base: &'a str,
+    pub packets: Vec<&'a str>,
+    pub packets_from: Option<&'a str>,
 }
 
 // The values of the argument that is given once or more.
@@ -103,6 +113,13 @@ fn picture_words<'a>(matches: &ArgMatches<'a>, links: Vec<&'a str>) -> Option<Wo
     })
 }
 
+fn why_words<'a>(matches: &ArgMatches<'a>, links: Vec<&'a str>) -> Option<Words<'a>> {
+    Some(Words::Why {
+        tag: matches.get_str("TAG")?,
+        links,
+    })
+}
+
 fn post_words<'a>(matches: &ArgMatches<'a>) -> Option<Words<'a>> {
     Some(Words::Post(PostWords {
         area: matches.get_str("area")?,
@@ -118,11 +135,13 @@ fn post_words<'a>(matches: &ArgMatches<'a>) -> Option<Words<'a>> {
 }
 
 fn toss_words<'a>(matches: &ArgMatches<'a>, packets: Vec<&'a str>) -> Option<Words<'a>> {
-    Some(Words::Toss {
+    Some(Words::Toss(TossWords {
+        text_limit: matches.get_str("text-limit"),
         links: matches.get_str("LINKS")?,
         base: matches.get_str("BASE")?,
         packets,
-    })
+        packets_from: matches.get_str("packets-from"),
+    }))
 }
 
 fn scan_words<'a>(matches: &ArgMatches<'a>) -> Option<Words<'a>> {
@@ -161,6 +180,7 @@ fn words_of<'a>(alloc: Global, matches: &ArgMatches<'a>) -> Result<Option<Words<
         Some(("show", given)) => show_words(given),
         Some(("nodelist", given)) => nodelist_words(given),
         Some(("check", given)) => check_words(given, values(alloc, given, "LINKS")?),
+        Some(("why", given)) => why_words(given, values(alloc, given, "LINKS")?),
         Some(("picture", given)) => picture_words(given, values(alloc, given, "LINKS")?),
         Some(("post", given)) => post_words(given),
         Some(("toss", given)) => toss_words(given, values(alloc, given, "PACKET")?),

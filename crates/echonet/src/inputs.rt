@@ -1,9 +1,9 @@
 //! The files that the command line names, and standard input.
 
 use echo_addr::Items;
-use echo_commands::Fault;
 use echo_device::Watched;
-use echo_files::{InputFault, read_file_if_there, read_whole};
+use echo_files::{InputFault, OutputFault, read_file_if_there, read_whole};
+use echo_status::Fault;
 
 /// How many bytes a packet given to `show`, or a nodelist, may have.
 pub const MAX_INPUT: usize = 67_108_864;
@@ -17,6 +17,14 @@ pub fn input_fault(fault: InputFault, path: &str) -> Fault<'_> {
         InputFault::TooLarge => Fault::TooLarge(path),
         InputFault::Device => Fault::CannotUse(path),
         InputFault::Memory => Fault::OutOfMemory,
+    }
+}
+
+/// Why the file with this path was not written.
+pub fn output_fault(fault: OutputFault, path: &str) -> Fault<'_> {
+    match fault {
+        OutputFault::Device => Fault::CannotUse(path),
+        OutputFault::Memory => Fault::OutOfMemory,
     }
 }
 

@@ -1,16 +1,16 @@
 //! The program `echonet`: it reads the files that the command line names (`inputs`), calls the commands,
-//! and puts what they leave in place (`station`).
+//! and puts what they leave in place (`station`, `packets`, `placing`).
 #![tactic(auto)]
 
 mod inputs;
+mod packets;
+mod placing;
 mod station;
 
-use echo_addr::Address;
 use echo_base::BaseFault;
-use echo_commands::{
-    Fault, Status, check, list, nodelist, number_of, picture, replay, show, wanted,
-};
 use echo_device::{Sink, Watched};
+use echo_reading::{check, list, nodelist, picture, replay, show, why};
+use echo_status::{Fault, Status, ended, number_of, wanted};
 use echo_words::{Ending, Words, explain, parse};
 use inputs::{MAX_INPUT, read_base, read_file, read_given, read_if_given, read_links, read_script};
 use station::{run_post, run_purge, run_scan, run_toss};
@@ -19,132 +19,112 @@ use std::process::ExitCode;
 use std::{env, io};
 
 // `show [--hex] PACKET`
-fn run_show<W: Sink, E: Sink>(
+fn run_show<'a, W: Sink>(
     rt: &HostRuntime,
     hex: bool,
-    packet: &str,
+    packet: &'a str,
     out: &mut W,
-    errors: &mut E,
-) -> Status {
-    match read_given(rt, packet, MAX_INPUT) {
-        Ok(input) => show(rt.alloc(), hex, &input, out, errors),
-        Err(fault) => fault.report(errors),
-    }
+) -> Result<Status, Fault<'a>> {
+    let input = read_given(rt, packet, MAX_INPUT)?;
+    show(rt.alloc(), hex, &input, out)
 }
 
-// `nodelist [--find ADDRESS] FILE`
-fn run_nodelist<W: Sink, E: Sink>(
-    rt: &HostRuntime,
-    find: Option<&str>,
-    file: &str,
-    out: &mut W,
-    errors: &mut E,
-) -> Status {
-    match nodelist_input(rt, find, file) {
-        Ok((address, input)) => nodelist(rt.alloc(), address, &input, out, errors),
-        Err(fault) => fault.report(errors),
-    }
-}
-
-// What `nodelist` is asked for: the address first, then the file.
-fn nodelist_input<'a>(
+// `nodelist [--find ADDRESS] FILE`: the address is judged first, then the file.
+fn run_nodelist<'a, W: Sink>(
     rt: &HostRuntime,
     find: Option<&'a str>,
     file: &'a str,
-) -> Result<(Option<Address>, Vec<u8>), Fault<'a>> {
+    out: &mut W,
+) -> Result<Status, Fault<'a>> {
     let address = match find {
         Some(word) => Some(wanted(word)?),
         None => None,
     };
-    Ok((address, read_file(rt, file, MAX_INPUT)?))
+    let input = read_file(rt, file, MAX_INPUT)?;
+    nodelist(rt.alloc(), address, &input, out)
 }
 
 // `check [--nodelist LIST] TAG LINKS...`
-fn run_check<W: Sink, E: Sink>(
+fn run_check<'a, W: Sink>(
     rt: &HostRuntime,
-    list: Option<&str>,
-    tag: &str,
-    links: &[&str],
+    list: Option<&'a str>,
+    tag: &'a str,
+    links: &[&'a str],
     out: &mut W,
-    errors: &mut E,
-) -> Status {
-    let list = match read_if_given(rt, list, MAX_INPUT) {
-        Ok(list) => list,
-        Err(fault) => return fault.report(errors),
-    };
+) -> Result<Status, Fault<'a>> {
+    let list = read_if_given(rt, list, MAX_INPUT)?;
     let (files, stopped) = read_links(rt, links);
     let list = list.as_ref().map(|bytes| bytes.as_slice());
-    check(
-        rt.alloc(),
-        list,
-        tag.as_bytes(),
-        &files,
-        stopped,
-        out,
-        errors,
-    )
+    check(rt.alloc(), list, tag.as_bytes(), &files, stopped, out)
+}
+
+// `why TAG LINKS...`. A seed for the hasher that cannot be had is a failed read of the first link file.
+fn run_why<'a, W: Sink>(
+    rt: &HostRuntime,
+    tag: &'a str,
+    links: &[&'a str],
+    out: &mut W,
+) -> Result<Status, Fault<'a>> {
+    let first = match links.first() {
+        Some(path) => *path,
+        None => "-",
+    };
+    let hasher = RandomState::new(rt).map_err(|_| Fault::CannotUse(first))?;
+    let (files, stopped) = read_links(rt, links);
+    why(rt.alloc(), tag.as_bytes(), &files, stopped, hasher, out)
 }
 
 // `picture TAG LINKS...`
-fn run_picture<W: Sink, E: Sink>(
+fn run_picture<'a, W: Sink>(
     rt: &HostRuntime,
-    tag: &str,
-    links: &[&str],
+    tag: &'a str,
+    links: &[&'a str],
     out: &mut W,
-    errors: &mut E,
-) -> Status {
+) -> Result<Status, Fault<'a>> {
     let (files, stopped) = read_links(rt, links);
-    picture(rt.alloc(), tag.as_bytes(), &files, stopped, out, errors)
+    picture(rt.alloc(), tag.as_bytes(), &files, stopped, out)
 }
 
-// `list [--area TAG] [--from I] BASE`
-fn run_list<W: Sink, E: Sink>(
+// `list [--area TAG] [--from I] BASE`: the number is judged first, then the base. A seed for the hasher that
+// cannot be had is a failed read.
+fn run_list<'a, W: Sink>(
     rt: &HostRuntime,
-    area: Option<&str>,
-    from: Option<&str>,
-    base: &str,
-    out: &mut W,
-    errors: &mut E,
-) -> Status {
-    match list_input(rt, from, base) {
-        Ok((first, bytes, hasher)) => {
-            let area = area.map(|tag| tag.as_bytes());
-            let bytes = bytes.as_ref().map(|bytes| bytes.as_slice());
-            list(rt.alloc(), area, first, bytes, hasher, out, errors)
-        }
-        Err(fault) => fault.report(errors),
-    }
-}
-
-// What `list` is asked for: the number first, then the base. A seed for the hasher that cannot be had is
-// a failed read.
-fn list_input<'a>(
-    rt: &HostRuntime,
+    area: Option<&'a str>,
     from: Option<&'a str>,
     base: &'a str,
-) -> Result<(u64, Option<Vec<u8>>, RandomState), Fault<'a>> {
+    out: &mut W,
+) -> Result<Status, Fault<'a>> {
     let first = match from {
         Some(word) => number_of(word)?,
         None => 0,
     };
     let hasher = RandomState::new(rt).map_err(|_| Fault::Base(BaseFault::Read))?;
-    Ok((first, read_base(rt, base)?, hasher))
+    let bytes = read_base(rt, base)?;
+    let area = area.map(|tag| tag.as_bytes());
+    let bytes = bytes.as_ref().map(|bytes| bytes.as_slice());
+    list(rt.alloc(), area, first, bytes, hasher, out)
+}
+
+// What `replay` is asked for first: the script. A seed for the hasher that cannot be had is a failed read.
+fn replay_input<'a>(
+    rt: &HostRuntime,
+    script: &'a str,
+) -> Result<(Vec<u8>, RandomState), Fault<'a>> {
+    let bytes = read_script(rt, script)?;
+    let hasher = RandomState::new(rt).map_err(|_| Fault::CannotUse(script))?;
+    Ok((bytes, hasher))
 }
 
 // `replay SCRIPT LINKS...`
-fn run_replay<W: Sink, E: Sink>(
+fn run_replay<'a, W: Sink>(
     rt: &HostRuntime,
-    script: &str,
-    links: &[&str],
+    script: &'a str,
+    links: &[&'a str],
     out: &mut W,
-    errors: &mut E,
-) -> Status {
-    let script = match read_script(rt, script) {
-        Ok(script) => script,
-        Err(fault) => return fault.report(errors),
-    };
+) -> Result<Status, Fault<'a>> {
+    let (script, hasher) = replay_input(rt, script)?;
     let (files, stopped) = read_links(rt, links);
-    replay(rt.alloc(), &script, &files, stopped, out, errors)
+    replay(rt.alloc(), &script, &files, stopped, hasher, out)
 }
 
 fn run_words<W: Sink, E: Sink>(
@@ -154,20 +134,17 @@ fn run_words<W: Sink, E: Sink>(
     errors: &mut E,
 ) -> Status {
     match words {
-        Words::Show { hex, packet } => run_show(rt, hex, packet, out, errors),
-        Words::Nodelist { find, file } => run_nodelist(rt, find, file, out, errors),
+        Words::Show { hex, packet } => ended(run_show(rt, hex, packet, out), errors),
+        Words::Nodelist { find, file } => ended(run_nodelist(rt, find, file, out), errors),
         Words::Check {
             nodelist,
             tag,
             links,
-        } => run_check(rt, nodelist, tag, &links, out, errors),
-        Words::Picture { tag, links } => run_picture(rt, tag, &links, out, errors),
+        } => ended(run_check(rt, nodelist, tag, &links, out), errors),
+        Words::Why { tag, links } => ended(run_why(rt, tag, &links, out), errors),
+        Words::Picture { tag, links } => ended(run_picture(rt, tag, &links, out), errors),
         Words::Post(words) => run_post(rt, &words, out, errors),
-        Words::Toss {
-            links,
-            base,
-            packets,
-        } => run_toss(rt, links, base, &packets, out, errors),
+        Words::Toss(words) => run_toss(rt, &words, out, errors),
         Words::Scan {
             at,
             links,
@@ -175,8 +152,8 @@ fn run_words<W: Sink, E: Sink>(
             folder,
         } => run_scan(rt, at, links, base, folder, out, errors),
         Words::Purge { links, base } => run_purge(rt, links, base, out, errors),
-        Words::List { area, from, base } => run_list(rt, area, from, base, out, errors),
-        Words::Replay { script, links } => run_replay(rt, script, &links, out, errors),
+        Words::List { area, from, base } => ended(run_list(rt, area, from, base, out), errors),
+        Words::Replay { script, links } => ended(run_replay(rt, script, &links, out), errors),
     }
 }
 

@@ -77,14 +77,47 @@ fn agrees_with_the_definitions(rt: HostRuntime) -> Result<(), Fail> {
             let graph = graph_of(&rt, rt.alloc(), members, &links)?;
             let walk = (0..members).find(|member| !reached(&graph, &sequences, *member));
             assert_eq!(rt; unreached(alloc, &graph)?, walk, "{members} {choice}");
-            match loop_of(alloc, &graph)? {
-                None => assert!(rt; fully_linked(&graph, &sequences), "{members} {choice}"),
-                Some(found) => {
-                    assert!(rt; !fully_linked(&graph, &sequences), "{members} {choice}");
-                    let ring = first_ring(alloc, &graph, &sequences)?;
-                    assert!(rt; goes_round(alloc, &ring, &found)?, "{members} {choice}");
-                }
-            }
+            compare_loops(&rt, alloc, &graph, &sequences, choice)?;
+        }
+    }
+    Ok(())
+}
+
+/// Two polygons of four with member 3 in common, with up to one of their links left out, under three
+/// numberings.
+#[test]
+fn agrees_on_polygons_in_a_chain(rt: HostRuntime) -> Result<(), Fail> {
+    let alloc = rt.alloc();
+    let whole = slow::chained(alloc)?;
+    let sequences = sequences(alloc, 7)?;
+    for choice in 0..1u32 << whole.len().min(12) {
+        if choice.count_ones() < 11 {
+            continue;
+        }
+        for factor in [1, 3, 5] {
+            let links = slow::renumbered(alloc, &slow::chosen(alloc, &whole, choice)?, factor)?;
+            let graph = graph_of(&rt, alloc, 7, &links)?;
+            compare_loops(&rt, alloc, &graph, &sequences, choice)?;
+        }
+    }
+    Ok(())
+}
+
+/// The loop that is named, beside the one found by trying all sequences of members.
+fn compare_loops(
+    rt: &impl Abort,
+    alloc: Global,
+    graph: &Graph,
+    sequences: &[Vec<usize>],
+    choice: u32,
+) -> Result<(), AllocError> {
+    let members = graph.len();
+    match loop_of(alloc, graph)? {
+        None => assert!(rt; fully_linked(graph, sequences), "{members} {choice}"),
+        Some(found) => {
+            assert!(rt; !fully_linked(graph, sequences), "{members} {choice}");
+            let ring = first_ring(alloc, graph, sequences)?;
+            assert!(rt; goes_round(alloc, &ring, &found)?, "{members} {choice}");
         }
     }
     Ok(())

@@ -192,7 +192,7 @@ fn writes_what_it_reads(rt: HostRuntime) -> Result<(), Fail> {
 }
 
 #[test]
-fn failing_writers_are_told(rt: HostRuntime) -> Result<(), Fail> {
+fn failing_writers_are_reported(rt: HostRuntime) -> Result<(), Fail> {
     let alloc = rt.alloc();
     let list = read(alloc, WRITTEN)?;
     for left in 0u64..WRITTEN.len() as u64 {

@@ -3,8 +3,9 @@
 mod faults;
 mod refused;
 
-use echo_commands::{Status, nodelist, show};
 use echo_device::Watched;
+use echo_reading::{nodelist, show};
+use echo_status::{Status, ended};
 use std::alloc::Global;
 
 /// A packet of 60 bytes without messages, from 1:10/1 to 1:10/2.
@@ -19,7 +20,7 @@ fn shown(alloc: Global, bytes: &[u8], lines: &mut [u8], line: &mut [u8]) -> Endi
     let (most, most_of_line) = (lines.len(), line.len());
     let mut out = Watched::new(lines);
     let mut errors = Watched::new(line);
-    let status = show(alloc, false, bytes, &mut out, &mut errors);
+    let status = ended(show(alloc, false, bytes, &mut out), &mut errors);
     (
         status,
         most.saturating_sub(out.into_inner().len()),
@@ -31,7 +32,7 @@ fn listed(alloc: Global, input: &[u8], lines: &mut [u8], line: &mut [u8]) -> End
     let (most, most_of_line) = (lines.len(), line.len());
     let mut out = Watched::new(lines);
     let mut errors = Watched::new(line);
-    let status = nodelist(alloc, None, input, &mut out, &mut errors);
+    let status = ended(nodelist(alloc, None, input, &mut out), &mut errors);
     (
         status,
         most.saturating_sub(out.into_inner().len()),

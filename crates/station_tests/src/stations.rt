@@ -1,6 +1,7 @@
 use echo_addr::Items;
-use echo_commands::{Given, toss};
+use echo_changing::{Given, toss};
 use echo_device::Watched;
+use echo_packet::Limits;
 use echo_stations::readers_are_what_is_known;
 use std::hash::{BuildHasherDefault, FoldHasher};
 use std::test::Fail;
@@ -13,7 +14,6 @@ const EMPTY: &[u8] =
 fn packets_in_memory(rt: HostRuntime) -> Result<(), Fail> {
     let alloc = rt.alloc();
     let mut out = Watched::new(Vec::new(alloc));
-    let mut errors = Watched::new(Vec::new(alloc));
     let packets = [EMPTY];
     let mut coming: &[&[u8]] = &packets;
     let given: Given<'_, BuildHasherDefault<FoldHasher>> = Given {
@@ -23,8 +23,8 @@ fn packets_in_memory(rt: HostRuntime) -> Result<(), Fail> {
         hasher: BuildHasherDefault::default(),
     };
     readers_are_what_is_known::<&[u8]>();
-    let done = toss(alloc, given, &mut coming, &mut out, &mut errors);
+    let done = toss(alloc, given, Limits::NONE, &mut coming, &mut out);
     let base = done.files.base.as_ref().map(|bytes| bytes.as_slice());
-    assert!(rt; base == Some(b"ECHOBAS2\0\0\0\0\0\0\0\0".as_slice()));
+    assert!(rt; done.fault.is_none() && base == Some(b"ECHOBAS2\0\0\0\0\0\0\0\0".as_slice()));
     Ok(())
 }

@@ -3,7 +3,7 @@ ghost use Rattle.std.specs.Prelude.{◌≡◌, ◌≤◌, [], length, IfErr, IfO
 ghost use Rattle.echo_packet.specs.Header.{AreBytes};
 ghost use Rattle.echo_base.specs.declared.fault.BaseFault.{BaseFault as Fault};
 ghost use Rattle.echo_base.specs.BaseFile.{LoadOf, Loaded};
-ghost use Rattle.echo_base.specs.Loading.{AnswersLoad, CountsLoad, FailsToLoad, IsVersion, ReadsHead, ReadsVersion, TakesBase, TakesStored, TakesMessages, told_behind};
+ghost use Rattle.echo_base.specs.Loading.{AnswersLoad, CountsLoad, FailsToLoad, IsVersion, ReadsHead, ReadsVersion, TakesBase, TakesStored, TakesMessages, fault_behind};
 
 use crate::base::Base;
 use crate::fault::BaseFault;
@@ -27,8 +27,8 @@ struct Head {
 }
 
 // Why a field was not read, behind so many whole messages.
-fn told(broken: Broken, messages: u64) -> BaseFault
-    ensures { result ≡ told_behind broken messages }
+fn broken_fault(broken: Broken, messages: u64) -> BaseFault
+    ensures { result ≡ fault_behind broken messages }
 {
     match broken {
         Broken::Cut => BaseFault::Truncated { messages },
@@ -74,11 +74,11 @@ fn read_head<R: Source>(reader: &mut R) -> Result<Head, BaseFault>
     let version = read_version(reader)?;
     let cursor = match read_long(reader) {
         Ok(cursor) => cursor,
-        Err(broken) => return Err(told(broken, 0)),
+        Err(broken) => return Err(broken_fault(broken, 0)),
     };
     let number = match read_long(reader) {
         Ok(number) => number,
-        Err(broken) => return Err(told(broken, 0)),
+        Err(broken) => return Err(broken_fault(broken, 0)),
     };
     if cursor > number {
         return Err(BaseFault::NotBase);
@@ -105,7 +105,7 @@ fn take_message<R: Source, S: BuildHasher>(
     let place = base.len();
     let stored = match read_stored(alloc, reader, version) {
         Ok(stored) => stored,
-        Err(broken) => return Err(told(broken, place as u64)),
+        Err(broken) => return Err(broken_fault(broken, place as u64)),
     };
     if let Some((key, message)) = judged(alloc, version, cursor, place, stored)? {
         if base.add(key, message)? {

@@ -1,5 +1,6 @@
 //! A file system in memory, of which some calls fail.
 
+use crate::Owned;
 use std::alloc::{AllocError, Allocator, Global};
 use std::cell::{RefCell, RefMut};
 use std::fs::{Metadata, OpenFile, OpenOptions, Permissions};
@@ -9,6 +10,9 @@ use std::rt::Files;
 
 /// How many bytes a write takes at most.
 const PIECE: usize = 4;
+
+/// The folder that all files are in.
+const FOLDER: &str = ".";
 
 /// A file: its name and its bytes.
 #[derive(Drop)]
@@ -27,6 +31,8 @@ pub struct State {
     to: u64,
     /// How many bytes a file had when its permissions were set.
     pub allowed_at: Option<usize>,
+    /// The call that flushed the folder last.
+    pub flushed_at: Option<u64>,
 }
 
 impl State {
@@ -39,6 +45,7 @@ impl State {
             from,
             to,
             allowed_at: None,
+            flushed_at: None,
         }
     }
 
@@ -178,7 +185,10 @@ impl OpenFile for Opened<'_> {
     }
 
     fn sync_all(&self) -> io::Result<()> {
-        called(self.state)?;
+        let mut state = called(self.state)?;
+        if self.name.as_str() == FOLDER {
+            state.flushed_at = Some(state.calls);
+        }
         Ok(())
     }
 
@@ -195,6 +205,12 @@ impl OpenFile for Opened<'_> {
     }
 }
 
+impl Owned for Opened<'_> {
+    fn set_owner(&self, _owner: u32, _group: u32) {
+        let _ = called(self.state);
+    }
+}
+
 impl<'a> Files for Disk<'a> {
     type File = Opened<'a>;
 
@@ -202,14 +218,15 @@ impl<'a> Files for Disk<'a> {
 
     fn open_file(&self, how: &OpenOptions, path: &str) -> io::Result<Opened<'a>> {
         let mut state = called(self.state)?;
-        let there = state.bytes(path).is_some();
-        if how.asks_create() && !there {
+        let there = path == FOLDER || state.bytes(path).is_some();
+        if how.asks_create_new() && there {
+            return Err(io::Error::from(ErrorKind::AlreadyExists));
+        }
+        if how.asks_create_new() {
             state.put(path, &[])?;
+        } else if !there {
+            return Err(io::Error::from(ErrorKind::NotFound));
         }
-        if how.asks_truncate() {
-            state.bytes_mut(path)?.clear();
-        }
-        state.size(path)?;
         let name = String::from_str(state.alloc, path)?;
         Ok(Opened {
             state: self.state,
@@ -244,6 +261,19 @@ impl<'a> Files for Disk<'a> {
         let _ = state.remove(to);
         state.put(to, &bytes)?;
         state.remove(from)
+    }
+
+    fn hard_link(&self, original: &str, link: &str) -> io::Result<()> {
+        let mut state = called(self.state)?;
+        if state.bytes(link).is_some() {
+            return Err(io::Error::from(ErrorKind::AlreadyExists));
+        }
+        let bytes = match state.bytes(original) {
+            Some(bytes) => Vec::from_slice(state.alloc, bytes)?,
+            None => return Err(io::Error::from(ErrorKind::NotFound)),
+        };
+        state.put(link, &bytes)?;
+        Ok(())
     }
 
     fn remove_file(&self, path: &str) -> io::Result<()> {

@@ -5,10 +5,11 @@ ghost use Rattle.echo_links.specs.declared.fault.LinkFault.TheVariants as link;
 ghost use Rattle.echo_links.specs.LinkLines.{first_of, is_one_address, links_fault};
 ghost use Rattle.echo_links.specs.LinkReading.{IsWordOf};
 
+use super::links::Links;
 use crate::fault::LinkFault;
 use echo_addr::{Address, next_token};
-use indexmap::IndexSet;
 use std::alloc::Global;
+use std::collections::BTreeSet;
 
 /// The address that the word writes.
 fn address(word: &[u8]) -> Option<Address>
@@ -37,25 +38,23 @@ pub(super) fn system_in(number: u64, rest: &[u8]) -> Result<Address, LinkFault>
 }
 
 /// The links of an AREA line, by what stands after its tag in the line of this number.
-pub(super) fn links_in(
-    alloc: Global,
-    number: u64,
-    rest: &[u8],
-) -> Result<IndexSet<Address>, LinkFault>
+pub(super) fn links_in(alloc: Global, number: u64, rest: &[u8]) -> Result<Links, LinkFault>
     ensures { MatchResult result
-        (λ links. (links_fault number [] (tokens rest.now) ≡ None) × (links.keys ≡ map address_in (tokens rest.now)))
+        (λ links. (links_fault number [] (tokens rest.now) ≡ None) × (links ≡ map address_in (tokens rest.now)))
         (λ fault. (fault ≡ link.Memory) ⊎ (links_fault number [] (tokens rest.now) ≡ Some fault)) }
 {
-    let mut links = IndexSet::new(alloc);
+    let mut all = Vec::new(alloc);
+    let mut sorted = BTreeSet::new(alloc);
     let mut left = rest;
     'links: while let Some((word, after)) = next_token(left) {
         let Some(address) = address(word) else {
             return Err(LinkFault::BadAddress { line: number });
         };
-        if !links.insert(address)? {
+        if !sorted.insert(address)? {
             return Err(LinkFault::RepeatedLink { line: number });
         }
+        all.push(address)?;
         left = after;
     }
-    Ok(links)
+    Ok(Links { all, sorted })
 }

@@ -1,24 +1,44 @@
 ghost use Rattle.std.specs.Prelude.{◌≡◌, [], ◌∷◌, ◌++◌, None, length, slice_get, option_copied, option_map, is_some, find, bytes_eq, OnOk};
 
-use echo_addr::Address;
-use indexmap::{IndexMap, IndexSet};
-use std::alloc::{AllocFailed, Global};
+use super::links::Links;
+use std::alloc::{AllocError, Global};
+use std::collections::BTreeMap;
 use std::marker::Model;
 
-/// The areas of a link file in order, each with its links in order. An area is found by its tag, and
-/// a link in its area, without going through the others.
+/// An area: its tag and its links.
+#[derive(Debug, Drop)]
+struct Area {
+    tag: Vec<u8>,
+    links: Links,
+}
+
+impl Model for Area {
+    ghost use Rattle.echo_links.specs.Links as model;
+
+    ghost Value = { model.Area };
+
+    ghost view = { λ a. record { tag = a.tag.items; links = a.links } };
+}
+
+/// The areas of a link file in order. An area is found by its tag without going through the others,
+/// whatever tags there are.
 #[derive(Debug, Drop)]
 pub(crate) struct Areas {
-    all: IndexMap<Vec<u8>, IndexSet<Address>>,
+    all: Vec<Area>,
+    // The number of each area by its tag.
+    numbers: BTreeMap<Vec<u8>, usize>,
 }
 
 impl Model for Areas {
-    ghost use Rattle.std.specs.Prelude.{List, map};
+    ghost use Rattle.std.specs.Prelude.{List};
     ghost use Rattle.echo_links.specs.Links as model;
+    ghost use Rattle.echo_links.specs.Found.{LeadToAreas};
 
     ghost Value = { List model.Area };
 
-    ghost view = { λ a. map (λ e. record { tag = e.0.items; links = e.1.keys }) a.all.entries };
+    ghost view = { λ a. a.all.items };
+
+    ghost invariant = { λ a. LeadToAreas (λ key. key.items) a.numbers.entries a.all.items };
 }
 
 impl Areas {
@@ -27,7 +47,8 @@ impl Areas {
         ensures { result ≡ [] }
     {
         Areas {
-            all: IndexMap::new(alloc),
+            all: Vec::new(alloc),
+            numbers: BTreeMap::new(alloc),
         }
     }
 
@@ -42,34 +63,47 @@ impl Areas {
     pub(crate) fn tag(&self, i: usize) -> Option<&[u8]>
         ensures { option_copied result ≡ option_map (λ area. area.tag) (slice_get self.now i) }
     {
-        let (tag, _) = self.all.get_index(i)?;
-        Some(tag.as_slice())
+        let area = self.all.get(i)?;
+        Some(area.tag.as_slice())
     }
 
     /// The links of the area with this tag.
-    pub(crate) fn links(&self, tag: &[u8]) -> Option<&IndexSet<Address>>
-        ensures { option_map (λ links. links.keys) (option_copied result) ≡ option_map (λ area. area.links) (find (λ area. bytes_eq area.tag tag.now) self.now) }
+    pub(crate) fn links(&self, tag: &[u8]) -> Option<&Links>
+        ensures { option_copied result ≡ option_map (λ area. area.links) (find (λ area. bytes_eq area.tag tag.now) self.now) }
     {
-        self.all.get(tag)
+        let number = *self.numbers.get(tag)?;
+        self.links_at(number)
+    }
+
+    // The links of the area of this number.
+    fn links_at(&self, i: usize) -> Option<&Links>
+        ensures { option_copied result ≡ option_map (λ area. area.links) (slice_get self.now i) }
+    {
+        let area = self.all.get(i)?;
+        Some(&area.links)
     }
 
     /// Whether there is an area with this tag.
     pub(crate) fn has(&self, tag: &[u8]) -> bool
         ensures { result ≡ is_some (find (λ area. bytes_eq area.tag tag.now) self.now) }
     {
-        self.all.contains_key(tag)
+        self.numbers.contains_key(tag)
     }
 
     /// Adds an area with a new tag.
-    pub(crate) fn push(
-        &mut self,
-        tag: Vec<u8>,
-        links: IndexSet<Address>,
-    ) -> Result<(), AllocFailed<(Vec<u8>, IndexSet<Address>)>>
+    pub(crate) fn push(&mut self, tag: Vec<u8>, links: Links) -> Result<(), AllocError>
         requires { find (λ area. bytes_eq area.tag tag.items) self.old ≡ None }
-        ensures { OnOk result (self.new ≡ self.old ++ record { tag = tag.items; links = links.keys } ∷ []) }
+        ensures { OnOk result (self.new ≡ self.old ++ record { tag = tag.items; links = links } ∷ []) }
     {
-        self.all.insert(tag, links)?;
-        Ok(())
+        let key = Vec::from_slice(*tag.allocator(), &tag)?;
+        let number = self.all.len();
+        self.all.push(Area { tag, links })?;
+        match self.numbers.insert(key, number) {
+            Ok(_) => Ok(()),
+            Err(_) => {
+                self.all.pop();
+                Err(AllocError)
+            }
+        }
     }
 }

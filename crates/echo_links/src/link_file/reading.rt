@@ -12,7 +12,7 @@ use super::areas::Areas;
 use super::lines::{has_control_byte, is_skipped, split_line};
 use crate::fault::LinkFault;
 use echo_addr::{Address, Items, next_token};
-use echo_text::{in_upper_case, is_tag, trimmed};
+use echo_text::{is_tag, trimmed};
 use std::alloc::Global;
 
 /// The first words of lines.
@@ -108,7 +108,7 @@ impl Reading {
         if !is_tag(word) {
             return Err(bad);
         }
-        let tag = in_upper_case(alloc, word)?;
+        let tag = word.to_ascii_uppercase(alloc)?;
         if self.areas.has(&tag) {
             return Err(LinkFault::RepeatedArea { line: number });
         }

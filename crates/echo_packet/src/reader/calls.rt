@@ -4,18 +4,16 @@ ghost use Rattle.std.specs.Io.KnownBytes.{Consumes};
 ghost use Rattle.echo_packet.specs.declared.fault.PacketFault.TheVariants.{Memory, Stopped};
 ghost use Rattle.echo_packet.specs.Header.{IsHeader, header_bytes};
 ghost use Rattle.echo_packet.specs.Fault.{place_of};
-ghost use Rattle.echo_packet.specs.Field.{FailsInField, IsShort};
 ghost use Rattle.echo_packet.specs.Next.{CountsFailures, FailsInMessage, IsWithin, NextFault, TakesNext, next_bytes};
-ghost use Rattle.echo_packet.specs.Reader.{FrontFault, GoesOn, IsDropped, IsEnded, IsReading, IsStopped, KeepsFront, reader_given, reader_header, reader_limits, reader_place, reader_source};
+ghost use Rattle.echo_packet.specs.Reader.{FailsInFront, FrontFault, GoesOn, IsDropped, IsEnded, IsReading, IsStopped, KeepsFront, reader_given, reader_header, reader_limits, reader_place, reader_source};
 
 use crate::fault::PacketFault;
-use crate::field::read_fixed;
 use crate::header::{HEADER_BYTES, Header, header_of, number_at};
 use crate::limits::Limits;
-use crate::message::{name_fault, read_next};
+use crate::message::{broken_fault, read_next};
 use crate::packed::Packed;
 use crate::reader::{PacketReader, Stage};
-use echo_device::{Source, are_bytes};
+use echo_device::{Source, read_fixed};
 use std::alloc::Global;
 
 /// The header at the front of what the source has, and no byte more.
@@ -27,14 +25,12 @@ pub fn read_header<R: Source>(source: &mut R) -> Result<Header, PacketFault>
     ensures taken { IfOk result (λ h. Consumes (R.remaining source.old) (R.remaining source.new) (header_bytes h)) }
     ensures fault { IfSome (R.remaining source.old) (λ bs. IfErr result (FrontFault bs)) }
     ensures memory { result ≢ Err Memory }
-    ensures inside { IfErr result (FailsInField (IsShort 58) 0 (R.remaining source.old) (R.remaining source.new)) }
+    ensures inside { IfErr result (FailsInFront (R.remaining source.old) (R.remaining source.new)) }
     ensures device { CountsFailures result (R.failures source.old) (R.failures source.new) }
 {
     let mut bytes = [0u8; HEADER_BYTES];
-    let read = read_fixed(source, &mut bytes);
-    are_bytes(&bytes);
-    if let Err(broken) = read {
-        return Err(name_fault(broken, 0));
+    if let Err(broken) = read_fixed(source, &mut bytes) {
+        return Err(broken_fault(broken, 0));
     }
     let kind = number_at(&bytes, 18);
     if kind != 2 {
@@ -89,21 +85,18 @@ impl<R: Source> PacketReader<R> {
             Stage::Ended => return Ok(None),
             Stage::Stopped => return Err(PacketFault::Stopped),
         }
-        let mut place = self.place;
         match read_next(
             self.alloc,
             &mut self.source,
             self.limits,
             self.given,
-            &mut place,
+            &mut self.place,
         ) {
             Ok(Some(message)) => {
                 self.given += 1;
-                self.place = place;
                 Ok(Some(message))
             }
             Ok(None) => {
-                self.place = place;
                 self.stage = Stage::Ended;
                 Ok(None)
             }

@@ -153,8 +153,11 @@ fn addresses_are_written(rt: HostRuntime) {
         node: 2,
     };
     assert!(rt; address.net_node() == entry(10, 2));
-    let Ok(text) = address.to_string(rt.alloc()) else {
-        return;
+    // Where memory was refused, the second call has it.
+    let text = match address.to_string(rt.alloc()) {
+        Ok(text) => Ok(text),
+        Err(_) => address.to_string(rt.alloc()),
     };
-    assert!(rt; text.as_str() == "1:10/2");
+    let same = text.map(|text| text.as_str() == "1:10/2");
+    assert!(rt; same.unwrap_or(false));
 }

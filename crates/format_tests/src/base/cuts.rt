@@ -7,7 +7,7 @@ fn is_cut_everywhere(alloc: Global, bytes: &[u8]) -> bool {
         == Some(BaseFault::Truncated { messages: 0 }))
 }
 
-// Whether a reader that fails after so many of the bytes is told.
+// Whether a reader that fails after so many of the bytes is reported.
 fn fails_to_load(alloc: Global, bytes: &[u8], n: usize) -> bool {
     let mut reader = Watched::new(Trial::new(bytes, 7, 1, n as u64));
     matches!(
@@ -16,7 +16,7 @@ fn fails_to_load(alloc: Global, bytes: &[u8], n: usize) -> bool {
     )
 }
 
-// Whether a writer that fails after so many bytes is told, and how many went.
+// Whether a writer that fails after so many bytes is reported, and how many went.
 fn fails_to_save(alloc: Global, base: &Folded, n: u64) -> bool {
     let mut writer = Watched::new(Trial::new(Vec::new(alloc), 7, 1, n));
     match base.save(&mut writer) {

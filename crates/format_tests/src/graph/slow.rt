@@ -50,6 +50,30 @@ pub fn chosen(
     Ok(links)
 }
 
+/// The links of two polygons of four, of which one ends at member 3, where the other begins.
+pub fn chained(alloc: Global) -> Result<Vec<(usize, usize)>, AllocError> {
+    let mut links = Vec::new(alloc);
+    for first in [0, 3] {
+        for (one, other) in pairs(alloc, 4)? {
+            links.push((first + one, first + other))?;
+        }
+    }
+    Ok(links)
+}
+
+/// The links of seven members under other numbers.
+pub fn renumbered(
+    alloc: Global,
+    links: &[(usize, usize)],
+    factor: usize,
+) -> Result<Vec<(usize, usize)>, AllocError> {
+    let mut renumbered = Vec::new(alloc);
+    for (one, other) in links {
+        renumbered.push((one.wrapping_mul(factor) % 7, other.wrapping_mul(factor) % 7))?;
+    }
+    Ok(renumbered)
+}
+
 /// All sequences of different members, the shorter first, and those of one length in order.
 pub fn sequences(alloc: Global, members: usize) -> Result<Vec<Vec<usize>>, AllocError> {
     let mut all = Vec::new(alloc);

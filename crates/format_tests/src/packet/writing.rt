@@ -40,7 +40,7 @@ fn write_packet<W: Sink + Drop>(device: W, message: &Packed) -> Result<W, Packet
     let header = read_header(&mut &FIRST[..])?;
     let mut packet = PacketWriter::begin(device, &header)?;
     packet.put(message)?;
-    packet.finish()
+    Ok(packet.finish()?)
 }
 
 // What a device that takes pieces and fails after so many bytes gets of the packet. The bytes behind
@@ -63,7 +63,7 @@ fn writes_the_first_posting(rt: HostRuntime) -> Result<(), Fail> {
 }
 
 #[test]
-fn failing_writers_are_told(rt: HostRuntime) -> Result<(), Fail> {
+fn failing_writers_are_reported(rt: HostRuntime) -> Result<(), Fail> {
     let message = first_message(rt.alloc())?;
     for left in 0u64..212 {
         let (fault, same) = write_case(&message, SIZE, left);
@@ -81,13 +81,43 @@ fn stops_after_a_fault(rt: HostRuntime) -> Result<(), Fail> {
     let header = read_header(&mut &FIRST[..])?;
     let mut out = [0u8; SIZE];
     let device = Watched::new(Trial::new(&mut out[..], SIZE, 0, 100));
-    let mut packet = PacketWriter::begin(device, &header)?;
+    let mut packet = PacketWriter::begin(device, &header).map_err(PacketFault::from)?;
     assert_eq!(rt;
         packet.put(&message),
         Err(PacketFault::Write { bytes: 100 })
     );
     assert_eq!(rt; packet.put(&message), Err(PacketFault::Stopped));
-    assert_eq!(rt; packet.finish().err(), Some(PacketFault::Stopped));
+    let stopped = packet.finish().err().map(|unfinished| unfinished.fault);
+    assert_eq!(rt; stopped, Some(PacketFault::Stopped));
+    Ok(())
+}
+
+// A device that fails in each second write and takes all bytes in the others gets nothing between a
+// failed write and the fault, whichever call met it.
+#[test]
+fn sends_nothing_after_a_fault(rt: HostRuntime) -> Result<(), Fail> {
+    let message = first_message(rt.alloc())?;
+    let header = read_header(&mut &FIRST[..])?;
+    let mut out = [0xffu8; SIZE];
+    let mut device = Watched::new(Trial::new(&mut out[..], SIZE, 16, 1000));
+    // The write of the header is the first, and fails.
+    let begun = PacketWriter::begin(&mut device, &header);
+    let fault = begun.err().map(|unfinished| unfinished.fault);
+    assert_eq!(rt; fault, Some(PacketFault::Write { bytes: 0 }));
+    // Here it is the second, and the first of the message fails.
+    let mut packet = PacketWriter::begin(&mut device, &header).map_err(PacketFault::from)?;
+    assert_eq!(rt; packet.put(&message), Err(PacketFault::Write { bytes: 58 }));
+    assert_eq!(rt; packet.put(&message), Err(PacketFault::Stopped));
+    let fault = packet.finish().err().map(|unfinished| unfinished.fault);
+    assert_eq!(rt; fault, Some(PacketFault::Stopped));
+    // The header behind that one, and its terminator, whose write fails.
+    let packet = PacketWriter::begin(&mut device, &header).map_err(PacketFault::from)?;
+    let fault = packet.finish().err().map(|unfinished| unfinished.fault);
+    assert_eq!(rt; fault, Some(PacketFault::Write { bytes: 58 }));
+    assert_eq!(rt; device.failures(), 3);
+    assert_eq!(rt; out[..58], FIRST[..58]);
+    assert_eq!(rt; out[58..116], FIRST[..58]);
+    assert!(rt; out[116..].iter().all(|byte| *byte == 0xff));
     Ok(())
 }
 
@@ -126,5 +156,33 @@ fn gives_the_parts(rt: HostRuntime) -> Result<(), Fail> {
     assert_eq!(rt; message.from_name(), b"Ann".as_slice());
     assert_eq!(rt; message.subject(), b"Hi".as_slice());
     assert_eq!(rt; message.text().len(), 106);
+    Ok(())
+}
+
+// A copy of a message for 20/7.
+fn copy_of(alloc: Global, message: &Packed) -> Result<Packed, AllocError> {
+    match message.copy_for(alloc, 7, 20) {
+        Ok(copy) => Ok(copy),
+        Err(_) => message.copy_for(alloc, 7, 20),
+    }
+}
+
+fn is_for_another(copy: &Packed) -> bool {
+    (copy.orig_node(), copy.orig_net()) == (1, 10)
+        && (copy.dest_node(), copy.dest_net()) == (7, 20)
+        && copy.text() == &FIRST[TEXT..209]
+}
+
+#[test]
+fn copies_are_for_another_system(rt: HostRuntime) -> Result<(), Fail> {
+    let alloc = rt.alloc();
+    let message = first_message(alloc)?;
+    assert!(rt; is_for_another(&copy_of(alloc, &message)?));
+    let shared = match message.shared(alloc) {
+        Ok(shared) => shared,
+        Err(_) => first_message(alloc)?.shared(alloc)?,
+    };
+    assert_eq!(rt; shared.subject(), b"Hi".as_slice());
+    assert!(rt; is_for_another(&copy_of(alloc, &shared)?));
     Ok(())
 }

@@ -241,3 +241,23 @@ fn texts_of_one_part(rt: HostRuntime) -> Result<(), Fail> {
     assert!(rt; is_seen(rt.alloc(), b"AREA:T\r\r\n\r", &nothing)?);
     Ok(())
 }
+
+#[test]
+fn lines_are_copied(rt: HostRuntime) -> Result<(), Fail> {
+    let alloc = rt.alloc();
+    let text = checked(FIRST_POSTING).ok_or("a text has no 00")?;
+    let (echo, _) = read(alloc, text)?;
+    let copy = match echo.kept.copy(alloc) {
+        Ok(copy) => copy,
+        Err(_) => echo.kept.copy(alloc)?,
+    };
+    let want: [&[u8]; 4] = [
+        b"\x01MSGID: 1:10/1 00000001",
+        b"Hello",
+        b"--- echonet",
+        b" * Origin: Alpha (1:10/1)",
+    ];
+    assert!(rt; are_lines(&copy, &want));
+    assert!(rt; copy == echo.kept);
+    Ok(())
+}

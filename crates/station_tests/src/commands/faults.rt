@@ -1,10 +1,10 @@
 use echo_addr::Address;
 use echo_base::BaseFault;
-use echo_commands::Fault;
 use echo_device::Watched;
 use echo_links::LinkFault;
 use echo_nodelist::NodeFault;
 use echo_packet::{Field, PacketFault};
+use echo_status::Fault;
 use echo_steps::{PostFault, ScanFault};
 use echo_text::TextFault;
 

@@ -4,7 +4,8 @@ use super::*;
 use echo_device::Watched;
 
 // The chain after the script, if memory is there.
-fn scripted(alloc: Global, script: &[u8]) -> Option<World> {
+fn scripted(rt: &HostRuntime, script: &[u8]) -> Option<World> {
+    let alloc = rt.alloc();
     let mut links = Vec::new(alloc);
     for file in CHAIN {
         links
@@ -12,32 +13,49 @@ fn scripted(alloc: Global, script: &[u8]) -> Option<World> {
             .ok()?;
     }
     let events = read_script(alloc, script).ok()?;
-    replay(alloc, links, &events).ok()
+    replay(alloc, links, &events, RandomState::new(rt).ok()?).ok()
 }
 
-// What the script of the chain says as events and what is told after it, if memory is there.
-fn answered(alloc: Global) -> Option<String> {
-    let world = scripted(alloc, SCRIPT)?;
-    told(alloc, 3, &world).ok()
+// How many messages each of so many systems has and has waiting, and what became of the packets.
+fn text_of(alloc: Global, systems: usize, world: &World) -> Result<String, AllocError> {
+    let mut text = String::new(alloc);
+    for i in 0..systems {
+        let filed = world.filed(i, b"TEST");
+        let waiting = world.waiting(i, b"TEST");
+        text.push_str(format!(in alloc; "{filed}/{waiting} ")?.as_str())?;
+    }
+    let packets = world.packets();
+    let missing = world.undelivered();
+    let settled = world.settled();
+    text.push_str(format!(in alloc;
+        "packets {packets} undelivered {missing} {settled}"
+    )?.as_str())?;
+    Ok(text)
+}
+
+// What the script of the chain says as events and what is printed after it, if memory is there.
+fn answered(rt: &HostRuntime) -> Option<String> {
+    let world = scripted(rt, SCRIPT)?;
+    text_of(rt.alloc(), 3, &world).ok()
 }
 
 const SCRIPT: &[u8] =
     b"POST 0 TEST 00000001 Hello\nSCAN 0\nDELIVER 0\nPURGE 0\nSCAN 1\nDELIVER 1\n";
 
-const TOLD: &str = "1/0 1/0 1/1 packets 2 undelivered 0 false";
+const TEXT: &str = "1/0 1/0 1/1 packets 2 undelivered 0 false";
 
-// Whether it is what is to be told, where anything is.
+// Whether it is the text that is to come, where any is.
 fn is_right(answer: &Option<String>) -> bool {
     match answer {
-        Some(text) => text.as_str() == TOLD,
+        Some(text) => text.as_str() == TEXT,
         None => true,
     }
 }
 
 #[test]
 fn a_refused_replay(rt: HostRuntime) -> Result<(), Fail> {
-    let first = answered(rt.alloc());
-    let second = answered(rt.alloc());
+    let first = answered(&rt);
+    let second = answered(&rt);
     assert!(rt; is_right(&first) && is_right(&second));
     assert!(rt; first.is_some() || second.is_some());
     Ok(())
@@ -70,9 +88,9 @@ fn is_saved(alloc: Global, world: &World) -> bool {
 #[test]
 fn a_refused_save(rt: HostRuntime) -> Result<(), Fail> {
     let alloc = rt.alloc();
-    let world = match scripted(alloc, POSTING) {
+    let world = match scripted(&rt, POSTING) {
         Some(world) => Some(world),
-        None => scripted(alloc, POSTING),
+        None => scripted(&rt, POSTING),
     };
     assert!(rt; world.is_some_and(|world| is_saved(alloc, &world)));
     Ok(())

@@ -34,7 +34,7 @@ const SAVED: &[(&[Step], usize, Option<&[u8]>)] = &[
 fn base_files(rt: HostRuntime) -> Result<(), Fail> {
     let alloc = rt.alloc();
     for (steps, system, expected) in SAVED {
-        let world = played(alloc, CHAIN, *steps)?;
+        let world = played(&rt, CHAIN, *steps)?;
         let mut writer = Watched::new(Vec::new(alloc));
         let answer = world.save(*system, &mut writer);
         let wanted = expected.map(|_| Ok(()));
@@ -47,7 +47,7 @@ fn base_files(rt: HostRuntime) -> Result<(), Fail> {
 #[test]
 fn failing_writers(rt: HostRuntime) -> Result<(), Fail> {
     let alloc = rt.alloc();
-    let world = played(alloc, CHAIN, &[Post(0)])?;
+    let world = played(&rt, CHAIN, &[Post(0)])?;
     for left in 0..POSTED.len() {
         let bytes = left as u64;
         let mut writer = Watched::new(Trial::new(Vec::new(alloc), 7, 1, bytes));

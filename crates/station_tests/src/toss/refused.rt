@@ -61,7 +61,7 @@ fn a_refused_scan(rt: HostRuntime) -> Result<(), Fail> {
     Ok(())
 }
 
-// What a toss counts, where it filed just what it counts and stopped, if at all, for want of memory.
+// What a toss counts, where it filed just what it counts and stopped, if at all, because memory ran out.
 fn counted(beta: &mut System, packet: &[u8]) -> Option<Tally> {
     let before = beta.filed() as u64;
     let tally = match tossed(beta, packet, Limits::NONE) {

@@ -1,9 +1,14 @@
-use Rattle.std.proofs.Common.{◌<◌, ◌+◌, ℕ, IsTrue, List, get_or, refl, subst, arith, below_more}
+use Rattle.std.proofs.Common.{◌<◌, ◌+◌, ℕ, IsTrue, List, length, get_or, refl, sym, ◌∙◌, subst, arith, below_more}
+use Rattle.std.proofs.lemmas.Bool.{ltb-true}
 use Rattle.echo_graph.specs.Rows.{linked}
 use Rattle.std.proofs.lemmas.Option.{MatchOption-at_some, MatchOption-at_none}
 use Rattle.echo_graph.specs.Pinches.{IsPinch, FirstOther}
 use Rattle.echo_graph.proofs.PinchSearch.{FirstHere-here, no_pinch_at, row_link}
+use Rattle.echo_graph.specs.Blocks.{block_of, top_of, rank_of}
+use Rattle.echo_graph.proofs.PinchSearch.{Simple-from_graph}
+use Rattle.echo_graph.proofs.BlockWalks.{no_pinch_covered}
 use Rattle.echo_graph.proofs.pinching.first_pinch_at.Goals as goal
+use Rattle.echo_graph.proofs.pinching.first_pinch_at.Goals.{then-chosen-at, else-chosen-at}
 
 pub first_around-requires-clause-within : goal.first_around-requires-clause-within
 first_around-requires-clause-within c =
@@ -29,6 +34,29 @@ returns-in-Some c =
       FirstHere-here c.args.graph.now c.args.at c.links.one-index c.in-Some.other row c.links-one-items.ensures.sound c.links-one-items.ensures.value c.links-test.true c.links.invariant
           (MatchOption-at_some ((f : ℕ) → ¬ IsPinch (linked c.args.graph.now) c.args.at (get_or row c.links.one-index 0) f) (FirstOther (linked c.args.graph.now) c.args.at (get_or row c.links.one-index 0)) c.in-Some.other c.in-Some.is c.in_ok-other.ensures),
     )
+
+pub links-preserved-then-on_one_side : goal.links-preserved-then-on_one_side
+links-preserved-then-on_one_side c =
+    let rows = c.args.graph.now in
+    let blocks = c.args.blocks.now in
+    let graph = c.links-one-items.ensures.sound in
+    let row : List ℕ = c.links-one-items.result.now in
+    let one : ℕ = get_or row c.links.one-index 0 in
+    let here : (f : ℕ) → ¬ IsPinch (linked rows) c.args.at one f = λ f.
+    elim c.if-chosen-at.branch [
+      | then-chosen-at w ↦
+          no_pinch_covered (linked rows) (Simple-from_graph rows graph) (length rows) graph.within (block_of blocks) (top_of blocks) (rank_of blocks) c.requires.blocks c.args.at c.chosen_link-chosen.result one f
+          w.if-chosen-at.true
+          (λ d e. c.requires.earlier c.chosen_link-chosen.result d e w.if-chosen-at.true)
+          (w.is_covered-covered.ensures (sym w.covered-is ∙ c.if-covered.true))
+          (c.on_one_side.ensures.0 c.if-on_one_side.true)
+      | else-chosen-at w ↦
+          let before : c.chosen_link-chosen.result < c.args.at = ltb-true c.chosen_link-chosen.result c.args.at (sym w.covered-is ∙ c.if-covered.true) in
+          absurd (omega (arith, w.if-chosen-at.false))
+    ] in
+    let all : (k : ℕ) → k < c.links.one-index + 1 → (f : ℕ) → ¬ IsPinch (linked rows) c.args.at (get_or row k 0) f =
+    below_more (λ k. (f : ℕ) → ¬ IsPinch (linked rows) c.args.at (get_or row k 0) f) c.links.one-index (λ k lt f. c.links.invariant k f lt) here in
+    λ k f lt. all k lt f
 
 pub links-preserved : goal.links-preserved
 links-preserved c =

@@ -1,6 +1,7 @@
 use Rattle.std.proofs.Common.{◌<◌, IsTrue, arith}
 use Rattle.std.proofs.lemmas.Bool.{false≢true}
 use Rattle.echo_graph.specs.Rows.{linked}
+use Rattle.echo_graph.specs.Blocks.{block_of, top_of, OnOneSide}
 use Rattle.echo_graph.proofs.Kinship.{for_each_link}
 use Rattle.echo_graph.proofs.pinching.has_unlinked.Goals as goal
 
@@ -9,7 +10,9 @@ returns c = (
   λ yes. absurd (false≢true yes),
   λ found.
       absurd
-      (found.3
-      (for_each_link c.args.graph.now c.args.at c.links-other-items.result.now (λ b. c.args.one < b → IsTrue (linked c.args.graph.now c.args.one b)) c.links-other-items.ensures.value
-      (λ k lt. c.others.invariant k (omega arith)) found.0 found.1 found.2)),
+      (found.4
+      (for_each_link c.args.graph.now c.args.at c.links-other-items.result.now
+      (λ b. c.args.one < b → OnOneSide (block_of c.args.blocks.now) (top_of c.args.blocks.now) c.args.at c.args.one b → IsTrue (linked c.args.graph.now c.args.one b))
+      c.links-other-items.ensures.value
+      (λ k lt. c.others.invariant k (omega arith)) found.0 found.1 found.2 found.3)),
 )

@@ -1,6 +1,6 @@
 use Rattle.std.proofs.Common.{◌≡◌, ◌+◌, ◌-◌, length, arith}
 use Rattle.std.proofs.lemmas.Result.{err_from_is_err_and}
-use Rattle.echo_packet.proofs.Strings.{breaks-more, last-fits}
+use Rattle.echo_packet.proofs.Strings.{breaks-more, past-more}
 use Rattle.echo_packet.proofs.field.read_string.Goals as goal
 
 pub returns-in_err-take_piece-clause-broken : goal.returns-in_err-take_piece-clause-broken
@@ -10,8 +10,8 @@ returns-in_err-take_piece-clause-broken g c =
     let p = err_from_is_err_and c.from_residual.result c.from_residual.ensures.1 in
     rw (p.1, p.2) (breaks-more c.args.most _ _ _ _ c.pieces.string.items _ so_far.took so_far.no_zero fits c.in_err-take_piece.ensures.step)
 
-pub returns-then-branch-clause-found : goal.returns-then-branch-clause-found
-returns-then-branch-clause-found g c =
+pub returns-in-TooLong-clause-too_long : goal.returns-in-TooLong-clause-too_long
+returns-in-TooLong-clause-too_long g c =
+    let so_far = c.pieces.invariant in
     let fits : length c.pieces.string.items + (c.args.most - c.len.result) ≡ c.args.most = omega arith in
-    last-fits c.args.most _ c.pieces.string.items _ _ _ _ c.if-branch.true c.in_ok-take_piece.ensures.step c.pieces.invariant.no_zero fits
-    (λ i. rw (← c.deref.ensures.value) (c.are_bytes.ensures i))
+    past-more c.args.most _ _ _ _ c.pieces.string.items so_far.took so_far.no_zero fits (rw c.in-TooLong.is at c.in_ok-take_piece.ensures.step)

@@ -1,8 +1,9 @@
 use Rattle.std.proofs.Common.{◌∙◌, ap, sym, arith, [], Err}
 use Rattle.std.proofs.lemmas.Result.{err_from_is_err_and}
+use Rattle.echo_packet.specs.Header.{word}
 use Rattle.echo_packet.specs.Next.{FailsInMessage, NextFault}
 use Rattle.echo_packet.proofs.FieldsSoFar.{at_exit, at_exit_if}
-use Rattle.echo_packet.proofs.NextNumber.{number-cut, number-inside, then-inside, number-other, number-many, number-then, takes-whole}
+use Rattle.echo_packet.proofs.NextNumber.{number-bytes, number-cut, number-inside, number-lost, then-inside, number-other, number-many, number-then, takes-whole}
 use Rattle.echo_packet.proofs.message.read_next.Goals as goal
 
 pub returns-in_err-fixed_at-clause-fault : goal.returns-in_err-fixed_at-clause-fault
@@ -38,8 +39,17 @@ returns-in_err-message-clause-inside g c =
     let behind = c.in_err-message.ensures.fails c.args.given start c.if-given-limits.false (omega (arith, c.in_ok-fixed_at.ensures.place)) in
     let p = err_from_is_err_and c.from_residual-in_err-message.result c.from_residual-in_err-message.ensures.1 in
     at_exit c.from_residual-in_err-message.result _ (FailsInMessage c.args.limits c.args.given start [] _ _) (p.1 ∙ ap Err p.2)
-    (then-inside c.args.limits c.args.given start _ _ _ c.fixed_at.new.field _ c.fixed_at.ensures.bytes (omega arith) c.in_ok-fixed_at.ensures.taken
-    (sym c.number_at-number.ensures ∙ c.if-number-ne2.false) behind.inside)
+    (then-inside c.args.limits c.args.given start _ _ _ c.fixed_at.new.field _
+    (number-bytes c.fixed_at.new.field c.fixed_at.ensures.bytes (omega arith) ∙ ap word (sym c.number_at-number.ensures ∙ c.if-number-ne2.false))
+    c.in_ok-fixed_at.ensures.taken behind.inside)
+
+pub returns-then-number-ne2-clause-inside : goal.returns-then-number-ne2-clause-inside
+returns-then-number-ne2-clause-inside g c =
+    number-lost c.args.limits c.args.given c.args.place.now _ _ c.fixed_at.new.field (omega arith) (omega arith) c.in_ok-fixed_at.ensures.taken
+
+pub returns-then-given-limits-clause-inside : goal.returns-then-given-limits-clause-inside
+returns-then-given-limits-clause-inside g c =
+    number-lost c.args.limits c.args.given c.args.place.now _ _ c.fixed_at.new.field (omega arith) (omega arith) c.in_ok-fixed_at.ensures.taken
 
 pub returns-then-number-ne2-clause-fault : goal.returns-then-number-ne2-clause-fault
 returns-then-number-ne2-clause-fault g c =

@@ -3,7 +3,7 @@ use Rattle.std.specs.List.{flat_map}
 use Rattle.std.proofs.lemmas.Bool.{eqb-true}
 use Rattle.std.proofs.lemmas.List.{append-nil}
 use Rattle.echo_text.proofs.TextLines.{no_lines}
-use Rattle.echo_print.specs.Escaped.{escaped_line}
+use Rattle.echo_escape.specs.Escaped.{escaped_line}
 use Rattle.echo_print.proofs.base_text.push_kept.Goals as goal
 
 pub returns : goal.returns

@@ -1,7 +1,7 @@
 use Rattle.std.proofs.Common.{◌≡◌, ◌++◌, codes, length}
 use Rattle.std.specs.List.{flat_map}
 use Rattle.echo_text.specs.Lines.{lines}
-use Rattle.echo_print.specs.Escaped.{escaped_line}
+use Rattle.echo_escape.specs.Escaped.{escaped_line}
 use Rattle.echo_print.proofs.base_text.push_kept.Given as goal
 
 abbrev pub invariant-kept : goal.invariant-kept

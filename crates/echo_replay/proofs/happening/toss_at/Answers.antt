@@ -5,7 +5,7 @@ use Rattle.echo_steps.specs.declared.packet.Packet.{Packet}
 use Rattle.echo_links.specs.Links.{LinkFile}
 use Rattle.echo_run.specs.Run.{destination}
 use Rattle.echo_steps.specs.Tossing.{destination_of}
-use Rattle.echo_toss.specs.Unpacked.{PacketStep}
+use Rattle.echo_toss.specs.PacketSteps.{PacketStep}
 use Rattle.echo_toss.proofs.WholePackets.{whole_packet}
 use Rattle.echo_packet.specs.Packet.{PacketOf}
 use Rattle.echo_replay.specs.Worlds.{unlimited}

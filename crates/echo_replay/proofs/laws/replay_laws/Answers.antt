@@ -1,4 +1,4 @@
-use Rattle.std.proofs.Common.{◌≡◌, ℕ, ◌≤◌, List, [], ◌∷◌, map, refl, sym, subst, inl, inr, ◌⊎◌}
+use Rattle.std.proofs.Common.{◌≡◌, ◌≤◌, List, [], ◌∷◌, map, refl, sym, subst, inl, inr}
 use Rattle.echo_graph.specs.Walk.{Among}
 use Rattle.echo_run.specs.Orderly.{count}
 use Rattle.echo_run.specs.Run.{System, run_of}

@@ -1,7 +1,7 @@
 use Rattle.echo_run.specs.Run.{run_of}
 use Rattle.echo_run.proofs.TosserLaws.{the_laws}
 use Rattle.echo_run.proofs.WellFormed.{filed-once}
-use Rattle.echo_run.proofs.TidyRuns.{run-ok}
+use Rattle.echo_run.proofs.WholeRuns.{run-ok}
 use Rattle.echo_run.proofs.laws.each_message_is_filed_once.Goals as goal
 
 pub returns : goal.returns

@@ -1,9 +1,9 @@
 use Rattle.std.proofs.Common.{sym, ap, ◌∙◌}
 use Rattle.echo_run.specs.Orderly.{tag_of}
 use Rattle.echo_run.proofs.TosserLaws.{the_laws}
-use Rattle.echo_run.proofs.AreaView.{key-tag}
+use Rattle.echo_run.proofs.Areas.{key-tag}
 use Rattle.echo_run.proofs.Origins.{run-traced}
-use Rattle.echo_run.proofs.AreaView.{Content}
+use Rattle.echo_run.specs.Keeping.{Content}
 use Rattle.echo_run.proofs.laws.each_message_was_posted.Goals as goal
 
 pub returns : goal.returns

@@ -7,7 +7,7 @@ use Rattle.echo_steps.specs.Tossing.{received}
 use Rattle.echo_run.specs.Orderly.{origin}
 use Rattle.echo_run.proofs.Lists.{filter-all}
 use Rattle.echo_run.proofs.TosserLaws.{the_laws}
-use Rattle.echo_run.proofs.TidyRuns.{run-ok}
+use Rattle.echo_run.proofs.WholeRuns.{run-ok}
 use Rattle.echo_run.proofs.laws.packets_hold_echomail.Goals as goal
 
 pub returns : goal.returns

@@ -1,8 +1,8 @@
-use Rattle.std.proofs.lemmas.List.Filters.{dedup_is}
-use Rattle.echo_text.proofs.Sets.{same, set_of_sorted}
+use Rattle.echo_text.proofs.Sets.{same_is, set_in_order}
 use Rattle.echo_text.proofs.listed.set_of.Goals as goal
 
+pub put_in_order-requires : goal.put_in_order-requires
+put_in_order-requires c = same_is
+
 pub returns : goal.returns
-returns c =
-    rw (dedup_is same c.sort_unstable.new.self.items c.dedup.new.self.items c.dedup.ensures.filtered)
-    (set_of_sorted c.args.entries.items c.sort_unstable.new.self.items c.sort_unstable.ensures.permutation c.sort_unstable.ensures.sorted)
+returns c = set_in_order c.args.entries.items c.put_in_order.new.values.items c.put_in_order.ensures.ascending c.put_in_order.ensures.members

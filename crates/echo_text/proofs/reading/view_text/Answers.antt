@@ -25,7 +25,7 @@ invariant_of-view c =
     in
     read_is_echo c.args.text.now _ _ c.requires
     (read_text_is c.args.text.now c.split_line.result.0.now c.split_line.result.1.now _ _ _ _ _ c.split_line.ensures.first c.split_line.ensures.later
-    c.in_ok-raw.ensures.refused (c.new.ensures ∙ c.in_ok-tag.ensures ∙ c.in_ok-raw.ensures.tag) says)
+    c.in_ok-raw.ensures.refused (c.new.ensures ∙ c.in_ok-tag.ensures.ok ∙ c.in_ok-raw.ensures.tag) says)
 
 pub returns : goal.returns
 returns c =
@@ -33,4 +33,4 @@ returns c =
     says_same _ _ _ _ _ _ _ _ c.in_ok-parts.ensures refl c.new-2.ensures c.new-3.ensures
     in
     read_text_is c.args.text.now c.split_line.result.0.now c.split_line.result.1.now _ _ _ _ _ c.split_line.ensures.first c.split_line.ensures.later
-    c.in_ok-raw.ensures.refused (c.new.ensures ∙ c.in_ok-tag.ensures ∙ c.in_ok-raw.ensures.tag) says
+    c.in_ok-raw.ensures.refused (c.new.ensures ∙ c.in_ok-tag.ensures.ok ∙ c.in_ok-raw.ensures.tag) says

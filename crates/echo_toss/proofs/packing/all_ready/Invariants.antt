@@ -1,4 +1,4 @@
-use Rattle.std.proofs.Common.{◌≡◌, map, take}
+use Rattle.std.proofs.Common.{◌≡◌, map}
 use Rattle.echo_toss.specs.Exports.{ready_of}
 use Rattle.echo_toss.proofs.packing.all_ready.Given as goal
 

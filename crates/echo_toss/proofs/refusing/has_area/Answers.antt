@@ -1,5 +1,5 @@
 use Rattle.std.proofs.Common.{sym}
-use Rattle.echo_toss.proofs.Raised.{no_long_tag}
+use Rattle.echo_toss.proofs.LongTags.{no_long_tag}
 use Rattle.echo_toss.proofs.refusing.has_area.Goals as goal
 
 pub returns-then-tag-gt-MAX_TAG : goal.returns-then-tag-gt-MAX_TAG

@@ -1,10 +1,9 @@
-use Rattle.std.proofs.Common.{◌∙◌}
-use Rattle.std.proofs.lemmas.List.Filters.{dedup_is}
-use Rattle.echo_links.specs.Links.{same_address}
-use Rattle.echo_toss.proofs.AscendingSets.{addresses_sorted}
+use Rattle.echo_links.proofs.Addresses.{same_address_decides}
+use Rattle.echo_toss.proofs.AscendingSets.{addresses_in_order}
 use Rattle.echo_toss.proofs.sets.address_set.Goals as goal
 
+pub put_in_order-requires : goal.put_in_order-requires
+put_in_order-requires c = λ x y. (same_address_decides x y).0
+
 pub returns : goal.returns
-returns c =
-    dedup_is same_address c.sort_unstable.new.self.items c.dedup.new.self.items c.dedup.ensures.filtered
-    ∙ addresses_sorted c.args.addresses.items c.sort_unstable.new.self.items c.sort_unstable.ensures.permutation c.sort_unstable.ensures.sorted
+returns c = addresses_in_order c.args.addresses.items c.put_in_order.new.values.items c.put_in_order.ensures.ascending c.put_in_order.ensures.members

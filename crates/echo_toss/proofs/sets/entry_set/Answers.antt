@@ -1,10 +1,9 @@
-use Rattle.std.proofs.Common.{◌∙◌}
-use Rattle.std.proofs.lemmas.List.Filters.{dedup_is}
-use Rattle.echo_text.proofs.Sets.{same}
-use Rattle.echo_toss.proofs.AscendingSets.{entries_sorted}
+use Rattle.echo_text.proofs.Sets.{same_is}
+use Rattle.echo_toss.proofs.AscendingSets.{entries_in_order}
 use Rattle.echo_toss.proofs.sets.entry_set.Goals as goal
 
+pub put_in_order-requires : goal.put_in_order-requires
+put_in_order-requires c = same_is
+
 pub returns : goal.returns
-returns c =
-    dedup_is same c.sort_unstable.new.self.items c.dedup.new.self.items c.dedup.ensures.filtered
-    ∙ entries_sorted c.args.entries.items c.sort_unstable.new.self.items c.sort_unstable.ensures.permutation c.sort_unstable.ensures.sorted
+returns c = entries_in_order c.args.entries.items c.put_in_order.new.values.items c.put_in_order.ensures.ascending c.put_in_order.ensures.members

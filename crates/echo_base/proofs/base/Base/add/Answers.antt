@@ -1,4 +1,4 @@
-use Rattle.std.proofs.Common.{◌≡◌, ◌∙◌, ◌++◌, ◌∷◌, [], List, ℕ, ap, map, subst, true, if◌then◌else◌}
+use Rattle.std.proofs.Common.{◌≡◌, ◌∙◌, ◌++◌, ◌∷◌, [], List, ℕ, ap, subst, true, if◌then◌else◌}
 use Rattle.std.specs.Prelude.{IfOk, bytes_eq}
 use Rattle.std.specs.List.{list_any}
 use Rattle.std.specs.Map.{values_of}
@@ -10,8 +10,8 @@ use Rattle.echo_base.proofs.base.Base.add.Goals as goal
 pub invariant_of-self-2 : goal.invariant_of-self-2
 invariant_of-self-2 g c =
     let i = c.self.inside in
-    let before = map (λ t. t.items) i.tags.keys in
-    let tags = map (λ t. t.items) c.keep_tag.new.tags.keys in
+    let before = i.tags in
+    let tags = c.keep_tag.new.tags in
     let m = c.args.message in
     let tag : c.as_slice.result.now ≡ m.echo.tag = c.as_slice.ensures ∙ ap (λ e. e.tag) c.echo.view_is ∙ ap (λ x. x.echo.tag) c.message.view_is in
     let T : List ℕ → Type 0 = λ t. list_any (bytes_eq t) tags ≡ true in

@@ -1,4 +1,4 @@
-use Rattle.std.proofs.Common.{◌≡◌, ◌∙◌, ap, subst, sym, map, ℕ, false, Bool, get_or, take, Vec, Global}
+use Rattle.std.proofs.Common.{◌≡◌, ◌∙◌, ap, subst, sym, ℕ, false, Bool, List, get_or, take, Vec, Global}
 use Rattle.std.specs.List.{AllByRecursion, list_any}
 use Rattle.std.proofs.lemmas.Bool.{or_from}
 use Rattle.std.proofs.lemmas.List.{take_all}
@@ -17,13 +17,12 @@ returns-then-knows g c =
 pub returns : goal.returns
 returns g c =
     let tags = c.as_slice-tag-items.result.now in
-    let kept = map (λ t. t.items) c.self.inside.tags.keys in
-    let all : take c.tags.tag-index tags ≡ c.self.inside.tags.keys = take_all c.tags.tag-index tags c.tags-test.false ∙ c.as_slice-tag-items.ensures.keys in
+    let kept = c.self.inside.tags in
+    let knows : List ℕ → Bool = λ t. is_known c.args.self.now.messages (ById t c.args.msgid.now) in
     let P : Base → Type 0 = λ b. AllByRecursion (HasTagIn kept) b.messages in
     sym (no_such_id c.args.msgid.now kept c.args.self.now.messages (subst P c.self.view_is c.self.invariant.own_tags)
-    (any_map (λ t. t.items) (λ t. is_known c.args.self.now.messages (ById t c.args.msgid.now)) c.self.inside.tags.keys
-    ∙ sym (ap (list_any (λ t. is_known c.args.self.now.messages (ById t.items c.args.msgid.now))) all)
-    ∙ c.tags.invariant))
+    (ap (list_any knows) (sym c.as_slice-tag-items.ensures) ∙ any_map (λ t. t.items) knows tags
+    ∙ sym (ap (list_any (λ t. knows t.items)) (take_all c.tags.tag-index tags c.tags-test.false)) ∙ c.tags.invariant))
 
 pub tags-preserved : goal.tags-preserved
 tags-preserved g c =

@@ -1,4 +1,4 @@
-use Rattle.std.proofs.Common.{◌∙◌, ap, length, map, take}
+use Rattle.std.proofs.Common.{◌∙◌, ap, length, take}
 use Rattle.std.specs.Map.{values_of}
 use Rattle.std.specs.Prelude.{count_by, not}
 use Rattle.echo_filed.specs.Stubs.{is_stub}
@@ -9,7 +9,7 @@ use Rattle.echo_base.proofs.base.Base.purge.Goals as goal
 
 pub invariant_of-self : goal.invariant_of-self
 invariant_of-self g c =
-    stub_entries c.self.inside.entries.entries c.put_stubs.new.entries.entries (map (λ t. t.items) c.self.inside.tags.keys) c.self.inside.cursor c.self.inside.purged c.self.invariant
+    stub_entries c.self.inside.entries.entries c.put_stubs.new.entries.entries c.self.inside.tags c.self.inside.cursor c.self.inside.purged c.self.invariant
     c.put_stubs.ensures.keys c.put_stubs.ensures.values
 
 pub returns-clause-count : goal.returns-clause-count

@@ -8,14 +8,14 @@ use Rattle.echo_base.proofs.base.loading.read_head.Goals as goal
 pub returns-in-Err-clause-read : goal.returns-in-Err-clause-read
 returns-in-Err-clause-read g c =
     let version = c.in_ok-version.version in
-    rw c.told.ensures (cut_fails 0 (magic version) _ _ _ c.in-Err.broken c.in_ok-version.ensures.read (cursor_cut version) c.in-Err.ensures.read)
+    rw c.broken_fault.ensures (cut_fails 0 (magic version) _ _ _ c.in-Err.broken c.in_ok-version.ensures.read (cursor_cut version) c.in-Err.ensures.read)
 
 pub returns-in-Err-read_long-clause-read : goal.returns-in-Err-read_long-clause-read
 returns-in-Err-read_long-clause-read g c =
     let version = c.in_ok-version.version in
     let cursor = c.in-Ok.cursor in
     let took = Consumes-trans _ _ _ (magic version) (long cursor) c.in_ok-version.ensures.read c.in-Ok.ensures.read.1 in
-    rw c.told-in-Err-read_long.ensures
+    rw c.broken_fault-in-Err-read_long.ensures
     (cut_fails 0 (magic version ++ long cursor) _ _ _ c.in-Err-read_long.broken took (number_cut version cursor) c.in-Err-read_long.ensures.read)
 
 pub returns-clause-read : goal.returns-clause-read

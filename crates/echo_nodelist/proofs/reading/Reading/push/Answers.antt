@@ -4,9 +4,9 @@ use Rattle.echo_nodelist.proofs.reading.Reading.push.Goals as goal
 
 pub returns-clause-step : goal.returns-clause-step
 returns-clause-step c =
-    let told = c.in_ok-told.ensures (reverse c.args.self.now.lines.items) c.requires.stands in
+    let located = c.in_ok-located.ensures (reverse c.args.self.now.lines.items) c.requires.stands in
     let more =
     follows_more c.args.self.now.lines.items c.args.self.now.addresses.items c.args.self.now.place c.args.line
-    c.in_ok-told.told c.requires told.1
+    c.in_ok-located.located c.requires located.1
     in
     rw (c.in_ok-push.ensures.items, c.in_ok-push-2.ensures.items) more

@@ -7,7 +7,7 @@ pub of_text-requires : goal.of_text-requires
 of_text-requires c =
     let whole =
     kept_text is_kept_control c.in_ok-text.text.items c.push_lines.new.text.items c.push_kept.new.text.items c.self.inside.body.now c.self.inside.tail.now
-    c.in_ok-text.ensures.items c.in_ok-push_lines.ensures c.in_ok-push_kept.ensures
+    c.in_ok-text.ensures.items c.in_ok-push_lines.ensures.ok c.in_ok-push_kept.ensures
     in
     whole.ended_is
 
@@ -15,6 +15,6 @@ pub returns : goal.returns
 returns c =
     let whole =
     kept_text is_kept_control c.in_ok-text.text.items c.push_lines.new.text.items c.push_kept.new.text.items c.self.inside.body.now c.self.inside.tail.now
-    c.in_ok-text.ensures.items c.in_ok-push_lines.ensures c.in_ok-push_kept.ensures
+    c.in_ok-text.ensures.items c.in_ok-push_lines.ensures.ok c.in_ok-push_kept.ensures
     in
     c.of_text.ensures ∙ whole.lines_are ∙ c.self.view_is

@@ -1,5 +1,6 @@
 use Rattle.std.proofs.Common.{◌∙◌, arith}
-use Rattle.echo_toss.proofs.Unpacked.{all_given, one_more_taken}
+use Rattle.std.proofs.lemmas.Result.{err_from_is_err_and}
+use Rattle.echo_toss.proofs.PacketTosses.{all_given, one_more_taken, some_taken}
 use Rattle.echo_toss.proofs.tosser.Tosser.toss_messages.Goals as goal
 
 pub count-requires : goal.count-requires
@@ -20,3 +21,10 @@ messages-preserved g c =
           h.taken within.0 within.1 taken place c.in_ok-outcome-in-Some.ensures c.count.ensures;
       device = c.in_ok-message.ensures.device ∙ h.device;
     }
+
+pub returns-in_err-message-clause-tossed : goal.returns-in_err-message-clause-tossed
+returns-in_err-message-clause-tossed g c =
+    let h = c.messages.invariant in
+    let e = c.in_err-message.ensures in
+    let p = err_from_is_err_and c.from_residual.result c.from_residual.ensures.1 in
+    rw (p.1, p.2) (some_taken c.args.limits c.args.sender _ _ _ _ _ h.messages c.messages.given c.messages.place _ c.in_err-message.field-0.0 h.taken e.fault e.inside)

@@ -1,6 +1,6 @@
 -- The messages so far were tossed, and the reader lost them.
 use Rattle.std.proofs.Common.{◌-◌}
-use Rattle.echo_toss.proofs.Unpacked.{HasGone}
+use Rattle.echo_toss.proofs.PacketTosses.{HasGone}
 use Rattle.echo_toss.proofs.tosser.Tosser.toss_messages.Given as goal
 
 abbrev pub invariant-messages : goal.invariant-messages

@@ -8,7 +8,7 @@ use Rattle.echo_links.proofs.link_file.reading.Reading.take_area.Goals as goal
 pub returns-then-has : goal.returns-then-has
 returns-then-has c =
     inr (area_repeated c.args.self.now.areas c.args.number (tokens c.args.rest.now) c.in-Some.word.now (tokens c.in-Some.after.now) c.in_ok-tag.tag.items
-    c.in-Some.ensures.token (sym c.is_tag.ensures ∙ c.if-not-is_tag.false) c.in_ok-tag.ensures
+    c.in-Some.ensures.token (sym c.is_tag.ensures ∙ c.if-not-is_tag.false) c.in_ok-tag.ensures.ok
     (ap (is_area_known c.args.self.now.areas) (sym c.deref.ensures.value) ∙ sym c.has.ensures ∙ c.if-has.true))
 
 pub returns-in_err-links : goal.returns-in_err-links
@@ -18,6 +18,6 @@ returns-in_err-links c =
       | inl memory ↦ inl memory
       | inr h ↦
           inr (area_links c.args.self.now.areas c.args.number (tokens c.args.rest.now) c.in-Some.word.now (tokens c.in-Some.after.now) c.in_ok-tag.tag.items
-          c.in-Some.ensures.token (sym c.is_tag.ensures ∙ c.if-not-is_tag.false) c.in_ok-tag.ensures
+          c.in-Some.ensures.token (sym c.is_tag.ensures ∙ c.if-not-is_tag.false) c.in_ok-tag.ensures.ok
           (ap (is_area_known c.args.self.now.areas) (sym c.deref.ensures.value) ∙ sym c.has.ensures ∙ c.if-has.false) ∙ h)
     ])

@@ -1,0 +1,194 @@
+//! Changes of a base folder, and what is found in it.
+ghost use Rattle.std.specs.Prelude.{◌≡◌, IfOk};
+ghost use Rattle.echo_folder.specs.AtRest.{IsAtRest, IsStaged};
+ghost use Rattle.echo_folder.specs.Names.{AreNames, folder_of};
+
+use echo_disk::{Disk, read_file};
+use echo_folder::{
+    End, FolderError, Names, Told, commit, stage_anew, stage_keys, stage_messages, stage_nothing,
+};
+use std::alloc::{AllocError, Global};
+
+/// How much a test stages at most.
+const LIMIT: usize = 1 << 40;
+
+/// The bytes of a base, as a test expects them.
+#[derive(Debug, Drop)]
+pub(crate) struct Base {
+    pub(crate) messages: Vec<u8>,
+    pub(crate) keys: Vec<u8>,
+    pub(crate) cursor: u64,
+}
+
+/// What one commit adds. Where it begins anew, nothing of the base stays.
+#[derive(Drop)]
+pub(crate) struct Change {
+    pub(crate) anew: bool,
+    pub(crate) messages: Vec<u8>,
+    pub(crate) keys: Vec<u8>,
+    pub(crate) cursor: u64,
+}
+
+impl Base {
+    /// The base after the change.
+    pub(crate) fn changed(&self, alloc: Global, change: &Change) -> Result<Base, AllocError> {
+        let mut messages = Vec::new(alloc);
+        let mut keys = Vec::new(alloc);
+        if !change.anew {
+            messages.extend_from_slice(&self.messages)?;
+            keys.extend_from_slice(&self.keys)?;
+        }
+        messages.extend_from_slice(&change.messages)?;
+        keys.extend_from_slice(&change.keys)?;
+        Ok(Base {
+            messages,
+            keys,
+            cursor: change.cursor,
+        })
+    }
+
+    pub(crate) fn copy(&self, alloc: Global) -> Result<Base, AllocError> {
+        Ok(Base {
+            messages: self.messages.as_slice().to_vec(alloc)?,
+            keys: self.keys.as_slice().to_vec(alloc)?,
+            cursor: self.cursor,
+        })
+    }
+
+    pub(crate) fn is(&self, other: &Base) -> bool {
+        self.messages.as_slice() == other.messages.as_slice()
+            && self.keys.as_slice() == other.keys.as_slice()
+            && self.cursor == other.cursor
+    }
+}
+
+// Stages messages and keys.
+fn stage<D: Disk>(
+    disk: &mut D,
+    names: &Names,
+    end: End,
+    told: Told,
+    messages: &[u8],
+    keys: &[u8],
+) -> Result<Told, FolderError>
+    requires names { AreNames names.now told.number }
+    requires staged { IsStaged (D.state disk.old) (folder_of names.now) end told }
+    ensures staged { IfOk result (λ more. IsStaged (D.state disk.new) (folder_of names.now) end more) }
+    ensures number { IfOk result (λ more. more.number ≡ told.number) }
+{
+    if told.messages > LIMIT || told.keys > LIMIT || messages.len() > LIMIT || keys.len() > LIMIT {
+        return Err(FolderError::Corrupt);
+    }
+    let told = stage_messages(disk, names, end, told, messages)?;
+    Ok(stage_keys(disk, names, end, told, keys)?)
+}
+
+// Stages a change in two parts, and commits it.
+fn stage_and_commit<D: Disk>(
+    disk: &mut D,
+    names: &Names,
+    end: End,
+    told: Told,
+    change: &Change,
+) -> Result<End, FolderError>
+    requires names { AreNames names.now told.number }
+    requires staged { IsStaged (D.state disk.old) (folder_of names.now) end told }
+    ensures settled { IfOk result (λ after. IsAtRest (D.state disk.new) (folder_of names.now) after) }
+{
+    let messages = change.messages.as_slice();
+    let keys = change.keys.as_slice();
+    let half = messages.len() / 2;
+    let some = keys.len() / 2;
+    let told = stage(disk, names, end, told, &messages[..half], &keys[..some])?;
+    let told = stage(disk, names, end, told, &messages[half..], &keys[some..])?;
+    if end.gate > LIMIT {
+        return Err(FolderError::Corrupt);
+    }
+    Ok(commit(disk, names, end, told)?)
+}
+
+/// Makes one change of a base folder that is at rest.
+pub(crate) fn change_folder<D: Disk>(
+    alloc: Global,
+    disk: &mut D,
+    folder: &[u8],
+    end: End,
+    change: &Change,
+) -> Result<End, FolderError>
+    requires { IsAtRest (D.state disk.old) folder.now end }
+    ensures settled { IfOk result (λ after. IsAtRest (D.state disk.new) folder.now after) }
+{
+    if change.anew {
+        renew(alloc, disk, folder, end, change)
+    } else {
+        append(alloc, disk, folder, end, change)
+    }
+}
+
+fn append<D: Disk>(
+    alloc: Global,
+    disk: &mut D,
+    folder: &[u8],
+    end: End,
+    change: &Change,
+) -> Result<End, FolderError>
+    requires { IsAtRest (D.state disk.old) folder.now end }
+    ensures settled { IfOk result (λ after. IsAtRest (D.state disk.new) folder.now after) }
+{
+    let names = Names::new(alloc, folder, end.told.number)?;
+    let told = stage_nothing(disk, &names.folder, end, change.cursor);
+    stage_and_commit(disk, &names, end, told, change)
+}
+
+fn renew<D: Disk>(
+    alloc: Global,
+    disk: &mut D,
+    folder: &[u8],
+    end: End,
+    change: &Change,
+) -> Result<End, FolderError>
+    requires { IsAtRest (D.state disk.old) folder.now end }
+    ensures settled { IfOk result (λ after. IsAtRest (D.state disk.new) folder.now after) }
+{
+    let number = if end.told.number < 9 {
+        end.told.number + 1
+    } else {
+        0
+    };
+    let names = Names::new(alloc, folder, number)?;
+    let told = stage_anew(disk, &names, end, number, change.cursor)?;
+    stage_and_commit(disk, &names, end, told, change)
+}
+
+// The first bytes of a file.
+fn read_front<D: Disk>(
+    alloc: Global,
+    disk: &mut D,
+    path: &[u8],
+    len: usize,
+) -> Result<Vec<u8>, FolderError> {
+    if !disk.exists(path)? {
+        return Err(FolderError::Corrupt);
+    }
+    let mut bytes = read_file(alloc, disk, path)?;
+    bytes.truncate(len);
+    Ok(bytes)
+}
+
+/// The base that a folder at rest tells.
+pub(crate) fn read_base<D: Disk>(
+    alloc: Global,
+    disk: &mut D,
+    folder: &[u8],
+    end: End,
+) -> Result<Base, FolderError> {
+    if end.told.number > 9 {
+        return Err(FolderError::Corrupt);
+    }
+    let names = Names::new(alloc, folder, end.told.number)?;
+    Ok(Base {
+        messages: read_front(alloc, disk, &names.messages, end.told.messages)?,
+        keys: read_front(alloc, disk, &names.keys, end.told.keys)?,
+        cursor: end.told.cursor,
+    })
+}

@@ -1,0 +1,2 @@
+pub mod Stationed
+pub mod Tossings

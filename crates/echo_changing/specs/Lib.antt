@@ -1,0 +1,10 @@
+pub mod Handed
+pub mod Lines
+pub mod Files
+pub mod System
+pub mod Scanned
+pub mod Purged
+pub mod Posted
+pub mod Coming
+pub mod TossedPacket
+pub mod Tossed

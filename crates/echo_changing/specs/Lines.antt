@@ -1,0 +1,30 @@
+-- What `post`, `scan`, `purge` and `toss` print of what they did.
+use Rattle.std.specs.Prelude.{ℕ, List, ◌++◌, codes, decimal}
+use Rattle.echo_addr.specs.declared.address.Address.{Address}
+use Rattle.echo_addr.specs.Address.{address_text}
+use Rattle.echo_links.specs.Links.{upper}
+use Rattle.echo_packet.specs.declared.header.Header.{Header}
+use Rattle.echo_toss.specs.declared.tally.Tally.{Tally}
+
+-- the tag in upper case, and the id: the own address and the serial
+abbrev pub posted_line : List ℕ → List ℕ → List ℕ
+posted_line tag id = codes "posted " ++ (upper tag ++ (codes " " ++ (id ++ codes "\n")))
+
+-- whom the header says that the packet is for
+abbrev pub named_receiver : Header → Address
+named_receiver h = record { zone = h.dest_zone; net = h.dest_net; node = h.dest_node }
+
+-- a packet's line: whom it is for, and how many messages and bytes it has
+abbrev pub sent_line : Address → ℕ → ℕ → List ℕ
+sent_line to messages bytes =
+    codes "packet " ++ (address_text to ++ (codes " " ++ (decimal messages ++ (codes " messages " ++ (decimal bytes ++ codes " bytes\n")))))
+
+-- how many messages changed
+abbrev pub purged_line : ℕ → List ℕ
+purged_line count = codes "purged " ++ (decimal count ++ codes "\n")
+
+-- what became of the messages of a packet
+abbrev pub tally_line : Tally → List ℕ
+tally_line t =
+    codes "filed " ++ (decimal t.filed ++ (codes " known " ++ (decimal t.known ++ (codes " notecho " ++ (decimal t.not_echo
+    ++ (codes " badtag " ++ (decimal t.bad_tag ++ (codes " noarea " ++ (decimal t.no_area ++ (codes " notlinked " ++ (decimal t.not_linked ++ codes "\n")))))))))))

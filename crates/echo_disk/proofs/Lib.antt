@@ -1,0 +1,3 @@
+pub mod Moments
+mod Reading
+pub mod Tearing

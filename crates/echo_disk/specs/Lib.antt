@@ -1,0 +1,4 @@
+pub mod Disk
+pub mod Runs
+pub mod Steps
+pub mod Synced

@@ -1,0 +1,54 @@
+-- What calls, and runs of calls, do to a disk.
+use Rattle.std.specs.Prelude.{◌≡◌, ◌≤◌, ◌⊎◌, ℕ, List, Result, IsErrOf}
+use Rattle.echo_device.specs.Device.{Failed}
+use Rattle.echo_disk.specs.Disk.{Files, DiskState}
+use Rattle.echo_disk.specs.declared.disk_error.DiskError.{DiskError}
+use Rattle.echo_disk.specs.declared.disk_error.DiskError.TheVariants.{Device}
+
+-- what a crash might leave at this state, after a step more
+abbrev pub OneStepOn : (Files → Files → Type 0) → DiskState → Files → Type 0
+OneStepOn step old c = (d : Files) × old.may_leave d × step d c
+
+-- each new outcome of a crash is an old one after a step
+abbrev pub LeavesOneStepOn : (Files → Files → Type 0) → DiskState → DiskState → Type 0
+LeavesOneStepOn step old new = (c : Files) → new.may_leave c → OneStepOn step old c
+
+-- the paths that were named stay so, but for these
+abbrev pub KeepsNamed : (List ℕ → Type 0) → DiskState → DiskState → Type 0
+KeepsNamed but old new = (m : List ℕ) → (but m → ⊥) → old.is_named m → new.is_named m
+
+-- the files that had all bytes on the disk have them, but for these
+abbrev pub KeepsFlushed : (List ℕ → Type 0) → DiskState → DiskState → Type 0
+KeepsFlushed but old new = (m : List ℕ) → (but m → ⊥) → old.is_flushed m → new.is_flushed m
+
+-- the files to which one path led have no other, but for these
+abbrev pub KeepsAlone : (List ℕ → Type 0) → DiskState → DiskState → Type 0
+KeepsAlone but old new = (m : List ℕ) → (but m → ⊥) → old.is_alone m → new.is_alone m
+
+-- Time goes on: a crash since t might have left what it might have left before, or what it may leave now.
+pub record Elapses (old new : DiskState) : Type 0 where
+  pub later : old.moment ≤ new.moment
+  pub nothing_else : (t : ℕ) (c : Files) → t ≤ old.moment → new.left_since t c → old.left_since t c ⊎ new.may_leave c
+  pub keeps : (t : ℕ) (c : Files) → t ≤ old.moment → old.left_since t c → new.left_since t c
+
+-- A crash at any moment of a run leaves files that have P.
+pub record LeavesOnly (old new : DiskState) (P : Files → Type 0) : Type 0 where
+  pub later : old.moment ≤ new.moment
+  pub each : (c : Files) → new.left_since old.moment c → P c
+  -- for a run that began earlier
+  pub before : (t : ℕ) (c : Files) → t ≤ old.moment → new.left_since t c → old.left_since t c ⊎ P c
+
+-- A call, or a run of calls, that changes nothing: it reads, or puts on the disk what was written.
+pub record ChangesNothing (old new : DiskState) : Type 0 where
+  pub seen : (m : List ℕ) → new.seen m ≡ old.seen m
+  pub no_more : (c : Files) → new.may_leave c → old.may_leave c
+  pub named : KeepsNamed (λ m. ⊥) old new
+  pub flushed : KeepsFlushed (λ m. ⊥) old new
+  pub alone : KeepsAlone (λ m. ⊥) old new
+  pub run : LeavesOnly old new old.may_leave
+  pub keeps : (t : ℕ) (c : Files) → t ≤ old.moment → old.left_since t c → new.left_since t c
+
+-- a failure of the device is answered only where its count of failures rose
+pub record HasCause {T : Type 0} (before now : ℕ) (result : Result T DiskError) : Type 0 where
+  pub later : before ≤ now
+  pub failed : IsErrOf result Device → Failed before now

@@ -1,0 +1,15 @@
+//! Lines that are written by a format.
+ghost use Rattle.std.specs.Prelude.{IsOk, OnOk};
+
+use std::alloc::AllocError;
+use std::io;
+
+/// What writing to a vector answers, which fails only out of memory.
+pub fn written(answer: io::Result<()>) -> Result<(), AllocError>
+    ensures { OnOk result (IsOk answer) }
+{
+    match answer {
+        Ok(()) => Ok(()),
+        Err(_) => Err(AllocError),
+    }
+}

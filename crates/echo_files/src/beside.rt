@@ -1,0 +1,100 @@
+//! The file beside one that is to be written: its name, and how it is made.
+
+use crate::owned::Owned;
+use crate::writing::OutputFault;
+use echo_device::{Watched, fill_from};
+use std::alloc::{AllocError, Global};
+use std::fs::{OpenFile, OpenOptions, Permissions};
+use std::io::ErrorKind;
+use std::os::unix::fs::{MetadataExt, OpenOptionsExt};
+use std::rt::Files;
+use std::{fs, io};
+
+/// Who may read and write a file beside another until it gets the mode of what it replaces.
+const OWNER_ALONE: u32 = 0o600;
+
+/// What a file keeps when other bytes take its name.
+#[derive(Drop)]
+pub(crate) struct Access {
+    pub permissions: Permissions,
+    pub owner: u32,
+    pub group: u32,
+}
+
+/// The name of the file beside this one, for a system with this address.
+pub(crate) fn name_beside(alloc: Global, path: &str, own: &str) -> Result<String, AllocError> {
+    format!(in alloc; "{path}.~{own}~.new")
+}
+
+/// Makes the file beside another anew. What a stopped run left of it is removed; anything else that has
+/// the name stays, and is a fault.
+pub(crate) fn make_beside<R: Files>(
+    alloc: Global,
+    files: &R,
+    beside: &str,
+    start: &[u8],
+) -> Result<R::File, OutputFault> {
+    match make_new(files, beside) {
+        Err(error) if error.kind() == ErrorKind::AlreadyExists => {
+            check_left(alloc, files, beside, start)?;
+            fs::remove_file(files, beside)?;
+            Ok(make_new(files, beside)?)
+        }
+        made => Ok(made?),
+    }
+}
+
+// Makes a file that was not there, and follows no link.
+fn make_new<R: Files>(files: &R, path: &str) -> io::Result<R::File> {
+    OpenOptions::new()
+        .write(true)
+        .create_new(true)
+        .mode(OWNER_ALONE)
+        .open(files, path)
+}
+
+// A fault, unless a stopped run left the file: a regular one that begins as what is to be written does,
+// or ends before that shows.
+fn check_left<R: Files>(
+    alloc: Global,
+    files: &R,
+    path: &str,
+    start: &[u8],
+) -> Result<(), OutputFault> {
+    if !fs::symlink_metadata(files, path)?.is_file() {
+        return Err(OutputFault::Device);
+    }
+    let mut first = vec![in alloc; 0u8; start.len()]?;
+    let mut device = Watched::new(fs::open(files, path)?);
+    let came = fill_from(&mut device, first.as_mut_slice(), 0)?;
+    first.truncate(came);
+    if start.starts_with(first.as_slice()) {
+        Ok(())
+    } else {
+        Err(OutputFault::Device)
+    }
+}
+
+/// What the file that is to be replaced keeps, if there is one. It has to be a regular file that may be
+/// written.
+pub(crate) fn access_of<R: Files>(files: &R, path: &str) -> Result<Option<Access>, OutputFault> {
+    match fs::metadata(files, path) {
+        Ok(found) if found.is_file() && !found.permissions().readonly() => {
+            OpenOptions::new().write(true).open(files, path)?;
+            Ok(Some(Access {
+                permissions: found.permissions(),
+                owner: found.uid(),
+                group: found.gid(),
+            }))
+        }
+        Ok(_) => Err(OutputFault::Device),
+        Err(error) if error.kind() == ErrorKind::NotFound => Ok(None),
+        Err(error) => Err(OutputFault::from(error)),
+    }
+}
+
+/// Gives a file the access of the one that it replaces. Its owner and group are set where that is allowed.
+pub(crate) fn give_access<F: OpenFile + Owned>(file: &F, access: Access) -> io::Result<()> {
+    file.set_owner(access.owner, access.group);
+    file.set_permissions(access.permissions)
+}

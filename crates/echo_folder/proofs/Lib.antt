@@ -1,0 +1,11 @@
+mod Behind
+mod Empty
+mod Gates
+mod Logs
+mod Mended
+mod Opened
+mod Paths
+mod Reading
+mod Renewed
+mod Rested
+mod Same

@@ -1,0 +1,48 @@
+-- A base folder at rest: nothing is staged yet.
+use Rattle.std.proofs.Common.{◌≡◌, List, ℕ, [], sym, ◌∙◌, ap, subst, arith}
+use Rattle.std.specs.Prelude.{IsSome}
+use Rattle.echo_disk.specs.Disk.{DiskState, Files, bytes_in}
+use Rattle.echo_folder.specs.Names.{log_of, messages_of, keys_of}
+use Rattle.echo_folder.specs.Standing.{TellsBase, StandsFor, base_at}
+use Rattle.echo_folder.specs.AtRest.{IsAtRest, IsStaged}
+use Rattle.echo_folder.specs.declared.log.Told.{Told}
+use Rattle.echo_folder.specs.declared.log.End.{End}
+use Rattle.echo_folder.proofs.Logs.{shut_log}
+use Rattle.echo_folder.proofs.Same.{AreThere-both, TellsBase-seen}
+
+-- files that are as they are seen in the folder
+pub rest_same : (d : DiskState) (path : List ℕ) (end : End) → IsAtRest d path end → (c : Files) → c (log_of path) ≡ d.seen (log_of path)
+    → c (messages_of path end.told.number) ≡ d.seen (messages_of path end.told.number) → c (keys_of path end.told.number) ≡ d.seen (keys_of path end.told.number) → StandsFor path (base_at d path end.told) c
+rest_same d path end rest c same_log same_m same_k =
+    let n = end.told.number in
+    let log = rest.log in
+    let there_m : IsSome (c (messages_of path n)) = subst (λ f. IsSome f) (sym same_m) rest.messages_on.there in
+    let there_k : IsSome (c (keys_of path n)) = subst (λ f. IsSome f) (sym same_k) rest.keys_on.there in
+    record {
+      bodies = log.bodies;
+      log = shut_log log.bodies 0 [] (bytes_in (c (log_of path))) log.sizes (omega arith) (ap bytes_in same_log ∙ log.log);
+      there = AreThere-both path log.bodies c (subst (λ (t : Told). IsSome (c (messages_of path t.number))) (sym log.told) there_m) (subst (λ (t : Told). IsSome (c (keys_of path t.number))) (sym log.told) there_k);
+      tells = subst (λ (t : Told). TellsBase t path (base_at d path end.told) c) (sym log.told) (TellsBase-seen end.told path d c rest.digit rest.messages_long rest.keys_long same_m same_k);
+    }
+
+pub rest_stands : (d : DiskState) (path : List ℕ) (end : End) → IsAtRest d path end → (c : Files) → d.may_leave c → StandsFor path (base_at d path end.told) c
+rest_stands d path end rest c left =
+    rest_same d path end rest c
+    (d.on_disk (log_of path) rest.log.on_disk.named rest.log.on_disk.flushed c left)
+    (d.on_disk (messages_of path end.told.number) rest.messages_on.named rest.messages_on.flushed c left)
+    (d.on_disk (keys_of path end.told.number) rest.keys_on.named rest.keys_on.flushed c left)
+
+pub rest_staged : (d : DiskState) (path : List ℕ) (end : End) (cursor : ℕ) → IsAtRest d path end → IsStaged d path end (record end.told { cursor = cursor })
+rest_staged d path end cursor rest = record {
+  log = rest.log;
+  stands = rest_stands d path end rest;
+  digit = rest.digit;
+  messages_there = rest.messages_on.there;
+  keys_there = rest.keys_on.there;
+  messages_alone = rest.messages_on.alone;
+  keys_alone = rest.keys_on.alone;
+  messages_long = rest.messages_long;
+  keys_long = rest.keys_long;
+  messages_behind = λ same. omega arith;
+  keys_behind = λ same. omega arith;
+}

@@ -1,0 +1,7 @@
+pub mod AtRest
+pub mod Log
+pub mod Moments
+pub mod Names
+pub mod Opening
+pub mod Reading
+pub mod Standing

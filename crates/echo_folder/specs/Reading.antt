@@ -1,0 +1,18 @@
+-- How a log is read.
+use Rattle.std.specs.Prelude.{◌≡◌, ℕ, List, ◌++◌, length}
+use Rattle.echo_folder.specs.Log.{opened, AreBodies, EndsHere, last_told}
+use Rattle.echo_folder.specs.declared.log.End.{End}
+
+-- the records of a log up to a place, and what stands behind it
+pub record ReadsTo (bytes : List ℕ) (end : End) (rest : List ℕ) : Type 0 where
+  pub bodies : List (List ℕ)
+  pub parts : bytes ≡ opened bodies ++ rest
+  pub sizes : AreBodies bodies
+  pub gate : end.gate ≡ length (opened bodies)
+  pub told : last_told bodies ≡ end.told
+
+-- all of its records
+pub record ReadsAll (bytes : List ℕ) (end : End) : Type 0 where
+  pub rest : List ℕ
+  pub reads : ReadsTo bytes end rest
+  pub ends : EndsHere rest

@@ -1,0 +1,54 @@
+-- What the files of a base folder stand for.
+use Rattle.std.specs.Prelude.{◌≡◌, ◌<◌, ℕ, List, [], ◌∷◌, ◌++◌, length, take, IsSome}
+use Rattle.echo_disk.specs.Disk.{DiskState, Files, bytes_in}
+use Rattle.echo_folder.specs.Names.{log_of, messages_of, keys_of}
+use Rattle.echo_folder.specs.Log.{IsLog, last_told}
+use Rattle.echo_folder.specs.declared.log.Told.{Told}
+
+-- the bytes of the messages, those of their keys, and the cursor
+pub record BaseBytes : Type 0 where
+  pub messages : List ℕ
+  pub keys : List ℕ
+  pub cursor : ℕ
+
+-- with more messages behind them
+abbrev pub and_messages : BaseBytes → List ℕ → BaseBytes
+and_messages base bytes = record { messages = base.messages ++ bytes; keys = base.keys; cursor = base.cursor }
+
+-- with more keys behind them
+abbrev pub and_keys : BaseBytes → List ℕ → BaseBytes
+and_keys base bytes = record { messages = base.messages; keys = base.keys ++ bytes; cursor = base.cursor }
+
+abbrev pub IsFrontOf : List ℕ → List ℕ → Type 0
+IsFrontOf front bytes = take (length front) bytes ≡ front
+
+-- both files of the number are there, where there is a record
+abbrev pub AreThere : List ℕ → List (List ℕ) → Files → Type 0
+AreThere path [] files = Unit {0}
+AreThere path (body ∷ bodies) files =
+    IsSome (files (messages_of path (last_told (body ∷ bodies)).number)) × IsSome (files (keys_of path (last_told (body ∷ bodies)).number))
+
+-- a record tells how long this base is, and the files of its number begin with it
+pub record TellsBase (told : Told) (path : List ℕ) (base : BaseBytes) (files : Files) : Type 0 where
+  pub messages_long : told.messages ≡ length base.messages
+  pub keys_long : told.keys ≡ length base.keys
+  pub cursor : told.cursor ≡ base.cursor
+  pub digit : told.number < 10
+  pub messages : IsFrontOf base.messages (bytes_in (files (messages_of path told.number)))
+  pub keys : IsFrontOf base.keys (bytes_in (files (keys_of path told.number)))
+
+-- The files stand for this base, whatever a crash made of them: what is behind the last record with an open gate, and behind
+-- what it tells, does not count.
+pub record StandsFor (path : List ℕ) (base : BaseBytes) (files : Files) : Type 0 where
+  pub bodies : List (List ℕ)
+  pub log : IsLog bodies (bytes_in (files (log_of path)))
+  pub there : AreThere path bodies files
+  pub tells : TellsBase (last_told bodies) path base files
+
+-- the base of so many bytes, as they are seen now
+abbrev pub base_at : DiskState → List ℕ → Told → BaseBytes
+base_at disk path told = record {
+  messages = take told.messages (bytes_in (disk.seen (messages_of path told.number)));
+  keys = take told.keys (bytes_in (disk.seen (keys_of path told.number)));
+  cursor = told.cursor;
+}

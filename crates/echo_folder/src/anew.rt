@@ -1,0 +1,44 @@
+//! Files of another number, for a purge.
+ghost use Rattle.std.specs.Prelude.{◌≡◌, ◌≢◌, ◌<◌, IfOk};
+ghost use Rattle.echo_disk.specs.Runs.{LeavesOnly, HasCause};
+ghost use Rattle.echo_folder.specs.Names.{AreNames, folder_of};
+ghost use Rattle.echo_folder.specs.Standing.{base_at};
+ghost use Rattle.echo_folder.specs.AtRest.{IsAtRest, IsStaged};
+ghost use Rattle.echo_folder.specs.Moments.{StandsAlone, KeepsOutside};
+
+use crate::log::{End, Told};
+use crate::names::Names;
+use echo_disk::{Disk, DiskError};
+
+/// Makes files of another number with nothing in them. What is staged there is the base once it is committed;
+/// until then a crash leaves the base as it was.
+pub fn stage_anew<D: Disk>(
+    disk: &mut D,
+    names: &Names,
+    end: End,
+    number: u8,
+    cursor: u64,
+) -> Result<Told, DiskError>
+    requires names { AreNames names.now number }
+    requires digit { number < 10 }
+    requires other { number ≢ end.told.number }
+    requires settled { IsAtRest (D.state disk.old) (folder_of names.now) end }
+    ensures staged { IfOk result (λ told. IsStaged (D.state disk.new) (folder_of names.now) end told) }
+    ensures told { IfOk result (λ told. told ≡ record { messages = 0; keys = 0; cursor = cursor; number = number }) }
+    ensures same { base_at (D.state disk.new) (folder_of names.now) end.told
+        ≡ base_at (D.state disk.old) (folder_of names.now) end.told }
+    ensures any_moment { LeavesOnly (D.state disk.old) (D.state disk.new)
+        (StandsAlone (folder_of names.now) (D.state disk.old) (base_at (D.state disk.old) (folder_of names.now) end.told)) }
+    ensures outside { KeepsOutside (folder_of names.now) (D.state disk.old) (D.state disk.new) }
+    ensures cause { HasCause (D.failures disk.old) (D.failures disk.new) result }
+{
+    disk.create(&names.messages)?;
+    disk.create(&names.keys)?;
+    disk.sync_folder(&names.folder)?;
+    Ok(Told {
+        messages: 0,
+        keys: 0,
+        cursor,
+        number,
+    })
+}

@@ -1,0 +1,54 @@
+//! Why a base folder was not opened.
+use echo_disk::DiskError;
+use std::alloc::{AllocError, AllocFailed};
+use thiserror::Error;
+
+/// Why a base folder was not opened.
+#[derive(Clone, Copy, Debug, PartialEq, Eq, Error)]
+pub enum FolderError {
+    /// A growth was refused.
+    #[error("out of memory")]
+    Memory,
+    /// The device failed, and counts it.
+    #[error("the device failed")]
+    Device,
+    /// The files stand for no base.
+    #[error("not the files of a base folder")]
+    Corrupt,
+}
+
+impl From<DiskError> for FolderError {
+    ghost use Rattle.std.specs.Prelude.{◌≡◌};
+    ghost use Rattle.echo_folder.specs.Opening.{folder_cause};
+
+    ghost from_gives = { λ cause e. e ≡ folder_cause cause };
+
+    fn from(cause: DiskError) -> FolderError {
+        match cause {
+            DiskError::Memory => FolderError::Memory,
+            DiskError::Device => FolderError::Device,
+        }
+    }
+}
+
+impl From<AllocError> for FolderError {
+    ghost use Rattle.std.specs.Prelude.{◌≡◌};
+    ghost use Rattle.echo_folder.specs.declared.folder_error.FolderError.TheVariants as cause;
+
+    ghost from_gives = { λ _ e. e ≡ cause.Memory };
+
+    fn from(_refused: AllocError) -> FolderError {
+        FolderError::Memory
+    }
+}
+
+impl<T: Drop> From<AllocFailed<T>> for FolderError {
+    ghost use Rattle.std.specs.Prelude.{◌≡◌};
+    ghost use Rattle.echo_folder.specs.declared.folder_error.FolderError.TheVariants as cause;
+
+    ghost from_gives = { λ _ e. e ≡ cause.Memory };
+
+    fn from(_refused: AllocFailed<T>) -> FolderError {
+        FolderError::Memory
+    }
+}

@@ -1,0 +1,28 @@
+//! The files of a base folder: messages and keys that only grow, and a log of commits.
+//!
+//! The contract for the layers above: for whatever a crash leaves at any moment, the folder stands for the
+//! bytes from before a commit or from after it. A commit counts once its record's gate is open (1). A closed
+//! gate (0) stands behind the last record, on the disk before anything is written behind it.
+//!
+//! Modules in reading order: `names` (the paths of the files), `log` (records, and the last of them), `staging`
+//! (bytes written behind those that count), `anew` (files of another number), `committing` (a record, and its gate), `folder_error`, `making` (the
+//! files of a folder that has none), `mending` (the end of a log) and `opening`.
+#![tactic(auto)]
+
+mod anew;
+mod committing;
+mod folder_error;
+mod log;
+mod making;
+mod mending;
+mod names;
+mod opening;
+mod staging;
+
+pub use anew::stage_anew;
+pub use committing::commit;
+pub use folder_error::FolderError;
+pub use log::{End, Told, last_record};
+pub use names::Names;
+pub use opening::open;
+pub use staging::{stage_keys, stage_messages, stage_nothing};

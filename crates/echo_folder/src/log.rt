@@ -1,0 +1,83 @@
+//! The log of commits: its records, and the last of them.
+ghost use Rattle.std.specs.Prelude.{◌≡◌, ◌≤◌, ◌+◌, length, take, drop, slice_index, MatchBool};
+ghost use Rattle.std.specs.Int.{w64, from_le_bytes};
+ghost use Rattle.echo_folder.specs.Log.{EndsHere, told_by};
+ghost use Rattle.echo_folder.specs.Reading.{ReadsAll};
+
+/// What a record tells: how many bytes of the messages and of their keys count, the cursor, and the number of
+/// the files that hold them.
+#[derive(Clone, Copy, Debug, PartialEq, Eq)]
+pub struct Told {
+    pub messages: usize,
+    pub keys: usize,
+    pub cursor: u64,
+    pub number: u8,
+}
+
+/// Where the log's records end, and what the last of them tells.
+#[derive(Clone, Copy, Debug, PartialEq, Eq)]
+pub struct End {
+    pub gate: usize,
+    pub told: Told,
+}
+
+// Whether a record with an open gate stands here.
+fn has_record(bytes: &[u8], at: usize) -> bool
+    requires { at ≤ length bytes.now }
+    ensures { MatchBool result ((26 ≤ length (drop at bytes.now)) × (slice_index bytes.now at ≡ 1)) (EndsHere (drop at bytes.now)) }
+{
+    bytes.len() - at >= 26 && bytes[at] == 1
+}
+
+// Eight bytes from there on, low byte first.
+fn number_at(bytes: &[u8], at: usize) -> u64
+    requires { at + 8 ≤ length bytes.now }
+    ensures { result ≡ from_le_bytes w64 (take 8 (drop at bytes.now)) }
+{
+    u64::from_le_bytes([
+        bytes[at],
+        bytes[at + 1],
+        bytes[at + 2],
+        bytes[at + 3],
+        bytes[at + 4],
+        bytes[at + 5],
+        bytes[at + 6],
+        bytes[at + 7],
+    ])
+}
+
+// What the record tells that begins there.
+fn told_at(bytes: &[u8], at: usize) -> Told
+    requires { at + 25 ≤ length bytes.now }
+    ensures { result ≡ told_by (take 25 (drop at bytes.now)) }
+{
+    Told {
+        messages: number_at(bytes, at) as usize,
+        keys: number_at(bytes, at + 8) as usize,
+        cursor: number_at(bytes, at + 16),
+        number: bytes[at + 24],
+    }
+}
+
+/// Reads a log to the end of its records.
+pub fn last_record(bytes: &[u8]) -> End
+    ensures reads { ReadsAll bytes.now result }
+    ensures within { result.gate ≤ length bytes.now }
+{
+    let mut end = End {
+        gate: 0,
+        told: Told {
+            messages: 0,
+            keys: 0,
+            cursor: 0,
+            number: 0,
+        },
+    };
+    'records: while has_record(bytes, end.gate) {
+        end = End {
+            gate: end.gate + 26,
+            told: told_at(bytes, end.gate + 1),
+        };
+    }
+    end
+}

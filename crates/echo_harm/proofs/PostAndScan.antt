@@ -1,0 +1,48 @@
+-- A system posts and scans: its posting is sent to each of its links.
+use Rattle.std.proofs.Common.{◌≡◌, inl, refl, sym, subst, ap, ◌∙◌, ℕ, ◌≤◌, arith, List, [], ◌∷◌, Option, Some}
+use Rattle.std.specs.Prelude.{true}
+use Rattle.echo_addr.specs.declared.address.Address.{Address}
+use Rattle.echo_graph.specs.Walk.{Among}
+use Rattle.echo_steps.specs.declared.packet.Packet.{Packet}
+use Rattle.echo_links.specs.Links.{LinkFile, has_area, is_link, links_of}
+use Rattle.echo_filed.specs.Filed.{key_of}
+use Rattle.echo_run.specs.Event.{RunEvent, Scanning}
+use Rattle.echo_run.specs.Run.{Run, System, filing, fresh, nth, run_of, scanning, scanning_at}
+use Rattle.echo_run.specs.Orderly.{sent_count}
+use Rattle.echo_run.specs.Exports.{exports}
+use Rattle.echo_harm.specs.LawsOfRuns.{LawsOfRuns}
+use Rattle.echo_harm.specs.Postings.{trial_moment, trial_posting}
+use Rattle.echo_harm.proofs.Counts.{sent-part}
+use Rattle.echo_harm.proofs.Entries.{link-among, target-to}
+use Rattle.echo_harm.proofs.Holders.{posting-own, posting-seen}
+use Rattle.echo_harm.proofs.Lists.{nothing, nth-changed}
+use Rattle.echo_harm.proofs.OneMessage.{post_of, post_of-tag, posted-at}
+use Rattle.echo_harm.proofs.Steps.{after_one_more}
+
+abbrev pub post_and_scan : ℕ → List ℕ → List RunEvent
+post_and_scan i tag = trial_posting i tag ∷ (Scanning i trial_moment ∷ [])
+
+module _ (files : List LinkFile) (known : LawsOfRuns files) (tag : List ℕ) (i : ℕ) (file : LinkFile) (is : nth i files ≡ Some file) (area : has_area file tag ≡ true) where
+  abbrev pub scanned-poster : System
+  scanned-poster = scanning_at (filing (fresh file) (Some (post_of file tag)))
+
+  pub scanned-there : nth i (run_of files (post_and_scan i tag)).systems ≡ Some scanned-poster
+  scanned-there =
+      let before = run_of files (trial_posting i tag ∷ []) in
+      let at = posted-at files known tag i file is area in
+      let P : Run → Type 0 = λ run. nth i run.systems ≡ Some scanned-poster in
+      let Q : Option System → Type 0 = λ o. P (scanning before i trial_moment o) in
+      after_one_more P files (trial_posting i tag ∷ []) (Scanning i trial_moment)
+      (subst Q (sym at) (nth-changed i scanning_at (filing (fresh file) (Some (post_of file tag))) before.systems at))
+
+  pub sent-to_link : (a : Address) → is_link file tag a ≡ true →
+      1 ≤ sent_count a (key_of (post_of file tag)) (run_of files (post_and_scan i tag)).packets
+  sent-to_link a link =
+      let events = post_and_scan i tag in
+      let p = post_of file tag in
+      let P : List ℕ → Type 0 = λ t. Among a (links_of file t) in
+      let target = target-to file p a (subst P (sym (post_of-tag files known tag i file is area)) (link-among file tag a link))
+      (λ e. nothing (sym (posting-own file tag) ∙ e)) (posting-seen file tag a) in
+      let one = known.sent events i scanned-poster scanned-there p (inl refl) a target in
+      let all = ap (λ (ps : List Packet). sent_count a (key_of p) ps) (known.packets events) in
+      omega (arith, one, all, sent-part a (key_of p) i (exports files events))

@@ -1,0 +1,5 @@
+pub mod Harms
+pub mod Grave
+pub mod LawsOfRuns
+pub mod Postings
+pub mod Shown

@@ -1,0 +1,13 @@
+//! The keys of a base folder: for each message where it begins, and a digest of what makes it one.
+//!
+//! A look-up goes once over the digests and reads only messages whose digest is the one that is sought, so that a
+//! digest of two messages costs time and never an answer.
+//!
+//! Modules in reading order: `entries` (what stands for a message, and a digest found) and `laws`.
+#![tactic(auto)]
+
+mod entries;
+mod laws;
+
+pub use entries::{next_with, place_of};
+pub use laws::each_message_has_its_entry;

@@ -1,0 +1,27 @@
+-- Look-ups in what is kept in order, beside the lists that they look up in.
+use Rattle.std.specs.Prelude.{◌≡◌, ◌<◌, ℕ, List, length, Option, None, MatchOption, bytes_eq, find, slice_get}
+use Rattle.std.specs.declared.cmp.Ordering.{Ordering}
+use Rattle.std.specs.Ordering.{is_eq, nat_cmp, ordering_then}
+use Rattle.std.specs.Cmp.Lexicographic.{slice_cmp}
+use Rattle.std.specs.List.{list_any}
+use Rattle.std.specs.Map.{lookup}
+use Rattle.echo_addr.specs.declared.address.Address.{Address}
+use Rattle.echo_links.specs.Links.{Area, same_address}
+
+-- addresses in order: by zone, then by net, then by node
+abbrev pub address_order : Address → Address → Ordering
+address_order a b = ordering_then (nat_cmp a.zone b.zone) (ordering_then (nat_cmp a.net b.net) (nat_cmp a.node b.node))
+
+-- the sorted addresses are those of the list
+abbrev pub HaveTheSame : List Address → List Address → Type 0
+HaveTheSame sorted links = (a : Address) → list_any (λ b. is_eq (address_order a b)) sorted ≡ list_any (same_address a) links
+
+-- the number that was found is that of the area with this tag; none was found, and there is none
+abbrev pub IsNumberOf : List Area → List ℕ → Option ℕ → Type 0
+IsNumberOf areas tag found =
+    MatchOption found (find (λ area. bytes_eq area.tag tag) areas ≡ None)
+    (λ i. (i < length areas) × (find (λ area. bytes_eq area.tag tag) areas ≡ slice_get areas i))
+
+-- the entries lead from each tag to its area
+abbrev pub LeadToAreas : {K : Type 0} → (K → List ℕ) → List (K × ℕ) → List Area → Type 0
+LeadToAreas tag_of entries areas = (tag : List ℕ) → IsNumberOf areas tag (lookup (λ k. is_eq (slice_cmp nat_cmp tag (tag_of k))) entries)

@@ -1,0 +1,8 @@
+mod Effects
+mod Moved
+mod Named
+mod Rewritten
+mod SecondPath
+mod Settled
+mod Steps
+mod Tears

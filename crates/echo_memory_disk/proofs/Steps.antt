@@ -1,0 +1,45 @@
+-- The steps of a disk in memory, and what one more does to it.
+use Rattle.std.proofs.Common.{◌≡◌, ◌+◌, ◌<◌, ℕ, List, [], ◌∷◌, ◌++◌, length, take, get_or, refl, ◌∙◌, ap, inl, inr, ⊎_elim, arith}
+use Rattle.std.specs.Prelude.{false, reverse}
+use Rattle.std.proofs.lemmas.List.{reverse-append, take_more}
+use Rattle.echo_disk.specs.Disk.{DiskState}
+use Rattle.echo_disk.specs.Runs.{Elapses}
+use Rattle.echo_memory_disk.specs.Memory.{AreTogether, MayLeave, disk_after}
+use Rattle.echo_memory_disk.specs.declared.step.Step.{Step}
+use Rattle.echo_memory_disk.specs.declared.step.Step.TheVariants.{Changed, Made, Removed, Renamed, Linked, Synced, FolderSynced, Crashed}
+
+-- the newest comes first
+pub reversed : (old new : List Step) (x : Step) → new ≡ old ++ x ∷ [] → reverse new ≡ x ∷ reverse old
+reversed old new x e = ap (λ (l : List Step). reverse l) e ∙ reverse-append old (x ∷ [])
+
+pub reverse-take_more : (steps : List Step) (i : ℕ) (d : Step) → i < length steps → reverse (take (i + 1) steps) ≡ get_or steps i d ∷ reverse (take i steps)
+reverse-take_more steps i d lt = reversed (take i steps) (take (i + 1) steps) (get_or steps i d) (take_more steps i d lt)
+
+-- a crash leaves what is kept
+pub none_came : (steps : List Step) → AreTogether steps (λ m. false)
+none_came [] = tt
+none_came (Changed path contents ∷ steps) = none_came steps
+none_came (Made path making ∷ steps) = none_came steps
+none_came (Removed path done ∷ steps) = none_came steps
+none_came (Renamed from to file done ∷ steps) = (refl, none_came steps)
+none_came (Linked from to file done ∷ steps) = none_came steps
+none_came (Synced path ∷ steps) = none_came steps
+none_came (FolderSynced folder ∷ steps) = tt
+none_came (Crashed ∷ steps) = tt
+
+pub left_by_crash : (steps : List Step) → MayLeave steps (disk_after (Crashed ∷ steps)).seen
+left_by_crash steps = record { came = λ m. false; together = none_came steps; files = λ m. refl }
+
+pub one_elapses : (steps : List Step) (x : Step) → Elapses (disk_after steps) (disk_after (x ∷ steps))
+one_elapses steps x = record {
+  later = omega arith;
+  nothing_else = λ t c le left. ⊎_elim (λ now. inr now) (λ was. inl was.1) left;
+  keeps = λ t c le was. inr (le, was);
+}
+
+pub same_elapses : (d : DiskState) → Elapses d d
+same_elapses d = record {
+  later = omega arith;
+  nothing_else = λ t c le left. inl left;
+  keeps = λ t c le was. was;
+}

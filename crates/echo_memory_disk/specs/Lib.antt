@@ -1,0 +1,5 @@
+pub mod Calls
+pub mod Memory
+pub mod Paths
+pub mod Restart
+pub mod Shown

@@ -1,0 +1,13 @@
+-- A disk after a crash.
+use Rattle.std.specs.Prelude.{ℕ, List}
+use Rattle.echo_disk.specs.Disk.{DiskState}
+
+-- what is seen now might have been left by a crash before
+abbrev pub IsCrashOf : DiskState → DiskState → Type 0
+IsCrashOf old new = old.may_leave new.seen
+
+-- all that is seen is on the disk, so that a crash leaves it as it is
+pub record IsAllOnDisk (disk : DiskState) : Type 0 where
+  pub named : (m : List ℕ) → disk.is_named m
+  pub flushed : (m : List ℕ) → disk.is_flushed m
+  pub alone : (m : List ℕ) → disk.is_alone m

@@ -1,0 +1,96 @@
+//! A disk in memory.
+ghost use Rattle.std.specs.Prelude.{◌≡◌, [], List, ℕ, OnOk, OnErr};
+ghost use Rattle.echo_disk.specs.Runs.{HasCause};
+ghost use Rattle.echo_memory_disk.specs.Memory.{disk_after, steps_of};
+ghost use Rattle.echo_memory_disk.specs.Restart.{IsAllOnDisk, IsCrashOf};
+
+use crate::step::Step;
+use crate::tearing::Tear;
+use echo_disk::DiskError;
+use std::alloc::{AllocError, Global};
+
+/// Files in memory, of which a crash leaves what was synced and what came to the disk by itself.
+///
+/// It counts its calls, and can be told to fail from one of them on.
+#[derive(Drop)]
+pub struct MemoryDisk {
+    pub(crate) alloc: Global,
+    // What was done, the newest last.
+    pub(crate) steps: Vec<Step>,
+    // How far the next changes come to the disk, one after another and then again from the first.
+    tears: Vec<Tear>,
+    next: usize,
+    // How many calls passed, and how many pass.
+    calls: u64,
+    passes: u64,
+    pub(crate) failures: u64,
+}
+
+impl MemoryDisk {
+    /// A disk without files that lets so many calls pass. The tears say how far its changes come to the disk, one
+    /// after another and then again from the first; with none, each comes whole.
+    pub fn new(alloc: Global, tears: Vec<Tear>, passes: u64) -> MemoryDisk
+        ensures empty { steps_of result ≡ [] }
+        ensures on_disk { IsAllOnDisk (disk_after (steps_of result)) }
+    {
+        MemoryDisk {
+            alloc,
+            steps: Vec::new(alloc),
+            tears,
+            next: 0,
+            calls: 0,
+            passes,
+            failures: 0,
+        }
+    }
+
+    /// How many calls have passed since it was made, or since it crashed.
+    pub fn calls(&self) -> u64 {
+        self.calls
+    }
+
+    /// Loses what is not on the disk, and lets so many calls pass from then on. The disk stays as it was where a
+    /// growth is refused.
+    pub fn crash(&mut self, passes: u64) -> Result<(), AllocError>
+        ensures left { OnOk result (IsCrashOf (disk_after (steps_of self.old)) (disk_after (steps_of self.new))) }
+        ensures on_disk { OnOk result (IsAllOnDisk (disk_after (steps_of self.new))) }
+        ensures refused { OnErr result (steps_of self.new ≡ steps_of self.old) }
+    {
+        self.steps.push(Step::Crashed)?;
+        self.calls = 0;
+        self.passes = passes;
+        Ok(())
+    }
+
+    // Counts a call, or fails where it is behind the last that passes.
+    pub(crate) fn begin(&mut self) -> Result<(), DiskError>
+        ensures same { self.new.steps ≡ self.old.steps }
+        ensures cause { HasCause self.old.failures self.new.failures result }
+    {
+        if self.calls >= self.passes {
+            self.failures = self.failures.saturating_add(1);
+            return Err(DiskError::Device);
+        }
+        self.calls += 1;
+        Ok(())
+    }
+
+    // How far the next change comes to the disk.
+    pub(crate) fn next_tear(&mut self) -> Tear
+        ensures same { self.new.steps ≡ self.old.steps }
+        ensures failures { self.new.failures ≡ self.old.failures }
+    {
+        if self.next >= self.tears.len() {
+            self.next = 0;
+        }
+        if self.tears.is_empty() {
+            return Tear {
+                bytes: usize::MAX,
+                filler: None,
+            };
+        }
+        let tear = self.tears[self.next];
+        self.next += 1;
+        tear
+    }
+}

@@ -1,0 +1,63 @@
+//! What calls did to the files of a disk in memory.
+
+/// The bytes of a file: what is seen, and what a crash leaves, or no file where its path is not on the disk.
+#[derive(Drop)]
+pub struct Contents {
+    pub seen: Vec<u8>,
+    pub kept: Option<Vec<u8>>,
+}
+
+/// What a crash leaves of a file that was made in the place of another.
+#[derive(Clone, Copy)]
+pub enum Making {
+    /// The file that was there.
+    Lost,
+    /// None.
+    Half,
+    /// The new one, which is empty.
+    Done,
+}
+
+/// One step, by paths. Where `came` is `false` a crash leaves what was there before.
+#[derive(Drop)]
+pub enum Step {
+    /// A file has other bytes.
+    Changed {
+        path: Vec<u8>,
+        contents: Contents,
+    },
+    /// A path has an empty file of its own.
+    Made {
+        path: Vec<u8>,
+        came: Making,
+    },
+    /// A path has no file.
+    Removed {
+        path: Vec<u8>,
+        came: bool,
+    },
+    /// A file has another path.
+    Renamed {
+        from: Vec<u8>,
+        to: Vec<u8>,
+        file: Vec<u8>,
+        came: bool,
+    },
+    /// A file has a second path.
+    Linked {
+        from: Vec<u8>,
+        to: Vec<u8>,
+        file: Vec<u8>,
+        came: bool,
+    },
+    /// A file was put on the disk.
+    Synced {
+        path: Vec<u8>,
+    },
+    /// The paths of a folder were put on the disk.
+    FolderSynced {
+        folder: Vec<u8>,
+    },
+    /// All that was not on the disk is lost.
+    Crashed,
+}

@@ -1,0 +1,32 @@
+//! Calls that put on the disk what is seen.
+ghost use Rattle.std.specs.Prelude.{◌≡◌, MatchResult};
+ghost use Rattle.echo_disk.specs.Runs.{HasCause};
+ghost use Rattle.echo_memory_disk.specs.Calls.{AddsSync, AddsFolderSync};
+
+use crate::memory_disk::MemoryDisk;
+use crate::step::Step;
+use echo_disk::DiskError;
+
+/// Puts the bytes of a file on the disk.
+pub(crate) fn sync_file(disk: &mut MemoryDisk, path: &[u8]) -> Result<(), DiskError>
+    ensures adds { MatchResult result (λ _. AddsSync path.now disk.old.steps.items disk.new.steps.items)
+        (λ _. disk.new.steps.items ≡ disk.old.steps.items) }
+    ensures cause { HasCause disk.old.failures disk.new.failures result }
+{
+    disk.begin()?;
+    let path = path.to_vec(disk.alloc)?;
+    disk.steps.push(Step::Synced { path })?;
+    Ok(())
+}
+
+/// Puts the paths of a folder on the disk.
+pub(crate) fn sync_paths(disk: &mut MemoryDisk, folder: &[u8]) -> Result<(), DiskError>
+    ensures adds { MatchResult result (λ _. AddsFolderSync folder.now disk.old.steps.items disk.new.steps.items)
+        (λ _. disk.new.steps.items ≡ disk.old.steps.items) }
+    ensures cause { HasCause disk.old.failures disk.new.failures result }
+{
+    disk.begin()?;
+    let folder = folder.to_vec(disk.alloc)?;
+    disk.steps.push(Step::FolderSynced { folder })?;
+    Ok(())
+}

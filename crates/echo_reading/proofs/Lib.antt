@@ -1,0 +1,13 @@
+pub mod Pushed
+pub mod Stopping
+pub mod Printed
+pub mod Answering
+pub mod Entries
+pub mod Saying
+pub mod OnePrinting
+pub mod Checks
+pub mod Pictures
+pub mod Reasons
+pub mod Listings
+pub mod WorldLines
+pub mod Replays

@@ -1,0 +1,121 @@
+//! The command `list`: the messages of a base.
+ghost use Rattle.std.specs.Prelude.{◌≡◌, ◌⊎◌, ◌++◌, IfErr, IfOk, OnOk, OnErr, length, option_copied, option_map};
+ghost use Rattle.echo_status.specs.Devices.{output_of};
+ghost use Rattle.echo_links.specs.Links.{upper};
+ghost use Rattle.echo_reading.specs.Listing.{ListAnswers};
+ghost use Rattle.echo_print.specs.BaseListed.{asked_text, is_of_area, messages_text};
+ghost use Rattle.echo_status.specs.Ended.{IsOutOfMemory, Stops};
+ghost use Rattle.echo_status.specs.Inputs.{IsBaseFault, IsBaseGiven};
+ghost use Rattle.echo_status.specs.Lines.{PassesOn, WritesFront};
+
+use echo_addr::Items;
+use echo_base::Base;
+use echo_device::Sink;
+use echo_filed::Filed;
+use echo_print::{push_base_total, push_message};
+use echo_status::{Fault, Status, pass_on, print_rest};
+use std::alloc::{AllocError, Global};
+use std::hash::BuildHasher;
+
+/// `list [--area TAG] [--from I] BASE`: prints the messages of a base, those of the area where one is
+/// given, from the number `first` on, and how many the base has and how many of them wait. Of a faulty
+/// base nothing is printed. `base` is none where the file does not exist.
+pub fn list<'a, S: BuildHasher + Drop, W: Sink>(
+    alloc: Global,
+    area: Option<&[u8]>,
+    first: u64,
+    base: Option<&[u8]>,
+    hasher: S,
+    out: &mut W,
+) -> Result<Status, Fault<'a>>
+    ensures { ListAnswers (option_copied area.entry) first (option_copied base.entry) (output_of W.contents W.failures W.holds out.old) (output_of W.contents W.failures W.holds out.new) result }
+{
+    let base = base_given(alloc, base, hasher)?;
+    let area = raised(alloc, area)?;
+    let mut lines = Vec::new(alloc);
+    print_messages(area.as_ref(), first, &base, &mut lines, out)?;
+    push_base_total(&mut lines, base.len(), base.len() - base.cursor())?;
+    print_rest(&mut lines, out)?;
+    Ok(Status::Good)
+}
+
+// The base of the file, or an empty one where there is none.
+fn base_given<'a, S: BuildHasher + Drop>(
+    alloc: Global,
+    base: Option<&[u8]>,
+    hasher: S,
+) -> Result<Base<S>, Fault<'a>>
+    ensures ok { IfOk result (λ b. IsBaseGiven (option_copied base.entry) b.messages b.cursor) }
+    ensures err { IfErr result (λ fault. IsOutOfMemory fault ⊎ IsBaseFault (option_copied base.entry) fault) }
+{
+    match base {
+        Some(bytes) => Ok(Base::load(alloc, &mut &*bytes, hasher)?),
+        None => Ok(Base::new(alloc, hasher)),
+    }
+}
+
+// The tag in capital letters, if one is given.
+fn raised(alloc: Global, area: Option<&[u8]>) -> Result<Option<Items<u8>>, AllocError>
+    ensures { IfOk result (λ raised. raised ≡ option_map upper (option_copied area.entry)) }
+{
+    match area {
+        Some(tag) => Ok(Some(Items::new(tag.to_ascii_uppercase(alloc)?))),
+        None => Ok(None),
+    }
+}
+
+// Prints the lines of the messages that are asked for; the last ones stay in `lines`.
+fn print_messages<'a, S: BuildHasher, W: Sink>(
+    area: Option<&Items<u8>>,
+    first: u64,
+    base: &Base<S>,
+    lines: &mut Vec<u8>,
+    out: &mut W,
+) -> Result<(), Fault<'a>>
+    ensures lines { OnOk result (PassesOn (lines.old.items ++ messages_text (option_copied area.entry) first base.now.messages base.now.cursor (length base.now.messages)) lines.new.items (W.contents out.old) (W.contents out.new)) }
+    ensures begun { OnErr result (WritesFront (lines.old.items ++ messages_text (option_copied area.entry) first base.now.messages base.now.cursor (length base.now.messages)) (W.contents out.old) (W.contents out.new)) }
+    ensures ok { OnOk result (W.failures out.new ≡ W.failures out.old) }
+    ensures err { IfErr result (Stops (W.failures out.old) (W.failures out.new)) }
+{
+    let cursor = base.cursor();
+    'messages: for i in 0..base.len() {
+        print_message(area, first, cursor, i, base.message(i), lines, out)?;
+    }
+    Ok(())
+}
+
+// Prints the lines of the message of this number, if it is asked for.
+fn print_message<'a, W: Sink>(
+    area: Option<&Items<u8>>,
+    first: u64,
+    cursor: usize,
+    i: usize,
+    message: Option<&Filed>,
+    lines: &mut Vec<u8>,
+    out: &mut W,
+) -> Result<(), Fault<'a>>
+    ensures lines { OnOk result (PassesOn (lines.old.items ++ asked_text (option_copied area.entry) first cursor i (option_copied message.entry)) lines.new.items (W.contents out.old) (W.contents out.new)) }
+    ensures begun { OnErr result (WritesFront (lines.old.items ++ asked_text (option_copied area.entry) first cursor i (option_copied message.entry)) (W.contents out.old) (W.contents out.new)) }
+    ensures ok { OnOk result (W.failures out.new ≡ W.failures out.old) }
+    ensures err { IfErr result (Stops (W.failures out.old) (W.failures out.new)) }
+{
+    let Some(message) = message else {
+        return Ok(());
+    };
+    let echo = &message.echo;
+    if first > i as u64 || !is_of_area(area, echo.tag.as_slice()) {
+        return Ok(());
+    }
+    push_message(lines, cursor, i, message)?;
+    pass_on(lines, out)
+}
+
+// Whether this is the tag that is asked for, if one is.
+fn is_of_area(area: Option<&Items<u8>>, tag: &[u8]) -> bool
+    ensures { result ≡ is_of_area (option_copied area.entry) tag.now }
+{
+    match area {
+        None => true,
+        Some(area) => tag == area.as_slice(),
+    }
+}

@@ -1,0 +1,126 @@
+ghost use Rattle.std.specs.Prelude.{◌≡◌, ◌++◌, OnOk, IfErr};
+ghost use Rattle.echo_status.specs.Devices.{output_of};
+ghost use Rattle.hex.specs.Hex.{decode_of};
+ghost use Rattle.echo_text.specs.Echo.{HasNoZero};
+ghost use Rattle.echo_status.specs.Ended.{IsOutOfMemory};
+ghost use Rattle.echo_print.specs.Said.{TextShown};
+ghost use Rattle.echo_reading.specs.Showing.{DecodeAnswers, PacketAnswers, PacketPasses, ShowAnswers, hex_text};
+ghost use Rattle.echo_print.specs.Shown.{MessageShown};
+ghost use Rattle.echo_print.specs.Pushed.{Pushes};
+
+use echo_device::Sink;
+use echo_packet::{Packed, PacketReader};
+use echo_print::{push_echo, push_end, push_fields, push_header};
+use echo_status::{Fault, LIMITS, Status, pass_on, print_rest};
+use echo_text::{TextFault, view_text};
+use hex::FromHexError;
+use std::alloc::{AllocError, Global};
+
+/// `show [--hex] PACKET`: prints the packet at the front of the input, which with `hex` is written in
+/// hexadecimal digits, blanks and line ends left out. The lines of the header and of each message before
+/// a fault are printed, also out of memory, and then the fault is answered.
+pub fn show<'a, W: Sink>(
+    alloc: Global,
+    hex: bool,
+    input: &[u8],
+    out: &mut W,
+) -> Result<Status, Fault<'a>>
+    ensures { ShowAnswers hex input.now (output_of W.contents W.failures W.holds out.old) (output_of W.contents W.failures W.holds out.new) result }
+{
+    if hex {
+        let bytes = decode(alloc, input)?;
+        show_bytes(alloc, &bytes, out)
+    } else {
+        show_bytes(alloc, input, out)
+    }
+}
+
+// The bytes that hexadecimal text stands for.
+fn decode<'a>(alloc: Global, input: &[u8]) -> Result<Vec<u8>, Fault<'a>>
+    ensures { DecodeAnswers input.now result }
+{
+    let digits: Vec<u8> = input
+        .iter()
+        .copied()
+        .filter(|b| !(*b == b' ' || *b == b'\t' || *b == b'\n' || *b == b'\r'))
+        .collect(alloc)?;
+    match hex::decode(alloc, digits.as_slice()) {
+        Ok(bytes) => Ok(bytes),
+        Err(FromHexError::OutOfMemory) => Err(Fault::OutOfMemory),
+        Err(_) => Err(Fault::BadHex),
+    }
+}
+
+// Prints the lines of the packet; those before a fault too.
+fn show_bytes<'a, W: Sink>(alloc: Global, bytes: &[u8], out: &mut W) -> Result<Status, Fault<'a>>
+    ensures { PacketAnswers bytes.now (output_of W.contents W.failures W.holds out.old) (output_of W.contents W.failures W.holds out.new) result }
+{
+    let mut lines = Vec::new(alloc);
+    let answer = show_packet(alloc, bytes, &mut lines, out);
+    print_rest(&mut lines, out)?;
+    answer
+}
+
+// Prints the lines of the packet, of which the last ones stay in `lines`. The lines of the header, of a
+// message and of the end are made by themselves first, so that out of memory adds none of them.
+fn show_packet<'a, W: Sink>(
+    alloc: Global,
+    bytes: &[u8],
+    lines: &mut Vec<u8>,
+    out: &mut W,
+) -> Result<Status, Fault<'a>>
+    ensures { PacketPasses bytes.now lines.old.items lines.new.items (output_of W.contents W.failures W.holds out.old) (output_of W.contents W.failures W.holds out.new) result }
+{
+    let mut reader = PacketReader::open(alloc, bytes, LIMITS)?;
+    let mut more = Vec::new(alloc);
+    push_header(alloc, &mut more, reader.header())?;
+    lines.append(&mut more)?;
+    let mut count = 0u64;
+    let mut place = reader.place();
+    'messages: while let Some(message) = reader.next()? {
+        count += 1;
+        push_message(alloc, &mut more, count, place, &message)?;
+        lines.append(&mut more)?;
+        pass_on(lines, out)?;
+        place = reader.place();
+    }
+    push_end(&mut more, count, reader.place())?;
+    lines.append(&mut more)?;
+    Ok(Status::Good)
+}
+
+// Adds the lines of a message, with what its text says.
+fn push_message<'a>(
+    alloc: Global,
+    lines: &mut Vec<u8>,
+    number: u64,
+    place: u64,
+    message: &Packed,
+) -> Result<(), Fault<'a>>
+    ensures lines { OnOk result (Pushes (MessageShown number place message.now) lines.old.items lines.new.items) }
+    ensures err { IfErr result IsOutOfMemory }
+{
+    push_fields(lines, number, place, message)?;
+    push_said(alloc, lines, message.text())
+}
+
+// Adds what the text says as echomail, or why it is none.
+fn push_said<'a>(alloc: Global, lines: &mut Vec<u8>, text: &[u8]) -> Result<(), Fault<'a>>
+    requires { HasNoZero text.now }
+    ensures lines { OnOk result (Pushes (TextShown text.now) lines.old.items lines.new.items) }
+    ensures err { IfErr result IsOutOfMemory }
+{
+    match view_text(alloc, text) {
+        Ok((echo, dropped)) => Ok(push_echo(lines, &echo, dropped)?),
+        Err(TextFault::NotEcho) => Ok(push_line(lines, b"not echomail\n")?),
+        Err(TextFault::BadTag) => Ok(push_line(lines, b"bad tag\n")?),
+        // No text is refused for its MSGID here.
+        Err(TextFault::Memory | TextFault::BadMsgId) => Err(Fault::Text(TextFault::Memory)),
+    }
+}
+
+fn push_line(lines: &mut Vec<u8>, line: &[u8]) -> Result<(), AllocError>
+    ensures { OnOk result (lines.new.items ≡ lines.old.items ++ line.now) }
+{
+    lines.extend_from_slice(line)
+}

@@ -1,0 +1,43 @@
+//! What holds of this tosser among any tossers that keep the rules. Each law is the contract of a function
+//! that does nothing.
+
+ghost use Rattle.std.specs.Prelude.{◌≡◌, ℕ, Bool, IsTrue, List};
+ghost use Rattle.echo_addr.specs.declared.address.Address.{Address};
+ghost use Rattle.echo_addr.specs.declared.address.NetNode.{NetNode};
+ghost use Rattle.echo_links.specs.Links.{LinkFile};
+ghost use Rattle.echo_rules.specs.Events.{Event};
+ghost use Rattle.echo_rules.specs.Rules.{Always, IsPossible, Kept, Rule};
+ghost use Rattle.echo_rules.specs.Orderly.{AreToldApart, Compares, Orderly};
+ghost use Rattle.echo_filed.specs.declared.key.Key.{Key};
+ghost use Rattle.echo_run.specs.Event.{RunEvent};
+ghost use Rattle.echo_run.specs.Run.{run_of};
+ghost use Rattle.echo_run.specs.Fits.{FilesFit};
+ghost use Rattle.echo_run.specs.Tidy.{Tidy};
+ghost use Rattle.echo_run.specs.Keeping.{IsHistory, Content};
+ghost use Rattle.echo_run.specs.AreaNets.{IsTidyNet, net_of};
+
+/// This tosser keeps the rules, with equality of contents: whatever happens to systems of link files that are
+/// tidy in an area, its messages have the history that some events for any tossers give, in which the five
+/// rules are kept: messages are posted, exported by scans one at a time, and come from packets one at a time.
+pub fn this_tosser_keeps_the_rules()
+    ensures { (files : List LinkFile) (tag : List ℕ) → Tidy files tag → FilesFit files → (events : List RunEvent) →
+        (by_rules : List (Event Address NetNode Key Content)) × IsHistory tag (run_of files events) by_rules ×
+        Always (IsPossible (net_of files tag)) by_rules × ((rule : Rule) → Kept (net_of files tag) (λ a b. a ≡ b) by_rules rule) }
+{}
+
+/// Link files that are tidy in an area say a net that is tidy for any tossers: what these promise where
+/// they keep the rules, they promise on these files.
+pub fn tidy_files_are_a_tidy_net()
+    ensures { (files : List LinkFile) (tag : List ℕ) → Tidy files tag → IsTidyNet files tag }
+{}
+
+/// Where link files are tidy in an area, and the tosser of each system with it keeps the five rules, every
+/// run on these files is orderly. Keys and contents are of any types; contents are compared by any `same`
+/// that is reflexive and transitive.
+pub fn any_tossers_on_tidy_files_are_orderly<K, C>()
+    ensures { AreToldApart K → (files : List LinkFile) (tag : List ℕ) → Tidy files tag →
+        (same : C → C → Bool) → Compares (λ a b. IsTrue (same a b)) →
+        (run : List (Event Address NetNode K C)) → Always (IsPossible (net_of files tag)) run →
+        ((rule : Rule) → Kept (net_of files tag) (λ a b. IsTrue (same a b)) run rule) →
+        Orderly (net_of files tag) (λ a b. IsTrue (same a b)) run }
+{}

@@ -1,0 +1,11 @@
+-- What commands take of a packet.
+use Rattle.std.specs.Prelude.{ℕ, min}
+use Rattle.echo_packet.specs.declared.limits.Limits.{Limits}
+
+-- what `show` and `toss` take: texts of 16 MiB and any number of messages
+abbrev pub show_limits : Limits
+show_limits = record { text = 16777216; messages = 18446744073709551615 }
+
+-- what `toss` takes where texts of this many bytes at most are wanted: never more than `show` takes
+abbrev pub limits_for : ℕ → Limits
+limits_for most = record { text = min most show_limits.text; messages = show_limits.messages }

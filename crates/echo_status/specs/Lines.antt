@@ -1,0 +1,14 @@
+-- Lines on their way to standard output.
+use Rattle.std.specs.Prelude.{◌≡◌, ℕ, List, ◌++◌, Option}
+use Rattle.std.specs.Io.KnownBytes.{Appends}
+
+-- first bytes of the lines were written, and these are the others
+pub record PassesOn (lines rest : List ℕ) (old new : Option (List ℕ)) : Type 0 where
+  pub went : List ℕ
+  pub whole : lines ≡ went ++ rest
+  pub written : Appends old new went
+
+-- first bytes of the lines were written: none, some or all
+pub record WritesFront (lines : List ℕ) (old new : Option (List ℕ)) : Type 0 where
+  pub rest : List ℕ
+  pub passed : PassesOn lines rest old new

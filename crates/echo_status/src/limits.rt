@@ -1,0 +1,21 @@
+//! What commands take of a packet.
+ghost use Rattle.std.specs.Prelude.{◌≡◌};
+ghost use Rattle.echo_status.specs.Limits.{limits_for};
+
+use echo_packet::Limits;
+
+/// What `show` and `toss` take of a packet: texts of 16 MiB and any number of messages.
+pub const LIMITS: Limits = Limits {
+    text: 16_777_216,
+    messages: u64::MAX,
+};
+
+/// The same with texts of at most this many bytes, where that is less.
+pub fn limits_for(most: u64) -> Limits
+    ensures { result ≡ limits_for most }
+{
+    Limits {
+        text: most.min(LIMITS.text as u64) as usize,
+        messages: LIMITS.messages,
+    }
+}

@@ -1,0 +1,87 @@
+//! A base in memory, as a store.
+ghost use Rattle.std.specs.Prelude.{slice_get};
+
+use crate::store::Store;
+use crate::store_error::StoreError;
+use echo_base::Base;
+use echo_filed::{Filed, Key};
+use std::hash::BuildHasher;
+
+/// A base in memory. A crash leaves nothing of it: its owner saves it as a file.
+#[derive(Drop)]
+pub struct MemoryStore<S: BuildHasher> {
+    base: Base<S>,
+    // The place of the message at hand.
+    place: usize,
+}
+
+impl<S: BuildHasher> MemoryStore<S> {
+    ghost use Rattle.std.specs.Prelude.{◌≡◌};
+
+    /// The base as a store.
+    pub fn new(base: Base<S>) -> MemoryStore<S>
+        ensures { (⟦<MemoryStore<S> as Store>⟧.state result).base ≡ base }
+    {
+        MemoryStore { base, place: 0 }
+    }
+
+    /// The base.
+    pub fn into_base(self) -> Base<S>
+        ensures { result ≡ (⟦<MemoryStore<S> as Store>⟧.state self).base }
+    {
+        self.base
+    }
+}
+
+impl<S: BuildHasher> Store for MemoryStore<S> {
+    ghost state = { λ store. record {
+      base = store.base;
+      at_hand = slice_get store.base.messages store.place;
+      may_stay = λ base. ⊥;
+      is_whole = Unit {0};
+    } };
+
+    ghost failures = { λ _. 0 };
+
+    fn len(&self) -> usize {
+        self.base.len()
+    }
+
+    fn cursor(&self) -> usize {
+        self.base.cursor()
+    }
+
+    fn knows(&mut self, key: &Key) -> Result<bool, StoreError> {
+        Ok(self.base.knows(key))
+    }
+
+    fn has_id(&mut self, msgid: &[u8]) -> Result<bool, StoreError> {
+        Ok(self.base.has_id(msgid)?)
+    }
+
+    fn fetch(&mut self, place: usize) -> Result<(), StoreError> {
+        self.place = place;
+        Ok(())
+    }
+
+    fn at_hand(&self) -> Option<&Filed> {
+        self.base.message(self.place)
+    }
+
+    fn file(&mut self, key: Key, message: Filed) -> Result<(), StoreError> {
+        Ok(self.base.file(key, message)?)
+    }
+
+    fn move_to_end(&mut self) -> Result<(), StoreError> {
+        self.base.move_to_end();
+        Ok(())
+    }
+
+    fn purge(&mut self) -> Result<u64, StoreError> {
+        Ok(self.base.purge()?)
+    }
+
+    fn commit(&mut self) -> Result<(), StoreError> {
+        Ok(())
+    }
+}

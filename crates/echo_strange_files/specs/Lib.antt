@@ -1,0 +1,2 @@
+pub mod LoneFiles
+pub mod AloneInOrder

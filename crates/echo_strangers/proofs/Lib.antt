@@ -1,0 +1,5 @@
+pub mod Stubs
+pub mod Growing
+pub mod Filings
+pub mod WellFiled
+pub mod SentSoFar

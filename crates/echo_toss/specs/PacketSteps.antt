@@ -1,0 +1,116 @@
+-- Tossing a whole packet: its header, then one message after the other.
+use Rattle.std.specs.Prelude.{◌≡◌, ◌≢◌, ℕ, ◌≤◌, ◌⊎◌, List, [], ◌++◌, length, take, Option, IfSome, Result, Ok, Err}
+use Rattle.echo_addr.specs.declared.address.Address.{Address}
+use Rattle.echo_device.specs.Device.{Failed}
+use Rattle.echo_packet.specs.declared.header.Header.{Header}
+use Rattle.echo_packet.specs.declared.limits.Limits.{Limits}
+use Rattle.echo_packet.specs.declared.fault.PacketFault.{PacketFault}
+use Rattle.echo_packet.specs.declared.fault.PacketFault.TheVariants as fault
+use Rattle.echo_packet.specs.Header.{IsHeader, header_bytes}
+use Rattle.echo_packet.specs.Message.{AreMessages, Message, messages_bytes}
+use Rattle.echo_packet.specs.Packet.{PacketOf}
+use Rattle.echo_packet.specs.Fault.{FaultOf}
+use Rattle.echo_packet.specs.Field.{Came}
+use Rattle.echo_packet.specs.Reader.{FailsInFront, FrontFault}
+use Rattle.echo_steps.specs.SystemState.{SystemState}
+use Rattle.echo_steps.specs.Tossing.{destination_of, sender_of, outcomes, tossed}
+use Rattle.echo_toss.specs.declared.tally.Tally.{Tally}
+use Rattle.echo_toss.specs.declared.fault.TossCause.{TossCause}
+use Rattle.echo_toss.specs.declared.fault.TossCause.TheVariants as stop
+use Rattle.echo_toss.specs.declared.fault.TossFault.{TossFault}
+use Rattle.echo_toss.specs.Tallies.{tally_of}
+
+-- what a fault of the packet's reader stops a toss with
+abbrev pub cause_of : PacketFault → TossCause
+cause_of fault.Memory = stop.Memory
+cause_of other = stop.Packet other
+
+-- These messages of one sender were tossed, in order: the base has those that were filed, the link file and the cursor
+-- stay, and the tally counts what became of each.
+pub record HasTossed (sender : Address) (ms : List Message) (old : SystemState) (tally : Tally) (new : SystemState) : Type 0 where
+  pub state : new ≡ record { file = old.file; base = tossed old.file old.base sender ms; cursor = old.cursor }
+  pub counts : tally ≡ tally_of (outcomes old.file old.base sender ms)
+
+-- nothing was tossed
+abbrev pub HasTossedNone : SystemState → Tally → SystemState → Type 0
+HasTossedNone old tally new = (new ≡ old) × (tally ≡ tally_of [])
+
+-- the packet is for this system
+abbrev pub IsForUs : SystemState → Header → Type 0
+IsForUs s header = destination_of s.file header ≡ s.file.system
+
+-- the bytes begin with the header and these messages, within the limits
+pub record BeginsWith (limits : Limits) (header : Header) (ms : List Message) (bs : List ℕ) : Type 0 where
+  pub is_header : IsHeader header
+  pub are_messages : AreMessages limits ms
+  pub rest : List ℕ
+  pub bytes : bs ≡ header_bytes header ++ (messages_bytes ms ++ rest)
+
+-- the bytes that the reader lost are a packet for this system, within the limits, and its messages were tossed
+pub record TossesAll (limits : Limits) (old : SystemState) (before after : Option (List ℕ)) (tally : Tally) (new : SystemState) : Type 0 where
+  pub header : Header
+  pub messages : List Message
+  pub bytes : Came before after (PacketOf limits header messages)
+  pub for_us : IsForUs old header
+  pub done : HasTossed (sender_of old.file header) messages old tally new
+
+-- the bytes of the reader begin with the header of a packet for this system and with messages within the limits, and these were tossed
+pub record TossesSome (limits : Limits) (old : SystemState) (before : Option (List ℕ)) (tally : Tally) (new : SystemState) : Type 0 where
+  pub header : Header
+  pub messages : List Message
+  pub begins : IfSome before (BeginsWith limits header messages)
+  pub for_us : IsForUs old header
+  pub done : HasTossed (sender_of old.file header) messages old tally new
+
+-- the bytes that the reader lost are a header, whose destination is not this system, and nothing was tossed
+pub record IsForOther (old : SystemState) (before after : Option (List ℕ)) (tally : Tally) (destination : Address) (new : SystemState) : Type 0 where
+  pub header : Header
+  pub bytes : Came before after (λ came. IsHeader header × (came ≡ header_bytes header))
+  pub is : destination ≡ destination_of old.file header
+  pub other : destination ≢ old.file.system
+  pub nothing : HasTossedNone old tally new
+
+-- no header was read, and nothing was tossed
+pub record FailsInHeader (old : SystemState) (before after : Option (List ℕ)) (tally : Tally) (f : PacketFault) (new : SystemState) : Type 0 where
+  pub fault : IfSome before (λ bs. FrontFault bs f)
+  pub inside : FailsInFront before after f
+  pub nothing : HasTossedNone old tally new
+
+-- The bytes have the fault after these messages. Where the device failed, it is the bytes that the reader lost that end inside the field at the place.
+abbrev pub StopsBehind : Limits → List Message → Option (List ℕ) → Option (List ℕ) → PacketFault → Type 0
+StopsBehind limits ms before after (fault.Read at) = Came before after (λ came. FaultOf came limits ms (fault.Truncated at))
+StopsBehind limits ms before after f = IfSome before (λ bs. FaultOf bs limits ms f)
+
+-- a fault after the header, and the messages before it were tossed
+pub record TossesUpToFault (limits : Limits) (old : SystemState) (before after : Option (List ℕ)) (tally : Tally) (f : PacketFault) (new : SystemState) : Type 0 where
+  pub some : TossesSome limits old before tally new
+  pub fault : StopsBehind limits some.messages before after f
+
+-- Why a packet was not tossed whole: it is for another system, or memory ran out or a fault came after some messages.
+abbrev pub TossesPart : Limits → SystemState → Option (List ℕ) → Option (List ℕ) → Tally → TossCause → SystemState → Type 0
+TossesPart limits old before after tally (stop.NotForUs a) new = IsForOther old before after tally a new
+TossesPart limits old before after tally stop.Memory new = TossesSome limits old before tally new
+TossesPart limits old before after tally (stop.Packet fault.Memory) new = ⊥
+TossesPart limits old before after tally (stop.Packet f) new =
+    FailsInHeader old before after tally f new ⊎ TossesUpToFault limits old before after tally f new
+
+-- the toss of the packet at the front of a reader's bytes
+abbrev pub PacketStep : Limits → SystemState → Option (List ℕ) → Option (List ℕ) → Result Tally TossFault → SystemState → Type 0
+PacketStep limits old before after (Ok tally) new = TossesAll limits old before after tally new
+PacketStep limits old before after (Err f) new = TossesPart limits old before after f.tally f.cause new
+
+-- the count of failures rose where the reader failed, and only there
+abbrev pub CountsCause : TossCause → ℕ → ℕ → Type 0
+CountsCause (stop.Packet (fault.Read at)) before after = Failed before after
+CountsCause other before after = after ≡ before
+
+-- the same of what a toss of a packet answered
+abbrev pub CountsToss : Result Tally TossFault → ℕ → ℕ → Type 0
+CountsToss (Ok tally) before after = after ≡ before
+CountsToss (Err f) before after = CountsCause f.cause before after
+
+-- the toss of these messages where the reader does not fail: all were tossed, or memory was refused behind the first n
+abbrev pub WholeStep : SystemState → Address → List Message → Result Tally TossFault → SystemState → Type 0
+WholeStep old sender ms (Ok tally) new = HasTossed sender ms old tally new
+WholeStep old sender ms (Err f) new =
+    (f.cause ≡ stop.Memory) × ((n : ℕ) × (n ≤ length ms) × HasTossed sender (take n ms) old f.tally new)

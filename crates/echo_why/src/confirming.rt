@@ -1,0 +1,59 @@
+//! A guess is tried on real packets.
+
+ghost use Rattle.std.specs.Prelude.{IfOk, IfSome};
+ghost use Rattle.echo_why.specs.Found.{IsShown};
+
+use crate::events::{SERIAL, events_of};
+use crate::guess::Plan;
+use crate::judging::judge;
+use crate::shown::Shown;
+use echo_addr::Items;
+use echo_links::LinkFile;
+use echo_replay::replay;
+use echo_text::MsgId;
+use std::alloc::{AllocError, Global};
+use std::hash::RandomState;
+
+/// The run of the plan, where its guess holds of what these events do to the net of these link files.
+pub(crate) fn confirmed(
+    alloc: Global,
+    files: Vec<LinkFile>,
+    tag: &[u8],
+    plan: Plan,
+    hasher: RandomState,
+) -> Result<Option<Shown>, AllocError>
+    ensures { IfOk result (λ found. IfSome found (IsShown files.items tag.now)) }
+{
+    let Plan {
+        poster,
+        moves,
+        guess,
+    } = plan;
+    let Some(id) = id_of_posting(alloc, &files, poster)? else {
+        return Ok(None);
+    };
+    let events = events_of(alloc, poster, tag, &moves)?;
+    let world = replay(alloc, files, &events, hasher)?;
+    let found = judge(alloc, &world, poster, tag, &id, guess)?;
+    match found {
+        Some(harm) => Ok(Some(Shown {
+            poster,
+            id: Items::new(id),
+            moves: Items::new(moves),
+            harm,
+        })),
+        None => Ok(None),
+    }
+}
+
+// The id of what the system of this index posts.
+fn id_of_posting(
+    alloc: Global,
+    files: &[LinkFile],
+    poster: usize,
+) -> Result<Option<Vec<u8>>, AllocError> {
+    match files.get(poster) {
+        Some(file) => Ok(Some(MsgId::write(alloc, file.system(), SERIAL)?)),
+        None => Ok(None),
+    }
+}

@@ -1,0 +1,154 @@
+//! Whether a guess of what goes wrong holds of a net.
+
+ghost use Rattle.std.specs.Prelude.{◌≡◌, ◌≢◌, IfOk, IfSome, IsTrue, Some};
+ghost use Rattle.echo_graph.specs.Walk.{Among};
+ghost use Rattle.echo_links.specs.Links.{same_address};
+ghost use Rattle.echo_run.specs.Run.{Run, System, nth};
+ghost use Rattle.echo_replay.specs.Worlds.{IsWorldOf};
+ghost use Rattle.echo_why.specs.Found.{CarriesAt, HasHarm, PostedAt};
+
+use crate::copies::{is_posting, sent_times};
+use crate::guess::Guess;
+use crate::shown::Harm;
+use echo_addr::Address;
+use echo_replay::World;
+use echo_run::settled_runs_settle_each_area;
+use std::alloc::{AllocError, Global};
+
+/// The harm that the guess says, where the net has it, by the message with this tag and id that the system
+/// of index `poster` posted. Fails only when out of memory.
+pub(crate) fn judge(
+    alloc: Global,
+    world: &World,
+    poster: usize,
+    tag: &[u8],
+    id: &[u8],
+    guess: Guess,
+) -> Result<Option<Harm>, AllocError>
+    ensures { IfOk result (λ found. IfSome found (λ harm. (run : Run) → IsWorldOf world.now run → HasHarm run tag.now id.now harm)) }
+{
+    match guess {
+        Guess::Again(system) => sent_again(alloc, world, system, tag, id),
+        Guess::Own => sent_own(alloc, world, poster, tag, id),
+        Guess::Lacking(system) => Ok(never_got(world, poster, system, tag, id)),
+        Guess::Nobody(to) => gone_to_nobody(alloc, world, to, tag, id),
+    }
+}
+
+// Whether the carrier of this index is sent the message again.
+fn sent_again(
+    alloc: Global,
+    world: &World,
+    system: usize,
+    tag: &[u8],
+    id: &[u8],
+) -> Result<Option<Harm>, AllocError>
+    ensures { IfOk result (λ found. IfSome found (λ harm. (run : Run) → IsWorldOf world.now run → HasHarm run tag.now id.now harm)) }
+{
+    let Some(address) = carrier_at(world, system, tag) else {
+        return Ok(None);
+    };
+    let times = sent_times(alloc, world, address, tag, id)?;
+    if times < 2 {
+        return Ok(None);
+    }
+    Ok(Some(Harm::SentAgain(address, times)))
+}
+
+// Whether the system that posted the message is sent it.
+fn sent_own(
+    alloc: Global,
+    world: &World,
+    poster: usize,
+    tag: &[u8],
+    id: &[u8],
+) -> Result<Option<Harm>, AllocError>
+    ensures { IfOk result (λ found. IfSome found (λ harm. (run : Run) → IsWorldOf world.now run → HasHarm run tag.now id.now harm)) }
+{
+    let Some(address) = poster_at(world, poster, tag, id) else {
+        return Ok(None);
+    };
+    let times = sent_times(alloc, world, address, tag, id)?;
+    if times < 1 {
+        return Ok(None);
+    }
+    Ok(Some(Harm::SentOwn(address)))
+}
+
+// Whether all has settled, and the carrier of index `system` lacks what that of index `poster` posted.
+fn never_got(world: &World, poster: usize, system: usize, tag: &[u8], id: &[u8]) -> Option<Harm>
+    ensures { IfSome result (λ harm. (run : Run) → IsWorldOf world.now run → HasHarm run tag.now id.now harm) }
+{
+    poster_at(world, poster, tag, id)?;
+    let address = carrier_at(world, system, tag)?;
+    settled_runs_settle_each_area();
+    if !world.settled() || world.filed(system, tag) > 0 {
+        return None;
+    }
+    Some(Harm::NeverGets(address))
+}
+
+// Whether a packet to the address holds the message, and no system has the address.
+fn gone_to_nobody(
+    alloc: Global,
+    world: &World,
+    to: Address,
+    tag: &[u8],
+    id: &[u8],
+) -> Result<Option<Harm>, AllocError>
+    ensures { IfOk result (λ found. IfSome found (λ harm. (run : Run) → IsWorldOf world.now run → HasHarm run tag.now id.now harm)) }
+{
+    if !is_nobody(world, to) {
+        return Ok(None);
+    }
+    let times = sent_times(alloc, world, to, tag, id)?;
+    if times < 1 {
+        return Ok(None);
+    }
+    Ok(Some(Harm::NeverRests))
+}
+
+// Whether no system has the address.
+fn is_nobody(world: &World, to: Address) -> bool
+    ensures { IsTrue result → (run : Run) → IsWorldOf world.now run → (s : System) → Among s run.systems → s.file.system ≢ to }
+{
+    'systems: for i in 0..world.systems() {
+        if has_address(world, i, to) {
+            return false;
+        }
+    }
+    true
+}
+
+// Whether the system of this index has the address.
+fn has_address(world: &World, i: usize, to: Address) -> bool
+    ensures { (run : Run) → IsWorldOf world.now run → (s : System) → nth i run.systems ≡ Some s → result ≡ same_address s.file.system to }
+{
+    match world.links(i) {
+        Some(file) => file.system() == to,
+        None => false,
+    }
+}
+
+// The address of the system of this index, if it has the area.
+fn carrier_at(world: &World, i: usize, tag: &[u8]) -> Option<Address>
+    ensures { IfSome result (λ a. (run : Run) → IsWorldOf world.now run → CarriesAt run i tag.now a) }
+{
+    let file = world.links(i)?;
+    if !file.has_area(tag) {
+        return None;
+    }
+    Some(file.system())
+}
+
+// The address of the system of this index, if the first message of its base is the posting of this id.
+fn poster_at(world: &World, i: usize, tag: &[u8], id: &[u8]) -> Option<Address>
+    ensures { IfSome result (λ a. (run : Run) → IsWorldOf world.now run → PostedAt run i tag.now id.now a) }
+{
+    let address = carrier_at(world, i, tag)?;
+    let message = world.message(i, 0)?;
+    if !is_posting(message, tag, id) {
+        return None;
+    }
+    Some(address)
+}
