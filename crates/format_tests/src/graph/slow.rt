@@ -51,15 +51,20 @@ pub fn chosen(
 }
 
 /// The links of two polygons of four, of which one ends at member 3, where the other begins.
-pub fn chained(alloc: Global) -> Result<Vec<(usize, usize)>, AllocError> {
-    let mut links = Vec::new(alloc);
-    for first in [0, 3] {
-        for (one, other) in pairs(alloc, 4)? {
-            links.push((first + one, first + other))?;
-        }
-    }
-    Ok(links)
-}
+pub const CHAINED: [(usize, usize); 12] = [
+    (1, 0),
+    (2, 0),
+    (2, 1),
+    (3, 0),
+    (3, 1),
+    (3, 2),
+    (4, 3),
+    (5, 3),
+    (5, 4),
+    (6, 3),
+    (6, 4),
+    (6, 5),
+];
 
 /// The links of seven members under other numbers.
 pub fn renumbered(

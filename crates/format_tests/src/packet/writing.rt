@@ -75,21 +75,53 @@ fn failing_writers_are_reported(rt: HostRuntime) -> Result<(), Fail> {
     Ok(())
 }
 
+// The header, written to the device as the begin of a packet.
+fn begin<W: Sink + Drop>(device: W) -> Result<(), PacketFault> {
+    let header = read_header(&mut &FIRST[..])?;
+    PacketWriter::begin(device, &header)?;
+    Ok(())
+}
+
+// What the device answers to the header, to the message put twice, and to the end.
+fn put_twice<W: Sink + Drop>(
+    device: W,
+    message: &Packed,
+) -> Result<[Option<PacketFault>; 3], PacketFault> {
+    let header = read_header(&mut &FIRST[..])?;
+    let mut packet = PacketWriter::begin(device, &header)?;
+    let first = packet.put(message).err();
+    let second = packet.put(message).err();
+    Ok([first, second, finish(packet).err()])
+}
+
+// The packet without messages, written to the device.
+fn write_empty<W: Sink + Drop>(device: W) -> Result<(), PacketFault> {
+    let header = read_header(&mut &FIRST[..])?;
+    finish(PacketWriter::begin(device, &header)?)
+}
+
+fn finish<W: Sink + Drop>(packet: PacketWriter<W>) -> Result<(), PacketFault> {
+    packet.finish()?;
+    Ok(())
+}
+
 #[test]
 fn stops_after_a_fault(rt: HostRuntime) -> Result<(), Fail> {
     let message = first_message(rt.alloc())?;
-    let header = read_header(&mut &FIRST[..])?;
     let mut out = [0u8; SIZE];
     let device = Watched::new(Trial::new(&mut out[..], SIZE, 0, 100));
-    let mut packet = PacketWriter::begin(device, &header).map_err(PacketFault::from)?;
-    assert_eq!(rt;
-        packet.put(&message),
-        Err(PacketFault::Write { bytes: 100 })
-    );
-    assert_eq!(rt; packet.put(&message), Err(PacketFault::Stopped));
-    let stopped = packet.finish().err().map(|unfinished| unfinished.fault);
-    assert_eq!(rt; stopped, Some(PacketFault::Stopped));
+    let [first, second, end] = put_twice(device, &message)?;
+    assert_eq!(rt; first, Some(PacketFault::Write { bytes: 100 }));
+    assert_eq!(rt; second, Some(PacketFault::Stopped));
+    assert_eq!(rt; end, Some(PacketFault::Stopped));
     Ok(())
+}
+
+// The header stands there twice, and behind it nothing was written.
+fn holds_two_headers(out: &[u8]) -> bool {
+    out.get(..58) == FIRST.get(..58)
+        && out.get(58..116) == FIRST.get(..58)
+        && out.iter().skip(116).all(|byte| *byte == 0xff)
 }
 
 // A device that fails in each second write and takes all bytes in the others gets nothing between a
@@ -97,27 +129,22 @@ fn stops_after_a_fault(rt: HostRuntime) -> Result<(), Fail> {
 #[test]
 fn sends_nothing_after_a_fault(rt: HostRuntime) -> Result<(), Fail> {
     let message = first_message(rt.alloc())?;
-    let header = read_header(&mut &FIRST[..])?;
     let mut out = [0xffu8; SIZE];
     let mut device = Watched::new(Trial::new(&mut out[..], SIZE, 16, 1000));
     // The write of the header is the first, and fails.
-    let begun = PacketWriter::begin(&mut device, &header);
-    let fault = begun.err().map(|unfinished| unfinished.fault);
-    assert_eq!(rt; fault, Some(PacketFault::Write { bytes: 0 }));
+    assert_eq!(rt; begin(&mut device), Err(PacketFault::Write { bytes: 0 }));
     // Here it is the second, and the first of the message fails.
-    let mut packet = PacketWriter::begin(&mut device, &header).map_err(PacketFault::from)?;
-    assert_eq!(rt; packet.put(&message), Err(PacketFault::Write { bytes: 58 }));
-    assert_eq!(rt; packet.put(&message), Err(PacketFault::Stopped));
-    let fault = packet.finish().err().map(|unfinished| unfinished.fault);
-    assert_eq!(rt; fault, Some(PacketFault::Stopped));
+    let [first, second, end] = put_twice(&mut device, &message)?;
+    assert_eq!(rt; first, Some(PacketFault::Write { bytes: 58 }));
+    assert_eq!(rt; second, Some(PacketFault::Stopped));
+    assert_eq!(rt; end, Some(PacketFault::Stopped));
     // The header behind that one, and its terminator, whose write fails.
-    let packet = PacketWriter::begin(&mut device, &header).map_err(PacketFault::from)?;
-    let fault = packet.finish().err().map(|unfinished| unfinished.fault);
-    assert_eq!(rt; fault, Some(PacketFault::Write { bytes: 58 }));
+    assert_eq!(rt;
+        write_empty(&mut device),
+        Err(PacketFault::Write { bytes: 58 })
+    );
     assert_eq!(rt; device.failures(), 3);
-    assert_eq!(rt; out[..58], FIRST[..58]);
-    assert_eq!(rt; out[58..116], FIRST[..58]);
-    assert!(rt; out[116..].iter().all(|byte| *byte == 0xff));
+    assert!(rt; holds_two_headers(&out));
     Ok(())
 }
 
