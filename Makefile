@@ -5,9 +5,10 @@
 # examples/net; `make manual-test` compares the manual page with the program's help; `make follow` does
 # what docs/OPERATORS.md says (it needs binkd); `make interop` runs a net with another tosser, and holds that
 # to the rules of docs/OPERATORS.md (it needs binkd and crashmail); `make trials` tries the program from
-# outside (docs/TRIALS.md). `make install` puts the program and its manual page under PREFIX, or under
-# DESTDIR and PREFIX, and `make uninstall` takes them away.
-.PHONY: all test demo show-examples cases story net-test manual-test follow interop trials install uninstall toolchain clean
+# outside (docs/TRIALS.md). `make install` puts what was built, the program, its page, the scripts, the documents
+# and what shells complete, under PREFIX, or under DESTDIR and PREFIX, and `make uninstall` takes it away; `make
+# deb` makes a Debian package of the same.
+.PHONY: all test demo show-examples cases story net-test manual-test follow interop trials install uninstall deb toolchain clean
 PREFIX = /usr/local
 
 # The program that the examples are run with. After the gate that is the one that it built and left in
@@ -81,13 +82,15 @@ follow: bin/echonet
 interop: bin/echonet
 	interop/run.sh bin/echonet
 
-install: bin/echonet
-	mkdir -p $(DESTDIR)$(PREFIX)/bin $(DESTDIR)$(PREFIX)/share/man/man1
-	install -m 755 bin/echonet $(DESTDIR)$(PREFIX)/bin/echonet
-	install -m 644 docs/echonet.1 $(DESTDIR)$(PREFIX)/share/man/man1/echonet.1
+# What was built before; the toolchain is not needed.
+install:
+	scripts/install.sh "$(DESTDIR)" "$(PREFIX)"
 
 uninstall:
-	rm -f $(DESTDIR)$(PREFIX)/bin/echonet $(DESTDIR)$(PREFIX)/share/man/man1/echonet.1
+	scripts/uninstall.sh "$(DESTDIR)" "$(PREFIX)"
+
+deb:
+	scripts/package.sh
 
 trials: bin/echonet
 	trials/all.sh

@@ -28,6 +28,23 @@ below() {
     END { go(wanted) }' crates.txt
 }
 
+# How many crates stand one on another above a crate, at most: the longer that chain, the sooner it is wanted.
+chain_above() {
+  awk -v wanted="$1" '
+    /^[a-z_]*:/ { split($0, parts, ":"); uses[parts[1]] = parts[2] " " }
+    function height(crate, most, other, above) {
+      if (crate in heights) return heights[crate]
+      most = 0
+      for (other in uses)
+        if (index(uses[other], " " crate " ")) {
+          above = height(other) + 1
+          if (above > most) most = above
+        }
+      return heights[crate] = most
+    }
+    END { print height(wanted) }' crates.txt
+}
+
 # Puts what is kept of earlier runs back, however this one ends.
 put_back() {
   if [ -d "$tree/crates/$name/out" ]; then mv -T "$tree/crates/$name/out" "crates/$name/out"; fi
@@ -54,6 +71,11 @@ for crate in $(below "$name"); do
 done
 rmdir "$tree/crates/$name/out"
 if [ -d "crates/$name/out" ]; then mv -T "crates/$name/out" "$tree/crates/$name/out"; fi
+
+# A crate on which little stands gives way to the others.
+spare=$((18 - 2 * $(chain_above "$name")))
+[ "$spare" -ge 0 ] || spare=0
+renice -n "$spare" $$ > /dev/null 2>&1
 
 if [ "$kind" = run ]; then
   (cd "$tree/crates/$name" && rt run --jobs "$jobs" -- "${@:4}") > "$log" 2>&1

@@ -24,7 +24,7 @@ each() {
   } 9> "$told/lock"
 }
 
-for name in kept keys kills crowds beside mailer full_disk devices pieces refusals valgrind; do each trials/$name.sh & done
+for name in kept package keys kills crowds beside mailer full_disk devices pieces refusals valgrind; do each trials/$name.sh & done
 each python3 trials/why.py &
 wait
 each python3 trials/stations.py 300 "$cores"

@@ -243,12 +243,24 @@ def checksum_as_counted(trial, content, line):
     trial.holds("the checksum is %r, not %r" % (want, line), line == want)
 
 
+def links_fault(files):
+    """The first fault of some link files, or none."""
+    try:
+        for content in files:
+            reading.read_links(content)
+    except reading.Fault as fault:
+        return str(fault)
+    return None
+
+
 def try_links(trial, files):
     """Link files are checked and drawn."""
     paths = [trial.put("net%d" % number, content) for number, content in enumerate(files)]
     checked = trial.run("check", "test", *paths)
     drawn = trial.run("picture", "test", *paths)
     trial.holds("both end alike", (checked.status, checked.fault) == (drawn.status, drawn.fault))
+    fault = links_fault(files)
+    trial.holds("the first fault of the link files", trial.is_fault(checked, fault) if fault else checked.status in (0, 1))
     if checked.status <= 1:
         label = drawn.out.split(b"\n")[1]
         trial.holds("the picture has the verdict", label == b'label="' + checked.out[:-1] + b'";')

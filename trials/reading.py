@@ -181,6 +181,65 @@ def written(echo):
     return making.text(echo.tag, echo.kept, sorted(echo.seen), echo.path)
 
 
+def address_in(word):
+    """The address that a word is, or none."""
+    zone, _, rest = word.partition(b":")
+    net, _, node = rest.partition(b"/")
+    if word.count(b":") != 1 or word.count(b"/") != 1 or not all(part.isdigit() for part in (zone, net, node)):
+        return None
+    found = int(zone), int(net), int(node)
+    return found if all(least <= part <= 32_767 for part, least in zip(found, (1, 1, 0))) else None
+
+
+def link_lines(content):
+    """The lines of a link file, numbered, without those that are skipped."""
+    lines = content.split(b"\n")
+    ended = [line[:-1] if line.endswith(b"\r") else line for line in lines[:-1]]
+    for number, line in enumerate(ended + lines[-1:], 1):
+        if line.strip(b" \t") and not line.startswith(b";"):
+            yield number, line
+
+
+def line_fault(line, words, earlier):
+    """Why a line of a link file is refused, where these lines stand before it."""
+    same = [others for others in earlier if others[0] == words[0]]
+    if any(byte < 0x20 and byte != 9 for byte in line) or words[0] not in (b"SYSTEM", b"NAME", b"AREA"):
+        return "L1 UnknownWord"
+    if words[0] != b"AREA" and same:
+        return "L4 RepeatedSystem"
+    if words[0] == b"SYSTEM":
+        return None if len(words) == 2 and address_in(words[1]) else "L2 BadAddress"
+    if words[0] == b"NAME":
+        return "L8 NameTooLong" if len(line.strip(b" \t")[4:].strip(b" \t")) > 40 else None
+    if len(words) < 2 or not is_tag(words[1]):
+        return "L7 BadTag"
+    if any(others[1].upper() == words[1].upper() for others in same):
+        return "L5 RepeatedArea"
+    links = [address_in(word) for word in words[2:]]
+    for number, link in enumerate(links):
+        if link is None:
+            return "L2 BadAddress"
+        if link in links[:number]:
+            return "L6 RepeatedLink"
+    return None
+
+
+def read_links(content):
+    """The own address and the areas of a link file, or its fault."""
+    lines = []
+    for number, line in link_lines(content):
+        words = [word for word in line.replace(b"\t", b" ").split(b" ") if word]
+        fault = line_fault(line, words, lines)
+        if fault:
+            raise Fault("%s line %d" % (fault, number))
+        lines.append(words)
+    system = [words for words in lines if words[0] == b"SYSTEM"]
+    if not system:
+        raise Fault("L3 NoSystem line 0")
+    areas = {words[1].upper(): [address_in(word) for word in words[2:]] for words in lines if words[0] == b"AREA"}
+    return address_in(system[0][1]), areas
+
+
 class Record:
     """The fields of a message of a base, one after another."""
 

@@ -1,0 +1,106 @@
+#!/usr/bin/env bash
+# completions.sh PROGRAM bash|zsh|fish: prints what a shell completes after `echonet`, made of the program's own help.
+set -eu
+program=$1 shell=$2
+
+# The commands, each with what it does: NAME|TEXT.
+commands() {
+  "$program" --help | awk '/^Commands:/ { on = 1; next } /^$/ { on = 0 } on { name = $1; sub(/^ *[^ ]+ +/, ""); print name "|" $0 }'
+}
+
+# The options of a command: --NAME|VALUE|TEXT, where VALUE is empty for a flag.
+options() {
+  "$program" "$1" --help | awk '
+    /^Options:/ { on = 1; next }
+    /^$/ { on = 0 }
+    on && match($0, /--[a-z-]+/) {
+      name = substr($0, RSTART, RLENGTH)
+      rest = substr($0, RSTART + RLENGTH)
+      value = ""
+      if (match(rest, /^ <[A-Za-z0-9]+>/)) {
+        value = substr(rest, 3, RLENGTH - 3)
+        rest = substr(rest, RLENGTH + 1)
+      }
+      sub(/^ +/, "", rest)
+      print name "|" value "|" rest
+    }'
+}
+
+# Every command with its options, a line each: NAME and the options behind it.
+table() {
+  commands | while IFS='|' read -r name _; do
+    [ "$name" = help ] || echo "$name $(options "$name" | cut -d'|' -f1 | tr '\n' ' ')"
+  done
+}
+
+in_bash() {
+  cat <<'END'
+# Completions of echonet for bash.
+_echonet() {
+  local word=${COMP_WORDS[COMP_CWORD]} options
+  if [ "$COMP_CWORD" -eq 1 ]; then
+END
+  echo "    mapfile -t COMPREPLY < <(compgen -W '$(commands | cut -d'|' -f1 | tr '\n' ' ')--help --version' -- \"\$word\")"
+  cat <<'END'
+    return
+  fi
+  case ${COMP_WORDS[1]} in
+END
+  table | while read -r name options; do echo "    $name) options='${options% }' ;;"; done
+  cat <<'END'
+    *) options= ;;
+  esac
+  case $word in
+    -*) mapfile -t COMPREPLY < <(compgen -W "$options" -- "$word") ;;
+    *) compopt -o filenames 2> /dev/null; mapfile -t COMPREPLY < <(compgen -f -- "$word") ;;
+  esac
+}
+complete -F _echonet echonet
+END
+}
+
+# A text between single quotes, of which brackets and colons are marked.
+zsh_text() {
+  sed "s/'/'\\\\''/g; s/[]:[]/\\\\&/g"
+}
+
+in_zsh() {
+  printf '#compdef echonet\n# Completions of echonet for zsh.\n_echonet() {\n  local -a commands\n  commands=(\n'
+  commands | zsh_commands
+  printf '  )\n  if (( CURRENT == 2 )); then\n    _describe command commands\n    return\n  fi\n  case $words[2] in\n'
+  commands | while IFS='|' read -r name _; do
+    [ "$name" = help ] && continue
+    printf '    %s) _arguments' "$name"
+    options "$name" | while IFS='|' read -r option value text; do
+      text=$(zsh_text <<< "$text")
+      if [ -n "$value" ]; then printf " '%s[%s]:%s:_files'" "$option" "$text" "$value"; else printf " '%s[%s]'" "$option" "$text"; fi
+    done
+    printf " '*:file:_files' ;;\n"
+  done
+  printf '  esac\n}\n_echonet "$@"\n'
+}
+
+zsh_commands() {
+  while IFS='|' read -r name text; do
+    printf "    '%s:%s'\n" "$name" "$(zsh_text <<< "$text")"
+  done
+}
+
+in_fish() {
+  echo '# Completions of echonet for fish.'
+  commands | while IFS='|' read -r name text; do
+    printf "complete -c echonet -n __fish_use_subcommand -f -a %s -d '%s'\n" "$name" "${text//\'/\\\'}"
+  done
+  commands | while IFS='|' read -r name _; do
+    [ "$name" = help ] && continue
+    options "$name" | while IFS='|' read -r option value text; do
+      printf "complete -c echonet -n '__fish_seen_subcommand_from %s' -l %s%s -d '%s'\n" \
+        "$name" "${option#--}" "${value:+ -r}" "${text//\'/\\\'}"
+    done
+  done
+}
+
+case $shell in
+  bash | zsh | fish) "in_$shell" ;;
+  *) echo "completions.sh: no such shell: $shell" >&2; exit 2 ;;
+esac

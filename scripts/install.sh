@@ -1,0 +1,26 @@
+#!/usr/bin/env bash
+# install.sh ROOT PREFIX: puts in place what was built, below ROOT and PREFIX: the program, its page, the scripts of
+# examples/net, the units of packaging, the documents, and what shells complete. uninstall.sh takes the same away.
+set -eu
+cd "$(dirname "$0")/.."
+to=$1$2
+program=bin/echonet
+[ -x "$program" ] || { echo "echonet: $program is not there: run make first" >&2; exit 1; }
+
+install -D -m 755 "$program" "$to/bin/echonet"
+install -D -m 644 docs/echonet.1 "$to/share/man/man1/echonet.1"
+install -d "$to/share/echonet" "$to/share/doc/echonet/pictures"
+install -m 755 examples/net/*.sh "$to/share/echonet"
+install -m 644 examples/net/printable.awk packaging/echonet.service packaging/echonet.timer "$to/share/echonet"
+install -m 644 README.md docs/*.md "$to/share/doc/echonet"
+install -m 644 docs/pictures/* "$to/share/doc/echonet/pictures"
+
+# Words: the shell, the file that it looks for.
+completions() {
+  install -d "$(dirname "$to/share/$2")"
+  scripts/completions.sh "$program" "$1" > "$to/share/$2"
+  chmod 644 "$to/share/$2"
+}
+completions bash bash-completion/completions/echonet
+completions zsh zsh/site-functions/_echonet
+completions fish fish/vendor_completions.d/echonet.fish

@@ -1,0 +1,94 @@
+#!/usr/bin/env bash
+# What `make install` and `make deb` put in place: installed, completed in a real bash, used and taken away again. The
+# package is installed by dpkg under a fresh root, and the program run there, where this runs as root.
+set -u
+cd "$(dirname "$0")/.."
+. trials/setting.sh
+root=$work
+
+# Words: what is tried, what came of it, and what is wanted.
+check() {
+  if [ "$2" != "$3" ]; then echo "wanted '$3', found '$2'" >&2; fi
+  expect "$1" test "$2" = "$3"
+}
+
+# What stands below a folder.
+files() { (cd "$1" && find . ! -type d | sort); }
+
+# Installed and taken away.
+make -s install DESTDIR="$root/one" PREFIX=/usr > /dev/null || exit 1
+for file in bin/echonet share/man/man1/echonet.1 share/echonet/{post,toss-inbound,scan-outbound}.sh \
+  share/echonet/{printable.awk,echonet.service,echonet.timer} share/doc/echonet/{README,OPERATORS,FORMATS}.md \
+  share/bash-completion/completions/echonet share/zsh/site-functions/_echonet \
+  share/fish/vendor_completions.d/echonet.fish; do
+  check "$file stands there" "$([ -s "$root/one/usr/$file" ] && echo yes)" yes
+done
+check 'the program' "$(cmp bin/echonet "$root/one/usr/bin/echonet" && echo same)" same
+
+# What a real bash completes: the commands of the help, and the options of each command's help.
+complete() {
+  bash -c '. "$1"; shift; COMP_WORDS=(echonet "$@"); COMP_CWORD=$#; _echonet; printf "%s\n" "${COMPREPLY[@]}"' \
+    - "$root/one/usr/share/bash-completion/completions/echonet" "$@" | sort
+}
+commands=$(bin/echonet --help | sed -n '/^Commands:/,/^$/s/^  \([a-z]*\) .*/\1/p')
+check 'there are commands' "$([ "$(wc -w <<< "$commands")" -ge 12 ] && echo yes)" yes
+check 'commands' "$(complete '')" "$(printf '%s\n' $commands --help --version | sort)"
+check 'a command begun' "$(complete ch)" check
+for command in $commands; do
+  [ "$command" = help ] && continue
+  wanted=$(bin/echonet "$command" --help | sed -n '/^Options:/,/^$/p' | grep -o -- '--[a-z][a-z-]*' | sort -u)
+  check "options of $command" "$(complete "$command" --)" "$wanted"
+  for shell in zsh/site-functions/_echonet fish/vendor_completions.d/echonet.fish; do
+    for option in $wanted; do
+      check "$option of $command in $shell" "$(grep -E "(^    $command\)|_from $command')" "$root/one/usr/share/$shell" |
+        grep -qE -- "(-l ${option#--} |'$option\[)" && echo there)" there
+    done
+  done
+done
+echo text > "$root/some file"
+check 'files' "$(cd "$root" && complete show some)" 'some file'
+
+# The scripts find what stands beside them.
+mkdir -p "$root/station"
+printf 'SYSTEM 1:10/1\nNAME Alpha\nAREA TEST 1:10/2\n' > "$root/station/links"
+posted=$(echo Hello | PATH=$root/one/usr/bin:$PATH "$root/one/usr/share/echonet/post.sh" "$root/station" TEST All Ann Hi)
+check 'a posting' "${posted% *}" 'posted TEST 1:10/1'
+check 'a scan' "$(PATH=$root/one/usr/bin:$PATH "$root/one/usr/share/echonet/scan-outbound.sh" "$root/station" | cut -d ' ' -f 1-3)" 'packet 1:10/2 1'
+check 'a toss' "$(PATH=$root/one/usr/bin:$PATH "$root/one/usr/share/echonet/toss-inbound.sh" "$root/station")" ''
+
+make -s uninstall DESTDIR="$root/one" PREFIX=/usr > /dev/null || exit 1
+check 'nothing is left' "$(files "$root/one")" ''
+
+if command -v systemd-analyze > /dev/null; then
+  mkdir -p "$root/units"
+  for unit in service timer; do
+    sed "s|/usr/share/echonet|$PWD/examples/net|; s|^User=.*|User=root|; s|^Group=.*|Group=root|" "packaging/echonet.$unit" > "$root/units/echonet.$unit"
+  done
+  check 'units' "$(systemd-analyze verify --man=no "$root/units/echonet.timer" 2>&1 | grep echonet)" ''
+fi
+
+if command -v dpkg-deb > /dev/null; then
+  package=$(make -s deb) || exit 1
+  check 'the package has what is installed' \
+    "$(dpkg-deb -c "$package" | awk '$1 ~ /^-/ { print $6 }' | grep -c .)" \
+    "$(make -s install DESTDIR="$root/two" PREFIX=/usr > /dev/null; files "$root/two" | grep -c .)"
+  if [ "$(id -u)" -eq 0 ]; then
+    fresh=$root/fresh
+    mkdir -p "$fresh"/var/lib/dpkg/{info,updates,triggers} "$fresh/tmp"
+    touch "$fresh/var/lib/dpkg/status"
+    dpkg --root="$fresh" --force-depends --install "$package" > "$root/dpkg.log" 2>&1
+    check 'dpkg installs it' "$?" 0
+    for library in $(ldd bin/echonet | grep -o '/[^ ]*'); do
+      mkdir -p "$fresh$(dirname "$library")"
+      cp -L "$library" "$fresh$library"
+    done
+    check 'its version under the fresh root' "$(chroot "$fresh" /usr/bin/echonet --version)" "$(bin/echonet --version)"
+    cp "$root/station/links" "$fresh/tmp/links"
+    check 'a posting under the fresh root' "$(echo Hello | chroot "$fresh" /usr/bin/echonet post --area TEST --to All --from Ann \
+      --subject Hi --serial 00000001 --at 2026-07-03T12:34:56 /tmp/links /tmp/base)" 'posted TEST 1:10/1 00000001'
+    dpkg --root="$fresh" --purge echonet >> "$root/dpkg.log" 2>&1
+    check 'dpkg takes it away' "$?" 0
+    check 'and nothing is left of it' "$(find "$fresh/usr" -name '*echonet*' 2> /dev/null)" ''
+  fi
+fi
+finish package
