@@ -190,6 +190,8 @@ def link_address(chance):
 
 def link_files(chance):
     """The link files of a small net, most of them tidy in the area TEST."""
+    if chance.random() < 0.4:
+        return [near_link_file(chance)]
     size = 1 + some(chance, 6)
     systems = [(1, 10, 1 + number) for number in range(size)]
     links = {system: set() for system in systems}
@@ -204,6 +206,19 @@ def link_files(chance):
         number = chance.randrange(size)
         files[number] = odd_link_file(chance, files[number])
     return files
+
+
+NEAR = [
+    "AREA OTHER 1:10/2 1:10/3", "AREA OTHER 1:10/2 1:010/02", "AREA other", "AREA", "AREA OTHER 1:10/2 1:10/2.1", "AREA O\tR",
+    "AREA " + "Y" * 60, "AREA " + "Y" * 61, "NAME " + "n" * 40, "NAME " + "n" * 41, " NAME", "NAMED x", "area X", ";AREA X 1", " ;",
+    "\t \t", "AREA X 1:10/9\r", "SYSTEM 1:10/9", "SYSTEM", "SYSTEM 1:10/9 1:10/8", "AREA X\x7f", "AREA X\x1f", " AREA\tZ  1:10/9 "]
+
+
+def near_link_file(chance):
+    """A link file of lines that are in order or just not."""
+    lines = [chance.choice(NEAR) for _ in range(some(chance, 5))]
+    lines.insert(chance.randrange(len(lines) + 1), chance.choice(["SYSTEM 1:10/1"] * 9 + [""]))
+    return "".join(line + chance.choice(["\n", "\r\n"]) for line in lines).encode()
 
 
 def odd_link_file(chance, content):
