@@ -16,3 +16,5 @@ mod SecondFiles
 mod Nowhere
 mod PostAndScan
 mod Posters
+pub mod Rounds
+pub mod Trials
