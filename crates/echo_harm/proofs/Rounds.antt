@@ -248,15 +248,11 @@ module _ (files : List LinkFile) (known : LawsOfRuns files) (tag : List ℕ) (al
       subst Q (append_assoc events (deliveries n) (Delivery n ∷ []))
       (after_one_more P files before (Delivery n) (one_comes start before n so_far (nth n (run_of files before).packets) refl))
 
-  -- so few systems lack the message after so many rounds
-  pub record Under (events : List RunEvent) (n : ℕ) : Type 0 where
-    within : Only (run_of files events)
+  -- after so many rounds the run has settled, or so few systems lack the message
+  pub record Progress (events : List RunEvent) (n : ℕ) : Type 0 where
+    pub within : Only (run_of files events)
     home : Home (run_of files events)
-    few : all_lacking keys (run_of files events).systems + n ≤ length files
-
-  -- the run has settled, or more systems have the message with each round
-  abbrev pub Progress : List RunEvent → ℕ → Type 0
-  Progress events n = (is_settled (run_of files events) ≡ true) ⊎ Under events n
+    out : (is_settled (run_of files events) ≡ true) ⊎ (all_lacking keys (run_of files events).systems + n ≤ length files)
 
   settled-run : (start run : Run) → ((s : System) → Among s start.systems → drop s.cursor s.base ≡ []) → run.systems ≡ start.systems →
       AllCame start run (length start.packets) → is_settled run ≡ true
@@ -271,10 +267,15 @@ module _ (files : List LinkFile) (known : LawsOfRuns files) (tag : List ℕ) (al
       both true n e f = grind (arith, nat_tests)
       both false n e f = absurd (not_both false e refl)
 
-  pub round-progress : (events : List RunEvent) (n : ℕ) → Under events n → Progress (events ++ round_after files events) (suc n)
-  round-progress events n under =
+  pub round-progress : (events : List RunEvent) (n next : ℕ) → next ≡ n + 1 → Progress events n → is_settled (run_of files events) ≡ false →
+      Progress (events ++ round_after files events) next
+  round-progress events n next e so_far moving =
       let before = run_of files events in
-      let first = all_scan events under.within under.home (length files) in
+      let few : all_lacking keys before.systems + n ≤ length files = elim so_far.out [
+        | inl settled ↦ absurd (not_both (is_settled before) settled moving)
+        | inr few ↦ few
+      ] in
+      let first = all_scan events so_far.within so_far.home (length files) in
       let after_scans = events ++ scans (length files) in
       let start = run_of files after_scans in
       let second = all_come after_scans first.scanned.within first.home (length start.packets) in
@@ -282,15 +283,15 @@ module _ (files : List LinkFile) (known : LawsOfRuns files) (tag : List ℕ) (al
       let quiet : (s : System) → Among s start.systems → drop s.cursor s.base ≡ [] = λ s h.
       let (j, at) = among-nth s start.systems h in
       first.scanned.quiet j s (omega (arith, nth-index j s start.systems at, sizes after_scans)) at in
-      let P : List RunEvent → Type 0 = λ es. Progress es (suc n) in
-      subst P (append_assoc events (scans (length files)) (deliveries (length start.packets))) (elim second.fewer [
-        | inl same ↦ inl (settled-run start last quiet same second)
-        | inr less ↦ inr (record {
-          within = second.within;
-          home = second.home;
-          few = (let few = under.few in let lacks = first.scanned.lacks in omega (arith, less, few, lacks));
-        })
-      ])
+      let P : List RunEvent → Type 0 = λ es. Progress es next in
+      subst P (append_assoc events (scans (length files)) (deliveries (length start.packets))) (record {
+        within = second.within;
+        home = second.home;
+        out = elim second.fewer [
+          | inl same ↦ inl (settled-run start last quiet same second)
+          | inr less ↦ inr (let lacks = first.scanned.lacks in omega (arith, e, less, few, lacks))
+        ];
+      })
     where
       sizes : (es : List RunEvent) → length (run_of files es).systems ≡ length files
       sizes es = sym (length-map (run_of files es).systems (λ (s : System). s.file)) ∙ ap (λ (fs : List LinkFile). length fs) (run-files files es)
@@ -301,7 +302,7 @@ module _ (files : List LinkFile) (known : LawsOfRuns files) (tag : List ℕ) (al
       let run = run_of files (trial_posting i tag ∷ []) in
       let only = only-posted files known tag i file is area [] tt in
       let size = sym (length-map run.systems (λ (s : System). s.file)) ∙ ap (λ (fs : List LinkFile). length fs) (run-files files (trial_posting i tag ∷ [])) in
-      inr (record {
+      record {
         within = λ s h m l.
             let (j, at) = among-nth s run.systems h in
             elim (only.from j s at m l) [
@@ -309,10 +310,13 @@ module _ (files : List LinkFile) (known : LawsOfRuns files) (tag : List ℕ) (al
               | inr arrived ↦ absurd arrived.there
             ];
         home = λ p h. absurd h;
-        few = omega (arith, few_lack (key_of (post_of file tag)) run.systems, size);
-      })
+        out = inr (omega (arith, few_lack (key_of (post_of file tag)) run.systems, size));
+      }
 
   -- there are no more rounds than systems, and one
   pub rounds-settle : (events : List RunEvent) (n : ℕ) → length files < n → Progress events n → is_settled (run_of files events) ≡ true
-  rounds-settle events n many (inl settled) = settled
-  rounds-settle events n many (inr under) = absurd (let few = under.few in omega (arith, few, many))
+  rounds-settle events n many so_far =
+      elim so_far.out [
+        | inl settled ↦ settled
+        | inr few ↦ absurd (omega (arith, few, many))
+      ]
