@@ -22,7 +22,7 @@ pub one-or_zero : (n : ℕ) → (1 ≤ n) ⊎ (n ≡ 0)
 one-or_zero zero = inr refl
 one-or_zero (suc n) = inl (omega arith)
 
-has-one : (key : Key) (ms : List Filed) (m : Filed) → Among m ms → key_of m ≡ key → 1 ≤ count key ms
+pub has-one : (key : Key) (ms : List Filed) (m : Filed) → Among m ms → key_of m ≡ key → 1 ≤ count key ms
 has-one key [] m h e = absurd h
 has-one key (x ∷ ms) m h e =
     elim h [

@@ -69,7 +69,7 @@ module _ (files : List LinkFile) (known : LawsOfRuns files) (tag : List ℕ) whe
     -- however messages move
     module _ (moves : ℕ → List RunEvent) (rests : (i : ℕ) → ComesToRest files tag i (moves i)) where
       -- where no posting does harm, no fault is grave
-      not_grave : NoneHarms files known tag one_file all_known moves rests → ¬ GraveFault files tag
+      pub not_grave : NoneHarms files known tag one_file all_known moves rests → ¬ GraveFault files tag
       not_grave none (SelfLink a link) = no_self files known tag one_file all_known moves rests none a link
       not_grave none (OneSided a b link no_answer) = no_answer (both files known tag one_file all_known moves rests none a b link)
       not_grave none (SameNetNode a b twins taken) = not_taken files known tag one_file all_known moves rests none a b twins taken

@@ -6,13 +6,16 @@ mod Spreads
 mod Branches
 mod Tags
 mod Counts
-mod OneMessage
+pub mod OneMessage
 mod Entries
 mod Places
-mod Holders
+pub mod Holders
 mod Exact
 mod Faults
 mod SecondFiles
 mod Nowhere
 mod PostAndScan
 mod Posters
+pub mod Rounds
+pub mod Trials
+pub mod Telling

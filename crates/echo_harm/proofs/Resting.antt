@@ -71,10 +71,10 @@ module _ (files : List LinkFile) (known : LawsOfRuns files) where
 
   module _ (keys : List Key) where
     -- all that was filed has some of these keys
-    abbrev Within : Run → Type 0
+    abbrev pub Within : Run → Type 0
     Within run = (s : System) → Among s run.systems → (m : Filed) → Among m s.history → Among (key_of m) keys
 
-    packed-within : (events : List RunEvent) → Within (run_of files events) → (p : Packet) → Among p (run_of files events).packets →
+    pub packed-within : (events : List RunEvent) → Within (run_of files events) → (p : Packet) → Among p (run_of files events).packets →
         (q : Message) → Among q p.messages → (a : Address) → Among (key_of (received a q)) keys
     packed-within events within p h q i a =
         let (e, at, same) = export-of events p h in
@@ -85,7 +85,7 @@ module _ (files : List LinkFile) (known : LawsOfRuns files) where
         subst Q (sym (received-key a (origin p) q ∙ is_copy.key))
         (within s (nth-among e.system s (run_of files events).systems there) m (Among-take s.cursor m s.history j))
 
-    new-key : (s : System) (sender : Address) (q : Message) (m : Filed) → tossing s.file s.base sender q ≡ Some m → is_known s.base (key_of m) ≡ false
+    pub new-key : (s : System) (sender : Address) (q : Message) (m : Filed) → tossing s.file s.base sender q ≡ Some m → is_known s.base (key_of m) ≡ false
     new-key s sender q m h =
         let same = tossing-is s.file s.base sender q m h in
         let to_file = (known.toss s.file s.base sender q).0 (h ∙ ap (λ (x : Filed). Some x) same) in
@@ -110,7 +110,7 @@ module _ (files : List LinkFile) (known : LawsOfRuns files) where
       packets : after.packets ≡ before.packets
       came : (k : ℕ) (p : Packet) → k < n → nth k after.packets ≡ Some p → Among k after.delivered ⊎ GoesNowhere p
 
-    with_index-new : (k : ℕ) (ks : List ℕ) → Among k (with_index k ks)
+    pub with_index-new : (k : ℕ) (ks : List ℕ) → Among k (with_index k ks)
     with_index-new k ks = cases (list_any (λ d. d == k) ks) refl
       where
         cases : (b : Bool) → list_any (λ d. d == k) ks ≡ b → Among k (if b then ks else k ∷ ks)
@@ -120,7 +120,7 @@ module _ (files : List LinkFile) (known : LawsOfRuns files) where
             subst P (eqb-true d k q) i
         cases false e = inl refl
 
-    with_index-old : (k j : ℕ) (ks : List ℕ) → Among j ks → Among j (with_index k ks)
+    pub with_index-old : (k j : ℕ) (ks : List ℕ) → Among j ks → Among j (with_index k ks)
     with_index-old k j ks h = cases (list_any (λ d. d == k) ks)
       where
         cases : (b : Bool) → Among j (if b then ks else k ∷ ks)
@@ -132,7 +132,7 @@ module _ (files : List LinkFile) (known : LawsOfRuns files) where
       abbrev run : Run
       run = run_of files events
 
-      taken-within : (p : Packet) → Among p run.packets → (n i : ℕ) → (s : System) → Among s (change i (taking p n) run.systems) →
+      pub taken-within : (p : Packet) → Among p run.packets → (n i : ℕ) → (s : System) → Among s (change i (taking p n) run.systems) →
           (m : Filed) → Among m s.history → Among (key_of m) keys
       taken-within p at n i s h m j =
           elim (Among-change i (taking p n) s run.systems h) [
@@ -240,18 +240,18 @@ module _ (files : List LinkFile) (known : LawsOfRuns files) where
         ]
 
     -- all systems scan
-    record Scanned (before after : Run) (n : ℕ) : Type 0 where
-      within : Within after
-      lacks : all_lacking keys after.systems ≡ all_lacking keys before.systems
-      quiet : (i : ℕ) (s : System) → i < n → nth i after.systems ≡ Some s → drop s.cursor s.base ≡ []
-      size : length after.systems ≡ length before.systems
+    pub record Scanned (before after : Run) (n : ℕ) : Type 0 where
+      pub within : Within after
+      pub lacks : all_lacking keys after.systems ≡ all_lacking keys before.systems
+      pub quiet : (i : ℕ) (s : System) → i < n → nth i after.systems ≡ Some s → drop s.cursor s.base ≡ []
+      pub size : length after.systems ≡ length before.systems
 
     length-change : (i : ℕ) (f : System → System) (ss : List System) → length (change i f ss) ≡ length ss
     length-change i f [] = refl
     length-change zero f (s ∷ ss) = refl
     length-change (suc i) f (s ∷ ss) = ap suc (length-change i f ss)
 
-    scanned-more : (before run : Run) (n : ℕ) → Scanned before run n → (o : Option System) → nth n run.systems ≡ o → Scanned before (scanning run n trial_moment o) (suc n)
+    pub scanned-more : (before run : Run) (n : ℕ) → Scanned before run n → (o : Option System) → nth n run.systems ≡ o → Scanned before (scanning run n trial_moment o) (suc n)
     scanned-more before run n so_far None e = record {
       within = so_far.within;
       lacks = so_far.lacks;

@@ -24,7 +24,7 @@ use echo_run::{
 use echo_steps::{posting_refusals, toss_law};
 
 /// The laws of runs and steps that the laws below rest on, of all runs on link files that were read.
-fn runs_are_known()
+pub fn runs_are_known()
     ensures { (files : List LinkFile) → FilesFit files → LawsOfRuns files }
 {
     bases_are_what_was_filed();

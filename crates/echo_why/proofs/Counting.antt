@@ -1,5 +1,5 @@
 -- Copies of one message are counted, packet by packet and message by message.
-use Rattle.std.proofs.Common.{◌≡◌, ◌∙◌, ◌⊎◌, inl, inr, refl, sym, subst, ap, ℕ, zero, suc, ◌+◌, ◌<◌, ◌≤◌, arith, Bool, true, false, cond, List, [], ◌∷◌, length, get_or, map, take, Option, Some, None, Ok}
+use Rattle.std.proofs.Common.{◌≡◌, ◌∙◌, inl, inr, refl, sym, subst, ap, ℕ, zero, suc, ◌+◌, ◌<◌, arith, Bool, true, false, cond, List, [], ◌∷◌, length, get_or, map, take, Option, Some, None, Ok}
 use Rattle.std.proofs.lemmas.List.{take_all}
 use Rattle.std.specs.Prelude.{◌&&◌, bytes_eq, filter, if◌then◌else◌, is_none, option_map, unwrap_or}
 use Rattle.echo_addr.specs.declared.address.Address.{Address}
@@ -70,7 +70,7 @@ total-step sender key zero q (m ∷ ms) h =
 total-step sender key (suc i) q (m ∷ ms) h =
     omega (arith, total-cons sender key m (take (suc i) ms), total-cons sender key m (take i ms), total-step sender key i q ms h)
 
-nth-read : {X : Type 0} (i : ℕ) (x : X) (xs : List X) → i < length xs → x ≡ get_or xs i x → nth i xs ≡ Some x
+pub nth-read : {X : Type 0} (i : ℕ) (x : X) (xs : List X) → i < length xs → x ≡ get_or xs i x → nth i xs ≡ Some x
 nth-read i x [] h e = absurd (omega arith)
 nth-read zero x (y ∷ xs) h e = ap (λ z. Some z) (sym e)
 nth-read (suc i) x (y ∷ xs) h e = nth-read i x xs (omega arith) e

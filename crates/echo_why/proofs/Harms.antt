@@ -1,15 +1,13 @@
 -- The harms that are shown are harms.
-use Rattle.std.proofs.Common.{◌≡◌, ◌∙◌, ◌⊎◌, inl, inr, refl, sym, subst, ap, ℕ, ◌≤◌, arith, IsTrue, List, length, Option, Some, None}
+use Rattle.std.proofs.Common.{◌≡◌, ◌∙◌, ◌⊎◌, inl, inr, refl, sym, subst, ap, ℕ, ◌≤◌, arith, List, length, Option, Some, None}
 use Rattle.echo_addr.specs.declared.address.Address.{Address}
 use Rattle.echo_graph.specs.Walk.{Among}
 use Rattle.echo_text.specs.Echo.{msgid_of}
-use Rattle.echo_links.specs.Links.{LinkFile}
 use Rattle.echo_filed.specs.declared.key.Key.{Key}
 use Rattle.echo_filed.specs.declared.key.Key.TheVariants.{ById}
 use Rattle.echo_filed.specs.Filed.{Filed, key_of}
 use Rattle.echo_filed.specs.Stubs.{stub_of, stub_with}
-use Rattle.echo_run.specs.Event.{RunEvent}
-use Rattle.echo_run.specs.Run.{Run, System, nth, run_of}
+use Rattle.echo_run.specs.Run.{Run, System, nth}
 use Rattle.echo_run.specs.Orderly.{IsPosting, count, sent_count}
 use Rattle.echo_harm.specs.Harms.{Harm}
 use Rattle.echo_why.specs.declared.shown.Harm.{Harm as Told}

@@ -9,7 +9,7 @@ use Rattle.echo_text.specs.Echo.{msgid_of}
 use Rattle.echo_links.specs.Links.{same_address}
 use Rattle.echo_links.proofs.Addresses.{same_address_decides}
 use Rattle.echo_filed.specs.declared.key.Key.TheVariants.{ById}
-use Rattle.echo_filed.specs.Filed.{Filed, key_of, same_key}
+use Rattle.echo_filed.specs.Filed.{Filed, key_of}
 use Rattle.echo_filed.proofs.Keys.{same_key_decides}
 use Rattle.echo_steps.specs.declared.packet.Packet.{Packet}
 use Rattle.echo_run.specs.Run.{Run, System, destination, nth}

@@ -1,5 +1,5 @@
 -- What goes wrong in a run, told by the id of one message and by the address of a system.
-use Rattle.std.specs.Prelude.{◌≡◌, ◌≢◌, ◌≤◌, ℕ, IsTrue, List, Some}
+use Rattle.std.specs.Prelude.{◌≡◌, ◌≢◌, ◌≤◌, ℕ, IsTrue, List, Option, None, Some}
 use Rattle.echo_addr.specs.declared.address.Address.{Address}
 use Rattle.echo_graph.specs.Walk.{Among}
 use Rattle.echo_links.specs.Links.{LinkFile, has_area}
@@ -67,6 +67,11 @@ HasHarm run tag id NeverRests = GoesToNobody run tag id
 abbrev pub BreaksIt : Harm → Type 0
 BreaksIt NeverRests = ⊥
 BreaksIt _ = Unit {0}
+
+-- a run is found that breaks the promise
+abbrev pub FindsHarm : Option Shown → Type 0
+FindsHarm None = ⊥
+FindsHarm (Some shown) = BreaksIt shown.harm
 
 -- what is shown is a run on these link files, and the run has the harm
 abbrev pub IsShown : List LinkFile → List ℕ → Shown → Type 0

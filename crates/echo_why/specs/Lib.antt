@@ -1,2 +1,5 @@
 pub mod Shown
+pub mod Sources
 pub mod Found
+pub mod Resting
+pub mod Exact

@@ -1,6 +1,9 @@
 //! A guess is tried on real packets.
 
-ghost use Rattle.std.specs.Prelude.{IfOk, IfSome};
+ghost use Rattle.std.specs.Prelude.{◌≡◌, IfOk, IfSome, MatchOption, None, Some};
+ghost use Rattle.echo_links.specs.Links.{LinkFile as File};
+ghost use Rattle.echo_run.specs.Run.{nth};
+ghost use Rattle.echo_text.specs.Ids.{id_of};
 ghost use Rattle.echo_why.specs.Found.{IsShown};
 
 use crate::events::{SERIAL, events_of};
@@ -46,12 +49,14 @@ pub(crate) fn confirmed(
     }
 }
 
-// The id of what the system of this index posts.
-fn id_of_posting(
+/// The id of what the system of this index posts.
+pub(crate) fn id_of_posting(
     alloc: Global,
     files: &[LinkFile],
     poster: usize,
-) -> Result<Option<Vec<u8>>, AllocError> {
+) -> Result<Option<Vec<u8>>, AllocError>
+    ensures { IfOk result (λ found. MatchOption found (nth poster files.now ≡ None) (λ id. (file : File) → nth poster files.now ≡ Some file → id.items ≡ id_of file.system SERIAL)) }
+{
     match files.get(poster) {
         Some(file) => Ok(Some(MsgId::write(alloc, file.system(), SERIAL)?)),
         None => Ok(None),

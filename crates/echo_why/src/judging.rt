@@ -1,11 +1,15 @@
 //! Whether a guess of what goes wrong holds of a net.
 
-ghost use Rattle.std.specs.Prelude.{◌≡◌, ◌≢◌, IfOk, IfSome, IsTrue, Some};
+ghost use Rattle.std.specs.Prelude.{◌≡◌, ◌≢◌, ◌≤◌, IfOk, IfSome, IsTrue, None, Some, false, true, ℕ};
 ghost use Rattle.echo_graph.specs.Walk.{Among};
-ghost use Rattle.echo_links.specs.Links.{same_address};
+ghost use Rattle.echo_filed.specs.declared.key.Key.TheVariants.{ById};
+ghost use Rattle.echo_links.specs.Links.{has_area, same_address};
+ghost use Rattle.echo_run.specs.Orderly.{sent_count};
 ghost use Rattle.echo_run.specs.Run.{Run, System, nth};
+ghost use Rattle.echo_run.specs.World.{area_count, is_settled};
 ghost use Rattle.echo_replay.specs.Worlds.{IsWorldOf};
-ghost use Rattle.echo_why.specs.Found.{CarriesAt, HasHarm, PostedAt};
+ghost use Rattle.echo_why.specs.Found.{BreaksIt, CarriesAt, HasHarm, PostedAt};
+ghost use Rattle.echo_why.specs.Resting.{DoesNoHarm, IsWell, PostsFirst};
 
 use crate::copies::{is_posting, sent_times};
 use crate::guess::Guess;
@@ -35,6 +39,73 @@ pub(crate) fn judge(
     }
 }
 
+/// What breaks the promise in the net, by the message with this tag and id that the system of index
+/// `poster` posted, none where it does no harm though all has settled. Fails only when out of memory.
+pub(crate) fn judge_all(
+    alloc: Global,
+    world: &World,
+    poster: usize,
+    tag: &[u8],
+    id: &[u8],
+) -> Result<Option<Harm>, AllocError>
+    ensures harm { IfOk result (λ found. IfSome found (λ harm. (run : Run) → IsWorldOf world.now run → HasHarm run tag.now id.now harm)) }
+    ensures breaks { IfOk result (λ found. IfSome found BreaksIt) }
+    ensures none { IfOk result (λ found. found ≡ None → (run : Run) → IsWorldOf world.now run → PostsFirst run poster tag.now id.now → is_settled run ≡ true →
+        DoesNoHarm run poster tag.now id.now) }
+{
+    let own = sent_own(alloc, world, poster, tag, id)?;
+    match own {
+        Some(harm) => Ok(Some(harm)),
+        None => {
+            let found = at_carriers(alloc, world, poster, tag, id)?;
+            Ok(found)
+        }
+    }
+}
+
+// What breaks the promise at the first carrier where something does.
+fn at_carriers(
+    alloc: Global,
+    world: &World,
+    poster: usize,
+    tag: &[u8],
+    id: &[u8],
+) -> Result<Option<Harm>, AllocError>
+    ensures harm { IfOk result (λ found. IfSome found (λ harm. (run : Run) → IsWorldOf world.now run → HasHarm run tag.now id.now harm)) }
+    ensures breaks { IfOk result (λ found. IfSome found BreaksIt) }
+    ensures none { IfOk result (λ found. found ≡ None → (run : Run) → IsWorldOf world.now run → PostsFirst run poster tag.now id.now → is_settled run ≡ true →
+        (i : ℕ) (s : System) → nth i run.systems ≡ Some s → has_area s.file tag.now ≡ true → IsWell run tag.now id.now s) }
+{
+    'systems: for system in 0..world.systems() {
+        let found = harm_at(alloc, world, poster, system, tag, id)?;
+        if let Some(harm) = found {
+            return Ok(Some(harm));
+        }
+    }
+    Ok(None)
+}
+
+// What breaks the promise at the carrier of index `system`.
+fn harm_at(
+    alloc: Global,
+    world: &World,
+    poster: usize,
+    system: usize,
+    tag: &[u8],
+    id: &[u8],
+) -> Result<Option<Harm>, AllocError>
+    ensures harm { IfOk result (λ found. IfSome found (λ harm. (run : Run) → IsWorldOf world.now run → HasHarm run tag.now id.now harm)) }
+    ensures breaks { IfOk result (λ found. IfSome found BreaksIt) }
+    ensures none { IfOk result (λ found. found ≡ None → (run : Run) → IsWorldOf world.now run → PostsFirst run poster tag.now id.now → is_settled run ≡ true →
+        (s : System) → nth system run.systems ≡ Some s → has_area s.file tag.now ≡ true → IsWell run tag.now id.now s) }
+{
+    let again = sent_again(alloc, world, system, tag, id)?;
+    match again {
+        Some(harm) => Ok(Some(harm)),
+        None => Ok(never_got(world, poster, system, tag, id)),
+    }
+}
+
 // Whether the carrier of this index is sent the message again.
 fn sent_again(
     alloc: Global,
@@ -43,7 +114,10 @@ fn sent_again(
     tag: &[u8],
     id: &[u8],
 ) -> Result<Option<Harm>, AllocError>
-    ensures { IfOk result (λ found. IfSome found (λ harm. (run : Run) → IsWorldOf world.now run → HasHarm run tag.now id.now harm)) }
+    ensures harm { IfOk result (λ found. IfSome found (λ harm. (run : Run) → IsWorldOf world.now run → HasHarm run tag.now id.now harm)) }
+    ensures breaks { IfOk result (λ found. IfSome found BreaksIt) }
+    ensures none { IfOk result (λ found. found ≡ None → (run : Run) → IsWorldOf world.now run → (s : System) → nth system run.systems ≡ Some s → has_area s.file tag.now ≡ true →
+        sent_count s.file.system (ById tag.now id.now) run.packets ≤ 1) }
 {
     let Some(address) = carrier_at(world, system, tag) else {
         return Ok(None);
@@ -63,7 +137,10 @@ fn sent_own(
     tag: &[u8],
     id: &[u8],
 ) -> Result<Option<Harm>, AllocError>
-    ensures { IfOk result (λ found. IfSome found (λ harm. (run : Run) → IsWorldOf world.now run → HasHarm run tag.now id.now harm)) }
+    ensures harm { IfOk result (λ found. IfSome found (λ harm. (run : Run) → IsWorldOf world.now run → HasHarm run tag.now id.now harm)) }
+    ensures breaks { IfOk result (λ found. IfSome found BreaksIt) }
+    ensures none { IfOk result (λ found. found ≡ None → (run : Run) → IsWorldOf world.now run → PostsFirst run poster tag.now id.now → (s : System) → nth poster run.systems ≡ Some s →
+        sent_count s.file.system (ById tag.now id.now) run.packets ≡ 0) }
 {
     let Some(address) = poster_at(world, poster, tag, id) else {
         return Ok(None);
@@ -77,12 +154,18 @@ fn sent_own(
 
 // Whether all has settled, and the carrier of index `system` lacks what that of index `poster` posted.
 fn never_got(world: &World, poster: usize, system: usize, tag: &[u8], id: &[u8]) -> Option<Harm>
-    ensures { IfSome result (λ harm. (run : Run) → IsWorldOf world.now run → HasHarm run tag.now id.now harm) }
+    ensures harm { IfSome result (λ harm. (run : Run) → IsWorldOf world.now run → HasHarm run tag.now id.now harm) }
+    ensures breaks { IfSome result BreaksIt }
+    ensures none { result ≡ None → (run : Run) → IsWorldOf world.now run → PostsFirst run poster tag.now id.now → is_settled run ≡ true →
+        (s : System) → nth system run.systems ≡ Some s → has_area s.file tag.now ≡ true → 1 ≤ area_count tag.now s.base }
 {
     poster_at(world, poster, tag, id)?;
     let address = carrier_at(world, system, tag)?;
     settled_runs_settle_each_area();
-    if !world.settled() || world.filed(system, tag) > 0 {
+    if !world.settled() {
+        return None;
+    }
+    if world.filed(system, tag) > 0 {
         return None;
     }
     Some(Harm::NeverGets(address))
@@ -132,7 +215,8 @@ fn has_address(world: &World, i: usize, to: Address) -> bool
 
 // The address of the system of this index, if it has the area.
 fn carrier_at(world: &World, i: usize, tag: &[u8]) -> Option<Address>
-    ensures { IfSome result (λ a. (run : Run) → IsWorldOf world.now run → CarriesAt run i tag.now a) }
+    ensures some { IfSome result (λ a. (run : Run) → IsWorldOf world.now run → CarriesAt run i tag.now a) }
+    ensures none { result ≡ None → (run : Run) → IsWorldOf world.now run → (s : System) → nth i run.systems ≡ Some s → has_area s.file tag.now ≡ false }
 {
     let file = world.links(i)?;
     if !file.has_area(tag) {
@@ -143,7 +227,8 @@ fn carrier_at(world: &World, i: usize, tag: &[u8]) -> Option<Address>
 
 // The address of the system of this index, if the first message of its base is the posting of this id.
 fn poster_at(world: &World, i: usize, tag: &[u8], id: &[u8]) -> Option<Address>
-    ensures { IfSome result (λ a. (run : Run) → IsWorldOf world.now run → PostedAt run i tag.now id.now a) }
+    ensures some { IfSome result (λ a. (run : Run) → IsWorldOf world.now run → PostedAt run i tag.now id.now a) }
+    ensures none { result ≡ None → (run : Run) → IsWorldOf world.now run → ¬ PostsFirst run i tag.now id.now }
 {
     let address = carrier_at(world, i, tag)?;
     let message = world.message(i, 0)?;

@@ -1,7 +1,7 @@
-use Rattle.std.proofs.Common.{◌≡◌, ◌+◌, ◌∙◌, ap, refl, sym, ℕ, Bool, true, false, cond, arith, take}
+use Rattle.std.proofs.Common.{◌≡◌, ◌+◌, ◌∙◌, refl, sym, Bool, true, false, cond, arith, take}
 use Rattle.echo_addr.specs.declared.address.Address.{Address}
 use Rattle.echo_filed.specs.declared.key.Key.TheVariants.{ById}
-use Rattle.echo_why.proofs.Counting.{is_one, total, total-more}
+use Rattle.echo_why.proofs.Counting.{total, total-more}
 use Rattle.echo_why.proofs.copies.count_copies.Goals as goal
 use Rattle.echo_why.proofs.copies.count_copies.Goals.{then-branch, else-branch}
 

@@ -2,7 +2,6 @@ use Rattle.std.proofs.Common.{◌≡◌, ◌∙◌, ap, sym, subst, false, ℕ, 
 use Rattle.std.specs.Prelude.{◌&&◌, bytes_eq, is_none, option_copied, option_map, unwrap_or}
 use Rattle.echo_filed.specs.declared.key.Key.TheVariants.{ById}
 use Rattle.echo_filed.specs.Filed.{key_of, same_key}
-use Rattle.echo_filed.specs.Written.{echo_of}
 use Rattle.echo_steps.specs.Tossing.{received}
 use Rattle.echo_text.specs.Echo.{EchoOf, EchoText, msgid_of}
 use Rattle.echo_text.specs.declared.fault.TextFault.{TextFault}

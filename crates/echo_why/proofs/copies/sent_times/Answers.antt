@@ -1,4 +1,4 @@
-use Rattle.std.proofs.Common.{◌+◌, refl, sym, arith}
+use Rattle.std.proofs.Common.{◌+◌, refl, arith}
 use Rattle.echo_filed.specs.declared.key.Key.TheVariants.{ById}
 use Rattle.echo_why.proofs.Counting.{nth-there, sent-more}
 use Rattle.echo_why.proofs.copies.sent_times.Goals as goal

@@ -1,0 +1,20 @@
+-- Rounds: all systems scan, and then all packets come.
+use Rattle.std.specs.Prelude.{ℕ, zero, suc, List, [], ◌∷◌, ◌++◌, length}
+use Rattle.echo_links.specs.Links.{LinkFile}
+use Rattle.echo_run.specs.Event.{RunEvent, Delivery, Scanning}
+use Rattle.echo_run.specs.Run.{run_of}
+use Rattle.echo_harm.specs.Postings.{trial_moment}
+
+-- so many systems scan, from the first on
+abbrev pub scans : ℕ → List RunEvent
+scans zero = []
+scans (suc n) = scans n ++ Scanning n trial_moment ∷ []
+
+-- so many packets come, from the first on
+abbrev pub deliveries : ℕ → List RunEvent
+deliveries zero = []
+deliveries (suc n) = deliveries n ++ Delivery n ∷ []
+
+-- the round that follows these events: all packets come that stand there once all systems have scanned
+abbrev pub round_after : List LinkFile → List RunEvent → List RunEvent
+round_after files events = scans (length files) ++ deliveries (length (run_of files (events ++ scans (length files))).packets)
