@@ -11,3 +11,4 @@ pub mod Reasons
 pub mod Listings
 pub mod WorldLines
 pub mod Replays
+pub mod LinkLines

@@ -1,5 +1,5 @@
 -- What `list` prints and answers, from what its parts do.
-use Rattle.std.proofs.Common.{◌≡◌, ℕ, ◌+◌, ◌-◌, ◌≤◌, List, [], ◌∷◌, ◌++◌, length, Option, option_map, Err, Ok, refl, sym, ap, subst, ◌∙◌, append-nil, inl}
+use Rattle.std.proofs.Common.{◌≡◌, ℕ, ◌+◌, ◌-◌, ◌≤◌, List, [], ◌∷◌, ◌++◌, length, Option, Some, option_map, Err, Ok, refl, sym, ap, subst, ◌∙◌, append-nil, inl}
 use Rattle.std.specs.Prelude.{slice_get}
 use Rattle.std.specs.List.{flat_map, range_with_len}
 use Rattle.std.specs.Io.KnownBytes.{Appends}
@@ -51,13 +51,13 @@ message_begun a b c kept mid area first base cursor i n message is within before
     (begun_more a b c kept (messages_text area first base cursor i) mid (asked_text area first cursor i message) before more))
 
 -- the lines of a base
-right_listing : (area : Option (List ℕ)) (first : ℕ) (base : Option (List ℕ)) (messages : List Filed) (cursor : ℕ) → IsBaseGiven base messages cursor
+right_listing : (area : Option (List ℕ)) (first : ℕ) (base : List ℕ) (messages : List Filed) (cursor : ℕ) → IsBaseGiven (Some base) messages cursor
     → IsBaseListed area first base (base_text (option_map upper area) first messages cursor) Good
 right_listing area first base messages cursor given = record { messages = messages; cursor = cursor; given = given; printed = refl; status_is = refl }
 
 -- some of them were printed
-pub listing_begun : (area asked : Option (List ℕ)) (first : ℕ) (base : Option (List ℕ)) (messages : List Filed) (cursor : ℕ) (none : List ℕ) (old new : Output)
-    → IsBaseGiven base messages cursor → asked ≡ option_map upper area → none ≡ []
+pub listing_begun : (area asked : Option (List ℕ)) (first : ℕ) (base : List ℕ) (messages : List Filed) (cursor : ℕ) (none : List ℕ) (old new : Output)
+    → IsBaseGiven (Some base) messages cursor → asked ≡ option_map upper area → none ≡ []
     → WritesFront (none ++ messages_text asked first messages cursor (length messages)) old.contents new.contents → IsBegun (IsBaseListed area first base) old new
 listing_begun area asked first base messages cursor none old new given same nothing begun =
     let text : List ℕ = messages_text (option_map upper area) first messages cursor (length messages) in
@@ -87,8 +87,8 @@ base_passed area asked first messages cursor all again scanned none kept lines a
     (subst (λ (l : List ℕ). PassesOn (l ++ base_text asked first messages cursor) lines a b) nothing passed)
 
 -- all lines of a base went out
-pub base_listed : (area asked : Option (List ℕ)) (first : ℕ) (base : Option (List ℕ)) (messages : List Filed) (cursor all again scanned : ℕ) (none kept lines : List ℕ)
-    (old mid new : Output) → IsBaseGiven base messages cursor → asked ≡ option_map upper area → none ≡ []
+pub base_listed : (area asked : Option (List ℕ)) (first : ℕ) (base : List ℕ) (messages : List Filed) (cursor all again scanned : ℕ) (none kept lines : List ℕ)
+    (old mid new : Output) → IsBaseGiven (Some base) messages cursor → asked ≡ option_map upper area → none ≡ []
     → PassesOn (none ++ messages_text asked first messages cursor (length messages)) kept old.contents mid.contents → all ≡ length messages → again ≡ length messages
     → scanned ≡ cursor → lines ≡ kept ++ total_text all (again - scanned) → Appends mid.contents new.contents lines → mid.failures ≡ old.failures → PassesAll mid new
     → ListAnswers area first base old new (Ok Good)
@@ -102,8 +102,8 @@ base_listed area asked first base messages cursor all again scanned none kept li
     }
 
 -- standard output failed at last
-pub base_unlisted : (area asked : Option (List ℕ)) (first : ℕ) (base : Option (List ℕ)) (messages : List Filed) (cursor all again scanned : ℕ) (none kept lines : List ℕ)
-    (old mid new : Output) (fault : Fault) → IsBaseGiven base messages cursor → asked ≡ option_map upper area → none ≡ []
+pub base_unlisted : (area asked : Option (List ℕ)) (first : ℕ) (base : List ℕ) (messages : List Filed) (cursor all again scanned : ℕ) (none kept lines : List ℕ)
+    (old mid new : Output) (fault : Fault) → IsBaseGiven (Some base) messages cursor → asked ≡ option_map upper area → none ≡ []
     → PassesOn (none ++ messages_text asked first messages cursor (length messages)) kept old.contents mid.contents → all ≡ length messages → again ≡ length messages
     → scanned ≡ cursor → lines ≡ kept ++ total_text all (again - scanned) → WritesFront lines mid.contents new.contents → mid.failures ≡ old.failures
     → CannotPrint mid.failures new.failures fault → ListAnswers area first base old new (Err fault)

@@ -8,3 +8,5 @@ pub mod Reasoning
 pub mod Listing
 pub mod Replayed
 pub mod Replaying
+pub mod LinksShown
+pub mod Linking

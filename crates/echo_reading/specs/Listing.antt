@@ -1,5 +1,5 @@
 -- What `list` answers.
-use Rattle.std.specs.Prelude.{◌≡◌, ℕ, List, Option, option_map, Result}
+use Rattle.std.specs.Prelude.{◌≡◌, ℕ, List, Option, Some, option_map, Result}
 use Rattle.echo_status.specs.Devices.{Output}
 use Rattle.echo_links.specs.Links.{upper}
 use Rattle.echo_filed.specs.Filed.{Filed}
@@ -10,14 +10,14 @@ use Rattle.echo_status.specs.Ended.{AnswersInPieces}
 use Rattle.echo_status.specs.Inputs.{IsBaseFault, IsBaseGiven}
 use Rattle.echo_print.specs.BaseListed.{base_text}
 
--- The base file has no fault, or is none, and these are the lines of its base. The area is asked for in letters of either case.
-pub record IsBaseListed (area : Option (List ℕ)) (first : ℕ) (base : Option (List ℕ)) (lines : List ℕ) (status : Status) : Type 0 where
+-- The base file has no fault, and these are the lines of its base. The area is asked for in letters of either case.
+pub record IsBaseListed (area : Option (List ℕ)) (first : ℕ) (base : List ℕ) (lines : List ℕ) (status : Status) : Type 0 where
   pub messages : List Filed
   pub cursor : ℕ
-  pub given : IsBaseGiven base messages cursor
+  pub given : IsBaseGiven (Some base) messages cursor
   pub printed : lines ≡ base_text (option_map upper area) first messages cursor
   pub status_is : status ≡ Good
 
 -- what is answered where a base is to be listed
-abbrev pub ListAnswers : Option (List ℕ) → ℕ → Option (List ℕ) → Output → Output → Result Status Fault → Type 0
-ListAnswers area first base old new answer = AnswersInPieces (IsBaseListed area first base) (IsBaseFault base) old new answer
+abbrev pub ListAnswers : Option (List ℕ) → ℕ → List ℕ → Output → Output → Result Status Fault → Type 0
+ListAnswers area first base old new answer = AnswersInPieces (IsBaseListed area first base) (IsBaseFault (Some base)) old new answer

@@ -10,13 +10,16 @@
 //! here is what a command reads, which fault comes first, and what it writes of those lines.
 //!
 //! Modules in reading order, each named for its command: `showing` (a packet), `nodelists` (a nodelist),
-//! `checking` (is an area in order), `reasoning` and `why_text` (`why`: a run that goes wrong, and its lines),
-//! `picturing` (an area as a graph), `listing` (the messages of a base), `replaying` and `replay_text` (what
-//! becomes of a net, and its lines), and `laws` (what holds of the definitions).
+//! `linking` and `links_text` (`links`: link files one by one, and their lines), `checking` (is an area in
+//! order), `reasoning` and `why_text` (`why`: a run that goes wrong, and its lines), `picturing` (an area as a
+//! graph), `listing` (the messages of a base), `replaying` and `replay_text` (what becomes of a net, and its
+//! lines), and `laws` (what holds of the definitions).
 #![tactic(auto)]
 
 mod checking;
 mod laws;
+mod linking;
+mod links_text;
 mod listing;
 mod nodelists;
 mod picturing;
@@ -28,6 +31,7 @@ mod why_text;
 
 pub use checking::check;
 pub use laws::one_printing;
+pub use linking::{NamedFile, links};
 pub use listing::list;
 pub use nodelists::nodelist;
 pub use picturing::picture;

@@ -1,5 +1,5 @@
 //! The command `list`: the messages of a base.
-ghost use Rattle.std.specs.Prelude.{◌≡◌, ◌⊎◌, ◌++◌, IfErr, IfOk, OnOk, OnErr, length, option_copied, option_map};
+ghost use Rattle.std.specs.Prelude.{◌≡◌, ◌⊎◌, ◌++◌, IfErr, IfOk, Some, OnOk, OnErr, length, option_copied, option_map};
 ghost use Rattle.echo_status.specs.Devices.{output_of};
 ghost use Rattle.echo_links.specs.Links.{upper};
 ghost use Rattle.echo_reading.specs.Listing.{ListAnswers};
@@ -19,18 +19,18 @@ use std::hash::BuildHasher;
 
 /// `list [--area TAG] [--from I] BASE`: prints the messages of a base, those of the area where one is
 /// given, from the number `first` on, and how many the base has and how many of them wait. Of a faulty
-/// base nothing is printed. `base` is none where the file does not exist.
+/// base nothing is printed.
 pub fn list<'a, S: BuildHasher + Drop, W: Sink>(
     alloc: Global,
     area: Option<&[u8]>,
     first: u64,
-    base: Option<&[u8]>,
+    base: &[u8],
     hasher: S,
     out: &mut W,
 ) -> Result<Status, Fault<'a>>
-    ensures { ListAnswers (option_copied area.entry) first (option_copied base.entry) (output_of W.contents W.failures W.holds out.old) (output_of W.contents W.failures W.holds out.new) result }
+    ensures { ListAnswers (option_copied area.entry) first base.now (output_of W.contents W.failures W.holds out.old) (output_of W.contents W.failures W.holds out.new) result }
 {
-    let base = base_given(alloc, base, hasher)?;
+    let base = base_read(alloc, base, hasher)?;
     let area = raised(alloc, area)?;
     let mut lines = Vec::new(alloc);
     print_messages(area.as_ref(), first, &base, &mut lines, out)?;
@@ -39,19 +39,16 @@ pub fn list<'a, S: BuildHasher + Drop, W: Sink>(
     Ok(Status::Good)
 }
 
-// The base of the file, or an empty one where there is none.
-fn base_given<'a, S: BuildHasher + Drop>(
+// The base of the file.
+fn base_read<'a, S: BuildHasher + Drop>(
     alloc: Global,
-    base: Option<&[u8]>,
+    base: &[u8],
     hasher: S,
 ) -> Result<Base<S>, Fault<'a>>
-    ensures ok { IfOk result (λ b. IsBaseGiven (option_copied base.entry) b.messages b.cursor) }
-    ensures err { IfErr result (λ fault. IsOutOfMemory fault ⊎ IsBaseFault (option_copied base.entry) fault) }
+    ensures ok { IfOk result (λ b. IsBaseGiven (Some base.now) b.messages b.cursor) }
+    ensures err { IfErr result (λ fault. IsOutOfMemory fault ⊎ IsBaseFault (Some base.now) fault) }
 {
-    match base {
-        Some(bytes) => Ok(Base::load(alloc, &mut &*bytes, hasher)?),
-        None => Ok(Base::new(alloc, hasher)),
-    }
+    Ok(Base::load(alloc, &mut &*base, hasher)?)
 }
 
 // The tag in capital letters, if one is given.

@@ -23,9 +23,7 @@ enum Form {
     Needed(&'static str),
     /// `NAME`
     One,
-    /// `NAME...`, one or more
-    Many,
-    /// the same, or in its place this option
+    /// `NAME...`, one or more, or in its place this option
     ManyUnless(&'static str),
 }
 
@@ -41,10 +39,17 @@ const AREA: &str = "The area, in letters of either case";
 
 const TAG: Word = Word("TAG", Form::One, AREA);
 
+/// The link files of a net, as words or as a list.
 const ALL_LINKS: Word = Word(
     "LINKS",
-    Form::Many,
+    Form::ManyUnless("links-from"),
     "The link file of each system of the net",
+);
+
+const LINKS_FROM: Word = Word(
+    "links-from",
+    Form::Option("FILE"),
+    "The link files stand in this file, or - for standard input: one a line, or each ended by 00",
 );
 
 const LINKS: Word = Word("LINKS", Form::One, "The link file of the system");
@@ -93,6 +98,20 @@ const COMMANDS: &[Entry] = &[
         ],
     ),
     Entry(
+        "links",
+        "Prints what is wrong with link files, or how many areas and links each has",
+        ending!("echonet links --areas links/*"),
+        &[
+            Word(
+                "areas",
+                Form::Flag,
+                "Prints how many links each area has, too",
+            ),
+            LINKS_FROM,
+            Word("LINKS", Form::ManyUnless("links-from"), "The link files"),
+        ],
+    ),
+    Entry(
         "check",
         "Prints whether an area is in order, or what is wrong with it",
         ending!("echonet check --nodelist NODELIST.184 TEST links/*"),
@@ -102,6 +121,7 @@ const COMMANDS: &[Entry] = &[
                 Form::Option("LIST"),
                 "Prints which systems of the area this nodelist does not hold",
             ),
+            LINKS_FROM,
             TAG,
             ALL_LINKS,
         ],
@@ -110,13 +130,13 @@ const COMMANDS: &[Entry] = &[
         "why",
         "Prints a run in which an area that is not in order goes wrong, as a script for replay",
         ending!("echonet why TEST links/* > wrong.script"),
-        &[TAG, ALL_LINKS],
+        &[LINKS_FROM, TAG, ALL_LINKS],
     ),
     Entry(
         "picture",
         "Prints an area as a graph that Graphviz draws, with what is wrong marked",
         ending!("echonet picture TEST links/* | dot -Tsvg > area.svg"),
-        &[TAG, ALL_LINKS],
+        &[LINKS_FROM, TAG, ALL_LINKS],
     ),
     Entry(
         "post",
@@ -200,7 +220,7 @@ const COMMANDS: &[Entry] = &[
                 Form::Option("I"),
                 "Prints from the message of this number on, counted from 0",
             ),
-            Word("BASE", Form::One, "The base, which need not exist yet"),
+            Word("BASE", Form::One, "The base of the system"),
         ],
     ),
     Entry(
@@ -213,6 +233,7 @@ const COMMANDS: &[Entry] = &[
                 Form::One,
                 "What happens: a line each of POST, SCAN, DELIVER or PURGE",
             ),
+            LINKS_FROM,
             ALL_LINKS,
         ],
     ),
@@ -227,7 +248,6 @@ fn argument<'a>(alloc: Global, word: Word) -> Result<Arg<'a>, AllocError> {
         Form::Option(value) => arg.long(name).value_name(value),
         Form::Needed(value) => arg.long(name).value_name(value).required(true),
         Form::One => arg.required(true),
-        Form::Many => arg.required(true).num_args(1..),
         Form::ManyUnless(option) => {
             let many = arg.num_args(1..).required_unless_present(option)?;
             many.conflicts_with(option)?

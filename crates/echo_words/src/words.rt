@@ -15,22 +15,26 @@ pub enum Words<'a> {
         find: Option<&'a str>,
         file: &'a str,
     },
+    Links {
+        areas: bool,
+        links: Paths<'a>,
+    },
     Check {
         nodelist: Option<&'a str>,
         tag: &'a str,
-        links: Vec<&'a str>,
+        links: Paths<'a>,
     },
     Picture {
         tag: &'a str,
-        links: Vec<&'a str>,
+        links: Paths<'a>,
     },
     Why {
         tag: &'a str,
-        links: Vec<&'a str>,
+        links: Paths<'a>,
     },
     Replay {
         script: &'a str,
-        links: Vec<&'a str>,
+        links: Paths<'a>,
     },
     List {
         area: Option<&'a str>,
@@ -51,6 +55,13 @@ pub enum Words<'a> {
     },
 }
 
+/// The paths of files: words, or those in a file that lists them.
+#[derive(Drop)]
+pub struct Paths<'a> {
+    pub words: Vec<&'a str>,
+    pub from: Option<&'a str>,
+}
+
 /// The words of `post`.
 #[derive(Drop)]
 pub struct PostWords<'a> {
@@ -65,14 +76,31 @@ pub struct PostWords<'a> {
     pub base: &'a str,
 }
 
-/// The words of `toss`: the packets, or the file that lists them, and how many bytes a text may have.
+/// The words of `toss`: how many bytes a text may have, and the files.
 #[derive(Drop)]
 pub struct TossWords<'a> {
     pub text_limit: Option<&'a str>,
     pub links: &'a str,
     pub base: &'a str,
-    pub packets: Vec<&'a str>,
-    pub packets_from: Option<&'a str>,
+    pub packets: Paths<'a>,
+}
+
+// The paths that stand in words of this name, or in a file that lists them.
+fn paths_in<'a>(
+    alloc: Global,
+    matches: &ArgMatches<'a>,
+    id: &str,
+    from: &str,
+) -> Result<Paths<'a>, AllocError> {
+    Ok(Paths {
+        words: values(alloc, matches, id)?,
+        from: matches.get_str(from),
+    })
+}
+
+// The link files of a net.
+fn links<'a>(alloc: Global, matches: &ArgMatches<'a>) -> Result<Paths<'a>, AllocError> {
+    paths_in(alloc, matches, "LINKS", "links-from")
 }
 
 // The values of the argument that is given once or more.
@@ -98,7 +126,7 @@ fn nodelist_words<'a>(matches: &ArgMatches<'a>) -> Option<Words<'a>> {
     })
 }
 
-fn check_words<'a>(matches: &ArgMatches<'a>, links: Vec<&'a str>) -> Option<Words<'a>> {
+fn check_words<'a>(matches: &ArgMatches<'a>, links: Paths<'a>) -> Option<Words<'a>> {
     Some(Words::Check {
         nodelist: matches.get_str("nodelist"),
         tag: matches.get_str("TAG")?,
@@ -106,14 +134,14 @@ fn check_words<'a>(matches: &ArgMatches<'a>, links: Vec<&'a str>) -> Option<Word
     })
 }
 
-fn picture_words<'a>(matches: &ArgMatches<'a>, links: Vec<&'a str>) -> Option<Words<'a>> {
+fn picture_words<'a>(matches: &ArgMatches<'a>, links: Paths<'a>) -> Option<Words<'a>> {
     Some(Words::Picture {
         tag: matches.get_str("TAG")?,
         links,
     })
 }
 
-fn why_words<'a>(matches: &ArgMatches<'a>, links: Vec<&'a str>) -> Option<Words<'a>> {
+fn why_words<'a>(matches: &ArgMatches<'a>, links: Paths<'a>) -> Option<Words<'a>> {
     Some(Words::Why {
         tag: matches.get_str("TAG")?,
         links,
@@ -134,13 +162,12 @@ fn post_words<'a>(matches: &ArgMatches<'a>) -> Option<Words<'a>> {
     }))
 }
 
-fn toss_words<'a>(matches: &ArgMatches<'a>, packets: Vec<&'a str>) -> Option<Words<'a>> {
+fn toss_words<'a>(matches: &ArgMatches<'a>, packets: Paths<'a>) -> Option<Words<'a>> {
     Some(Words::Toss(TossWords {
         text_limit: matches.get_str("text-limit"),
         links: matches.get_str("LINKS")?,
         base: matches.get_str("BASE")?,
         packets,
-        packets_from: matches.get_str("packets-from"),
     }))
 }
 
@@ -168,7 +195,7 @@ fn list_words<'a>(matches: &ArgMatches<'a>) -> Option<Words<'a>> {
     })
 }
 
-fn replay_words<'a>(matches: &ArgMatches<'a>, links: Vec<&'a str>) -> Option<Words<'a>> {
+fn replay_words<'a>(matches: &ArgMatches<'a>, links: Paths<'a>) -> Option<Words<'a>> {
     Some(Words::Replay {
         script: matches.get_str("SCRIPT")?,
         links,
@@ -179,15 +206,22 @@ fn words_of<'a>(alloc: Global, matches: &ArgMatches<'a>) -> Result<Option<Words<
     Ok(match matches.subcommand() {
         Some(("show", given)) => show_words(given),
         Some(("nodelist", given)) => nodelist_words(given),
-        Some(("check", given)) => check_words(given, values(alloc, given, "LINKS")?),
-        Some(("why", given)) => why_words(given, values(alloc, given, "LINKS")?),
-        Some(("picture", given)) => picture_words(given, values(alloc, given, "LINKS")?),
+        Some(("links", given)) => Some(Words::Links {
+            areas: given.get_flag("areas"),
+            links: links(alloc, given)?,
+        }),
+        Some(("check", given)) => check_words(given, links(alloc, given)?),
+        Some(("why", given)) => why_words(given, links(alloc, given)?),
+        Some(("picture", given)) => picture_words(given, links(alloc, given)?),
         Some(("post", given)) => post_words(given),
-        Some(("toss", given)) => toss_words(given, values(alloc, given, "PACKET")?),
+        Some(("toss", given)) => toss_words(
+            given,
+            paths_in(alloc, given, "PACKET", "packets-from")?,
+        ),
         Some(("scan", given)) => scan_words(given),
         Some(("purge", given)) => purge_words(given),
         Some(("list", given)) => list_words(given),
-        Some(("replay", given)) => replay_words(given, values(alloc, given, "LINKS")?),
+        Some(("replay", given)) => replay_words(given, links(alloc, given)?),
         _ => None,
     })
 }

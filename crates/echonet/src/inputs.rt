@@ -1,5 +1,6 @@
 //! The files that the command line names, and standard input.
 
+use crate::paths::{PathName, PathNames};
 use echo_addr::Items;
 use echo_device::Watched;
 use echo_files::{InputFault, OutputFault, read_file_if_there, read_whole};
@@ -71,11 +72,15 @@ pub fn read_script<'a>(rt: &HostRuntime, path: &'a str) -> Result<Vec<u8>, Fault
     read_file(rt, path, MAX_TEXT_FILE)
 }
 
-/// The bytes of link files one after another, and the fault of the first that cannot be read.
-pub fn read_links<'a>(rt: &HostRuntime, paths: &[&'a str]) -> (Vec<Items<u8>>, Option<Fault<'a>>) {
+/// The bytes of link files one after another, and the fault of the first that cannot be read, or why the
+/// list of them was not read.
+pub fn read_links<'a>(
+    rt: &HostRuntime,
+    links: &'a PathNames<'a>,
+) -> (Vec<Items<u8>>, Option<Fault<'a>>) {
     let mut files = Vec::new(rt.alloc());
-    for path in paths {
-        match read_file(rt, *path, MAX_TEXT_FILE) {
+    for name in &links.names {
+        match read_link_file(rt, name) {
             Ok(bytes) => {
                 if files.push(Items::new(bytes)).is_err() {
                     return (files, Some(Fault::OutOfMemory));
@@ -84,5 +89,10 @@ pub fn read_links<'a>(rt: &HostRuntime, paths: &[&'a str]) -> (Vec<Items<u8>>, O
             Err(fault) => return (files, Some(fault)),
         }
     }
-    (files, None)
+    (files, links.stopped)
+}
+
+/// The bytes of the link file with this name.
+pub fn read_link_file<'a>(rt: &HostRuntime, name: &'a PathName) -> Result<Vec<u8>, Fault<'a>> {
+    read_file(rt, name.path()?, MAX_TEXT_FILE)
 }

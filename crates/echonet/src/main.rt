@@ -1,9 +1,12 @@
-//! The program `echonet`: it reads the files that the command line names (`inputs`), calls the commands,
-//! and puts what they leave in place (`station`, `packets`, `placing`).
+//! The program `echonet`: it reads the files that the command line names (`paths`, `inputs`), calls the
+//! commands (`judging`: `links`, which goes on where a file cannot be used), and puts what they leave in place
+//! (`station`, `packets`, `placing`).
 #![tactic(auto)]
 
 mod inputs;
+mod judging;
 mod packets;
+mod paths;
 mod placing;
 mod station;
 
@@ -12,7 +15,9 @@ use echo_device::{Sink, Watched};
 use echo_reading::{check, list, nodelist, picture, replay, show, why};
 use echo_status::{Fault, Status, ended, number_of, wanted};
 use echo_words::{Ending, Words, explain, parse};
-use inputs::{MAX_INPUT, read_base, read_file, read_given, read_if_given, read_links, read_script};
+use inputs::{MAX_INPUT, read_file, read_given, read_if_given, read_links, read_script};
+use judging::run_links;
+use paths::{PathNames, names_of};
 use station::{run_post, run_purge, run_scan, run_toss};
 use std::collections::hash_map::RandomState;
 use std::process::ExitCode;
@@ -49,7 +54,7 @@ fn run_check<'a, W: Sink>(
     rt: &HostRuntime,
     list: Option<&'a str>,
     tag: &'a str,
-    links: &[&'a str],
+    links: &'a PathNames<'a>,
     out: &mut W,
 ) -> Result<Status, Fault<'a>> {
     let list = read_if_given(rt, list, MAX_INPUT)?;
@@ -62,11 +67,11 @@ fn run_check<'a, W: Sink>(
 fn run_why<'a, W: Sink>(
     rt: &HostRuntime,
     tag: &'a str,
-    links: &[&'a str],
+    links: &'a PathNames<'a>,
     out: &mut W,
 ) -> Result<Status, Fault<'a>> {
-    let first = match links.first() {
-        Some(path) => *path,
+    let first = match links.names.first() {
+        Some(name) => name.shown(),
         None => "-",
     };
     let hasher = RandomState::new(rt).map_err(|_| Fault::CannotUse(first))?;
@@ -78,7 +83,7 @@ fn run_why<'a, W: Sink>(
 fn run_picture<'a, W: Sink>(
     rt: &HostRuntime,
     tag: &'a str,
-    links: &[&'a str],
+    links: &'a PathNames<'a>,
     out: &mut W,
 ) -> Result<Status, Fault<'a>> {
     let (files, stopped) = read_links(rt, links);
@@ -99,10 +104,9 @@ fn run_list<'a, W: Sink>(
         None => 0,
     };
     let hasher = RandomState::new(rt).map_err(|_| Fault::Base(BaseFault::Read))?;
-    let bytes = read_base(rt, base)?;
+    let bytes = read_file(rt, base, usize::MAX)?;
     let area = area.map(|tag| tag.as_bytes());
-    let bytes = bytes.as_ref().map(|bytes| bytes.as_slice());
-    list(rt.alloc(), area, first, bytes, hasher, out)
+    list(rt.alloc(), area, first, &bytes, hasher, out)
 }
 
 // What `replay` is asked for first: the script. A seed for the hasher that cannot be had is a failed read.
@@ -119,7 +123,7 @@ fn replay_input<'a>(
 fn run_replay<'a, W: Sink>(
     rt: &HostRuntime,
     script: &'a str,
-    links: &[&'a str],
+    links: &'a PathNames<'a>,
     out: &mut W,
 ) -> Result<Status, Fault<'a>> {
     let (script, hasher) = replay_input(rt, script)?;
@@ -140,9 +144,15 @@ fn run_words<W: Sink, E: Sink>(
             nodelist,
             tag,
             links,
-        } => ended(run_check(rt, nodelist, tag, &links, out), errors),
-        Words::Why { tag, links } => ended(run_why(rt, tag, &links, out), errors),
-        Words::Picture { tag, links } => ended(run_picture(rt, tag, &links, out), errors),
+        } => ended(
+            run_check(rt, nodelist, tag, &names_of(rt, &links), out),
+            errors,
+        ),
+        Words::Links { areas, links } => run_links(rt, areas, &names_of(rt, &links), out, errors),
+        Words::Why { tag, links } => ended(run_why(rt, tag, &names_of(rt, &links), out), errors),
+        Words::Picture { tag, links } => {
+            ended(run_picture(rt, tag, &names_of(rt, &links), out), errors)
+        }
         Words::Post(words) => run_post(rt, &words, out, errors),
         Words::Toss(words) => run_toss(rt, &words, out, errors),
         Words::Scan {
@@ -153,7 +163,9 @@ fn run_words<W: Sink, E: Sink>(
         } => run_scan(rt, at, links, base, folder, out, errors),
         Words::Purge { links, base } => run_purge(rt, links, base, out, errors),
         Words::List { area, from, base } => ended(run_list(rt, area, from, base, out), errors),
-        Words::Replay { script, links } => ended(run_replay(rt, script, &links, out), errors),
+        Words::Replay { script, links } => {
+            ended(run_replay(rt, script, &names_of(rt, &links), out), errors)
+        }
     }
 }
 

@@ -2,7 +2,8 @@
 //! read until their last file stands, and wait where another run holds it.
 
 use crate::inputs::{MAX_TEXT_FILE, input_fault, read_base, read_standard_input};
-use crate::packets::{PacketPaths, packet_names};
+use crate::packets::PacketPaths;
+use crate::paths::{PathNames, names_of};
 use crate::placing::{write_base, write_packets};
 use echo_addr::{Address, Items};
 use echo_base::BaseFault;
@@ -192,7 +193,7 @@ pub fn run_toss<W: Sink, E: Sink>(
         Ok(limits) => limits,
         Err(fault) => return fault.report(errors),
     };
-    let (names, stopped) = packet_names(rt, words);
+    let PathNames { names, stopped } = names_of(rt, &words.packets);
     let Station { locked, own, given } = match read_station(rt, words.links, words.base) {
         Ok(station) => station,
         Err(fault) => return fault.report(errors),

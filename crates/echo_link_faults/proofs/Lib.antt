@@ -1,0 +1,4 @@
+pub mod Judging
+pub mod WrongWords
+pub mod Told
+pub mod TagKeys

@@ -1,0 +1,48 @@
+-- Sorted keys beside the tags that they are.
+use Rattle.std.proofs.Common.{◌≡◌, ℕ, ◌||◌, Bool, true, false, List, [], ◌∷◌, map, refl, sym, ap, ◌∙◌}
+use Rattle.std.specs.Prelude.{bytes_eq}
+use Rattle.std.specs.declared.cmp.Ordering.{Ordering}
+use Rattle.std.specs.declared.cmp.Ordering.TheVariants.{Less, Equal, Greater}
+use Rattle.std.specs.Ordering.{is_eq, match_ordering, nat_cmp}
+use Rattle.std.specs.List.{list_any}
+use Rattle.std.specs.BTreeSet.{insert_key}
+use Rattle.std.specs.Cmp.Lexicographic.{bytes_decides, slice_cmp}
+use Rattle.std.proofs.lemmas.Map.Text.{is_eq-slice_cmp}
+use Rattle.echo_links.proofs.Found.{tag_order}
+
+or_twice : (x y : Bool) → (x || y) ≡ (x || (x || y))
+or_twice true y = refl
+or_twice false y = refl
+
+or_turned : (x y z : Bool) → (x || (y || z)) ≡ (y || (x || z))
+or_turned true true z = refl
+or_turned true false z = refl
+or_turned false true z = refl
+or_turned false false z = refl
+
+module _ {K : Type 0} (tag_of : K → List ℕ) where
+  -- a tag is found among the keys where it is one of the tags
+  pub any_key : (tag : List ℕ) (keys : List K) → list_any (λ k. is_eq (slice_cmp nat_cmp tag (tag_of k))) keys ≡ list_any (bytes_eq tag) (map tag_of keys)
+  any_key tag [] = refl
+  any_key tag (k ∷ keys) =
+      ap (λ t. t || list_any (λ k. is_eq (slice_cmp nat_cmp tag (tag_of k))) keys) (is_eq-slice_cmp tag (tag_of k))
+      ∙ ap (λ t. bytes_eq tag (tag_of k) || t) (any_key tag keys)
+
+  -- one more key
+  pub key_added : (t : List ℕ) (keys : List K) (k : K)
+      → list_any (bytes_eq t) (map tag_of (insert_key (tag_order tag_of) keys k)) ≡ (bytes_eq t (tag_of k) || list_any (bytes_eq t) (map tag_of keys))
+  key_added t [] k = refl
+  key_added t (x ∷ keys) k = by (key_added t keys k) (tag_order tag_of k x) refl
+    where
+      by : list_any (bytes_eq t) (map tag_of (insert_key (tag_order tag_of) keys k)) ≡ (bytes_eq t (tag_of k) || list_any (bytes_eq t) (map tag_of keys))
+          → (o : Ordering) → tag_order tag_of k x ≡ o
+          → list_any (bytes_eq t) (map tag_of (match_ordering o (k ∷ x ∷ keys) (x ∷ keys) (x ∷ insert_key (tag_order tag_of) keys k)))
+          ≡ (bytes_eq t (tag_of k) || (bytes_eq t (tag_of x) || list_any (bytes_eq t) (map tag_of keys)))
+      by later Less is = refl
+      by later Equal is =
+          let same : tag_of k ≡ tag_of x = (bytes_decides (tag_of k) (tag_of x)).0 (sym (is_eq-slice_cmp (tag_of k) (tag_of x)) ∙ ap is_eq is) in
+          or_twice (bytes_eq t (tag_of x)) (list_any (bytes_eq t) (map tag_of keys))
+          ∙ ap (λ u. bytes_eq t u || (bytes_eq t (tag_of x) || list_any (bytes_eq t) (map tag_of keys))) (sym same)
+      by later Greater is =
+          ap (λ b. bytes_eq t (tag_of x) || b) later
+          ∙ or_turned (bytes_eq t (tag_of x)) (bytes_eq t (tag_of k)) (list_any (bytes_eq t) (map tag_of keys))

@@ -1,0 +1,3 @@
+pub mod FaultyLines
+pub mod Before
+pub mod Judging

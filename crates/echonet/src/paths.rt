@@ -1,0 +1,107 @@
+//! The paths of files, as words of the command line or the lines of a file name them.
+
+use crate::inputs::{MAX_INPUT, read_given};
+use echo_escape::push_word;
+use echo_status::Fault;
+use echo_words::Paths;
+use std::alloc::AllocError;
+use std::str;
+
+/// What ends a path in a list that has this byte, in place of 0A.
+const NUL: u8 = 0;
+
+/// The path of a file as it is printed. One that is no UTF-8 is printed escaped, and can't be
+/// opened.
+#[derive(Drop)]
+pub struct PathName {
+    shown: String,
+    is_text: bool,
+}
+
+impl PathName {
+    /// The path as it is printed.
+    pub fn shown(&self) -> &str {
+        self.shown.as_str()
+    }
+
+    /// The path to open.
+    pub fn path(&self) -> Result<&str, Fault<'_>> {
+        let path = self.shown.as_str();
+        if self.is_text {
+            Ok(path)
+        } else {
+            Err(Fault::CannotUse(path))
+        }
+    }
+}
+
+/// The files that are named, and why the list of them was not read.
+#[derive(Drop)]
+pub struct PathNames<'a> {
+    pub names: Vec<PathName>,
+    pub stopped: Option<Fault<'a>>,
+}
+
+/// The files that words name, or a list.
+pub fn names_of<'a>(rt: &HostRuntime, paths: &Paths<'a>) -> PathNames<'a> {
+    let found = match paths.from {
+        Some(list) => listed_names(rt, list),
+        None => given_names(rt, paths.words.as_slice()),
+    };
+    match found {
+        Ok(names) => PathNames {
+            names,
+            stopped: None,
+        },
+        Err(fault) => PathNames {
+            names: Vec::new(rt.alloc()),
+            stopped: Some(fault),
+        },
+    }
+}
+
+// The names that are words of the command line.
+fn given_names<'a>(rt: &HostRuntime, words: &[&'a str]) -> Result<Vec<PathName>, Fault<'a>> {
+    let mut names = Vec::new(rt.alloc());
+    for word in words {
+        names.push(PathName {
+            shown: String::from_str(rt.alloc(), *word)?,
+            is_text: true,
+        })?;
+    }
+    Ok(names)
+}
+
+// The names in a list: each ended by 00 where the list has one, else one a line. Empty ones are skipped.
+fn listed_names<'a>(rt: &HostRuntime, list: &'a str) -> Result<Vec<PathName>, Fault<'a>> {
+    let bytes = read_given(rt, list, MAX_INPUT)?;
+    let end = if bytes.contains(&NUL) { NUL } else { b'\n' };
+    let mut names = Vec::new(rt.alloc());
+    for path in bytes.split(|byte| *byte == end) {
+        if !path.is_empty() {
+            names.push(name_of(rt, path)?)?;
+        }
+    }
+    Ok(names)
+}
+
+// The name that these bytes are.
+fn name_of(rt: &HostRuntime, path: &[u8]) -> Result<PathName, AllocError> {
+    match str::from_utf8(path) {
+        Ok(text) => Ok(PathName {
+            shown: String::from_str(rt.alloc(), text)?,
+            is_text: true,
+        }),
+        Err(_) => Ok(PathName {
+            shown: printed(rt, path)?,
+            is_text: false,
+        }),
+    }
+}
+
+// A path that is no UTF-8 as it is printed.
+fn printed(rt: &HostRuntime, path: &[u8]) -> Result<String, AllocError> {
+    let mut bytes = Vec::new(rt.alloc());
+    push_word(&mut bytes, path)?;
+    String::from_str(rt.alloc(), str::from_utf8(&bytes).unwrap_or(""))
+}
