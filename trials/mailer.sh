@@ -45,7 +45,7 @@ rm -rf two/bad two/inbound/*
 # A packet that wants more memory than there is, and one behind it.
 mkdir -p starved/inbound
 cp one/links starved
-make_file packet 1000 20 8000000 > starved/inbound/0.pkt
+make_file packet 1000 150 1000000 > starved/inbound/0.pkt
 make_file packet 5000 1 200 > starved/inbound/1.pkt
 run bash -c 'ulimit -v 100000; timeout 60 "$0" starved' "$scripts/toss-inbound.sh"
 expect "a packet without memory lies apart" grep -q -e 'P7 ' -e 'C2 ' -e 'out of memory' starved/bad/0.pkt.why
