@@ -1,1 +1,3 @@
-mod Told
+pub mod Digests
+pub mod Placed
+pub mod Told

@@ -1,0 +1,40 @@
+//! What a digest is taken of, and a digest of it.
+ghost use Rattle.std.specs.Prelude.{◌≡◌, ℕ, List, IfOk};
+ghost use Rattle.echo_keys.specs.Keys.{digested_key};
+
+use echo_filed::Key;
+use std::alloc::{AllocError, Global};
+
+/// A digest of eight bytes, the same for the same bytes. Two lists of bytes may have one digest.
+pub trait Digest {
+    ghost digest: { Self → List ℕ → ℕ };
+
+    /// The digest of the bytes.
+    fn of(&self, bytes: &[u8]) -> u64
+        ensures { result ≡ digest self.now bytes.now };
+}
+
+/// What the digest of a message with this key is taken of: the id, whatever the area, or else all that the key has.
+pub fn bytes_of_key(alloc: Global, key: &Key) -> Result<Vec<u8>, AllocError>
+    ensures { IfOk result (λ bytes. bytes.items ≡ digested_key key.now) }
+{
+    match key {
+        Key::ById { tag: _, msgid } => Vec::from_slice(alloc, msgid.as_slice()),
+        Key::ByContent {
+            tag,
+            date,
+            to_name,
+            from_name,
+            subject,
+            kept,
+        } => {
+            let mut bytes = Vec::from_slice(alloc, tag.as_slice())?;
+            bytes.extend_from_slice(date.as_slice())?;
+            bytes.extend_from_slice(to_name.as_slice())?;
+            bytes.extend_from_slice(from_name.as_slice())?;
+            bytes.extend_from_slice(subject.as_slice())?;
+            bytes.extend_from_slice(kept.lines().as_text())?;
+            Ok(bytes)
+        }
+    }
+}
