@@ -27,8 +27,8 @@ use std::alloc::{AllocError, Global};
 /// nothing waits for a scan and every packet came, has filed every message exactly once, unchanged.
 /// A `No` says the first thing that is wrong, in the order of `NetFault`, with the smallest addresses.
 ///
-/// Takes about the time of sorting the links, or, for a net whose only fault is a loop, of a search of
-/// the net and of the pairs of links that one system has in one block of it.
+/// Takes about the time of sorting the links, but for a net whose only fault is a loop: to name it
+/// takes up to one search of the net for each link of each system.
 pub fn check(alloc: Global, files: &[LinkFile], tag: &[u8]) -> Result<Verdict, AllocError>
     ensures tidy { IfOk result (λ verdict. IsYes verdict ↔ Tidy files.now tag.now) }
     ensures counted { IfOk result (λ verdict. IfYes verdict (λ systems links.
