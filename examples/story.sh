@@ -89,7 +89,7 @@ line --- echonet
 line  * Origin: Alpha (1:10/1)
 seen 0 path 0
 end 1 messages, 1 waiting" one.base
-listing "a base that is not there" "end 0 messages, 0 waiting" two.base
+run "a base that is not there" 3 "" "echonet: cannot use two.base" list two.base
 
 posting "the same serial again" 2 "" "echonet: B4 KnownSerial" Hello one All Ann Hi 00000001
 same "the base stayed" "$base" "$(digits one.base)"
