@@ -5,10 +5,5 @@ pub mod Answering
 pub mod Entries
 pub mod Saying
 pub mod OnePrinting
-pub mod Checks
-pub mod Pictures
-pub mod Reasons
 pub mod Listings
-pub mod WorldLines
-pub mod Replays
 pub mod LinkLines

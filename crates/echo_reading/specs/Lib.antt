@@ -1,12 +1,6 @@
 pub mod Written
 pub mod Showing
 pub mod Nodelists
-pub mod Checking
-pub mod Picturing
-pub mod Whys
-pub mod Reasoning
 pub mod Listing
-pub mod Replayed
-pub mod Replaying
 pub mod LinksShown
 pub mod Linking

@@ -17,7 +17,7 @@ use Rattle.echo_run.proofs.Lists.{nth-among}
 use Rattle.echo_status.specs.declared.fault.Fault.{Fault}
 use Rattle.echo_status.specs.declared.status.Status.{Status}
 use Rattle.echo_status.specs.declared.status.Status.TheVariants.{Good}
-use Rattle.echo_reading.specs.Checking.{CheckAnswers, RunsAreOrderly}
+use Rattle.echo_checking.specs.Checking.{CheckAnswers, RunsAreOrderly}
 use Rattle.echo_status.specs.Inputs.{AreLinkFiles}
 use Rattle.echo_stations.specs.Agreement.{Agrees, AreEventsOfAll, HasFiles, IsPacketFile, limits_of}
 use Rattle.echo_stations.specs.Commands.{CommandEvent}

@@ -14,7 +14,7 @@ use Rattle.echo_run.specs.Orderly.{IsPosting, SameContent, copies, count, sent_c
 use Rattle.echo_run.specs.Run.{nth}
 use Rattle.echo_status.specs.declared.fault.Fault.{Fault}
 use Rattle.echo_status.specs.declared.status.Status.TheVariants.{Good}
-use Rattle.echo_reading.specs.Checking.{CheckAnswers}
+use Rattle.echo_checking.specs.Checking.{CheckAnswers}
 use Rattle.echo_status.specs.Inputs.{IsBaseGiven, AreLinkFiles}
 use Rattle.echo_stations.specs.Agreement.{file_address}
 use Rattle.echo_stations.specs.Commands.{CommandEvent, Happen, Purge}

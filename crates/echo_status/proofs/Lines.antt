@@ -1,6 +1,10 @@
 -- Lines on their way to standard output.
-use Rattle.std.proofs.Common.{◌≡◌, ℕ, List, [], ◌∷◌, ◌++◌, Option, take, drop, refl, sym, ap, subst, ◌∙◌, append_assoc, append-nil}
-use Rattle.std.proofs.lemmas.List.{take-append-drop}
+use Rattle.std.proofs.Common.{◌≡◌, ℕ, ◌+◌, ◌<◌, List, [], ◌∷◌, ◌++◌, Option, Some, length, take, drop, refl, sym, ap, subst, ◌∙◌, arith, append_assoc, append-nil, inl, inr}
+use Rattle.std.specs.List.{flat_map}
+use Rattle.std.specs.Prelude.{slice_get}
+use Rattle.std.proofs.lemmas.Grind.{flat_map-append}
+use Rattle.std.proofs.lemmas.List.{take-append-drop, take_more}
+use Rattle.std.proofs.lemmas.Option.{slice_get_cases}
 use Rattle.std.specs.Io.KnownBytes.{Appends, Keeps}
 use Rattle.std.proofs.KnownBytes.{Appends-kept, Appends-nil, Appends-trans}
 use Rattle.echo_device.specs.Device.{SendsFront}
@@ -99,3 +103,15 @@ no_front (x ∷ went) rest is = absurd cc
 
 pub nothing_begun : (a b : Option (List ℕ)) → WritesFront [] a b → Appends a b []
 nothing_begun a b begun = subst (Appends a b) (no_front begun.passed.went begun.rest begun.passed.whole) begun.passed.written
+
+-- the lines of one more item
+pub flat_more : {X : Type 0} (f : X → List ℕ) (xs : List X) (k : ℕ) (first old new : List ℕ) → k < length xs → ((x : X) → slice_get xs k ≡ Some x → new ≡ old ++ f x)
+    → old ≡ first ++ flat_map f (take k xs) → new ≡ first ++ flat_map f (take (k + 1) xs)
+flat_more f xs k first old new inside added so = elim (slice_get_cases xs k).1 [
+  | inl (x, below, got, read) ↦
+      added x got ∙ ap (λ l. l ++ f x) so ∙ append_assoc first (flat_map f (take k xs)) (f x)
+      ∙ ap (λ t. first ++ t)
+      (ap (λ t. flat_map f (take k xs) ++ t) (sym (append-nil (f x))) ∙ sym (flat_map-append f (take k xs) (x ∷ []))
+      ∙ ap (flat_map f) (ap (λ y. take k xs ++ y ∷ []) (sym read) ∙ sym (take_more xs k x inside)))
+  | inr past ↦ absurd (let less = past.0 in omega (arith, less, inside))
+]

@@ -11,8 +11,10 @@ mod placing;
 mod station;
 
 use echo_base::BaseFault;
+use echo_checking::{check, picture};
 use echo_device::{Sink, Watched};
-use echo_reading::{check, list, nodelist, picture, replay, show, why};
+use echo_reading::{list, nodelist, show};
+use echo_rehearsing::{replay, why};
 use echo_status::{Fault, Status, ended, number_of, wanted};
 use echo_words::{Ending, Words, explain, parse};
 use inputs::{MAX_INPUT, read_file, read_given, read_if_given, read_links, read_script};

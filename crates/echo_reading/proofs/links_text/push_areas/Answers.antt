@@ -1,6 +1,6 @@
 use Rattle.std.proofs.Common.{arith}
 use Rattle.echo_reading.specs.LinksShown.{area_line}
-use Rattle.echo_reading.proofs.WorldLines.{flat_more}
+use Rattle.echo_status.proofs.Lines.{flat_more}
 use Rattle.echo_reading.proofs.links_text.push_areas.Goals as goal
 
 pub areas-preserved : goal.areas-preserved

@@ -1,0 +1,36 @@
+//! What `picture` answers.
+ghost use Rattle.echo_status.specs.Devices.{output_of};
+ghost use Rattle.echo_checking.specs.Picturing.{PictureAnswers};
+
+use crate::checking::status_of;
+use echo_addr::Items;
+use echo_device::Sink;
+use echo_print::push_picture;
+use echo_status::{Fault, Status, link_files, print_rest};
+use std::alloc::Global;
+
+/// `picture TAG LINKS...`: prints the systems and links of the area of the tag, its letters made upper
+/// case, as a graph in the language DOT of Graphviz, with what `check` finds wrong marked. It has the
+/// status that `check` has. Of a faulty file nothing is printed; the first fault is answered.
+/// `stopped` is why no further file was read, and comes last.
+pub fn picture<'a, W: Sink>(
+    alloc: Global,
+    tag: &[u8],
+    files: &[Items<u8>],
+    stopped: Option<Fault<'a>>,
+    out: &mut W,
+) -> Result<Status, Fault<'a>>
+    ensures { PictureAnswers tag.now files.now stopped.entry (output_of W.contents W.failures W.holds out.old) (output_of W.contents W.failures W.holds out.new) result }
+{
+    let links = link_files(alloc, files)?;
+    if let Some(fault) = stopped {
+        return Err(fault);
+    }
+    let tag = tag.to_ascii_uppercase(alloc)?;
+    let verdict = echo_net::check(alloc, &links, &tag)?;
+    let drawing = echo_net::draw(alloc, &links, &tag, &verdict)?;
+    let mut lines = Vec::new(alloc);
+    push_picture(alloc, &mut lines, &tag, &verdict, &drawing)?;
+    print_rest(&mut lines, out)?;
+    Ok(status_of(&verdict))
+}

@@ -1,0 +1,4 @@
+pub mod Whys
+pub mod Reasoning
+pub mod Replayed
+pub mod Replaying

@@ -1,0 +1,40 @@
+//! What `why` answers.
+ghost use Rattle.echo_status.specs.Devices.{output_of};
+ghost use Rattle.echo_rehearsing.specs.Reasoning.{WhyAnswers};
+
+use crate::why_text::push_why;
+use echo_addr::Items;
+use echo_checking::status_of;
+use echo_device::Sink;
+use echo_status::{Fault, Status, link_files, print_rest};
+use echo_why::find_harm;
+use std::alloc::Global;
+use std::hash::RandomState;
+
+/// `why TAG LINKS...`: prints what `check` finds of the area of the tag, its letters made upper case, as a
+/// note, and then, where that is no and one is found, the events of a run on the net of these link files that
+/// goes wrong, as a script for `replay`, and what goes wrong. It has the status that `check` has. Of a faulty
+/// file nothing is printed; the first fault is answered. `stopped` is why no further file was read, and comes
+/// last. Look-ups go by the hasher.
+pub fn why<'a, W: Sink>(
+    alloc: Global,
+    tag: &[u8],
+    files: &[Items<u8>],
+    stopped: Option<Fault<'a>>,
+    hasher: RandomState,
+    out: &mut W,
+) -> Result<Status, Fault<'a>>
+    ensures { WhyAnswers tag.now files.now stopped.entry (output_of W.contents W.failures W.holds out.old) (output_of W.contents W.failures W.holds out.new) result }
+{
+    let links = link_files(alloc, files)?;
+    if let Some(fault) = stopped {
+        return Err(fault);
+    }
+    let tag = tag.to_ascii_uppercase(alloc)?;
+    let verdict = echo_net::check(alloc, &links, &tag)?;
+    let found = find_harm(alloc, links, &tag, &verdict, hasher)?;
+    let mut lines = Vec::new(alloc);
+    push_why(&mut lines, &tag, &verdict, found.as_ref())?;
+    print_rest(&mut lines, out)?;
+    Ok(status_of(&verdict))
+}

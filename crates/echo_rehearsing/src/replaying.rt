@@ -1,0 +1,55 @@
+//! What `replay` answers.
+ghost use Rattle.std.specs.Prelude.{◌≡◌, ◌⊎◌, Ok, IfErr, IfOk};
+ghost use Rattle.echo_status.specs.Devices.{output_of};
+ghost use Rattle.echo_status.specs.Ended.{IsOutOfMemory};
+ghost use Rattle.echo_rehearsing.specs.Replaying.{IsScriptFault, ReplayAnswers};
+ghost use Rattle.echo_replay.specs.Script.{ScriptOf};
+
+use crate::replay_text::push_world;
+use echo_addr::Items;
+use echo_device::Sink;
+use echo_replay::{ScriptFault, read_script};
+use echo_run::Event;
+use echo_status::{Fault, Status, link_files, print_rest};
+use std::alloc::Global;
+use std::hash::RandomState;
+
+/// `replay SCRIPT LINKS...`: prints what each system of the net of these link files has filed in each of
+/// its areas, and what waits there, after the events of the script; then how many packets were made and
+/// not delivered, and whether the net has settled. Of a faulty input nothing is printed; the first fault
+/// is answered, that of the script before those of link files. `stopped` is why no further file was
+/// read, and comes last. Look-ups go by the hasher.
+pub fn replay<'a, W: Sink>(
+    alloc: Global,
+    script: &[u8],
+    files: &[Items<u8>],
+    stopped: Option<Fault<'a>>,
+    hasher: RandomState,
+    out: &mut W,
+) -> Result<Status, Fault<'a>>
+    ensures { ReplayAnswers script.now files.now stopped.entry (output_of W.contents W.failures W.holds out.old) (output_of W.contents W.failures W.holds out.new) result }
+{
+    let events = script_given(alloc, script)?;
+    let links = link_files(alloc, files)?;
+    if let Some(fault) = stopped {
+        return Err(fault);
+    }
+    let systems = links.len();
+    let world = echo_replay::replay(alloc, links, &events, hasher)?;
+    let mut lines = Vec::new(alloc);
+    push_world(&mut lines, systems, &world)?;
+    print_rest(&mut lines, out)?;
+    Ok(Status::Good)
+}
+
+/// The events of the script.
+fn script_given<'a>(alloc: Global, script: &[u8]) -> Result<Vec<Event>, Fault<'a>>
+    ensures ok { IfOk result (λ events. ScriptOf script.now (Ok events.items)) }
+    ensures err { IfErr result (λ fault. IsOutOfMemory fault ⊎ IsScriptFault script.now fault) }
+{
+    match read_script(alloc, script) {
+        Ok(events) => Ok(events),
+        Err(ScriptFault::Line(line)) => Err(Fault::ScriptLine(line)),
+        Err(ScriptFault::Memory) => Err(Fault::OutOfMemory),
+    }
+}
