@@ -1,29 +1,23 @@
 -- Each grave fault does harm, and where none of them stands the area is tidy.
-use Rattle.std.proofs.Common.{◌≡◌, ◌⊎◌, inl, inr, refl, ap, ◌∙◌, ℕ, arith, IsTrue, List, [], ◌∷◌}
+use Rattle.std.proofs.Common.{◌≡◌, ◌⊎◌, inl, inr, ℕ, arith, IsTrue, List, [], ◌∷◌}
 use Rattle.std.specs.List.{list_any}
 use Rattle.echo_addr.specs.declared.address.Address.{Address}
 use Rattle.echo_addr.specs.Address.{net_node_of}
 use Rattle.echo_graph.specs.Cycle.{IsCycle, Polygons}
 use Rattle.echo_graph.specs.Loops.{HasUnlinked}
-use Rattle.echo_links.specs.Links.{LinkFile, has_area, is_link}
+use Rattle.echo_links.specs.Links.{LinkFile, has_area}
 use Rattle.echo_run.specs.Event.{RunEvent}
-use Rattle.echo_run.specs.Run.{Run, run_of}
+use Rattle.echo_run.specs.Run.{Run}
 use Rattle.echo_run.specs.Orderly.{Orderly}
 use Rattle.echo_run.specs.Tidy.{Carries, Tidy, lists}
 use Rattle.echo_harm.specs.Grave.{AllAreCarriers, AreTakenForOne, AreTwins, GraveFault, HaveOwnAddresses, SelfLink, OneSided, SameNetNode, Apart, Loop}
 use Rattle.echo_harm.specs.Harms.{Harm, IsHarmed}
-use Rattle.echo_harm.proofs.Entries.{link-among}
 use Rattle.echo_harm.proofs.Exact.{NoneHarms, Shown, both, connected, harms-or_none, no_self, not_taken, polygons}
-use Rattle.echo_harm.proofs.Holders.{posting-own}
 use Rattle.echo_harm.specs.LawsOfRuns.{LawsOfRuns}
-use Rattle.echo_harm.proofs.Lists.{among-nth, nth-among}
-use Rattle.echo_harm.proofs.OneMessage.{post_of, post_of-tag}
-use Rattle.echo_harm.specs.Postings.{ComesToRest, trial_posting}
+use Rattle.echo_harm.specs.Postings.{ComesToRest, post_and_scan, trial_posting}
 use Rattle.echo_harm.proofs.Resting.{runs-settle}
-use Rattle.echo_harm.proofs.PostAndScan.{post_and_scan, scanned-poster, scanned-there, sent-to_link}
-use Rattle.echo_harm.proofs.Places.{lists-file}
+use Rattle.echo_harm.proofs.PostAndScan.{listed-sent}
 use Rattle.echo_harm.proofs.Spreads.{one_or_two}
-use Rattle.echo_harm.proofs.Tags.{link-area}
 
 -- a run that does harm is not orderly
 pub harm-breaks : (run : Run) (tag : List ℕ) → Harm run tag → ¬ Orderly run tag
@@ -40,24 +34,8 @@ module _ (files : List LinkFile) (known : LawsOfRuns files) (tag : List ℕ) whe
   -- a system that lists itself is sent what it posts
   pub self_link-harms : (a : Address) → IsTrue (lists files tag a a) → IsHarmed files tag
   self_link-harms a lists_itself =
-      let (file, h, e, link) = lists-file files tag a a lists_itself in
-      let (i, is) = among-nth file files h in
-      let own = ap (λ (b : Address). is_link file tag b) e ∙ link in
-      let area = link-area file tag file.system (link-among file tag file.system own) in
-      let events = post_and_scan i tag in
-      let z = scanned-poster files known tag i file is area in
-      let there = scanned-there files known tag i file is area in (
-        events,
-        inr (inl (record {
-          system = z;
-          there = nth-among i z (run_of files events).systems there;
-          carries = area;
-          message = post_of file tag;
-          filed = inl refl;
-          posting = record { own = posting-own file tag; area = post_of-tag files known tag i file is area };
-          sent = sent-to_link files known tag i file is area file.system own;
-        })),
-      )
+      let (i, harm) = listed-sent files known tag a lists_itself in
+      (post_and_scan i tag, inr (inl harm))
 
   unlinked-none : (loop : List Address) → Polygons (lists files tag) → IsCycle (lists files tag) loop → ¬ HasUnlinked (lists files tag) loop
   unlinked-none [] full cycle unlinked = cycle

@@ -1,20 +1,20 @@
-mod Lists
+pub mod Lists
 mod Steps
 mod Lacking
 mod Resting
 mod Spreads
 mod Branches
-mod Tags
+pub mod Tags
 mod Counts
 pub mod OneMessage
-mod Entries
-mod Places
+pub mod Entries
+pub mod Places
 pub mod Holders
 mod Exact
 mod Faults
 mod SecondFiles
 mod Nowhere
-mod PostAndScan
+pub mod PostAndScan
 mod Posters
 pub mod Rounds
 pub mod Trials

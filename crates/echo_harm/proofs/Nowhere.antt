@@ -17,12 +17,12 @@ use Rattle.echo_run.specs.Orderly.{Orderly, Settled, copies, tag_of}
 use Rattle.echo_harm.specs.Grave.{ListsNobody}
 use Rattle.echo_harm.specs.Harms.{NeverRests}
 use Rattle.echo_harm.specs.LawsOfRuns.{LawsOfRuns}
-use Rattle.echo_harm.specs.Postings.{trial_moment, trial_posting}
+use Rattle.echo_harm.specs.Postings.{post_and_scan, trial_moment, trial_posting}
 use Rattle.echo_harm.proofs.Counts.{sent-packet}
 use Rattle.echo_harm.proofs.Entries.{link-among}
 use Rattle.echo_harm.proofs.Holders.{key-tag}
 use Rattle.echo_harm.proofs.OneMessage.{post_of, post_of-tag}
-use Rattle.echo_harm.proofs.PostAndScan.{post_and_scan, sent-to_link}
+use Rattle.echo_harm.proofs.PostAndScan.{sent-to_link}
 use Rattle.echo_harm.proofs.Places.{lists-file}
 use Rattle.echo_harm.proofs.Tags.{link-area}
 use Rattle.echo_harm.proofs.Lists.{among-nth, Among-map_to, any-to, first_passes, nothing, nth-among, nth-middle, same_item}

@@ -1,26 +1,27 @@
 -- A system posts and scans: its posting is sent to each of its links.
-use Rattle.std.proofs.Common.{◌≡◌, inl, refl, sym, subst, ap, ◌∙◌, ℕ, ◌≤◌, arith, List, [], ◌∷◌, Option, Some}
+use Rattle.std.proofs.Common.{◌≡◌, inl, refl, sym, subst, ap, ◌∙◌, ℕ, ◌≤◌, arith, IsTrue, List, [], ◌∷◌, Option, Some}
 use Rattle.std.specs.Prelude.{true}
 use Rattle.echo_addr.specs.declared.address.Address.{Address}
 use Rattle.echo_graph.specs.Walk.{Among}
 use Rattle.echo_steps.specs.declared.packet.Packet.{Packet}
 use Rattle.echo_links.specs.Links.{LinkFile, has_area, is_link, links_of}
 use Rattle.echo_filed.specs.Filed.{key_of}
-use Rattle.echo_run.specs.Event.{RunEvent, Scanning}
+use Rattle.echo_run.specs.Event.{Scanning}
 use Rattle.echo_run.specs.Run.{Run, System, filing, fresh, nth, run_of, scanning, scanning_at}
 use Rattle.echo_run.specs.Orderly.{sent_count}
 use Rattle.echo_run.specs.Exports.{exports}
+use Rattle.echo_run.specs.Tidy.{lists}
 use Rattle.echo_harm.specs.LawsOfRuns.{LawsOfRuns}
-use Rattle.echo_harm.specs.Postings.{trial_moment, trial_posting}
+use Rattle.echo_harm.specs.Harms.{SentItsOwn}
+use Rattle.echo_harm.specs.Postings.{post_and_scan, trial_moment, trial_posting}
 use Rattle.echo_harm.proofs.Counts.{sent-part}
 use Rattle.echo_harm.proofs.Entries.{link-among, target-to}
 use Rattle.echo_harm.proofs.Holders.{posting-own, posting-seen}
-use Rattle.echo_harm.proofs.Lists.{nothing, nth-changed}
+use Rattle.echo_harm.proofs.Lists.{among-nth, nothing, nth-among, nth-changed}
 use Rattle.echo_harm.proofs.OneMessage.{post_of, post_of-tag, posted-at}
+use Rattle.echo_harm.proofs.Places.{lists-file}
 use Rattle.echo_harm.proofs.Steps.{after_one_more}
-
-abbrev pub post_and_scan : ℕ → List ℕ → List RunEvent
-post_and_scan i tag = trial_posting i tag ∷ (Scanning i trial_moment ∷ [])
+use Rattle.echo_harm.proofs.Tags.{link-area}
 
 module _ (files : List LinkFile) (known : LawsOfRuns files) (tag : List ℕ) (i : ℕ) (file : LinkFile) (is : nth i files ≡ Some file) (area : has_area file tag ≡ true) where
   abbrev pub scanned-poster : System
@@ -46,3 +47,25 @@ module _ (files : List LinkFile) (known : LawsOfRuns files) (tag : List ℕ) (i 
       let one = known.sent events i scanned-poster scanned-there p (inl refl) a target in
       let all = ap (λ (ps : List Packet). sent_count a (key_of p) ps) (known.packets events) in
       omega (arith, one, all, sent-part a (key_of p) i (exports files events))
+
+  -- it is sent its own, where it lists itself
+  pub own-sent : is_link file tag file.system ≡ true → SentItsOwn (run_of files (post_and_scan i tag)) tag
+  own-sent link = record {
+    system = scanned-poster;
+    there = nth-among i scanned-poster (run_of files (post_and_scan i tag)).systems scanned-there;
+    carries = area;
+    message = post_of file tag;
+    filed = inl refl;
+    posting = record { own = posting-own file tag; area = post_of-tag files known tag i file is area };
+    sent = sent-to_link file.system link;
+  }
+
+-- who lists itself is sent its own at once
+pub listed-sent : (files : List LinkFile) → LawsOfRuns files → (tag : List ℕ) (a : Address) → IsTrue (lists files tag a a) →
+    (i : ℕ) × SentItsOwn (run_of files (post_and_scan i tag)) tag
+listed-sent files known tag a lists_itself =
+    let (file, h, e, link) = lists-file files tag a a lists_itself in
+    let (i, is) = among-nth file files h in
+    let own = ap (λ (b : Address). is_link file tag b) e ∙ link in
+    let area = link-area file tag file.system (link-among file tag file.system own) in
+    (i, own-sent files known tag i file is area own)

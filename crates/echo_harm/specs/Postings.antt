@@ -28,6 +28,10 @@ trial_moment = record { year = 2000; month = 1; day = 1; hour = 0; minute = 0; s
 abbrev pub trial_posting : ℕ → List ℕ → RunEvent
 trial_posting i tag = Posting i tag trial_draft 1 trial_moment
 
+-- it posts so, and scans at the same moment
+abbrev pub post_and_scan : ℕ → List ℕ → List RunEvent
+post_and_scan i tag = trial_posting i tag ∷ (Scanning i trial_moment ∷ [])
+
 -- the system posts, and moves bring the area to rest
 pub record ComesToRest (files : List LinkFile) (tag : List ℕ) (i : ℕ) (moves : List RunEvent) : Type 0 where
   pub only_moves : AllByRecursion IsMove moves

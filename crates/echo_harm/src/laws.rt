@@ -12,9 +12,9 @@ ghost use Rattle.echo_run.specs.Run.{Run, run_of};
 ghost use Rattle.echo_run.specs.Tidy.{Carries, Joined, Tidy, lists};
 ghost use Rattle.echo_harm.specs.LawsOfRuns.{LawsOfRuns};
 ghost use Rattle.echo_harm.specs.Grave.{AllAreCarriers, AreTakenForOne, AreTwins, GraveFault, HasSecondCarrier, HaveOwnAddresses, IsListedAlone, ListsNobody};
-ghost use Rattle.echo_harm.specs.Harms.{BreaksPromise, Harm, IsHarmed, NeverRests};
+ghost use Rattle.echo_harm.specs.Harms.{BreaksPromise, Harm, IsHarmed, NeverRests, SentItsOwn};
 ghost use Rattle.echo_harm.specs.Shown.{IsPinched, ShowsHarm, Trial};
-ghost use Rattle.echo_harm.specs.Postings.{ComesToRest, IsMove, trial_posting};
+ghost use Rattle.echo_harm.specs.Postings.{ComesToRest, IsMove, post_and_scan, trial_posting};
 
 use echo_run::{
     bases_are_what_was_filed, each_message_is_exported_by_one_scan, each_message_is_filed_once,
@@ -63,6 +63,15 @@ pub fn grave_faults_break()
         GraveFault files tag → IsHarmed files tag }
     ensures breaks { (files : List LinkFile) (tag : List ℕ) → FilesFit files → HaveOwnAddresses files → AllAreCarriers files tag →
         GraveFault files tag → BreaksPromise files tag }
+{
+    runs_are_known();
+}
+
+/// A system that lists itself is sent its own: it posts and scans, and the packet to itself stands there,
+/// whatever else is wrong with the net.
+pub fn own_links_show_at_once()
+    ensures { (files : List LinkFile) (tag : List ℕ) → FilesFit files → (a : Address) → IsTrue (lists files tag a a) →
+        (i : ℕ) × SentItsOwn (run_of files (post_and_scan i tag)) tag }
 {
     runs_are_known();
 }

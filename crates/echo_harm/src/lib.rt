@@ -12,5 +12,6 @@ mod laws;
 pub use laws::{
     areas_of_nobody_are_orderly, grave_faults_break, harms_break_the_promise,
     links_to_nobody_never_rest, no_area_is_refused_in_vain, one_posting_shows_the_harm,
-    runs_are_known, runs_settle, second_files_are_not_served, whose_posting_shows_it,
+    own_links_show_at_once, runs_are_known, runs_settle, second_files_are_not_served,
+    whose_posting_shows_it,
 };
