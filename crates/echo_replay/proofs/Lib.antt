@@ -5,3 +5,4 @@ pub mod Runs
 pub mod Numbers
 pub mod Scripts
 pub mod Words
+mod Counted

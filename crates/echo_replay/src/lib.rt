@@ -17,6 +17,6 @@ mod world;
 
 pub use laws::replay_laws;
 pub use receivers::Receivers;
-pub use replaying::replay;
+pub use replaying::{replay, replay_counted};
 pub use script::{ScriptFault, read_script};
 pub use world::World;

@@ -2,7 +2,8 @@
 
 ghost use Rattle.std.specs.Prelude.{◌≡◌, IfOk, map};
 ghost use Rattle.echo_run.specs.Event.{run_event};
-ghost use Rattle.echo_run.specs.Run.{run_of};
+ghost use Rattle.echo_run.specs.Run.{run_of, start};
+ghost use Rattle.echo_replay.specs.Counts.{packet_counts};
 ghost use Rattle.echo_replay.specs.Worlds.{IsWorldOf, WorldState};
 ghost use Rattle.echo_steps.specs.SystemState.{state_at_first};
 
@@ -27,15 +28,31 @@ pub fn replay(
 ) -> Result<World, AllocError>
     ensures { IfOk result (λ world. IsWorldOf world (run_of files.items (map run_event events.now))) }
 {
+    let (world, _) = replay_counted(alloc, files, events, hasher)?;
+    Ok(world)
+}
+
+/// The same, and how many packets were there after each event.
+pub fn replay_counted(
+    alloc: Global,
+    files: Vec<LinkFile>,
+    events: &[Event],
+    hasher: RandomState,
+) -> Result<(World, Vec<usize>), AllocError>
+    ensures world { IfOk result (λ found. IsWorldOf found.0 (run_of files.items (map run_event events.now))) }
+    ensures counts { IfOk result (λ found. found.1.items ≡ packet_counts (start files.items) (map run_event events.now)) }
+{
     let receivers = Receivers::new(alloc, &files, hasher)?;
+    let mut counts = Vec::new(alloc);
     let mut world = World {
         systems: systems(alloc, files, hasher)?,
         packets: Vec::new(alloc),
     };
     'events: for event in events {
         happen(alloc, &receivers, &mut world, event)?;
+        counts.push(world.packets())?;
     }
-    Ok(world)
+    Ok((world, counts))
 }
 
 // The systems of these files, which have filed nothing.

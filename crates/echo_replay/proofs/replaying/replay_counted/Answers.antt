@@ -3,10 +3,12 @@ use Rattle.std.proofs.lemmas.List.{take_all}
 use Rattle.echo_addr.specs.declared.address.Address.{Address}
 use Rattle.echo_run.specs.Event.{run_event}
 use Rattle.echo_run.specs.declared.event.Event.{Event}
-use Rattle.echo_run.specs.Run.{Run, run_of}
+use Rattle.echo_run.specs.Run.{Run, run_of, start}
+use Rattle.echo_replay.specs.Counts.{packet_counts}
 use Rattle.echo_replay.specs.Worlds.{IsWorldOf, LeadsToFirst, WorldState, own_addresses}
+use Rattle.echo_replay.proofs.Counted.{counts-more}
 use Rattle.echo_replay.proofs.Runs.{addresses-first, event-more, first-run}
-use Rattle.echo_replay.proofs.replaying.replay.Goals as goal
+use Rattle.echo_replay.proofs.replaying.replay_counted.Goals as goal
 
 pub events-init : goal.events-init
 events-init c =
@@ -19,6 +21,7 @@ events-init c =
       run = subst W
           (sym (λ i. record { systems = c.in_ok-systems.ensures i; packets = c.new-2.ensures.items i }))
           (first-run c.args.files.items);
+      counts = c.new-counts.ensures.items;
     }
 
 pub events-preserved : goal.events-preserved
@@ -30,10 +33,18 @@ events-preserved c =
       leads = subst A (sym c.in_ok-happen.ensures.addresses) before.leads;
       run = subst R (event-more c.args.files.items c.args.events.now c.events.event-index c.event-item.result c.events-test.true c.event-item.is)
           (c.in_ok-happen.ensures.run _ before.run);
+      counts = counts-more c.args.files.items c.args.events.now c.events.event-index c.event-item.result c.events.counts.items c.push.new.self.items c.packets.result
+          c.events-test.true c.event-item.is before.counts c.in_ok-push.ensures.items
+          (c.packets.ensures _ (c.in_ok-happen.ensures.run _ before.run));
     }
 
-pub returns : goal.returns
-returns c =
+pub returns-clause-world : goal.returns-clause-world
+returns-clause-world c =
     let whole = take_all c.events.event-index c.args.events.now c.events-test.false in
     let R : List Event → Type 0 = λ events. IsWorldOf c.events.world (run_of c.args.files.items (map run_event events)) in
     subst R whole c.events.invariant.run
+
+pub returns-clause-counts : goal.returns-clause-counts
+returns-clause-counts c =
+    let whole = take_all c.events.event-index c.args.events.now c.events-test.false in
+    c.events.invariant.counts ∙ ap (λ (events : List Event). packet_counts (start c.args.files.items) (map run_event events)) whole
