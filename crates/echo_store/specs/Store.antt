@@ -1,40 +1,126 @@
 -- What a store of messages shows, and what its calls leave of it.
-use Rattle.std.specs.Prelude.{◌≡◌, ◌≤◌, ◌⊎◌, ℕ, Option, Result, IsErrOf}
+use Rattle.std.specs.Prelude.{◌≡◌, ◌≤◌, ◌⊎◌, ◌↔◌, ℕ, List, [], ◌∷◌, ◌++◌, length, map, take, drop, Option, None, Result, IsErrOf}
 use Rattle.echo_device.specs.Device.{Failed}
+use Rattle.echo_disk.specs.Disk.{DiskState, Files}
+use Rattle.echo_disk.specs.Runs.{LeavesOnly, ChangesNothing}
 use Rattle.echo_base.specs.Base.{Base}
 use Rattle.echo_filed.specs.Filed.{Filed}
+use Rattle.echo_filed.specs.Stubs.{stub_of}
 use Rattle.echo_store.specs.declared.store_error.StoreError.{StoreError}
-use Rattle.echo_store.specs.declared.store_error.StoreError.TheVariants.{Device, Damaged}
+use Rattle.echo_store.specs.declared.store_error.StoreError.TheVariants as error
+use Rattle.echo_disk.specs.declared.disk_error.DiskError.{DiskError}
+use Rattle.echo_disk.specs.declared.disk_error.DiskError.TheVariants as disk_error
+
+-- a disk's fault, as a fault of a store
+abbrev pub store_cause : DiskError → StoreError
+store_cause disk_error.Memory = error.Memory
+store_cause disk_error.Device = error.Device
 
 -- a store between two calls
 pub record StoreState : Type 1 where
-  -- the messages in order of filing, and the cursor
-  pub base : Base
+  -- the disk that it is on, with what stands beside it
+  pub disk : DiskState
+  -- calls may be made: none has failed in the middle of a change
+  pub is_ready : Type 0
+  -- it holds these messages under this cursor, with what is not committed yet
+  pub keeps : Base → Type 0
+  -- this base was committed last
+  pub committed : Base → Type 0
   -- the message that was fetched last
   pub at_hand : Option Filed
-  -- a crash may leave this base
-  pub may_stay : Base → Type 0
-  -- it keeps each message as it was filed
-  pub is_whole : Type 0
+  -- files that a crash left stand for this base
+  pub stands : Base → Files → Type 0
+  -- the paths of its own files
+  pub is_own : List ℕ → Type 0
+  -- a crash now leaves the base that was committed last
+  pub stays : is_ready → (base : Base) → committed base → (c : Files) → disk.may_leave c → stands base c
 
--- nothing may stay that might not have stayed before, and a whole store is whole
-pub record CommitsNothing (old new : StoreState) : Type 0 where
-  pub no_more : (base : Base) → new.may_stay base → old.may_stay base
-  pub whole : old.is_whole → new.is_whole
+-- one message more at the end
+abbrev pub with_message : Base → Filed → Base
+with_message base message = record { messages = base.messages ++ message ∷ []; cursor = base.cursor }
 
--- a look at the store: the base is as it was
+-- the cursor at the end
+abbrev pub all_scanned : Base → Base
+all_scanned base = record { messages = base.messages; cursor = length base.messages }
+
+-- the scanned messages as a purge leaves them
+abbrev pub purged : Base → Base
+purged base = record { messages = map stub_of (take base.cursor base.messages) ++ drop base.cursor base.messages; cursor = base.cursor }
+
+-- files stand for the same bases as they did, and the same paths are the store's own
+pub record IsSameStore (old new : StoreState) : Type 0 where
+  pub stands : (base : Base) (c : Files) → new.stands base c ↔ old.stands base c
+  pub own : (m : List ℕ) → new.is_own m ↔ old.is_own m
+
+-- a look at the store: nothing has changed but the message at hand
 pub record LooksOn (old new : StoreState) : Type 0 where
-  pub same : new.base ≡ old.base
-  pub commits : CommitsNothing old new
+  pub ready : new.is_ready
+  pub keeps : (base : Base) → old.keeps base → new.keeps base
+  pub committed : (base : Base) → old.committed base → new.committed base
+  pub quiet : ChangesNothing old.disk new.disk
+  pub same : IsSameStore old new
 
--- a crash leaves the base that was committed before, or the one that is committed now
+-- what stands beside the store, and was on the disk, is as it was
+abbrev pub SameBesideStore : StoreState → Files → Type 0
+SameBesideStore old c = (m : List ℕ) → (old.is_own m → ⊥) → old.disk.is_named m → old.disk.is_flushed m → c m ≡ old.disk.seen m
+
+-- a crash left the base that was committed before, and nothing beside it has changed
+pub record StandsBeside (old : StoreState) (base : Base) (c : Files) : Type 0 where
+  pub beside : SameBesideStore old c
+  pub stands : old.stands base c
+
+-- or the one that is being committed
+pub record StandsForEither (old : StoreState) (first next : Base) (c : Files) : Type 0 where
+  pub beside : SameBesideStore old c
+  pub stands : old.stands first c ⊎ old.stands next c
+
+-- what was seen and on the disk beside the store is so still
+pub record KeepsBeside (old new : StoreState) : Type 0 where
+  pub seen : (m : List ℕ) → (old.is_own m → ⊥) → new.disk.seen m ≡ old.disk.seen m
+  pub named : (m : List ℕ) → (old.is_own m → ⊥) → old.disk.is_named m → new.disk.is_named m
+  pub flushed : (m : List ℕ) → (old.is_own m → ⊥) → old.disk.is_flushed m → new.disk.is_flushed m
+  pub alone : (m : List ℕ) → (old.is_own m → ⊥) → old.disk.is_alone m → new.disk.is_alone m
+
+-- until the next commit a crash at any moment leaves what was committed before
+pub record CommitsNothing (old new : StoreState) : Type 0 where
+  pub any_moment : (base : Base) → old.committed base → LeavesOnly old.disk new.disk (StandsBeside old base)
+  pub beside : KeepsBeside old new
+  pub same : IsSameStore old new
+
+-- a crash at any moment leaves the base that was committed before, or the one that the store holds
 pub record MayCommit (old new : StoreState) : Type 0 where
-  pub same : new.base ≡ old.base
-  pub either : (base : Base) → new.may_stay base → old.may_stay base ⊎ (base ≡ old.base)
-  pub whole : old.is_whole → new.is_whole
+  pub any_moment : (first next : Base) → old.committed first → old.keeps next → LeavesOnly old.disk new.disk (StandsForEither old first next)
+  pub beside : KeepsBeside old new
+  pub same : IsSameStore old new
 
--- A failure of the device is answered only where its count of failures rose, and damage only of a store that is not whole.
+-- the store goes on, and what was committed before is so still
+pub record GoesOn (old new : StoreState) : Type 0 where
+  pub ready : new.is_ready
+  pub committed : (base : Base) → old.committed base → new.committed base
+
+-- what it holds is committed
+pub record Commits (old new : StoreState) : Type 0 where
+  pub ready : new.is_ready
+  pub keeps : (base : Base) → old.keeps base → new.keeps base
+  pub committed : (base : Base) → old.keeps base → new.committed base
+
+-- A failure of the device is answered only where its count of failures rose, and damage only of a store that holds no base.
 pub record HasStoreCause {T : Type 0} (old : StoreState) (before now : ℕ) (result : Result T StoreError) : Type 0 where
   pub later : before ≤ now
-  pub failed : IsErrOf result Device → Failed before now
-  pub damaged : IsErrOf result Damaged → old.is_whole → ⊥
+  pub failed : IsErrOf result error.Device → Failed before now
+  pub damaged : IsErrOf result error.Damaged → (base : Base) → old.keeps base → ⊥
+
+-- of a store that is on no disk
+abbrev pub no_disk : DiskState
+no_disk = record {
+  seen = λ m. None;
+  may_leave = λ c. ⊥;
+  moment = 0;
+  left_since = λ t c. ⊥;
+  is_named = λ m. Unit {0};
+  is_flushed = λ m. Unit {0};
+  is_alone = λ m. Unit {0};
+  on_disk = λ path named flushed c left. absurd left;
+  counts_now = λ t c le left. left;
+  only_now = λ c left. left;
+}

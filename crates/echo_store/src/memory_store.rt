@@ -1,7 +1,8 @@
 //! A base in memory, as a store.
-ghost use Rattle.std.specs.Prelude.{slice_get};
+ghost use Rattle.std.specs.Prelude.{◌≡◌, slice_get};
+ghost use Rattle.echo_store.specs.Store.{no_disk};
 
-use crate::store::Store;
+use crate::store::{PurgedStore, Store};
 use crate::store_error::StoreError;
 use echo_base::Base;
 use echo_filed::{Filed, Key};
@@ -16,18 +17,16 @@ pub struct MemoryStore<S: BuildHasher> {
 }
 
 impl<S: BuildHasher> MemoryStore<S> {
-    ghost use Rattle.std.specs.Prelude.{◌≡◌};
-
     /// The base as a store.
     pub fn new(base: Base<S>) -> MemoryStore<S>
-        ensures { (⟦<MemoryStore<S> as Store>⟧.state result).base ≡ base }
+        ensures { (⟦<MemoryStore<S> as Store>⟧.state result).keeps base }
     {
         MemoryStore { base, place: 0 }
     }
 
     /// The base.
     pub fn into_base(self) -> Base<S>
-        ensures { result ≡ (⟦<MemoryStore<S> as Store>⟧.state self).base }
+        ensures { (⟦<MemoryStore<S> as Store>⟧.state self).keeps result }
     {
         self.base
     }
@@ -35,10 +34,14 @@ impl<S: BuildHasher> MemoryStore<S> {
 
 impl<S: BuildHasher> Store for MemoryStore<S> {
     ghost state = { λ store. record {
-      base = store.base;
+      disk = no_disk;
+      is_ready = Unit {0};
+      keeps = λ base. base ≡ store.base;
+      committed = λ base. Unit {0};
       at_hand = slice_get store.base.messages store.place;
-      may_stay = λ base. ⊥;
-      is_whole = Unit {0};
+      stands = λ base c. ⊥;
+      is_own = λ m. ⊥;
+      stays = λ ready base is c left. left;
     } };
 
     ghost failures = { λ _. 0 };
@@ -77,11 +80,13 @@ impl<S: BuildHasher> Store for MemoryStore<S> {
         Ok(())
     }
 
-    fn purge(&mut self) -> Result<u64, StoreError> {
-        Ok(self.base.purge()?)
-    }
-
     fn commit(&mut self) -> Result<(), StoreError> {
         Ok(())
+    }
+}
+
+impl<S: BuildHasher> PurgedStore for MemoryStore<S> {
+    fn purge(&mut self) -> Result<u64, StoreError> {
+        Ok(self.base.purge()?)
     }
 }

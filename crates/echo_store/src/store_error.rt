@@ -1,5 +1,6 @@
 //! Why a call of a store failed.
-use std::alloc::AllocError;
+use echo_disk::DiskError;
+use std::alloc::{AllocError, AllocFailed};
 use thiserror::Error;
 
 /// Why a call of a store failed.
@@ -14,6 +15,9 @@ pub enum StoreError {
     /// A message does not stand there as it was filed.
     #[error("a message is damaged")]
     Damaged,
+    /// A text that four bytes do not count, or a file that eight bytes do not.
+    #[error("too many bytes")]
+    TooMany,
 }
 
 impl From<AllocError> for StoreError {
@@ -24,5 +28,30 @@ impl From<AllocError> for StoreError {
 
     fn from(_refused: AllocError) -> StoreError {
         StoreError::Memory
+    }
+}
+
+impl<T: Drop> From<AllocFailed<T>> for StoreError {
+    ghost use Rattle.std.specs.Prelude.{◌≡◌};
+    ghost use Rattle.echo_store.specs.declared.store_error.StoreError.TheVariants as error;
+
+    ghost from_gives = { λ _ e. e ≡ error.Memory };
+
+    fn from(_refused: AllocFailed<T>) -> StoreError {
+        StoreError::Memory
+    }
+}
+
+impl From<DiskError> for StoreError {
+    ghost use Rattle.std.specs.Prelude.{◌≡◌};
+    ghost use Rattle.echo_store.specs.Store.{store_cause};
+
+    ghost from_gives = { λ cause e. e ≡ store_cause cause };
+
+    fn from(cause: DiskError) -> StoreError {
+        match cause {
+            DiskError::Memory => StoreError::Memory,
+            DiskError::Device => StoreError::Device,
+        }
     }
 }
