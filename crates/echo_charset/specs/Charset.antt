@@ -25,30 +25,30 @@ named name =
     else None
 
 -- its name, as messages have it
-abbrev pub name_of : Charset → List ℕ
-name_of Ascii = codes "ASCII"
-name_of Cp437 = codes "CP437"
-name_of Cp850 = codes "CP850"
-name_of Cp866 = codes "CP866"
-name_of Cp1251 = codes "CP1251"
-name_of Koi8R = codes "KOI8-R"
-name_of Latin1 = codes "LATIN-1"
-name_of Utf8 = codes "UTF-8"
+abbrev pub charset_name : Charset → List ℕ
+charset_name Ascii = codes "ASCII"
+charset_name Cp437 = codes "CP437"
+charset_name Cp850 = codes "CP850"
+charset_name Cp866 = codes "CP866"
+charset_name Cp1251 = codes "CP1251"
+charset_name Koi8R = codes "KOI8-R"
+charset_name Latin1 = codes "LATIN-1"
+charset_name Utf8 = codes "UTF-8"
 
 -- the character of the byte that is so much above 80, by the published table; U+FFFD where there is none
-unfoldable pub upper : Charset → ℕ → ℕ
-upper Ascii above = 0xFFFD
-upper Cp437 above = slice_index CP437 above
-upper Cp850 above = slice_index CP850 above
-upper Cp866 above = slice_index CP866 above
-upper Cp1251 above = slice_index CP1251 above
-upper Koi8R above = slice_index KOI8_R above
-upper Latin1 above = above + 128
-upper Utf8 above = 0xFFFD
+unfoldable pub upper_half : Charset → ℕ → ℕ
+upper_half Ascii above = 0xFFFD
+upper_half Cp437 above = slice_index CP437 above
+upper_half Cp850 above = slice_index CP850 above
+upper_half Cp866 above = slice_index CP866 above
+upper_half Cp1251 above = slice_index CP1251 above
+upper_half Koi8R above = slice_index KOI8_R above
+upper_half Latin1 above = above + 128
+upper_half Utf8 above = 0xFFFD
 
 -- the character of a byte
 abbrev pub character : Charset → ℕ → ℕ
-character charset byte = if nat_lt byte 128 then byte else upper charset (byte - 128)
+character charset byte = if nat_lt byte 128 then byte else upper_half charset (byte - 128)
 
 -- bytes one by one, in UTF-8
 abbrev pub characters : Charset → List ℕ → List ℕ
@@ -66,5 +66,5 @@ is_utf8 Koi8R = false
 is_utf8 Latin1 = false
 
 -- bytes as text, in UTF-8
-unfoldable pub text_of : Charset → List ℕ → List ℕ
-text_of charset bytes = if is_utf8 charset then utf8_lossy bytes else characters charset bytes
+unfoldable pub decoded_text : Charset → List ℕ → List ℕ
+decoded_text charset bytes = if is_utf8 charset then utf8_lossy bytes else characters charset bytes

@@ -19,7 +19,7 @@ pub enum Charset {
 
 impl Charset {
     ghost use Rattle.echo_charset.specs.Charset as charset;
-    ghost use Rattle.echo_charset.specs.Charset.{character, characters, is_utf8, named, text_of, upper};
+    ghost use Rattle.echo_charset.specs.Charset.{character, characters, is_utf8, named, decoded_text, upper_half};
 
     /// The charset of this name, in letters of either case: `IBMPC` is CP437, and `+7_FIDO` is CP866.
     #[tactic(auto, unfolding(crate::specs::Charset::named))]
@@ -49,7 +49,7 @@ impl Charset {
 
     /// The name, as messages have it.
     pub fn name(self) -> &'static [u8]
-        ensures { result.now ≡ charset.name_of self }
+        ensures { result.now ≡ charset.charset_name self }
     {
         match self {
             Charset::Ascii => b"ASCII",
@@ -65,9 +65,9 @@ impl Charset {
 
     /// The bytes as text: a U+FFFD stands for each byte that the charset does not have, and of UTF-8 for each
     /// longest run of bytes that begins a character and does not end it, or begins none.
-    #[tactic(auto, unfolding(crate::specs::Charset::text_of))]
+    #[tactic(auto, unfolding(crate::specs::Charset::decoded_text))]
     pub fn text(self, alloc: Global, bytes: &[u8]) -> Result<String, AllocError>
-        ensures { IfOk result (λ text. string_bytes text ≡ text_of self bytes.now) }
+        ensures { IfOk result (λ text. string_bytes text ≡ decoded_text self bytes.now) }
     {
         if self.is_utf8() {
             String::from_utf8_lossy(alloc, bytes)
@@ -103,15 +103,15 @@ impl Charset {
         if byte < 128 {
             char::from(byte)
         } else {
-            self.upper(byte - 128)
+            self.upper_half(byte - 128)
         }
     }
 
     // The character of the byte that is so much above 80.
-    #[tactic(auto, unfolding(crate::specs::Charset::upper))]
-    fn upper(self, above: u8) -> char
+    #[tactic(auto, unfolding(crate::specs::Charset::upper_half))]
+    fn upper_half(self, above: u8) -> char
         requires { above < 128 }
-        ensures { result ≡ upper self above }
+        ensures { result ≡ upper_half self above }
     {
         let i = usize::from(above);
         match self {
