@@ -1,0 +1,7 @@
+-- The text of the bytes so far is there.
+use Rattle.std.proofs.Common.{◌≡◌, take, string_bytes}
+use Rattle.echo_charset.specs.Charset.{characters}
+use Rattle.echo_charset.proofs.charset.Charset.characters.Given as goal
+
+abbrev pub invariant-bytes : goal.invariant-bytes
+invariant-bytes l = string_bytes l.text ≡ characters l.self (take l.byte-index l.bytes)

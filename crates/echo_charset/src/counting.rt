@@ -1,0 +1,36 @@
+//! How many U+FFFD a text has.
+ghost use Rattle.std.specs.Prelude.{◌≡◌, ◌≤◌, length, slice_index};
+ghost use Rattle.echo_charset.specs.Losses.{begins_lost, lost};
+
+/// How many U+FFFD stand in a text of UTF-8.
+pub fn lost(text: &[u8]) -> usize
+    ensures count { result ≡ lost text.now }
+    ensures few { result ≤ length text.now }
+{
+    let mut count = 0;
+    let mut rest = text;
+    'bytes: while !rest.is_empty() {
+        if begins_lost(rest) {
+            count += 1;
+        }
+        rest = &rest[1..];
+    }
+    count
+}
+
+// Whether the three bytes of U+FFFD stand in front.
+fn begins_lost(bytes: &[u8]) -> bool
+    ensures { result ≡ begins_lost bytes.now }
+{
+    byte_at(bytes, 0) == 239 && byte_at(bytes, 1) == 191 && byte_at(bytes, 2) == 189
+}
+
+// The byte at an index, 0 past the end.
+fn byte_at(bytes: &[u8], i: usize) -> u8
+    ensures { result ≡ slice_index bytes.now i }
+{
+    match bytes.get(i) {
+        Some(byte) => *byte,
+        None => 0,
+    }
+}
