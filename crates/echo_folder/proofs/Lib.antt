@@ -1,11 +1,12 @@
-mod Behind
-mod Empty
-mod Gates
-mod Logs
-mod Mended
-mod Opened
-mod Paths
-mod Reading
-mod Renewed
-mod Rested
-mod Same
+pub mod Behind
+pub mod Empty
+pub mod Gates
+pub mod Logs
+pub mod Mended
+pub mod Opened
+pub mod Paths
+pub mod Quiet
+pub mod Reading
+pub mod Renewed
+pub mod Rested
+pub mod Same

@@ -1,7 +1,7 @@
 //! Files of another number, for a purge.
-ghost use Rattle.std.specs.Prelude.{◌≡◌, ◌≢◌, ◌<◌, IfOk};
+ghost use Rattle.std.specs.Prelude.{◌≡◌, ◌≢◌, ◌<◌, ℕ, List, IfOk};
 ghost use Rattle.echo_disk.specs.Runs.{LeavesOnly, HasCause};
-ghost use Rattle.echo_folder.specs.Names.{AreNames, folder_of};
+ghost use Rattle.echo_folder.specs.Names.{AreNames, folder_of, keys_of, messages_of};
 ghost use Rattle.echo_folder.specs.Standing.{base_at};
 ghost use Rattle.echo_folder.specs.AtRest.{IsAtRest, IsStaged};
 ghost use Rattle.echo_folder.specs.Moments.{StandsAlone, KeepsOutside};
@@ -27,6 +27,8 @@ pub fn stage_anew<D: Disk>(
     ensures told { IfOk result (λ told. told ≡ record { messages = 0; keys = 0; cursor = cursor; number = number }) }
     ensures same { base_at (D.state disk.new) (folder_of names.now) end.told
         ≡ base_at (D.state disk.old) (folder_of names.now) end.told }
+    ensures beside { (m : List ℕ) → m ≢ messages_of (folder_of names.now) number → m ≢ keys_of (folder_of names.now) number
+        → (D.state disk.new).seen m ≡ (D.state disk.old).seen m }
     ensures any_moment { LeavesOnly (D.state disk.old) (D.state disk.new)
         (StandsAlone (folder_of names.now) (D.state disk.old) (base_at (D.state disk.old) (folder_of names.now) end.told)) }
     ensures outside { KeepsOutside (folder_of names.now) (D.state disk.old) (D.state disk.new) }

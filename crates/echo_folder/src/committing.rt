@@ -57,6 +57,7 @@ pub fn commit<D: Disk>(disk: &mut D, names: &Names, end: End, told: Told) -> Res
     requires room { end.gate + 26 < 2 ^ 64 }
 
     ensures settled { IfOk result (λ after. IsAtRest (D.state disk.new) (folder_of names.now) after) }
+    ensures told { IfOk result (λ after. after.told ≡ told) }
     ensures acknowledged { IfOk result (λ after. base_at (D.state disk.new) (folder_of names.now) after.told ≡ base_at (D.state disk.old) (folder_of names.now) told) }
 
     // A crash at any moment of the call leaves the base from before it or the one after it, and all else as it was.

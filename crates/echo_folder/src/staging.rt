@@ -2,7 +2,8 @@
 //! leaves the base as it was.
 ghost use Rattle.std.specs.Prelude.{◌≡◌, ◌<◌, ◌+◌, ◌^◌, length, IfOk, OnOk};
 ghost use Rattle.echo_disk.specs.Runs.{LeavesOnly, HasCause};
-ghost use Rattle.echo_folder.specs.Names.{AreNames, folder_of};
+ghost use Rattle.echo_disk.specs.Steps.{SameBeside};
+ghost use Rattle.echo_folder.specs.Names.{AreNames, folder_of, keys_of, messages_of};
 ghost use Rattle.echo_folder.specs.Standing.{base_at, and_messages, and_keys};
 ghost use Rattle.echo_folder.specs.AtRest.{IsAtRest, IsStaged};
 ghost use Rattle.echo_folder.specs.Moments.{StandsAlone, KeepsOutside};
@@ -37,6 +38,7 @@ pub fn stage_messages<D: Disk>(
         ≡ and_messages (base_at (D.state disk.old) (folder_of names.now) told) bytes.now) }
     ensures same { OnOk result (base_at (D.state disk.new) (folder_of names.now) end.told
         ≡ base_at (D.state disk.old) (folder_of names.now) end.told) }
+    ensures beside { SameBeside (messages_of (folder_of names.now) told.number) (D.state disk.old).seen (D.state disk.new).seen }
     ensures any_moment { LeavesOnly (D.state disk.old) (D.state disk.new)
         (StandsAlone (folder_of names.now) (D.state disk.old) (base_at (D.state disk.old) (folder_of names.now) end.told)) }
     ensures outside { KeepsOutside (folder_of names.now) (D.state disk.old) (D.state disk.new) }
@@ -66,6 +68,7 @@ pub fn stage_keys<D: Disk>(
         ≡ and_keys (base_at (D.state disk.old) (folder_of names.now) told) bytes.now) }
     ensures same { OnOk result (base_at (D.state disk.new) (folder_of names.now) end.told
         ≡ base_at (D.state disk.old) (folder_of names.now) end.told) }
+    ensures beside { SameBeside (keys_of (folder_of names.now) told.number) (D.state disk.old).seen (D.state disk.new).seen }
     ensures any_moment { LeavesOnly (D.state disk.old) (D.state disk.new)
         (StandsAlone (folder_of names.now) (D.state disk.old) (base_at (D.state disk.old) (folder_of names.now) end.told)) }
     ensures outside { KeepsOutside (folder_of names.now) (D.state disk.old) (D.state disk.new) }

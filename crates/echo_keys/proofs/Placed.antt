@@ -39,7 +39,7 @@ middle : (before : List Stored) (s : Stored) (later : List Stored) (d : Filed) �
 middle [] s later d = refl
 middle (x ∷ before) s later d = middle before s later d
 
-keys_long : (digest : List ℕ → ℕ) (place : ℕ) (all : List Stored) → length (keys_from digest place all) ≡ 16 * length all
+pub keys_long : (digest : List ℕ → ℕ) (place : ℕ) (all : List Stored) → length (keys_from digest place all) ≡ 16 * length all
 keys_long digest place [] = refl
 keys_long digest place (s ∷ later) =
     let one = entry place (digest (digested (message_in Second s))) in
@@ -47,7 +47,7 @@ keys_long digest place (s ∷ later) =
     let size : length one ≡ 16 = refl in
     omega (arith, length-append one rest, size, keys_long digest (place + length (stored_bytes Second s)) later)
 
-keys_append : (digest : List ℕ → ℕ) (place : ℕ) (a b : List Stored) → keys_from digest place (a ++ b) ≡ keys_from digest place a ++ keys_from digest (place + length (bytes_of a)) b
+pub keys_append : (digest : List ℕ → ℕ) (place : ℕ) (a b : List Stored) → keys_from digest place (a ++ b) ≡ keys_from digest place a ++ keys_from digest (place + length (bytes_of a)) b
 keys_append digest place [] b = let same : place ≡ place + 0 = omega arith in ap (λ (n : ℕ). keys_from digest n b) same
 keys_append digest place (s ∷ a) b =
     let one = entry place (digest (digested (message_in Second s))) in

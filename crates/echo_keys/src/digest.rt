@@ -1,5 +1,5 @@
 //! What a digest is taken of, and a digest of it.
-ghost use Rattle.std.specs.Prelude.{◌≡◌, ℕ, List, IfOk};
+ghost use Rattle.std.specs.Prelude.{◌≡◌, ◌<◌, ◌^◌, ℕ, List, IfOk};
 ghost use Rattle.echo_keys.specs.Keys.{digested_key};
 
 use echo_filed::Key;
@@ -12,6 +12,9 @@ pub trait Digest {
     /// The digest of the bytes.
     fn of(&self, bytes: &[u8]) -> u64
         ensures { result ≡ digest self.now bytes.now };
+
+    // Eight bytes have room for it.
+    ghost fits: { (d : Self) (bytes : List ℕ) → digest d bytes < 2 ^ 64 };
 }
 
 /// What the digest of a message with this key is taken of: the id, whatever the area, or else all that the key has.

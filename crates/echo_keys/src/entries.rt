@@ -1,7 +1,7 @@
 //! The entries of the keys, one after another.
-ghost use Rattle.std.specs.Prelude.{◌≡◌, ◌≢◌, ◌<◌, ◌≤◌, ◌+◌, ◌*◌, ◌/◌, ℕ, length, take, drop, IfSome, IfNone};
+ghost use Rattle.std.specs.Prelude.{◌≡◌, ◌≢◌, ◌<◌, ◌≤◌, ◌+◌, ◌*◌, ◌/◌, ℕ, List, length, take, drop, IfSome, IfNone};
 ghost use Rattle.std.specs.Int.{w64, from_le_bytes};
-ghost use Rattle.echo_keys.specs.Keys.{place_at, digest_at};
+ghost use Rattle.echo_keys.specs.Keys.{digest_at, entry, place_at, place_behind};
 
 /// How many bytes an entry has.
 const ENTRY: usize = 16;
@@ -29,6 +29,30 @@ pub fn place_of(keys: &[u8], number: usize) -> u64
     ensures { result ≡ place_at keys.now number }
 {
     number_at(keys, ENTRY * number)
+}
+
+/// Where the message of this number ends: where the next one begins, or where all messages end.
+pub fn end_of(keys: &[u8], number: usize, all: u64) -> u64
+    requires { number < length keys.now / 16 }
+    ensures { (messages : List ℕ) → length messages ≡ all → result ≡ place_behind messages keys.now number }
+{
+    if number + 1 < keys.len() / ENTRY {
+        place_of(keys, number + 1)
+    } else {
+        all
+    }
+}
+
+/// The entry of a message that begins there, with its digest.
+pub fn entry(place: u64, digest: u64) -> [u8; 16]
+    ensures { result ≡ entry place digest }
+{
+    let p = place.to_le_bytes();
+    let d = digest.to_le_bytes();
+    [
+        p[0], p[1], p[2], p[3], p[4], p[5], p[6], p[7], d[0], d[1], d[2], d[3], d[4], d[5], d[6],
+        d[7],
+    ]
 }
 
 /// The first message from that number on whose entry has the digest. Its key may yet be another: compare whole keys.

@@ -121,3 +121,15 @@ returns-clause-outside g c =
     } in
     let kept = subst (λ (l : List ℕ). KeepsOthers d0 d l) file kept_at in
     outside_kept path (messages_of path told.number) d0 d (messages_in path told.number) kept
+
+pub returns-in_err-write_at-clause-beside : goal.returns-in_err-write_at-clause-beside
+returns-in_err-write_at-clause-beside g c =
+    let path = folder_of c.args.names.now in
+    let file : c.deref.result.now ≡ messages_of path c.args.told.number = c.deref.ensures.value ∙ c.requires.names.messages in
+    λ m ne. c.write_at.ensures.beside m (λ is. ne (is ∙ file))
+
+pub returns-clause-beside : goal.returns-clause-beside
+returns-clause-beside g c =
+    let path = folder_of c.args.names.now in
+    let file : c.deref.result.now ≡ messages_of path c.args.told.number = c.deref.ensures.value ∙ c.requires.names.messages in
+    λ m ne. c.write_at.ensures.beside m (λ is. ne (is ∙ file))

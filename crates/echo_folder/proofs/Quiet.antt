@@ -1,0 +1,47 @@
+-- A base folder on a disk that has not changed.
+use Rattle.std.proofs.Common.{◌≡◌, ◌≤◌, ℕ, List, length, take, sym, ◌∙◌, ap, subst}
+use Rattle.std.specs.Prelude.{IsSome}
+use Rattle.echo_disk.specs.Disk.{DiskState, Files, bytes_in}
+use Rattle.echo_disk.specs.Runs.{ChangesNothing}
+use Rattle.echo_folder.specs.Names.{log_of, messages_of, keys_of}
+use Rattle.echo_folder.specs.Standing.{BaseBytes, StandsFor, base_at}
+use Rattle.echo_folder.specs.AtRest.{IsStaged}
+use Rattle.echo_folder.specs.declared.log.Told.{Told}
+use Rattle.echo_folder.specs.declared.log.End.{End}
+use Rattle.echo_folder.proofs.Gates.{on_disk_quiet}
+
+-- the same bytes are seen
+pub base_quiet : (d e : DiskState) (path : List ℕ) (told : Told) → ChangesNothing d e → base_at e path told ≡ base_at d path told
+base_quiet d e path told quiet = λ i. record {
+  messages = take told.messages (bytes_in (quiet.seen (messages_of path told.number) i));
+  keys = take told.keys (bytes_in (quiet.seen (keys_of path told.number) i));
+  cursor = told.cursor;
+}
+
+-- what is staged is so still
+pub staged_quiet : (d e : DiskState) (path : List ℕ) (end : End) (told : Told) → ChangesNothing d e → IsStaged d path end told → IsStaged e path end told
+staged_quiet d e path end told quiet was =
+    let messages = quiet.seen (messages_of path told.number) in
+    let keys = quiet.seen (keys_of path told.number) in
+    let same : base_at d path end.told ≡ base_at e path end.told = sym (base_quiet d e path end.told quiet) in
+    record {
+      log = record {
+        bodies = was.log.bodies;
+        sizes = was.log.sizes;
+        log = ap bytes_in (quiet.seen (log_of path)) ∙ was.log.log;
+        gate = was.log.gate;
+        told = was.log.told;
+        on_disk = on_disk_quiet d e (log_of path) quiet was.log.on_disk;
+        named = λ m inside. quiet.named m (λ h. h) (was.log.named m inside);
+      };
+      stands = λ c left. subst (λ (b : BaseBytes). StandsFor path b c) same (was.stands c (quiet.no_more c left));
+      digit = was.digit;
+      messages_there = subst (λ f. IsSome f) (sym messages) was.messages_there;
+      keys_there = subst (λ f. IsSome f) (sym keys) was.keys_there;
+      messages_alone = quiet.alone (messages_of path told.number) (λ h. h) was.messages_alone;
+      keys_alone = quiet.alone (keys_of path told.number) (λ h. h) was.keys_alone;
+      messages_long = subst (λ f. told.messages ≤ length (bytes_in f)) (sym messages) was.messages_long;
+      keys_long = subst (λ f. told.keys ≤ length (bytes_in f)) (sym keys) was.keys_long;
+      messages_behind = was.messages_behind;
+      keys_behind = was.keys_behind;
+    }
