@@ -7,7 +7,7 @@ use Rattle.echo_addr.specs.Address.{net_node_of}
 use Rattle.echo_graph.specs.Walk.{Among, Simple, Walk}
 use Rattle.echo_filed.specs.Filed.{Filed}
 use Rattle.echo_steps.specs.Scanning.{is_seen_by}
-use Rattle.echo_harm.proofs.Lists.{not_both, yes_or_no}
+use Rattle.echo_run.proofs.Lists.{not_both, yes_or_no}
 use Rattle.echo_harm.proofs.Spreads.{Came, IsNear, Spread, came_from, first_seen, from_poster, longer, near-is, one_or_two, source}
 
 -- the second entry of a path, or the entry of the system itself where it has none

@@ -13,7 +13,7 @@ use Rattle.echo_steps.specs.declared.packet.Packet.{Packet}
 use Rattle.echo_run.specs.Run.{destination}
 use Rattle.echo_run.specs.Orderly.{copies, count, sent_count}
 use Rattle.echo_run.specs.Exports.{Export, sent_by}
-use Rattle.echo_harm.proofs.Lists.{yes_or_no}
+use Rattle.echo_run.proofs.Lists.{yes_or_no}
 
 abbrev weight : Bool → ℕ
 weight b = if b then 1 else 0

@@ -13,7 +13,7 @@ use Rattle.echo_filed.specs.Filed.{Filed}
 use Rattle.echo_filed.specs.Sets.{entry_set, same_entry}
 use Rattle.echo_filed.proofs.Orders.{entry_set_is_set, same_entry_decides}
 use Rattle.echo_steps.specs.Scanning.{exported, is_seen_by, is_sender, targets}
-use Rattle.echo_harm.proofs.Lists.{Among-filter_from, Among-filter_to, Among-map_from, Among-map_to, and-parts, any-from, any-to, both_true, not_both, yes_or_no}
+use Rattle.echo_run.proofs.Lists.{Among-filter_from, Among-filter_to, Among-map_from, Among-map_to, and-from, and-parts, any-from, any-to, not_both, yes_or_no}
 
 not-true : (b : Bool) → not b ≡ true → b ≡ false
 not-true true e = absurd (not_both false e refl)
@@ -45,7 +45,7 @@ pub target-to : (file : LinkFile) (m : Filed) (a : Address) → Among a (links_o
 unfolding targets
 target-to file m a h other unseen =
     Among-filter_to (λ link. not (is_sender m link) && not (is_seen_by m link)) a (links_of file m.echo.tag) h
-    (both_true (not (is_sender m a)) (not (is_seen_by m a)) (ap not (no_sender m.sender other)) (ap not unseen))
+    (and-from (not (is_sender m a)) (not (is_seen_by m a)) (ap not (no_sender m.sender other)) (ap not unseen))
   where
     no_sender : (o : Option Address) → o ≢ Some a → unwrap_or (option_map (same_address a) o) false ≡ false
     no_sender None other = refl

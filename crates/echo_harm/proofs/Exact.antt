@@ -14,12 +14,13 @@ use Rattle.echo_filed.specs.Filed.{Filed}
 use Rattle.echo_run.specs.Event.{RunEvent}
 use Rattle.echo_run.specs.Run.{nth, run_of}
 use Rattle.echo_run.specs.Tidy.{Carries, lists}
+use Rattle.echo_run.proofs.Lists.{none_some, not_both, nth-cases, some_same, yes_or_no}
 use Rattle.echo_harm.specs.Grave.{AllAreCarriers, AreTakenForOne, AreTwins, HaveOwnAddresses}
 use Rattle.echo_harm.specs.Harms.{Harm}
 use Rattle.echo_harm.proofs.Branches.{Touches, closed-by, no_way_around}
 use Rattle.echo_harm.proofs.Holders.{Holds, Unharmed, harm-or_none, spread}
 use Rattle.echo_harm.specs.LawsOfRuns.{LawsOfRuns}
-use Rattle.echo_harm.proofs.Lists.{among-nth, not_both, nothing, nth-cases, nth-index, same_item, yes_or_no}
+use Rattle.echo_harm.proofs.Lists.{among-nth, nth-index}
 use Rattle.echo_harm.specs.Postings.{ComesToRest, trial_posting}
 use Rattle.echo_harm.proofs.Places.{carrier-file, lister-carries}
 use Rattle.echo_harm.proofs.Spreads.{IsNear, Spread, answered, from_poster, no_kite, not_hidden, one_or_two, reached}
@@ -63,7 +64,7 @@ module _ (files : List LinkFile) (known : LawsOfRuns files) (tag : List ℕ) (on
     pub no_self : (a : Address) → ¬ IsTrue (linked a a)
     no_self a link =
         of_carriers (λ f. (IsTrue (linked f f) → ⊥))
-        (λ f Has spreads to_self. nothing (sym spreads.own ∙ from_poster linked (Carries files tag) f Has spreads f spreads.posting to_self spreads.at_poster))
+        (λ f Has spreads to_self. none_some (sym spreads.own ∙ from_poster linked (Carries files tag) f Has spreads f spreads.posting to_self spreads.at_poster))
         a (lister-carries files tag a a link) link
 
     -- nobody is hidden in a SEEN-BY from the first
@@ -124,15 +125,15 @@ module _ (files : List LinkFile) (known : LawsOfRuns files) (tag : List ℕ) (on
   harms-or_not : (i : ℕ) → Shown ⊎ Harmless i
   harms-or_not i =
       elim (nth-cases i files) [
-        | inl none ↦ inr (λ file is area. absurd (nothing (sym none ∙ is)))
+        | inl none ↦ inr (λ file is area. absurd (none_some (sym none ∙ is)))
         | inr found ↦ elim (yes_or_no (has_area found.0 tag)) [
-          | inr f ↦ inr (λ file is area. absurd (not_both (has_area file tag) area (ap (λ (g : LinkFile). has_area g tag) (same_item (sym is ∙ found.1)) ∙ f)))
+          | inr f ↦ inr (λ file is area. absurd (not_both (has_area file tag) area (ap (λ (g : LinkFile). has_area g tag) (some_same (sym is ∙ found.1)) ∙ f)))
           | inl t ↦ elim (harm-or_none files known tag one_file all_known i found.0 found.1 t (moves i) (rests i).only_moves (rests i).settled) [
             | inl harm ↦ inl (i, harm)
             | inr unharmed ↦ inr (λ file is area.
                 let P : LinkFile → Type 0 = λ g. (is_g : nth i files ≡ Some g) (area_g : has_area g tag ≡ true) →
                 Unharmed files known tag one_file all_known i g is_g area_g (moves i) (rests i).only_moves in
-                subst P (same_item (sym found.1 ∙ is)) (λ is_g area_g. record {
+                subst P (some_same (sym found.1 ∙ is)) (λ is_g area_g. record {
                   settled = unharmed.settled;
                   sent_once = unharmed.sent_once;
                   never_own = unharmed.never_own;

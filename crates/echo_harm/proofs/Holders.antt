@@ -20,13 +20,14 @@ use Rattle.echo_run.specs.Run.{Run, System, destination, nth, run_of}
 use Rattle.echo_run.specs.Orderly.{IsPosting, Settled, copies, count, origin, sent_count, tag_of}
 use Rattle.echo_run.specs.Exports.{Export, IsSentCopy, exports, sent_by}
 use Rattle.echo_run.specs.Tidy.{Carries, lists}
+use Rattle.echo_run.proofs.Lists.{Among-take, not_both, nth-among, some_same}
 use Rattle.echo_harm.specs.Grave.{AllAreCarriers}
 use Rattle.echo_harm.specs.Harms.{Harm, SentItsOwn}
 use Rattle.echo_harm.specs.Postings.{IsMove}
 use Rattle.echo_harm.proofs.Counts.{counted, counted-one, one-or_zero, sent-part, sent-two}
 use Rattle.echo_harm.proofs.Entries.{among-link, among-seen, exported-path, listed-from, listed-to, seen-among, target-link, target-to, target-unseen}
 use Rattle.echo_harm.specs.LawsOfRuns.{LawsOfRuns}
-use Rattle.echo_harm.proofs.Lists.{Among-take, among-nth, not_both, nth-among, nth-map, same_item}
+use Rattle.echo_harm.proofs.Lists.{among-nth, nth-map}
 use Rattle.echo_harm.proofs.OneMessage.{Arrived, OnlyPosted, only-posted, post_of, post_of-tag, poster}
 use Rattle.echo_harm.specs.Postings.{trial_posting}
 use Rattle.echo_harm.proofs.Places.{carrier-file, file-carries, file-lists, lists-link, one-system}
@@ -206,7 +207,7 @@ module _ (files : List LinkFile) (known : LawsOfRuns files) (tag : List ℕ) (on
     same-system x m n a b =
         let e = one-system files known one_file events a.index b.index a.system b.system a.at b.at (a.address ∙ sym b.address) in
         let P : ℕ → Type 0 = λ j. nth j run.systems ≡ Some b.system in
-        (e, same_item (sym a.at ∙ subst P (sym e) b.at))
+        (e, some_same (sym a.at ∙ subst P (sym e) b.at))
 
     holds-one : (x : Address) (m n : Filed) → Holds x m → Holds x n → m ≡ n
     holds-one x m n a b =
@@ -328,7 +329,7 @@ module _ (files : List LinkFile) (known : LawsOfRuns files) (tag : List ℕ) (on
               let P : List LinkFile → Type 0 = λ fs. nth a.index fs ≡ Some a.system.file in
               let at_file = subst P (run-files files events) (nth-map (λ (s : System). s.file) a.index a.system run.systems a.at) in
               let Q : ℕ → Type 0 = λ j. nth j files ≡ Some a.system.file in
-              let same : file ≡ a.system.file = same_item (sym is ∙ subst Q posting.0 at_file) in
+              let same : file ≡ a.system.file = some_same (sym is ∙ subst Q posting.0 at_file) in
               inl (posting.0, sym a.address ∙ ap (λ (g : LinkFile). g.system) (sym same), posting.1)
               )
         ]
@@ -371,7 +372,7 @@ module _ (files : List LinkFile) (known : LawsOfRuns files) (tag : List ℕ) (on
           | inr sent ↦ elim (cases_eq a.index sent.export.system) [
             | inl same ↦ (
                 let W : ℕ → Type 0 = λ j. nth j run.systems ≡ Some sent.maker in
-                let one : s ≡ sent.maker = same_item (sym a.at ∙ subst W (sym same) sent.at) in
+                let one : s ≡ sent.maker = some_same (sym a.at ∙ subst W (sym same) sent.at) in
                 sent.copy.sender ∙ ap (λ (z : Address). Some z) (ap (λ (t : System). t.file.system) (sym one) ∙ a.address)
                 )
             | inr other ↦ absurd (omega (

@@ -11,7 +11,7 @@ use Rattle.echo_filed.proofs.Keys.{same_key_decides}
 use Rattle.echo_base.specs.Base.{is_known}
 use Rattle.echo_steps.specs.Tossing.{received, tossing}
 use Rattle.echo_run.specs.Run.{System, change, filing, tossing_at}
-use Rattle.echo_harm.proofs.Lists.{any-from, any-to, not_both}
+use Rattle.echo_run.proofs.Lists.{any-from, any-to, not_both}
 use Rattle.echo_harm.proofs.Steps.{tossing-is}
 
 -- 1 for what is not known

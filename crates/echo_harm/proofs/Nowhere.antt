@@ -14,6 +14,7 @@ use Rattle.echo_steps.specs.Stamps.{is_stamp}
 use Rattle.echo_run.specs.Event.{RunEvent, Posting, Scanning, Delivery, PartDelivery, Purging}
 use Rattle.echo_run.specs.Run.{Run, System, after_event, change, changing, coming, delivery, destination, nth, part_delivery, posting_at, purging_at, receiver, run_of, scanning, scanning_at, taking, with_index}
 use Rattle.echo_run.specs.Orderly.{Orderly, Settled, copies, tag_of}
+use Rattle.echo_run.proofs.Lists.{Among-map_to, any-to, first_passes, none_some, nth-among, some_same}
 use Rattle.echo_harm.specs.Grave.{ListsNobody}
 use Rattle.echo_harm.specs.Harms.{NeverRests}
 use Rattle.echo_harm.specs.LawsOfRuns.{LawsOfRuns}
@@ -25,7 +26,7 @@ use Rattle.echo_harm.proofs.OneMessage.{post_of, post_of-tag}
 use Rattle.echo_harm.proofs.PostAndScan.{sent-to_link}
 use Rattle.echo_harm.proofs.Places.{lists-file}
 use Rattle.echo_harm.proofs.Tags.{link-area}
-use Rattle.echo_harm.proofs.Lists.{among-nth, Among-map_to, any-to, first_passes, nothing, nth-among, nth-middle, same_item}
+use Rattle.echo_harm.proofs.Lists.{among-nth, nth-middle}
 use Rattle.echo_harm.proofs.Resting.{file-there}
 use Rattle.echo_harm.proofs.Steps.{after_one_more, along, run-files}
 
@@ -47,7 +48,7 @@ nobody-orderly files tag none events = record {
 
 -- a packet stays under its index
 nth-more : {X : Type 0} (i : ℕ) (x : X) (xs ys : List X) → nth i xs ≡ Some x → nth i (xs ++ ys) ≡ Some x
-nth-more {X} i x [] ys h = absurd (nothing h)
+nth-more {X} i x [] ys h = absurd (none_some h)
 nth-more zero x (z ∷ xs) ys h = h
 nth-more (suc i) x (z ∷ xs) ys h = nth-more i x xs ys h
 
@@ -174,7 +175,7 @@ never_settles files known tag events q first nobody m in_copies of_area more set
     let (before, after, whole) = split-at q run.packets kept.packet in
     let came = kept.delivered (length before) (settled.delivered before q after whole m in_copies of_area) in
     let P : List Packet → Type 0 = λ ps. nth (length before) ps ≡ Some q in
-    let same : came.packet ≡ q = same_item (sym came.at ∙ subst P (sym whole) (nth-middle q before after)) in
+    let same : came.packet ≡ q = some_same (sym came.at ∙ subst P (sym whole) (nth-middle q before after)) in
     nobody came.file came.there (came.address ∙ ap (λ (x : Packet). destination x) same)
 
 -- a system that lists an address of no file posts and scans: that packet never comes

@@ -21,8 +21,9 @@ use Rattle.echo_steps.specs.Stamps.{is_stamp}
 use Rattle.echo_run.specs.Event.{RunEvent, Posting, Scanning, Delivery, PartDelivery, Purging}
 use Rattle.echo_run.specs.Run.{System, Run, after_event, change, coming, delivery, destination, filing, fresh, nth, posting_at, receiver, run_of, scanning, scanning_at, taking, tossing_at}
 use Rattle.echo_run.specs.Orderly.{copies, origin}
+use Rattle.echo_run.proofs.Lists.{Among-take, first_passes, nth-among, nth-change, some_same, yes_or_no}
 use Rattle.echo_harm.specs.Postings.{IsMove, trial_moment, trial_posting, trial_draft}
-use Rattle.echo_harm.proofs.Lists.{Among-take, first_passes, nth-among, nth-change, nth-changed, nth-map, nth-map_from, same_item, yes_or_no}
+use Rattle.echo_harm.proofs.Lists.{nth-changed, nth-map, nth-map_from}
 use Rattle.echo_harm.specs.LawsOfRuns.{LawsOfRuns}
 use Rattle.echo_harm.proofs.Resting.{copy-there, export-of, file-there}
 use Rattle.echo_harm.proofs.Steps.{along, after_one_more, taking-file, tossing-is, tossing-new}
@@ -250,7 +251,7 @@ module _ (files : List LinkFile) (known : LawsOfRuns files) (tag : List ℕ) (i 
       the_first z j e found =
           let (x, at, same) = found in
           let P : ℕ → Type 0 = λ l. nth l (map fresh files) ≡ Some x in
-          let is_x : x ≡ fresh file = same_item (sym (subst P (sym e) at) ∙ nth-map fresh i file files is) in
+          let is_x : x ≡ fresh file = some_same (sym (subst P (sym e) at) ∙ nth-map fresh i file files is) in
           same ∙ (ap (λ (t : System). posting_at tag trial_draft 1 trial_moment t) is_x ∙ filed-first)
 
   pub only-posted : (more : List RunEvent) → AllByRecursion IsMove more → OnlyPosted i (post_of file tag) (run_of files (trial_posting i tag ∷ more))

@@ -8,23 +8,24 @@ use Rattle.echo_links.proofs.Addresses.{same_address_decides}
 use Rattle.echo_run.specs.Event.{RunEvent}
 use Rattle.echo_run.specs.Run.{System, nth, run_of}
 use Rattle.echo_run.specs.Tidy.{Carries, lists}
+use Rattle.echo_run.proofs.Lists.{Among-map_to, and-from, and-parts, any-from, any-to, none_some, nth-among, some_same}
 use Rattle.echo_harm.proofs.Entries.{link-among}
 use Rattle.echo_harm.specs.LawsOfRuns.{LawsOfRuns}
-use Rattle.echo_harm.proofs.Lists.{Among-map_to, and-parts, any-from, any-to, both_true, nothing, nth-among, nth-map, same_item}
+use Rattle.echo_harm.proofs.Lists.{nth-map}
 use Rattle.echo_harm.proofs.Resting.{file-there}
 use Rattle.echo_harm.proofs.Tags.{link-area}
 use Rattle.echo_harm.proofs.Steps.{run-files}
 
 -- in a list of different images an image stands at one index
 different-index : {X Y : Type 0} (g : X → Y) (xs : List X) → Different (map g xs) → (i j : ℕ) (x y : X) → nth i xs ≡ Some x → nth j xs ≡ Some y → g x ≡ g y → i ≡ j
-different-index {X} {Y} g [] d i j x y at_i at_j e = absurd (nothing at_i)
+different-index {X} {Y} g [] d i j x y at_i at_j e = absurd (none_some at_i)
 different-index g (z ∷ xs) d zero zero x y at_i at_j e = refl
 different-index {X} {Y} g (z ∷ xs) d zero (suc j) x y at_i at_j e =
     let P : Y → Type 0 = λ w. Among w (map g xs) in
-    absurd (d.0 (subst P (sym e ∙ ap g (sym (same_item at_i))) (Among-map_to g y xs (nth-among j y xs at_j))))
+    absurd (d.0 (subst P (sym e ∙ ap g (sym (some_same at_i))) (Among-map_to g y xs (nth-among j y xs at_j))))
 different-index {X} {Y} g (z ∷ xs) d (suc i) zero x y at_i at_j e =
     let P : Y → Type 0 = λ w. Among w (map g xs) in
-    absurd (d.0 (subst P (e ∙ ap g (sym (same_item at_j))) (Among-map_to g x xs (nth-among i x xs at_i))))
+    absurd (d.0 (subst P (e ∙ ap g (sym (some_same at_j))) (Among-map_to g x xs (nth-among i x xs at_i))))
 different-index g (z ∷ xs) d (suc i) (suc j) x y at_i at_j e = ap suc (different-index g xs d.1 i j x y at_i at_j e)
 
 -- and is of one of them
@@ -47,12 +48,12 @@ different-same {X} {Y} g (z ∷ xs) d x y h i e =
 pub file-carries : (files : List LinkFile) (tag : List ℕ) (file : LinkFile) → Among file files → has_area file tag ≡ true → Carries files tag file.system
 file-carries files tag file h area =
     any-to (λ f. same_address f.system file.system && has_area f tag) file files h
-    (both_true (same_address file.system file.system) (has_area file tag) ((same_address_decides file.system file.system).1 refl) area)
+    (and-from (same_address file.system file.system) (has_area file tag) ((same_address_decides file.system file.system).1 refl) area)
 
 pub file-lists : (files : List LinkFile) (tag : List ℕ) (file : LinkFile) → Among file files → (a : Address) → is_link file tag a ≡ true → IsTrue (lists files tag file.system a)
 file-lists files tag file h a link =
     any-to (λ f. same_address f.system file.system && is_link f tag a) file files h
-    (both_true (same_address file.system file.system) (is_link file tag a) ((same_address_decides file.system file.system).1 refl) link)
+    (and-from (same_address file.system file.system) (is_link file tag a) ((same_address_decides file.system file.system).1 refl) link)
 
 pub carrier-file : (files : List LinkFile) (tag : List ℕ) (a : Address) → Carries files tag a →
     (file : LinkFile) × Among file files × (file.system ≡ a) × (has_area file tag ≡ true)

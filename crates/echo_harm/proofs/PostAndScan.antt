@@ -11,13 +11,14 @@ use Rattle.echo_run.specs.Run.{Run, System, filing, fresh, nth, run_of, scanning
 use Rattle.echo_run.specs.Orderly.{sent_count}
 use Rattle.echo_run.specs.Exports.{exports}
 use Rattle.echo_run.specs.Tidy.{lists}
+use Rattle.echo_run.proofs.Lists.{none_some, nth-among}
 use Rattle.echo_harm.specs.LawsOfRuns.{LawsOfRuns}
 use Rattle.echo_harm.specs.Harms.{SentItsOwn}
 use Rattle.echo_harm.specs.Postings.{post_and_scan, trial_moment, trial_posting}
 use Rattle.echo_harm.proofs.Counts.{sent-part}
 use Rattle.echo_harm.proofs.Entries.{link-among, target-to}
 use Rattle.echo_harm.proofs.Holders.{posting-own, posting-seen}
-use Rattle.echo_harm.proofs.Lists.{among-nth, nothing, nth-among, nth-changed}
+use Rattle.echo_harm.proofs.Lists.{among-nth, nth-changed}
 use Rattle.echo_harm.proofs.OneMessage.{post_of, post_of-tag, posted-at}
 use Rattle.echo_harm.proofs.Places.{lists-file}
 use Rattle.echo_harm.proofs.Steps.{after_one_more}
@@ -43,7 +44,7 @@ module _ (files : List LinkFile) (known : LawsOfRuns files) (tag : List ℕ) (i 
       let p = post_of file tag in
       let P : List ℕ → Type 0 = λ t. Among a (links_of file t) in
       let target = target-to file p a (subst P (sym (post_of-tag files known tag i file is area)) (link-among file tag a link))
-      (λ e. nothing (sym (posting-own file tag) ∙ e)) (posting-seen file tag a) in
+      (λ e. none_some (sym (posting-own file tag) ∙ e)) (posting-seen file tag a) in
       let one = known.sent events i scanned-poster scanned-there p (inl refl) a target in
       let all = ap (λ (ps : List Packet). sent_count a (key_of p) ps) (known.packets events) in
       omega (arith, one, all, sent-part a (key_of p) i (exports files events))

@@ -6,12 +6,12 @@ use Rattle.echo_graph.specs.Walk.{Among, Reaches, Simple}
 use Rattle.echo_links.specs.Links.{LinkFile}
 use Rattle.echo_filed.specs.Filed.{Filed}
 use Rattle.echo_run.specs.Tidy.{Carries, Joined, lists}
+use Rattle.echo_run.proofs.Lists.{none_some, nth-among}
 use Rattle.echo_harm.specs.Grave.{AllAreCarriers, AreTwins, HaveOwnAddresses, IsListedAlone}
 use Rattle.echo_harm.specs.LawsOfRuns.{LawsOfRuns}
 use Rattle.echo_harm.specs.Shown.{IsPinched, ShowsHarm, Trial}
 use Rattle.echo_harm.proofs.Branches.{Touches, closed-by, no_way_around}
 use Rattle.echo_harm.proofs.Holders.{Holds, harm-or_none, spread}
-use Rattle.echo_harm.proofs.Lists.{nothing, nth-among}
 use Rattle.echo_harm.proofs.Places.{carrier-area, lister-carries}
 use Rattle.echo_harm.proofs.Spreads.{IsNear, Spread, answered, from_poster, no_kite, not_hidden, reached}
 
@@ -45,7 +45,7 @@ module _ (files : List LinkFile) (known : LawsOfRuns files) (tag : List ℕ) (on
   pub own-shown : (a : Address) → IsTrue (linked a a) → (trial : Trial files tag a) → ShowsHarm files tag a trial
   own-shown a link =
       refuted (λ f. IsTrue (linked f f))
-      (λ f Has spreads to_self. nothing (sym spreads.own ∙ from_poster linked Carrier f Has spreads f spreads.posting to_self spreads.at_poster))
+      (λ f Has spreads to_self. none_some (sym spreads.own ∙ from_poster linked Carrier f Has spreads f spreads.posting to_self spreads.at_poster))
       a (lister-carries files tag a a link) link
 
   pub one_sided-shown : (a b : Address) → IsTrue (linked a b) → ¬ IsTrue (linked b a) → (trial : Trial files tag a) → ShowsHarm files tag a trial

@@ -24,10 +24,11 @@ use Rattle.echo_run.specs.Run.{System, Run, change, coming, delivery, destinatio
 use Rattle.echo_run.specs.Orderly.{Settled, copies, origin}
 use Rattle.echo_run.specs.Exports.{Export, exports}
 use Rattle.echo_run.specs.Tidy.{lists}
+use Rattle.echo_run.proofs.Lists.{Among-change, Among-filter_to, Among-map_from, Among-map_to, Among-take, and-from, and-parts, any-from, any-to, none_some, not_both, nth-among, nth-change, some_same}
 use Rattle.echo_harm.specs.Grave.{AllAreCarriers}
 use Rattle.echo_harm.specs.Postings.{IsMove, trial_moment}
 use Rattle.echo_harm.proofs.Entries.{among-link, exported-tag, target-link}
-use Rattle.echo_harm.proofs.Lists.{Among-change, Among-filter_to, Among-map_from, Among-map_to, Among-take, and-parts, any-from, any-to, both_true, none_passes, not_both, nothing, among-nth, nth-among, nth-change, nth-index, nth-middle, same_item}
+use Rattle.echo_harm.proofs.Lists.{none_passes, among-nth, nth-index, nth-middle}
 use Rattle.echo_harm.specs.LawsOfRuns.{LawsOfRuns}
 use Rattle.echo_harm.proofs.Lacking.{all_lacking, change-fewer, change-same, lacking, tossing-fewer}
 use Rattle.echo_harm.proofs.Steps.{after_one_more, all-append, run-files, tossing-is, tossing-new}
@@ -185,7 +186,7 @@ module _ (files : List LinkFile) (known : LawsOfRuns files) where
           comes None e = inr (record {
             systems = rests.systems;
             packets = rests.packets;
-            came = next run.delivered (λ j h. h) (λ q at. (let P : Packet → Type 0 = GoesNowhere in inr (subst P (same_item (sym is ∙ at)) (nowhere e))));
+            came = next run.delivered (λ j h. h) (λ q at. (let P : Packet → Type 0 = GoesNowhere in inr (subst P (some_same (sym is ∙ at)) (nowhere e))));
           })
           comes (Some s) e =
               elim (change-fewer keys (taking p (length p.messages)) run.systems each (receiver run p)) [
@@ -204,7 +205,7 @@ module _ (files : List LinkFile) (known : LawsOfRuns files) where
         delivered None e = inr (record {
           systems = rests.systems;
           packets = rests.packets;
-          came = next run.delivered (λ j h. h) (λ q at. absurd (nothing (sym e ∙ at)));
+          came = next run.delivered (λ j h. h) (λ q at. absurd (none_some (sym e ∙ at)));
         })
         delivered (Some p) e = comes p e (nth (receiver run p) run.systems) refl
 
@@ -257,7 +258,7 @@ module _ (files : List LinkFile) (known : LawsOfRuns files) where
       lacks = so_far.lacks;
       quiet = λ i s less at. elim (cases_eq i n) [
         | inr other ↦ so_far.quiet i s (omega arith) at
-        | inl same ↦ (let P : ℕ → Type 0 = λ j. nth j run.systems ≡ Some s in absurd (nothing (sym e ∙ subst P same at)))
+        | inl same ↦ (let P : ℕ → Type 0 = λ j. nth j run.systems ≡ Some s in absurd (none_some (sym e ∙ subst P same at)))
       ];
       size = so_far.size;
     }
@@ -315,7 +316,7 @@ module _ (files : List LinkFile) (known : LawsOfRuns files) where
           let link : is_link s.file tag to ≡ true = ap (λ (t : List ℕ). is_link s.file t to) (sym tag_is) ∙ among-link s.file m.echo.tag to (target-link s.file m to is_copy.target) in
           let listed : lists files tag s.file.system to ≡ true =
           any-to (λ file. same_address file.system s.file.system && is_link file tag to) s.file files
-          (file-there events s (nth-among e.system s (run_of files events).systems there)) (both_true (same_address s.file.system s.file.system) (is_link s.file tag to) ((same_address_decides s.file.system s.file.system).1 refl) link) in
+          (file-there events s (nth-among e.system s (run_of files events).systems there)) (and-from (same_address s.file.system s.file.system) (is_link s.file tag to) ((same_address_decides s.file.system s.file.system).1 refl) link) in
           let (file, j, t) = any-from (λ file. same_address file.system to && has_area file tag) files (all_known s.file.system to listed) in
           nowhere file j ((same_address_decides file.system to).0 (and-parts (same_address file.system to) (has_area file tag) t).0 ∙ ap (λ (x : Packet). destination x) (sym same))
 

@@ -20,7 +20,7 @@ use Rattle.echo_run.specs.Run.{Run, System, change, coming, delivery, destinatio
 use Rattle.echo_run.specs.Orderly.{tag_of}
 use Rattle.echo_run.specs.World.{is_settled, missing, undelivered}
 use Rattle.echo_run.proofs.Copies.{packet-destination}
-use Rattle.echo_run.proofs.Lists.{Among-drop}
+use Rattle.echo_run.proofs.Lists.{Among-drop, Among-take, any-to, none_some, not_both, nth-among}
 use Rattle.echo_run.proofs.TosserLaws.{the_laws}
 use Rattle.echo_run.proofs.WellFormed.{scanned-from}
 use Rattle.echo_harm.specs.Grave.{AllAreCarriers}
@@ -31,7 +31,7 @@ use Rattle.echo_harm.proofs.Entries.{among-link, target-link}
 use Rattle.echo_base.specs.Base.{is_known}
 use Rattle.echo_harm.proofs.Holders.{key-tag}
 use Rattle.echo_harm.proofs.Lacking.{all_lacking, change-fewer, lacking, tossing-fewer, weight}
-use Rattle.echo_harm.proofs.Lists.{Among-take, among-nth, any-to, none_passes, not_both, nothing, nth-among, nth-below, nth-index}
+use Rattle.echo_harm.proofs.Lists.{among-nth, none_passes, nth-below, nth-index}
 use Rattle.echo_harm.proofs.OneMessage.{only-posted, post_of, post_of-tag}
 use Rattle.echo_harm.proofs.Places.{carrier-file, file-lists}
 use Rattle.echo_harm.proofs.Resting.{Scanned, Within, file-there, new-key, packed-within, scanned-more, system-there, taken-within, with_index-new, with_index-old}
@@ -224,7 +224,7 @@ module _ (files : List LinkFile) (known : LawsOfRuns files) (tag : List ℕ) (al
       came = up-to then_.delivered (λ j h. h) (λ below.
           let size = ap (λ (ps : List Packet). length ps) so_far.packets in
           let (p, at) = nth-below k then_.packets (omega (arith, below, size)) in
-          absurd (nothing (sym e ∙ at)));
+          absurd (none_some (sym e ∙ at)));
     }
     one_comes (Some p) e = comes p e (nth (receiver then_ p) then_.systems) refl
 

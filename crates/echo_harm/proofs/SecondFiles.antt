@@ -13,19 +13,20 @@ use Rattle.echo_steps.specs.Stamps.{is_stamp}
 use Rattle.echo_run.specs.Event.{RunEvent, Posting, Scanning, Delivery, PartDelivery, Purging}
 use Rattle.echo_run.specs.Run.{Run, System, after_event, change, coming, delivery, destination, fresh, nth, posting_at, receiver, run_of, scanning, scanning_at, taking}
 use Rattle.echo_run.specs.Orderly.{count}
+use Rattle.echo_run.proofs.Lists.{first_passes, none_some, not_both, nth-among, nth-change, some_same, yes_or_no}
 use Rattle.echo_harm.specs.Grave.{AllAreCarriers}
 use Rattle.echo_harm.specs.Harms.{IsHarmed}
 use Rattle.echo_harm.specs.LawsOfRuns.{LawsOfRuns}
 use Rattle.echo_harm.specs.Postings.{IsMove, trial_draft, trial_moment, trial_posting}
 use Rattle.echo_harm.proofs.Holders.{posting-own}
-use Rattle.echo_harm.proofs.Lists.{first_passes, nothing, nth-among, nth-change, nth-map_from, not_both, same_item, yes_or_no}
+use Rattle.echo_harm.proofs.Lists.{nth-map_from}
 use Rattle.echo_harm.proofs.OneMessage.{post_of, post_of-tag, poster}
 use Rattle.echo_harm.proofs.Resting.{runs-settle}
 use Rattle.echo_harm.proofs.Steps.{after_one_more, along, run-files}
 
 -- no item that passes stands before the first
 first_is_least : {X : Type 0} (p : X → Bool) (xs : List X) (i : ℕ) (x : X) → nth i xs ≡ Some x → p x ≡ true → position_or_len p xs ≤ i
-first_is_least {X} p [] i x at t = absurd (nothing at)
+first_is_least {X} p [] i x at t = absurd (none_some at)
 first_is_least {X} p (y ∷ xs) i x at t =
     elim (yes_or_no (p y)) [
       | inl here ↦ (let zero_is : position_or_len p (y ∷ xs) ≡ 0 = cond-false (not (p y)) (1 + position_or_len p xs) 0 (ap not here) in omega (arith, zero_is))
@@ -34,7 +35,7 @@ first_is_least {X} p (y ∷ xs) i x at t =
   where
     later : (i : ℕ) → nth i (y ∷ xs) ≡ Some x → position_or_len p (y ∷ xs) ≡ 1 + position_or_len p xs →
         ((j : ℕ) → nth j xs ≡ Some x → position_or_len p xs ≤ j) → p y ≡ false → position_or_len p (y ∷ xs) ≤ i
-    later zero at more rest f = absurd (not_both (p x) t (ap p (sym (same_item at)) ∙ f))
+    later zero at more rest f = absurd (not_both (p x) t (ap p (sym (some_same at)) ∙ f))
     later (suc j) at more rest f = (let least = rest j at in omega (arith, more, least))
 
 module _ (files : List LinkFile) (i j : ℕ) (before : i < j) (first second : LinkFile) (first_at : nth i files ≡ Some first) (second_at : nth j files ≡ Some second)
@@ -56,7 +57,7 @@ module _ (files : List LinkFile) (i j : ℕ) (before : i < j) (first second : Li
       let run = run_of files events in
       let (z, at_z, is_z) = file-at events i first first_at in
       let (y, at_y, is_y) = file-at events j second second_at in
-      let same_y : y ≡ s = same_item (sym at_y ∙ at) in
+      let same_y : y ≡ s = some_same (sym at_y ∙ at) in
       let p : System → Bool = λ t. same_address t.file.system (destination q) in
       let P : ℕ → Type 0 = λ k. nth k run.systems ≡ Some s in
       let passes = first_passes p s run.systems (subst P (sym here) at) in

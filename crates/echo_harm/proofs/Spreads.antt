@@ -10,7 +10,7 @@ use Rattle.echo_links.proofs.Addresses.{same_address_decides}
 use Rattle.echo_links.specs.Links.{same_address}
 use Rattle.echo_filed.specs.Filed.{Filed}
 use Rattle.echo_steps.specs.Scanning.{is_seen_by}
-use Rattle.echo_harm.proofs.Lists.{not_both, nothing, same_item, yes_or_no}
+use Rattle.echo_run.proofs.Lists.{none_some, not_both, some_same, yes_or_no}
 
 -- y has the net and node of u or of a link of u
 abbrev pub IsNear : (Address → Address → Bool) → Address → Address → Type 0
@@ -67,14 +67,14 @@ module _ (linked : Address → Address → Bool) (Carrier : Address → Type 0) 
   pub came_from : (x : Address) (m : Filed) → Holds x m → (u : Address) → m.sender ≡ Some u → (c : Came linked Holds x m) × (c.from ≡ u)
   came_from x m h u e =
       elim (source x m h) [
-        | inl here ↦ absurd (nothing (sym spread.own ∙ (ap (λ (n : Filed). n.sender) (sym here.1) ∙ e)))
-        | inr came ↦ (came, same_item (sym came.sender ∙ e))
+        | inl here ↦ absurd (none_some (sym spread.own ∙ (ap (λ (n : Filed). n.sender) (sym here.1) ∙ e)))
+        | inr came ↦ (came, some_same (sym came.sender ∙ e))
       ]
 
   -- a link of the poster has the message from it
   pub from_poster : (y : Address) (m : Filed) → IsTrue (linked f y) → Holds y m → m.sender ≡ Some f
   from_poster y m link h =
-      spread.sole f posting y m spread.at_poster link (spread.unlisted y) (λ e. nothing (sym spread.own ∙ e)) h
+      spread.sole f posting y m spread.at_poster link (spread.unlisted y) (λ e. none_some (sym spread.own ∙ e)) h
 
   pub longer : (x : Address) (m : Filed) (c : Came linked Holds x m) → length m.echo.path ≡ length c.original.echo.path + 1
   longer x m c = ap (λ (es : List NetNode). length es) c.path ∙ length-append c.original.echo.path (net_node_of c.from ∷ [])
@@ -168,5 +168,5 @@ module _ (linked : Address → Address → Bool) (Carrier : Address → Type 0) 
           | inr no_entry ↦ no_entry
           | inl seen ↦ absurd (elim (first_seen u y n to_u at_u at_y seen) [ inl e ↦ other e | inr t ↦ unlinked t ])
         ])
-        (λ e. other (sym (same_item (sym (from_poster u n to_u at_u) ∙ e)))) h) in
-        same_item (sym (sent b to_b b_y) ∙ sent x to_x x_y)
+        (λ e. other (sym (some_same (sym (from_poster u n to_u at_u) ∙ e)))) h) in
+        some_same (sym (sent b to_b b_y) ∙ sent x to_x x_y)

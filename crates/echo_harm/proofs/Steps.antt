@@ -1,6 +1,5 @@
 -- Runs event by event: what all events keep, the files that stay, and what a toss may file.
-use Rattle.std.proofs.Common.{◌≡◌, ◌⊎◌, inl, inr, refl, sym, subst, ap, ◌∙◌, ℕ, List, [], ◌∷◌, ◌++◌, length, take, map, Option, Some, None}
-use Rattle.std.specs.Prelude.{Bool, true, false, if◌then◌else◌}
+use Rattle.std.proofs.Common.{◌≡◌, ◌⊎◌, inl, inr, refl, sym, subst, ap, ◌∙◌, ℕ, List, [], ◌∷◌, ◌++◌, take, map, Option, Some, None}
 use Rattle.std.specs.List.{AllByRecursion}
 use Rattle.std.proofs.lemmas.List.{append_assoc, append-nil}
 use Rattle.echo_addr.specs.declared.address.Address.{Address}
@@ -10,16 +9,14 @@ use Rattle.echo_packet.specs.Message.{Message}
 use Rattle.echo_steps.specs.declared.outcome.Outcome.{Outcome}
 use Rattle.echo_steps.specs.declared.outcome.Outcome.TheVariants as outcome
 use Rattle.echo_steps.specs.declared.packet.Packet.{Packet}
-use Rattle.echo_steps.specs.declared.stamp.Stamp.{Stamp}
 use Rattle.echo_links.specs.Links.{LinkFile}
 use Rattle.echo_filed.specs.Filed.{Filed}
 use Rattle.echo_steps.specs.Posting.{posting}
 use Rattle.echo_steps.specs.Tossing.{received, sender_of, toss_outcome, tossing, where_filed}
-use Rattle.echo_steps.specs.Scanning.{scanned}
-use Rattle.echo_steps.specs.Stamps.{is_stamp}
-use Rattle.echo_run.specs.Event.{RunEvent, Posting, Scanning, Delivery, PartDelivery, Purging}
-use Rattle.echo_run.specs.Run.{System, Run, after_event, after_events, change, coming, delivery, filing, fresh, nth, part_delivery, posting_at, purging_at, receiver, run_of, scanning, scanning_at, start, taking, tossing_at}
-use Rattle.echo_harm.proofs.Lists.{map-change, nothing, same_item}
+use Rattle.echo_run.specs.Event.{RunEvent}
+use Rattle.echo_run.specs.Run.{System, Run, after_event, after_events, filing, run_of, start, taking, tossing_at}
+use Rattle.echo_run.proofs.Lists.{none_some, some_same}
+use Rattle.echo_run.proofs.WholeRuns.{event-files, files_of, filing-file, fresh-files}
 
 -- events one after another
 pub after-append : (events later : List RunEvent) (run : Run) → after_events run (events ++ later) ≡ after_events (after_events run events) later
@@ -45,10 +42,6 @@ all-append Allowed [] ys h k = k
 all-append Allowed (x ∷ xs) ys h k = (h.0, all-append Allowed xs ys h.1 k)
 
 -- the files stay
-filing-file : (s : System) (o : Option Filed) → (filing s o).file ≡ s.file
-filing-file s None = refl
-filing-file s (Some m) = refl
-
 pub tossing-file : (sender : Address) (ms : List Message) (s : System) → (tossing_at sender ms s).file ≡ s.file
 tossing-file sender [] s = refl
 tossing-file sender (q ∷ ms) s =
@@ -56,45 +49,6 @@ tossing-file sender (q ∷ ms) s =
 
 pub taking-file : (p : Packet) (n : ℕ) (s : System) → (taking p n s).file ≡ s.file
 taking-file p n s = tossing-file (sender_of s.file p.header) (take n p.messages) s
-
-abbrev files_of : Run → List LinkFile
-files_of run = map (λ (s : System). s.file) run.systems
-
-scanning-files : (run : Run) (i : ℕ) (stamp : Stamp) (found : Option System) → files_of (scanning run i stamp found) ≡ files_of run
-scanning-files run i stamp None = refl
-scanning-files run i stamp (Some s) = scans (is_stamp stamp)
-  where
-    scans : (b : Bool) → files_of (if b then record {
-      systems = change i scanning_at run.systems;
-      packets = run.packets ++ scanned s.file s.base s.cursor stamp;
-      delivered = run.delivered;
-    } else run) ≡ files_of run
-    scans true = map-change (λ (t : System). t.file) i scanning_at (λ t. refl) run.systems
-    scans false = refl
-
-delivery-files : (run : Run) (k : ℕ) (found : Option Packet) → files_of (delivery run k found) ≡ files_of run
-delivery-files run k None = refl
-delivery-files run k (Some p) = came (nth (receiver run p) run.systems)
-  where
-    came : (o : Option System) → files_of (coming run k p o) ≡ files_of run
-    came None = refl
-    came (Some s) = map-change (λ (t : System). t.file) (receiver run p) (taking p (length p.messages)) (taking-file p (length p.messages)) run.systems
-
-part-files : (run : Run) (n : ℕ) (found : Option Packet) → files_of (part_delivery run n found) ≡ files_of run
-part-files run n None = refl
-part-files run n (Some p) = map-change (λ (t : System). t.file) (receiver run p) (taking p n) (taking-file p n) run.systems
-
-event-files : (run : Run) (event : RunEvent) → files_of (after_event run event) ≡ files_of run
-event-files run (Posting i tag draft serial stamp) =
-    map-change (λ (t : System). t.file) i (posting_at tag draft serial stamp) (λ s. filing-file s (posting s.file s.base tag draft serial stamp)) run.systems
-event-files run (Scanning i stamp) = scanning-files run i stamp (nth i run.systems)
-event-files run (Delivery k) = delivery-files run k (nth k run.packets)
-event-files run (PartDelivery k n) = part-files run n (nth k run.packets)
-event-files run (Purging i) = map-change (λ (t : System). t.file) i purging_at (λ t. refl) run.systems
-
-fresh-files : (files : List LinkFile) → map (λ (s : System). s.file) (map fresh files) ≡ files
-fresh-files [] = refl
-fresh-files (file ∷ files) = ap (λ (fs : List LinkFile). file ∷ fs) (fresh-files files)
 
 pub run-files : (files : List LinkFile) (events : List RunEvent) → map (λ (s : System). s.file) (run_of files events).systems ≡ files
 run-files files events = stay events (start files) ∙ fresh-files files
@@ -113,12 +67,12 @@ filing-new s (Some n) m h =
     ]
 
 where_filed-is : (o : Outcome) (m n : Filed) → where_filed o m ≡ Some n → n ≡ m
-where_filed-is outcome.Filed m n h = sym (same_item h)
-where_filed-is outcome.Known m n h = absurd (nothing h)
-where_filed-is outcome.NoArea m n h = absurd (nothing h)
-where_filed-is outcome.NotLinked m n h = absurd (nothing h)
-where_filed-is outcome.NotEcho m n h = absurd (nothing h)
-where_filed-is outcome.BadTag m n h = absurd (nothing h)
+where_filed-is outcome.Filed m n h = sym (some_same h)
+where_filed-is outcome.Known m n h = absurd (none_some h)
+where_filed-is outcome.NoArea m n h = absurd (none_some h)
+where_filed-is outcome.NotLinked m n h = absurd (none_some h)
+where_filed-is outcome.NotEcho m n h = absurd (none_some h)
+where_filed-is outcome.BadTag m n h = absurd (none_some h)
 
 pub tossing-is : (file : LinkFile) (base : List Filed) (sender : Address) (q : Message) (m : Filed) → tossing file base sender q ≡ Some m → m ≡ received sender q
 unfolding tossing

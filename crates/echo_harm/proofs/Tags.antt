@@ -11,7 +11,7 @@ use Rattle.echo_addr.specs.declared.address.Address.{Address}
 use Rattle.echo_graph.specs.Walk.{Among}
 use Rattle.echo_text.specs.Lines.{is_tag, is_tag_byte}
 use Rattle.echo_links.specs.Links.{Area, IsArea, IsFile, LinkFile, area_of, has_area, links_of, upper}
-use Rattle.echo_harm.proofs.Lists.{and-parts, not_both, yes_or_no}
+use Rattle.echo_run.proofs.Lists.{and-parts, not_both, yes_or_no}
 
 upper-byte : (b : ℕ) → is_tag_byte b ≡ true → to_ascii_uppercase b ≡ b
 upper-byte b h =

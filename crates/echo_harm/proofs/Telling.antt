@@ -15,12 +15,13 @@ use Rattle.echo_run.specs.Run.{Run, System, filing, fresh, nth, run_of}
 use Rattle.echo_run.specs.Orderly.{IsPosting, Settled, count, sent_count}
 use Rattle.echo_run.specs.World.{area_count}
 use Rattle.echo_run.proofs.TosserLaws.{the_laws}
+use Rattle.echo_run.proofs.Lists.{nth-among, yes_or_no}
 use Rattle.echo_harm.specs.Grave.{AllAreCarriers, HaveOwnAddresses}
 use Rattle.echo_harm.specs.LawsOfRuns.{LawsOfRuns}
 use Rattle.echo_harm.specs.Postings.{IsMove, trial_draft, trial_moment, trial_posting}
 use Rattle.echo_harm.proofs.Counts.{has-one}
 use Rattle.echo_harm.proofs.Holders.{Unharmed, posting-own}
-use Rattle.echo_harm.proofs.Lists.{among-nth, nth-among, yes_or_no}
+use Rattle.echo_harm.proofs.Lists.{among-nth}
 use Rattle.echo_harm.proofs.OneMessage.{only-posted, post_of, post_of-tag, posted-at, poster}
 use Rattle.echo_harm.proofs.Tags.{upper-same}
 

@@ -5,12 +5,12 @@ use Rattle.std.specs.List.{AllByRecursion}
 use Rattle.echo_links.specs.Links.{LinkFile, has_area}
 use Rattle.echo_run.specs.Event.{RunEvent}
 use Rattle.echo_run.specs.Run.{nth}
+use Rattle.echo_run.proofs.Lists.{none_some, not_both, nth-cases, some_same, yes_or_no}
 use Rattle.echo_harm.specs.Grave.{AllAreCarriers, GraveFault, HaveOwnAddresses}
 use Rattle.echo_harm.specs.LawsOfRuns.{LawsOfRuns}
 use Rattle.echo_harm.specs.Postings.{ComesToRest, IsMove, trial_posting}
 use Rattle.echo_harm.proofs.Faults.{not_grave}
 use Rattle.echo_harm.proofs.Holders.{Unharmed}
-use Rattle.echo_harm.proofs.Lists.{not_both, nothing, nth-cases, same_item, yes_or_no}
 use Rattle.echo_harm.proofs.Resting.{runs-settle}
 
 module _ (files : List LinkFile) (known : LawsOfRuns files) (tag : List ℕ) (one_file : HaveOwnAddresses files) (all_known : AllAreCarriers files tag) where
@@ -51,7 +51,7 @@ module _ (files : List LinkFile) (known : LawsOfRuns files) (tag : List ℕ) (on
           harmless = λ file is area.
               let P : LinkFile → Type 0 = λ g. (is_g : nth i files ≡ Some g) (area_g : has_area g tag ≡ true) →
               Unharmed files known tag one_file all_known i g is_g area_g trial.moves trial.only_moves in
-              subst P (same_item (sym at ∙ is)) (λ is_g area_g. record {
+              subst P (some_same (sym at ∙ is)) (λ is_g area_g. record {
                 settled = unharmed.settled;
                 sent_once = unharmed.sent_once;
                 never_own = unharmed.never_own;
@@ -62,11 +62,11 @@ module _ (files : List LinkFile) (known : LawsOfRuns files) (tag : List ℕ) (on
     moved : (i : ℕ) → Moved i
     moved i =
         elim (nth-cases i files) [
-          | inl none ↦ settled i (λ file is area. nothing (sym none ∙ is))
+          | inl none ↦ settled i (λ file is area. none_some (sym none ∙ is))
           | inr found ↦ elim (yes_or_no (has_area found.0 tag)) [
             | inl t ↦ carried i found.0 found.1 t
             | inr f ↦ settled i (λ file is area.
-                not_both (has_area file tag) area (ap (λ (g : LinkFile). has_area g tag) (same_item (sym is ∙ found.1)) ∙ f))
+                not_both (has_area file tag) area (ap (λ (g : LinkFile). has_area g tag) (some_same (sym is ∙ found.1)) ∙ f))
           ]
         ]
 

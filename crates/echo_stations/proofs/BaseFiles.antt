@@ -14,15 +14,11 @@ use Rattle.echo_base.proofs.Loaded.{loaded_is_base}
 use Rattle.echo_base.proofs.OneBase.{only_base, only_length}
 use Rattle.echo_base.proofs.Saved.{saved_is_base}
 use Rattle.echo_steps.specs.SystemState.{SystemState}
-use Rattle.echo_run.specs.Run.{System}
+use Rattle.echo_run.specs.Run.{System, state_of}
 use Rattle.echo_status.specs.Inputs.{IsBaseGiven}
 use Rattle.echo_changing.specs.System.{IsSystemGiven}
 use Rattle.echo_stations.specs.Agreement.{HasBase, HasFiles, IsBaseFile}
 use Rattle.echo_stations.specs.Nets.{Station}
-
--- a system without its history
-abbrev pub state_of : System → SystemState
-state_of s = record { file = s.file; base = s.base; cursor = s.cursor }
 
 -- the base file that is loaded is the one that was saved
 pub loads : (bytes : List ℕ) (base messages : List Filed) (cursor at size : ℕ) → IsBaseFile bytes base cursor → LoadOf bytes (Ok (messages, at, size))

@@ -6,12 +6,12 @@ use Rattle.echo_changing.specs.declared.leaving.Files.{Files}
 use Rattle.echo_changing.specs.Files.{Leaves, done_of}
 use Rattle.echo_changing.specs.System.{IsSystemGiven}
 use Rattle.echo_steps.specs.SystemState.{SystemState}
-use Rattle.echo_run.specs.Run.{System}
+use Rattle.echo_run.specs.Run.{System, state_of}
 use Rattle.echo_run.proofs.Lists.{none_some}
 use Rattle.echo_stations.specs.Agreement.{HasFiles}
 use Rattle.echo_stations.specs.Commands.{Call}
 use Rattle.echo_stations.specs.Nets.{Station}
-use Rattle.echo_stations.proofs.BaseFiles.{given-once, state_of}
+use Rattle.echo_stations.proofs.BaseFiles.{given-once}
 
 -- the command answered these files
 pub record Left (IsSo : Result Files Fault → Type 0) (done : Done) : Type 0 where

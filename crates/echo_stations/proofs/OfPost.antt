@@ -13,7 +13,7 @@ use Rattle.echo_steps.specs.Posting.{post_refusal, posted, posting}
 use Rattle.echo_steps.specs.SystemState.{SystemState}
 use Rattle.echo_steps.proofs.Kept.{posting_keeps}
 use Rattle.echo_run.specs.Event.{Posting}
-use Rattle.echo_run.specs.Run.{Run, System, after_event, filing, posting_at}
+use Rattle.echo_run.specs.Run.{Run, System, after_event, filing, posting_at, state_of}
 use Rattle.echo_run.proofs.Lists.{nth-among, some_same}
 use Rattle.echo_changing.specs.declared.leaving.Files.{Files}
 use Rattle.echo_changing.specs.declared.posting.NewMessage.{NewMessage}
@@ -21,7 +21,7 @@ use Rattle.echo_changing.specs.Posted.{base_after, draft_given, refusal_given}
 use Rattle.echo_stations.specs.Agreement.{Agrees, HasFiles, HasPosting}
 use Rattle.echo_stations.specs.Commands.{Posts}
 use Rattle.echo_stations.specs.Nets.{Net, with_base}
-use Rattle.echo_stations.proofs.BaseFiles.{file-fits, kept-base, one-file, saved-file, state_of}
+use Rattle.echo_stations.proofs.BaseFiles.{file-fits, kept-base, one-file, saved-file}
 use Rattle.echo_stations.proofs.Leavings.{called-on, left}
 use Rattle.echo_stations.proofs.Pairs.{paired-nth, paired-put}
 use Rattle.echo_stations.proofs.Postings.{Lengthens, changed-among, still-only, still-posted}

@@ -6,13 +6,13 @@ use Rattle.echo_steps.specs.Purging.{purged}
 use Rattle.echo_steps.specs.SystemState.{SystemState}
 use Rattle.echo_steps.proofs.Purged.{purge_keeps}
 use Rattle.echo_run.specs.Event.{Purging}
-use Rattle.echo_run.specs.Run.{Run, after_event, purging_at}
+use Rattle.echo_run.specs.Run.{Run, after_event, purging_at, state_of}
 use Rattle.echo_run.proofs.Lists.{nth-among, some_same}
 use Rattle.echo_changing.specs.declared.leaving.Files.{Files}
 use Rattle.echo_stations.specs.Agreement.{Agrees, HasFiles, IsPacketFile}
 use Rattle.echo_stations.specs.Commands.{Purges}
 use Rattle.echo_stations.specs.Nets.{Net, Paired, with_base}
-use Rattle.echo_stations.proofs.BaseFiles.{kept-base, saved-file, state_of}
+use Rattle.echo_stations.proofs.BaseFiles.{kept-base, saved-file}
 use Rattle.echo_stations.proofs.Leavings.{called-on, left}
 use Rattle.echo_stations.proofs.Pairs.{paired-nth, paired-put}
 use Rattle.echo_stations.proofs.Postings.{still-only, still-posted}

@@ -12,7 +12,7 @@ use Rattle.echo_steps.specs.Scanning.{scanned}
 use Rattle.echo_steps.specs.Stamps.{is_stamp}
 use Rattle.echo_steps.specs.SystemState.{SystemState}
 use Rattle.echo_run.specs.Event.{Scanning}
-use Rattle.echo_run.specs.Run.{Run, System, after_event, change, nth, scanning, scanning_at}
+use Rattle.echo_run.specs.Run.{Run, System, after_event, change, nth, scanning, scanning_at, state_of}
 use Rattle.echo_run.proofs.Lists.{nth-among, some_same}
 use Rattle.echo_changing.specs.declared.leaving.Files.{Files}
 use Rattle.echo_changing.specs.declared.leaving.PacketFile.{PacketFile}
@@ -20,7 +20,7 @@ use Rattle.echo_changing.specs.Scanned.{file_sent}
 use Rattle.echo_stations.specs.Agreement.{Agrees, HasFiles, IsPacketFile}
 use Rattle.echo_stations.specs.Commands.{Scans}
 use Rattle.echo_stations.specs.Nets.{Net, Paired, bytes_of, with_base, with_left}
-use Rattle.echo_stations.proofs.BaseFiles.{file-fits, kept-base, saved-file, state_of}
+use Rattle.echo_stations.proofs.BaseFiles.{file-fits, kept-base, saved-file}
 use Rattle.echo_stations.proofs.Leavings.{called-on, left}
 use Rattle.echo_stations.proofs.Packets.{scanned-fit}
 use Rattle.echo_stations.proofs.Pairs.{paired-append, paired-nth, paired-put}

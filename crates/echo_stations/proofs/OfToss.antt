@@ -15,7 +15,7 @@ use Rattle.echo_toss.specs.declared.fault.TossFault.{TossFault}
 use Rattle.echo_toss.specs.declared.tally.Tally.{Tally}
 use Rattle.echo_toss.specs.PacketSteps.{IsForUs, PacketStep}
 use Rattle.echo_run.specs.Event.{Delivery, PartDelivery, RunEvent}
-use Rattle.echo_run.specs.Run.{Run, System, after_events, change, coming, delivery, destination, nth, part_delivery, receiver, taking, with_index}
+use Rattle.echo_run.specs.Run.{Run, System, after_events, change, coming, delivery, destination, nth, part_delivery, receiver, state_of, taking, with_index}
 use Rattle.echo_run.proofs.LaterSystems.{after-append}
 use Rattle.echo_run.proofs.Lists.{none_some, nth-among, some_same}
 use Rattle.echo_status.specs.declared.fault.Fault.{Fault}
@@ -27,7 +27,7 @@ use Rattle.echo_changing.specs.TossedPacket.{HasTossedPacket, ReportsPacket, Tos
 use Rattle.echo_stations.specs.Agreement.{Agrees, AreTossesOf, HasFiles, HasPosting, IsPacketFile, IsTossOf, own_address}
 use Rattle.echo_stations.specs.Commands.{IsPacketAt, Tosses, itself, whole_of}
 use Rattle.echo_stations.specs.Nets.{Net, Paired, with_base, with_indexes, with_tossed}
-use Rattle.echo_stations.proofs.BaseFiles.{file-fits, kept-base, saved-file, state_of}
+use Rattle.echo_stations.proofs.BaseFiles.{file-fits, kept-base, saved-file}
 use Rattle.echo_stations.proofs.Leavings.{called-on}
 use Rattle.echo_stations.proofs.Pairs.{change-again, change-found, change-here, change-map, change-same, paired-nth, paired-put}
 use Rattle.echo_stations.proofs.Places.{place-of}

@@ -15,29 +15,16 @@ use Rattle.echo_steps.specs.SystemState.{SystemState}
 use Rattle.echo_steps.specs.Tossing.{destination_of, sender_of, received, tossed, tossing, zone_of}
 use Rattle.echo_steps.proofs.Received.{tossing_received}
 use Rattle.echo_steps.proofs.Kept.{tossing_keeps}
-use Rattle.echo_run.specs.Run.{System, destination, filing, taking, tossing_at}
+use Rattle.echo_run.specs.Run.{System, destination, filing, state_of, taking, tossing_at}
 use Rattle.echo_run.proofs.Lists.{none_some}
+use Rattle.echo_run.proofs.States.{tossing-state}
 use Rattle.echo_stations.specs.Agreement.{HasPosting, IsPacketFile}
-use Rattle.echo_stations.proofs.BaseFiles.{state_of}
 use Rattle.echo_stations.proofs.OfPost.{filing-lengthens}
 use Rattle.echo_stations.proofs.Packets.{all-take}
 use Rattle.echo_stations.proofs.Postings.{Lengthens}
 use Rattle.echo_stations.proofs.Readings.{after_messages}
 
--- the state of a system that tosses messages
-pub tossing-state : (sender : Address) (ms : List Message) (s : System)
-    → state_of (tossing_at sender ms s) ≡ record { file = s.file; base = tossed s.file s.base sender ms; cursor = s.cursor }
-tossing-state sender [] s = refl
-tossing-state sender (m ∷ ms) s = by (tossing s.file s.base sender m) (tossing-state sender ms)
-  where
-    by : (o : Option Filed)
-        → ((z : System) → state_of (tossing_at sender ms z) ≡ record { file = z.file; base = tossed z.file z.base sender ms; cursor = z.cursor })
-        → state_of (tossing_at sender ms (filing s o)) ≡ record { file = s.file; base = tossed s.file (s.base ++ option_to_list o) sender ms; cursor = s.cursor }
-    by None later =
-        later s
-        ∙ (let e = sym (append-nil s.base) in λ i. record { file = s.file; base = tossed s.file (e i) sender ms; cursor = s.cursor })
-    by (Some x) later = later (filing s (Some x))
-
+-- the state of a system that some messages of a packet reached
 pub taking-state : (p : Packet) (n : ℕ) (s : System) → state_of (taking p n s) ≡ after_messages (state_of s) p (take n p.messages)
 taking-state p n s = tossing-state (sender_of s.file p.header) (take n p.messages) s
 

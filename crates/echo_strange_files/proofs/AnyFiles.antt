@@ -15,8 +15,9 @@ use Rattle.echo_steps.specs.Tossing.{sender_of}
 use Rattle.echo_toss.specs.declared.fault.TossFault.{TossFault}
 use Rattle.echo_toss.specs.declared.tally.Tally.{Tally}
 use Rattle.echo_toss.specs.PacketSteps.{BeginsWith, PacketStep}
-use Rattle.echo_run.specs.Run.{System, tossing_at}
+use Rattle.echo_run.specs.Run.{System, state_of, tossing_at}
 use Rattle.echo_run.proofs.Lists.{none_some}
+use Rattle.echo_run.proofs.States.{tossing-state}
 use Rattle.echo_status.specs.Devices.{Device}
 use Rattle.echo_status.specs.declared.fault.Fault.{Fault}
 use Rattle.echo_changing.specs.Coming.{Coming, Fails, Holds, Unknown}
@@ -24,9 +25,8 @@ use Rattle.echo_changing.specs.Tossed.{TossesEach, TossesFile}
 use Rattle.echo_changing.specs.TossedPacket.{HasTossedPacket, ReportsPacket, TossRun, TossesPacket}
 use Rattle.echo_stations.specs.Agreement.{HasPosting}
 use Rattle.echo_stations.specs.Commands.{itself}
-use Rattle.echo_stations.proofs.BaseFiles.{state_of}
 use Rattle.echo_stations.proofs.OfToss.{left-behind}
-use Rattle.echo_stations.proofs.Tossed.{small-zone, tossed-base, tossing-longer, tossing-posted, tossing-state}
+use Rattle.echo_stations.proofs.Tossed.{small-zone, tossed-base, tossing-longer, tossing-posted}
 use Rattle.echo_strangers.specs.Lone.{LoneEvent, LoneSystem, PostHere, PurgeHere, ScanHere, TossHere, after_all_lone, with_system}
 use Rattle.echo_strangers.proofs.Growing.{events-append, tossing-grows}
 use Rattle.echo_strange_files.specs.LoneFiles.{AreAnyFiles, held_in, tossed_whole}

@@ -133,40 +133,41 @@ fn run_replay<'a, W: Sink>(
     replay(rt.alloc(), &script, &files, stopped, hasher, out)
 }
 
+// The words are lent, so that no case has to be proved to drop what another one has.
 fn run_words<W: Sink, E: Sink>(
     rt: &HostRuntime,
-    words: Words<'_>,
+    words: &Words<'_>,
     out: &mut W,
     errors: &mut E,
 ) -> Status {
     match words {
-        Words::Show { hex, packet } => ended(run_show(rt, hex, packet, out), errors),
-        Words::Nodelist { find, file } => ended(run_nodelist(rt, find, file, out), errors),
+        Words::Show { hex, packet } => ended(run_show(rt, *hex, *packet, out), errors),
+        Words::Nodelist { find, file } => ended(run_nodelist(rt, *find, *file, out), errors),
         Words::Check {
             nodelist,
             tag,
             links,
         } => ended(
-            run_check(rt, nodelist, tag, &names_of(rt, &links), out),
+            run_check(rt, *nodelist, *tag, &names_of(rt, links), out),
             errors,
         ),
-        Words::Links { areas, links } => run_links(rt, areas, &names_of(rt, &links), out, errors),
-        Words::Why { tag, links } => ended(run_why(rt, tag, &names_of(rt, &links), out), errors),
+        Words::Links { areas, links } => run_links(rt, *areas, &names_of(rt, links), out, errors),
+        Words::Why { tag, links } => ended(run_why(rt, *tag, &names_of(rt, links), out), errors),
         Words::Picture { tag, links } => {
-            ended(run_picture(rt, tag, &names_of(rt, &links), out), errors)
+            ended(run_picture(rt, *tag, &names_of(rt, links), out), errors)
         }
-        Words::Post(words) => run_post(rt, &words, out, errors),
-        Words::Toss(words) => run_toss(rt, &words, out, errors),
+        Words::Post(words) => run_post(rt, words, out, errors),
+        Words::Toss(words) => run_toss(rt, words, out, errors),
         Words::Scan {
             at,
             links,
             base,
             folder,
-        } => run_scan(rt, at, links, base, folder, out, errors),
-        Words::Purge { links, base } => run_purge(rt, links, base, out, errors),
-        Words::List { area, from, base } => ended(run_list(rt, area, from, base, out), errors),
+        } => run_scan(rt, *at, *links, *base, *folder, out, errors),
+        Words::Purge { links, base } => run_purge(rt, *links, *base, out, errors),
+        Words::List { area, from, base } => ended(run_list(rt, *area, *from, *base, out), errors),
         Words::Replay { script, links } => {
-            ended(run_replay(rt, script, &names_of(rt, &links), out), errors)
+            ended(run_replay(rt, *script, &names_of(rt, links), out), errors)
         }
     }
 }
@@ -206,7 +207,7 @@ fn run(rt: &HostRuntime) -> Status {
     match parse(rt.alloc(), words.as_slice()) {
         Ok(Some(asked)) => run_words(
             rt,
-            asked,
+            &asked,
             &mut Watched::new(rt.stdout()),
             &mut Watched::new(rt.stderr()),
         ),
