@@ -10,8 +10,6 @@ top=$PWD
 name=$1 total=$2 kind=${3:-lib}
 log=$top/bin/$name.log
 tree=$top/bin/trees/$name
-jobs=$(nproc)
-[ "$jobs" -le 4 ] || jobs=4
 mkdir -p bin/proved
 
 # The crates of this tree that a crate stands on, and it.
@@ -28,8 +26,9 @@ below() {
     END { go(wanted) }' crates.txt
 }
 
-# How many crates stand one on another above a crate, at most: the longer that chain, the sooner it is wanted.
-chain_above() {
+# How many crates stand one on another above a crate, at most: the longer that chain, the sooner it is wanted. And
+# by how many crates the longest chain through it is shorter than the longest of all.
+chains() {
   awk -v wanted="$1" '
     /^[a-z_]*:/ { split($0, parts, ":"); uses[parts[1]] = parts[2] " " }
     function height(crate, most, other, above) {
@@ -42,7 +41,22 @@ chain_above() {
         }
       return heights[crate] = most
     }
-    END { print height(wanted) }' crates.txt
+    function depth(crate, most, list, n, i, under) {
+      if (crate in depths) return depths[crate]
+      most = 0
+      n = split(uses[crate], list, " ")
+      for (i = 1; i <= n; i++)
+        if (list[i] in uses) {
+          under = depth(list[i]) + 1
+          if (under > most) most = under
+        }
+      return depths[crate] = most
+    }
+    END {
+      for (crate in uses)
+        if (height(crate) + depth(crate) > longest) longest = height(crate) + depth(crate)
+      print height(wanted), longest - height(wanted) - depth(wanted)
+    }' crates.txt
 }
 
 # Puts what is kept of earlier runs back, however this one ends.
@@ -73,9 +87,19 @@ rmdir "$tree/crates/$name/out"
 if [ -d "crates/$name/out" ]; then mv -T "crates/$name/out" "$tree/crates/$name/out"; fi
 
 # A crate on which little stands gives way to the others.
-spare=$((18 - 2 * $(chain_above "$name")))
+read -r above shorter < <(chains "$name")
+spare=$((18 - 2 * above))
 [ "$spare" -ge 0 ] || spare=0
 renice -n "$spare" $$ > /dev/null 2>&1
+
+# Each process loads all that stands below the crate, which takes a third of the time. So only a crate for which others
+# wait is proved by many.
+case $shorter in
+  0) jobs=4 ;;
+  1) jobs=2 ;;
+  *) jobs=1 ;;
+esac
+[ "$jobs" -le "$(nproc)" ] || jobs=$(nproc)
 
 if [ "$kind" = run ]; then
   (cd "$tree/crates/$name" && rt run --jobs "$jobs" -- "${@:4}") > "$log" 2>&1
