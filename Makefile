@@ -43,11 +43,12 @@ $(foreach name,$(tried),$(eval $(call crate_rule,$(name))))
 bin/echonet: bin/proved/echonet
 	@cp crates/echonet/out/echonet bin/echonet
 else
-# The crates are proved side by side, one for each processor: make takes their number from a command line
-# alone. What has to be proved anew is known to the make that is called here.
+# The crates are proved side by side, two more than there are processors, since those on which little stands give way to
+# the others: make takes their number from a command line alone. What has to be proved anew is known to the make
+# that is called here.
 .PHONY: bin/echonet
 bin/echonet: toolchain
-	@$(MAKE) --no-print-directory --jobs=$(shell nproc) proving=1 bin/echonet $(if $(filter trials,$(MAKECMDGOALS)),bin/proved/bench)
+	@$(MAKE) --no-print-directory --jobs=$$(($$(nproc) + 2)) proving=1 bin/echonet $(if $(filter trials,$(MAKECMDGOALS)),bin/proved/bench)
 endif
 
 test: toolchain
