@@ -11,13 +11,13 @@ use Rattle.echo_steps.specs.declared.stamp.Stamp.{Stamp}
 use Rattle.echo_steps.specs.Scanning.{scanned}
 use Rattle.echo_steps.specs.Stamps.{is_stamp}
 use Rattle.echo_steps.specs.SystemState.{SystemState}
-use Rattle.echo_run.specs.Run.{Run, System, change, scanning_at}
+use Rattle.echo_run.specs.Run.{Run, System, change, scanning_at, state_of}
 use Rattle.echo_changing.specs.Coming.{Coming}
 use Rattle.echo_changing.specs.Posted.{draft_given}
 use Rattle.echo_changing.specs.Tossed.{run_begun}
 use Rattle.echo_stations.specs.Agreement.{Agrees, HasFiles, HasPosting, IsPacketFile}
 use Rattle.echo_stations.specs.Nets.{Paired, Station, with_base, with_left}
-use Rattle.echo_stations.proofs.BaseFiles.{file-fits, kept-base, saved-file, state_of}
+use Rattle.echo_stations.proofs.BaseFiles.{file-fits, kept-base, saved-file}
 use Rattle.echo_stations.proofs.Leavings.{called-on}
 use Rattle.echo_stations.proofs.OfPost.{post-agrees}
 use Rattle.echo_stations.proofs.OfPurge.{purge-agrees}
