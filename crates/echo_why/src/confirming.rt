@@ -40,7 +40,8 @@ pub(crate) fn confirmed(
         moves,
         guess,
     } = plan;
-    let Some(id) = id_of_posting(alloc, &files, poster)? else {
+    let named = id_of_posting(alloc, &files, poster)?;
+    let Some(id) = named else {
         return Ok(None);
     };
     let events = events_of(alloc, poster, tag, &moves)?;
