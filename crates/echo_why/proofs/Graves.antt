@@ -1,5 +1,5 @@
 -- A fault that always does harm is one that the trials show.
-use Rattle.std.proofs.Common.{◌≡◌, IsTrue, ℕ, List}
+use Rattle.std.proofs.Common.{IsTrue, ℕ, List}
 use Rattle.echo_addr.specs.declared.address.Address.{Address}
 use Rattle.echo_links.specs.Links.{LinkFile}
 use Rattle.echo_net.specs.declared.verdict.NetFault.{NetFault}

@@ -1,14 +1,12 @@
 -- A guess that is not found in a run is wrong of it.
-use Rattle.std.proofs.Common.{◌≡◌, ap, ℕ, ◌≤◌, arith, List, Some}
-use Rattle.std.specs.Prelude.{true, false, IfOk, Result, Ok, Err}
-use Rattle.echo_addr.specs.declared.address.Address.{Address}
-use Rattle.echo_graph.specs.Walk.{Among}
+use Rattle.std.proofs.Common.{◌≡◌, ℕ, ◌≤◌, arith, List, Some}
+use Rattle.std.specs.Prelude.{true, IfOk, Result, Ok, Err}
 use Rattle.echo_filed.specs.declared.key.Key.TheVariants.{ById}
 use Rattle.echo_links.specs.Links.{has_area}
 use Rattle.echo_run.specs.Run.{Run, System, nth}
 use Rattle.echo_run.specs.Orderly.{sent_count}
 use Rattle.echo_run.specs.World.{area_count, is_settled}
-use Rattle.echo_why.specs.Guesses.{IsAgain, IsLacking, IsOwn, IsToNobody}
+use Rattle.echo_why.specs.Guesses.{IsAgain, IsLacking, IsOwn}
 
 -- what follows from what holds of an answer holds of it
 pub ok_more : {T E : Type 0} (r : Result T E) (P Q : T → Type 0) → ((x : T) → P x → Q x) → IfOk r P → IfOk r Q

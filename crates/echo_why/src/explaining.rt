@@ -46,21 +46,22 @@ pub fn explain(
     if is_enough(fault, quick.as_ref()) {
         return Ok(quick);
     }
-    let sure = by_fault(alloc, sources, tag, fault, hasher)?;
-    match sure {
-        Some(shown) => Ok(Some(shown)),
-        None => Ok(quick),
-    }
+    let found = by_fault(alloc, sources, tag, fault, hasher)?;
+    Ok(found)
 }
 
-// Whether a run was found, and it is as bad as the fault lets one expect.
+// Whether what was found is as bad as the fault lets one expect.
 fn is_enough(fault: &NetFault, found: Option<&Shown>) -> bool
     ensures exact { IsTrue result → AlwaysHarms fault.now → FindsHarm (option_copied found.entry) }
     ensures nowhere { IsTrue result → (files : List File) → LeadsNowhere files fault.now → FindsSome (option_copied found.entry) }
 {
     match fault {
+        NetFault::NoSuchArea | NetFault::TwoFiles(_) | NetFault::SameNetNode(_, _) => true,
         NetFault::Unknown(_, _) => found.is_some(),
-        _ => breaks_promise(found),
+        NetFault::SelfLink(_)
+        | NetFault::OneSided(_, _)
+        | NetFault::Apart(_, _)
+        | NetFault::Loop(_) => breaks_promise(found),
     }
 }
 

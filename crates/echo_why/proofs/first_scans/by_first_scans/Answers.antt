@@ -1,4 +1,4 @@
-use Rattle.std.proofs.Common.{arith, below_more, length, subst, Option}
+use Rattle.std.proofs.Common.{arith, below_more, sym, subst, Option}
 use Rattle.std.specs.Prelude.{IfSome}
 use Rattle.std.proofs.lemmas.List.{length-map}
 use Rattle.echo_links.specs.LinkLines.{file_of}

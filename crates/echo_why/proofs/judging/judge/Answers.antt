@@ -1,5 +1,4 @@
 use Rattle.std.proofs.Common.{subst}
-use Rattle.echo_run.specs.Run.{Run}
 use Rattle.echo_why.specs.declared.guess.Guess.{Guess}
 use Rattle.echo_why.specs.Guesses.{GuessBreaks, IsRight}
 use Rattle.echo_why.proofs.Guessing.{not_again, not_lacking, not_own, ok_more}
