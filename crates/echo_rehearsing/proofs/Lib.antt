@@ -1,3 +1,4 @@
+pub mod Explaining
 pub mod Reasons
 pub mod WorldLines
 pub mod Replays

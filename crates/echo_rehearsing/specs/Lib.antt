@@ -1,4 +1,5 @@
 pub mod Whys
+pub mod Explained
 pub mod Reasoning
 pub mod Replayed
 pub mod Replaying

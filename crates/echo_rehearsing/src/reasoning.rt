@@ -7,15 +7,16 @@ use echo_addr::Items;
 use echo_checking::status_of;
 use echo_device::Sink;
 use echo_status::{Fault, Status, link_files, print_rest};
-use echo_why::find_harm;
+use echo_why::explain;
 use std::alloc::Global;
 use std::hash::RandomState;
 
 /// `why TAG LINKS...`: prints what `check` finds of the area of the tag, its letters made upper case, as a
 /// note, and then, where that is no and one is found, the events of a run on the net of these link files that
-/// goes wrong, as a script for `replay`, and what goes wrong. It has the status that `check` has. Of a faulty
-/// file nothing is printed; the first fault is answered. `stopped` is why no further file was read, and comes
-/// last. Look-ups go by the hasher.
+/// goes wrong, as a script for `replay`, and what goes wrong. By V3, V5, V7 and V8 one is found that breaks the
+/// promise, and by V4 one of any kind where no file has the address. It has the status that `check` has. Of a
+/// faulty file nothing is printed; the first fault is answered. `stopped` is why no further file was read, and
+/// comes last. Look-ups go by the hasher.
 pub fn why<'a, W: Sink>(
     alloc: Global,
     tag: &[u8],
@@ -32,7 +33,7 @@ pub fn why<'a, W: Sink>(
     }
     let tag = tag.to_ascii_uppercase(alloc)?;
     let verdict = echo_net::check(alloc, &links, &tag)?;
-    let found = find_harm(alloc, links, &tag, &verdict, hasher)?;
+    let found = explain(alloc, files, &tag, &verdict, hasher)?;
     let mut lines = Vec::new(alloc);
     push_why(&mut lines, &tag, &verdict, found.as_ref())?;
     print_rest(&mut lines, out)?;

@@ -5,4 +5,6 @@ pub mod Rested
 pub mod Harmless
 pub mod Graves
 pub mod Complete
+pub mod Guessing
+pub mod FirstScans
 pub mod OfBytes

@@ -73,6 +73,11 @@ abbrev pub FindsHarm : Option Shown → Type 0
 FindsHarm None = ⊥
 FindsHarm (Some shown) = BreaksIt shown.harm
 
+-- a run that goes wrong is found
+abbrev pub FindsSome : Option Shown → Type 0
+FindsSome None = ⊥
+FindsSome (Some shown) = Unit {0}
+
 -- what is shown is a run on these link files, and the run has the harm
 abbrev pub IsShown : List LinkFile → List ℕ → Shown → Type 0
 IsShown files tag shown = HasHarm (shown_run files shown.poster tag shown.moves) tag shown.id shown.harm

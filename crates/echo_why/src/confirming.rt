@@ -1,23 +1,27 @@
 //! A guess is tried on real packets.
 
-ghost use Rattle.std.specs.Prelude.{◌≡◌, IfOk, IfSome, MatchOption, None, Some};
-ghost use Rattle.echo_links.specs.Links.{LinkFile as File};
+ghost use Rattle.std.specs.Prelude.{◌≡◌, IfOk, IfSome, IsTrue, MatchOption, None, Some};
+ghost use Rattle.echo_links.specs.Links.{LinkFile as File, has_area};
+ghost use Rattle.echo_run.specs.Fits.{FilesFit};
 ghost use Rattle.echo_run.specs.Run.{nth};
 ghost use Rattle.echo_text.specs.Ids.{id_of};
-ghost use Rattle.echo_why.specs.Found.{IsShown};
+ghost use Rattle.echo_why.specs.Found.{BreaksIt, IsShown};
+ghost use Rattle.echo_why.specs.Guesses.{GuessBreaks, IsRight};
+ghost use Rattle.echo_why.specs.Shown.{shown_run};
 
 use crate::events::{SERIAL, events_of};
 use crate::guess::Plan;
 use crate::judging::judge;
 use crate::shown::Shown;
 use echo_addr::Items;
+use echo_harm::runs_are_known;
 use echo_links::LinkFile;
 use echo_replay::replay;
 use echo_text::MsgId;
 use std::alloc::{AllocError, Global};
 use std::hash::RandomState;
 
-/// The run of the plan, where its guess holds of what these events do to the net of these link files.
+/// The run of the plan, just where its guess is right of what these events do to the net of these link files.
 pub(crate) fn confirmed(
     alloc: Global,
     files: Vec<LinkFile>,
@@ -25,14 +29,19 @@ pub(crate) fn confirmed(
     plan: Plan,
     hasher: RandomState,
 ) -> Result<Option<Shown>, AllocError>
-    ensures { IfOk result (λ found. IfSome found (IsShown files.items tag.now)) }
+    ensures shown { IfOk result (λ found. IfSome found (IsShown files.items tag.now)) }
+    ensures breaks { IfOk result (λ found. GuessBreaks plan.guess → IfSome found (λ shown. BreaksIt shown.harm)) }
+    ensures none { IfOk result (λ found. found ≡ None → FilesFit files.items → (file : File) → nth plan.poster files.items ≡ Some file → IsTrue (has_area file tag.now) →
+        ¬ IsRight (shown_run files.items plan.poster tag.now plan.moves.items) plan.poster tag.now (id_of file.system SERIAL) plan.guess) }
 {
+    runs_are_known();
     let Plan {
         poster,
         moves,
         guess,
     } = plan;
-    let Some(id) = id_of_posting(alloc, &files, poster)? else {
+    let named = id_of_posting(alloc, &files, poster)?;
+    let Some(id) = named else {
         return Ok(None);
     };
     let events = events_of(alloc, poster, tag, &moves)?;

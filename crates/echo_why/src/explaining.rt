@@ -1,13 +1,16 @@
 //! Why an area is not in order: a run that goes wrong, wherever the fault is one that always does harm.
 
-ghost use Rattle.std.specs.Prelude.{IfOk, IfSome, IsTrue, List, ℕ, option_copied};
+ghost use Rattle.std.specs.Prelude.{IfOk, IfSome, IsTrue, List, option_copied};
 ghost use Rattle.echo_links.specs.Links.{LinkFile as File};
 ghost use Rattle.echo_net.specs.Faults.{IfNo, IsFirstFault};
-ghost use Rattle.echo_why.specs.Exact.{AlwaysHarms};
-ghost use Rattle.echo_why.specs.Found.{FindsHarm, IsShown};
+ghost use Rattle.echo_run.specs.Fits.{FilesFit};
+ghost use Rattle.echo_why.specs.Exact.{AlwaysHarms, LeadsNowhere};
+ghost use Rattle.echo_why.specs.Found.{FindsHarm, FindsSome, IsShown};
 ghost use Rattle.echo_why.specs.Sources.{files_of};
 
 use crate::finding::find_harm;
+use crate::first_scans::by_first_scans;
+use crate::guess::Guess;
 use crate::shown::{Harm, Shown};
 use crate::sources::read_files;
 use crate::trying::by_trials;
@@ -31,18 +34,35 @@ pub fn explain(
 ) -> Result<Option<Shown>, AllocError>
     ensures shown { IfOk result (λ found. IfSome found (IsShown (files_of sources.now) tag.now)) }
     ensures exact { IfOk result (λ found. IfNo verdict.now (λ fault. IsFirstFault (files_of sources.now) tag.now fault →
-        AlwaysHarms (files_of sources.now) tag.now fault → FindsHarm found)) }
+        AlwaysHarms fault → FindsHarm found)) }
+    ensures nowhere { IfOk result (λ found. IfNo verdict.now (λ fault. IsFirstFault (files_of sources.now) tag.now fault →
+        LeadsNowhere (files_of sources.now) fault → FindsSome found)) }
 {
+    let Verdict::No(fault) = verdict else {
+        return Ok(None);
+    };
     let files = read_files(alloc, sources)?;
     let quick = find_harm(alloc, files, tag, verdict, hasher)?;
-    if breaks_promise(quick.as_ref()) {
+    if is_enough(fault, quick.as_ref()) {
         return Ok(quick);
     }
-    if !always_harms(verdict) {
-        return Ok(quick);
-    }
-    let found = by_trials(alloc, sources, tag, hasher)?;
+    let found = by_fault(alloc, sources, tag, fault, hasher)?;
     Ok(found)
+}
+
+// Whether what was found is as bad as the fault lets one expect.
+fn is_enough(fault: &NetFault, found: Option<&Shown>) -> bool
+    ensures exact { IsTrue result → AlwaysHarms fault.now → FindsHarm (option_copied found.entry) }
+    ensures nowhere { IsTrue result → (files : List File) → LeadsNowhere files fault.now → FindsSome (option_copied found.entry) }
+{
+    match fault {
+        NetFault::NoSuchArea | NetFault::TwoFiles(_) | NetFault::SameNetNode(_, _) => true,
+        NetFault::Unknown(_, _) => found.is_some(),
+        NetFault::SelfLink(_)
+        | NetFault::OneSided(_, _)
+        | NetFault::Apart(_, _)
+        | NetFault::Loop(_) => breaks_promise(found),
+    }
 }
 
 // Whether a run was found, and it breaks the promise.
@@ -58,27 +78,28 @@ fn breaks_promise(found: Option<&Shown>) -> bool
     }
 }
 
-// Whether some run breaks the promise wherever the fault stands.
-fn always_harms(verdict: &Verdict) -> bool
-    ensures { (files : List File) (area : List ℕ) → IfNo verdict.now (λ fault. AlwaysHarms files area fault → IsTrue result) }
-{
-    match verdict {
-        Verdict::Yes { .. } => false,
-        Verdict::No(fault) => is_grave(fault),
-    }
-}
-
-fn is_grave(fault: &NetFault) -> bool
-    ensures { (files : List File) (area : List ℕ) → AlwaysHarms files area fault.now → IsTrue result }
+// Systems post in turn until it shows, where the fault is one that always does.
+fn by_fault(
+    alloc: Global,
+    sources: &[Items<u8>],
+    tag: &[u8],
+    fault: &NetFault,
+    hasher: RandomState,
+) -> Result<Option<Shown>, AllocError>
+    ensures shown { IfOk result (λ found. IfSome found (IsShown (files_of sources.now) tag.now)) }
+    ensures exact { IfOk result (λ found. FilesFit (files_of sources.now) → IsFirstFault (files_of sources.now) tag.now fault.now →
+        AlwaysHarms fault.now → FindsHarm found) }
+    ensures nowhere { IfOk result (λ found. FilesFit (files_of sources.now) → IsFirstFault (files_of sources.now) tag.now fault.now →
+        LeadsNowhere (files_of sources.now) fault.now → FindsSome found) }
 {
     match fault {
-        NetFault::SelfLink(_)
-        | NetFault::OneSided(_, _)
-        | NetFault::Apart(_, _)
-        | NetFault::Loop(_) => true,
-        NetFault::NoSuchArea
-        | NetFault::TwoFiles(_)
-        | NetFault::Unknown(_, _)
-        | NetFault::SameNetNode(_, _) => false,
+        NetFault::SelfLink(_) => by_first_scans(alloc, sources, tag, Guess::Own, hasher),
+        NetFault::Unknown(_, link) => {
+            by_first_scans(alloc, sources, tag, Guess::Nobody(*link), hasher)
+        }
+        NetFault::OneSided(_, _) | NetFault::Apart(_, _) | NetFault::Loop(_) => {
+            by_trials(alloc, sources, tag, hasher)
+        }
+        NetFault::NoSuchArea | NetFault::TwoFiles(_) | NetFault::SameNetNode(_, _) => Ok(None),
     }
 }

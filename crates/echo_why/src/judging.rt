@@ -9,6 +9,7 @@ ghost use Rattle.echo_run.specs.Run.{Run, System, nth};
 ghost use Rattle.echo_run.specs.World.{area_count, is_settled};
 ghost use Rattle.echo_replay.specs.Worlds.{IsWorldOf};
 ghost use Rattle.echo_why.specs.Found.{BreaksIt, CarriesAt, HasHarm, PostedAt};
+ghost use Rattle.echo_why.specs.Guesses.{GuessBreaks, IsRight, IsToNobody};
 ghost use Rattle.echo_why.specs.Resting.{DoesNoHarm, IsWell, PostsFirst};
 
 use crate::copies::{is_posting, sent_times};
@@ -19,8 +20,8 @@ use echo_replay::World;
 use echo_run::settled_runs_settle_each_area;
 use std::alloc::{AllocError, Global};
 
-/// The harm that the guess says, where the net has it, by the message with this tag and id that the system
-/// of index `poster` posted. Fails only when out of memory.
+/// The harm that the guess says, just where it is right of the net, by the message with this tag and id that
+/// the system of index `poster` posted. Fails only when out of memory.
 pub(crate) fn judge(
     alloc: Global,
     world: &World,
@@ -29,7 +30,10 @@ pub(crate) fn judge(
     id: &[u8],
     guess: Guess,
 ) -> Result<Option<Harm>, AllocError>
-    ensures { IfOk result (λ found. IfSome found (λ harm. (run : Run) → IsWorldOf world.now run → HasHarm run tag.now id.now harm)) }
+    ensures harm { IfOk result (λ found. IfSome found (λ harm. (run : Run) → IsWorldOf world.now run → HasHarm run tag.now id.now harm)) }
+    ensures breaks { IfOk result (λ found. GuessBreaks guess → IfSome found BreaksIt) }
+    ensures none { IfOk result (λ found. found ≡ None → (run : Run) → IsWorldOf world.now run → PostsFirst run poster tag.now id.now →
+        ¬ IsRight run poster tag.now id.now guess) }
 {
     match guess {
         Guess::Again(system) => sent_again(alloc, world, system, tag, id),
@@ -179,7 +183,8 @@ fn gone_to_nobody(
     tag: &[u8],
     id: &[u8],
 ) -> Result<Option<Harm>, AllocError>
-    ensures { IfOk result (λ found. IfSome found (λ harm. (run : Run) → IsWorldOf world.now run → HasHarm run tag.now id.now harm)) }
+    ensures harm { IfOk result (λ found. IfSome found (λ harm. (run : Run) → IsWorldOf world.now run → HasHarm run tag.now id.now harm)) }
+    ensures none { IfOk result (λ found. found ≡ None → (run : Run) → IsWorldOf world.now run → ¬ IsToNobody run tag.now id.now to) }
 {
     if !is_nobody(world, to) {
         return Ok(None);
@@ -193,7 +198,8 @@ fn gone_to_nobody(
 
 // Whether no system has the address.
 fn is_nobody(world: &World, to: Address) -> bool
-    ensures { IsTrue result → (run : Run) → IsWorldOf world.now run → (s : System) → Among s run.systems → s.file.system ≢ to }
+    ensures yes { IsTrue result → (run : Run) → IsWorldOf world.now run → (s : System) → Among s run.systems → s.file.system ≢ to }
+    ensures no { result ≡ false → (run : Run) → IsWorldOf world.now run → (s : System) × Among s run.systems × (s.file.system ≡ to) }
 {
     'systems: for i in 0..world.systems() {
         if has_address(world, i, to) {

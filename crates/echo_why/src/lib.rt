@@ -1,13 +1,15 @@
 //! Why an area is not in order: a run on its link files that goes wrong.
 //!
-//! The contract for the layer above is that of `find_harm`: the run that it answers has the harm that it names.
-//! Where the run comes from does not matter to that: a plan is made by rule of thumb, and then it is tried
-//! on real packets.
+//! The contract for the layer above is that of `explain`: the run that it answers has the harm that it names,
+//! and where the fault always does harm it answers one. A plan is made by rule of thumb and tried on real
+//! packets (`find_harm`); where that shows too little, systems post in turn until it shows.
 //!
 //! Modules in reading order: `shown` (what is answered), `copies` (one message in the packets of a net),
-//! `guess`, `judging` (whether a guess holds of a net), `events` and `confirming` (a plan is tried);
+//! `guess`, `judging` (whether a guess is right of a net), `events` and `confirming` (a plan is tried);
 //! `sketch` (how a message would spread), `needed` (which moves a guess needs), `circle` (a short loop),
-//! `planning` (whose posting is tried) and `finding` (the whole); `laws` (what holds of what is shown).
+//! `planning` (whose posting is tried) and `finding` (the plan, tried); `sources` (link files from bytes),
+//! `first_scans`, `rounds` and `trying` (systems post in turn) and `explaining` (the whole); `laws` (what
+//! holds of what is shown).
 #![tactic(auto)]
 
 mod circle;
@@ -16,6 +18,7 @@ mod copies;
 mod events;
 mod explaining;
 mod finding;
+mod first_scans;
 mod guess;
 mod judging;
 mod laws;

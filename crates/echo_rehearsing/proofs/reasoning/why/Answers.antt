@@ -1,12 +1,11 @@
 use Rattle.std.proofs.Common.{◌≡◌, ◌++◌, ℕ, List, Option, inl, refl, subst}
 use Rattle.std.proofs.lemmas.Result.{err_from_is_err_and}
-use Rattle.std.specs.Prelude.{IfSome}
 use Rattle.echo_links.specs.Links.{LinkFile}
 use Rattle.echo_rehearsing.specs.Whys.{why_lines}
-use Rattle.echo_why.specs.declared.shown.Shown.{Shown}
-use Rattle.echo_why.specs.Found.{IsShown}
+use Rattle.echo_why.specs.Sources.{files_of}
 use Rattle.echo_checking.specs.Checking.{IsCheckVerdict, verdict_status}
 use Rattle.echo_checking.proofs.Checks.{of_same}
+use Rattle.echo_rehearsing.proofs.Explaining.{IsFoundFirst}
 use Rattle.echo_rehearsing.proofs.Reasons.{was_reasoned}
 use Rattle.echo_rehearsing.proofs.reasoning.why.Goals as goal
 
@@ -19,9 +18,10 @@ returns-in_err-print_rest g c =
     let judging = c.in_ok-verdict.ensures in
     let judged = of_same (λ f t. IsCheckVerdict f t verdict) c.deref.result.now files c.deref-2.result.now tag c.deref.ensures.value c.deref-2.ensures.value
     (record { tidy = judging.tidy; counted = judging.counted; first = judging.first }) in
-    let shown = subst (λ (t : List ℕ). IfSome c.in_ok-found.found (IsShown files t)) c.deref-3.ensures.value c.in_ok-found.ensures in
+    let first = subst (λ (t : List ℕ). IsFoundFirst (files_of c.args.files.now) t verdict c.in_ok-found.found) c.deref-3.ensures.value
+    (record { shown = c.in_ok-found.ensures.shown; exact = c.in_ok-found.ensures.exact; nowhere = c.in_ok-found.ensures.nowhere }) in
     let lines = subst (λ (t : List ℕ). c.push_why.new.lines.items ≡ c.new-lines.result.items ++ why_lines t verdict c.in_ok-found.found) c.deref-4.ensures.value (rw c.as_ref.ensures.value at c.in_ok-push_why.ensures) in
-    let right = was_reasoned c.args.tag.now tag c.args.files.now files verdict c.in_ok-found.found _ _ (verdict_status verdict) c.in_ok-links.ensures.ok c.in_ok-tag.ensures.ok judged shown
+    let right = was_reasoned c.args.tag.now tag c.args.files.now files verdict c.in_ok-found.found _ _ (verdict_status verdict) c.in_ok-links.ensures.ok c.in_ok-tag.ensures.ok judged first
     c.new-lines.ensures.items lines refl in
     rw (p.1, p.2) (inl (
       c.in_err-print_rest.ensures.err,
@@ -36,9 +36,10 @@ returns g c =
     let judging = c.in_ok-verdict.ensures in
     let judged = of_same (λ f t. IsCheckVerdict f t verdict) c.deref.result.now files c.deref-2.result.now tag c.deref.ensures.value c.deref-2.ensures.value
     (record { tidy = judging.tidy; counted = judging.counted; first = judging.first }) in
-    let shown = subst (λ (t : List ℕ). IfSome c.in_ok-found.found (IsShown files t)) c.deref-3.ensures.value c.in_ok-found.ensures in
+    let first = subst (λ (t : List ℕ). IsFoundFirst (files_of c.args.files.now) t verdict c.in_ok-found.found) c.deref-3.ensures.value
+    (record { shown = c.in_ok-found.ensures.shown; exact = c.in_ok-found.ensures.exact; nowhere = c.in_ok-found.ensures.nowhere }) in
     let lines = subst (λ (t : List ℕ). c.push_why.new.lines.items ≡ c.new-lines.result.items ++ why_lines t verdict c.in_ok-found.found) c.deref-4.ensures.value (rw c.as_ref.ensures.value at c.in_ok-push_why.ensures) in
-    let right = was_reasoned c.args.tag.now tag c.args.files.now files verdict c.in_ok-found.found _ _ c.status_of.result c.in_ok-links.ensures.ok c.in_ok-tag.ensures.ok judged shown
+    let right = was_reasoned c.args.tag.now tag c.args.files.now files verdict c.in_ok-found.found _ _ c.status_of.result c.in_ok-links.ensures.ok c.in_ok-tag.ensures.ok judged first
     c.new-lines.ensures.items lines c.status_of.ensures in
     record {
       lines = c.push_why.new.lines.items;

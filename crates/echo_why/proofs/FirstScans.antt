@@ -1,0 +1,61 @@
+-- What the packets of a system that posts and scans show at once.
+use Rattle.std.proofs.Common.{◌≡◌, ◌≢◌, ap, ◌∙◌, subst, ℕ, ◌<◌, ◌≤◌, IsTrue, List, length, map}
+use Rattle.echo_addr.specs.declared.address.Address.{Address}
+use Rattle.echo_graph.specs.Walk.{Among}
+use Rattle.echo_links.specs.Links.{LinkFile, is_link}
+use Rattle.echo_filed.specs.declared.key.Key.{Key}
+use Rattle.echo_run.specs.Event.{RunEvent}
+use Rattle.echo_run.specs.Run.{System, run_of, start}
+use Rattle.echo_run.specs.Orderly.{sent_count}
+use Rattle.echo_run.specs.Tidy.{lists}
+use Rattle.echo_run.proofs.WholeRuns.{along, event-files, fresh-files}
+use Rattle.echo_harm.specs.LawsOfRuns.{LawsOfRuns}
+use Rattle.echo_harm.specs.Postings.{post_and_scan}
+use Rattle.echo_harm.proofs.Entries.{link-among}
+use Rattle.echo_harm.proofs.Lists.{among-nth, Among-map_to}
+use Rattle.echo_harm.proofs.Places.{lists-file}
+use Rattle.echo_harm.proofs.PostAndScan.{scanned-poster, scanned-there, sent-to_link}
+use Rattle.echo_harm.proofs.Tags.{link-area}
+use Rattle.echo_harm.proofs.Telling.{posting-key}
+use Rattle.echo_why.specs.declared.guess.Guess.{Guess}
+use Rattle.echo_why.specs.declared.guess.Guess.TheVariants.{Nobody, Own}
+use Rattle.echo_why.specs.Guesses.{IsWrongAtOnce}
+use Rattle.echo_why.proofs.Complete.{nth-within}
+
+-- the file of a system of a run is one of the files
+file-there : (files : List LinkFile) (events : List RunEvent) (s : System) → Among s (run_of files events).systems → Among s.file files
+file-there files events s h =
+    let P : List LinkFile → Type 0 = λ fs. Among s.file fs in
+    subst P (along (λ run. map (λ (z : System). z.file) run.systems ≡ files) (λ run event same. event-files run event ∙ same) events (start files) (fresh-files files))
+    (Among-map_to (λ (z : System). z.file) s (run_of files events).systems h)
+
+-- the guess is wrong, whoever posts and scans
+abbrev pub IsAlwaysWrong : List LinkFile → List ℕ → Guess → Type 0
+IsAlwaysWrong files tag guess = (i : ℕ) → i < length files → IsWrongAtOnce files tag i guess
+
+-- the packet to itself shows that a system lists itself
+pub own_shows : (files : List LinkFile) → LawsOfRuns files → (tag : List ℕ) (a : Address) → IsTrue (lists files tag a a) → ¬ IsAlwaysWrong files tag Own
+own_shows files known tag a listed wrong =
+    let (file, h, e, link) = lists-file files tag a a listed in
+    let (i, is) = among-nth file files h in
+    let own = ap (λ (b : Address). is_link file tag b) e ∙ link in
+    let area = link-area file tag file.system (link-among file tag file.system own) in
+    let P : Key → Type 0 = λ k. 1 ≤ sent_count file.system k (run_of files (post_and_scan i tag)).packets in
+    wrong i (nth-within i file files is) file is area (record {
+      system = scanned-poster files known tag i file is area;
+      at = scanned-there files known tag i file is area;
+      sent = subst P (posting-key files known tag i file is area) (sent-to_link files known tag i file is area file.system own);
+    })
+
+-- and the packet to an address that no file has shows that it is listed
+pub nobody_shows : (files : List LinkFile) → LawsOfRuns files → (tag : List ℕ) (a b : Address) → IsTrue (lists files tag a b) →
+    ((file : LinkFile) → Among file files → file.system ≢ b) → ¬ IsAlwaysWrong files tag (Nobody b)
+nobody_shows files known tag a b listed nobody wrong =
+    let (file, h, e, link) = lists-file files tag a b listed in
+    let (i, is) = among-nth file files h in
+    let area = link-area file tag b (link-among file tag b link) in
+    let P : Key → Type 0 = λ k. 1 ≤ sent_count b k (run_of files (post_and_scan i tag)).packets in
+    wrong i (nth-within i file files is) file is area (record {
+      nobody = λ s there. nobody s.file (file-there files (post_and_scan i tag) s there);
+      sent = subst P (posting-key files known tag i file is area) (sent-to_link files known tag i file is area b link);
+    })

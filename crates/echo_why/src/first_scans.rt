@@ -1,0 +1,71 @@
+//! Each system posts in turn and scans at once, and nothing else happens.
+
+ghost use Rattle.std.specs.Prelude.{◌≡◌, ◌≢◌, IfOk, IfSome, IsTrue, None};
+ghost use Rattle.echo_addr.specs.declared.address.Address.{Address};
+ghost use Rattle.echo_graph.specs.Walk.{Among};
+ghost use Rattle.echo_links.specs.Links.{LinkFile};
+ghost use Rattle.echo_run.specs.Fits.{FilesFit};
+ghost use Rattle.echo_run.specs.Tidy.{lists};
+ghost use Rattle.echo_why.specs.Found.{BreaksIt, FindsHarm, FindsSome, IsShown};
+ghost use Rattle.echo_why.specs.Guesses.{GuessBreaks, IsWrongAtOnce};
+ghost use Rattle.echo_why.specs.Sources.{files_of};
+ghost use Rattle.echo_why.specs.declared.guess.Guess.TheVariants.{Nobody, Own};
+
+use crate::confirming::confirmed;
+use crate::guess::{Guess, Plan};
+use crate::shown::{Move, Shown};
+use crate::sources::read_files;
+use echo_addr::Items;
+use echo_harm::runs_are_known;
+use std::alloc::{AllocError, Global};
+use std::hash::RandomState;
+
+/// The first posting and scan of which the guess is right. There is one where the guess is that a system is
+/// sent its own and some system lists itself, and where it is an address that no file has and that is listed.
+pub(crate) fn by_first_scans(
+    alloc: Global,
+    sources: &[Items<u8>],
+    tag: &[u8],
+    guess: Guess,
+    hasher: RandomState,
+) -> Result<Option<Shown>, AllocError>
+    ensures shown { IfOk result (λ found. IfSome found (IsShown (files_of sources.now) tag.now)) }
+    ensures own { IfOk result (λ found. guess ≡ Own → FilesFit (files_of sources.now) →
+        (a : Address) → IsTrue (lists (files_of sources.now) tag.now a a) → FindsHarm found) }
+    ensures nobody { IfOk result (λ found. (a b : Address) → guess ≡ Nobody b → FilesFit (files_of sources.now) →
+        IsTrue (lists (files_of sources.now) tag.now a b) →
+        ((file : LinkFile) → Among file (files_of sources.now) → file.system ≢ b) → FindsSome found) }
+{
+    runs_are_known();
+    'posters: for poster in 0..sources.len() {
+        let found = first_scan(alloc, sources, tag, poster, guess, hasher)?;
+        if let Some(shown) = found {
+            return Ok(Some(shown));
+        }
+    }
+    Ok(None)
+}
+
+// What the guess says, where it is right once this system posted and scanned.
+fn first_scan(
+    alloc: Global,
+    sources: &[Items<u8>],
+    tag: &[u8],
+    poster: usize,
+    guess: Guess,
+    hasher: RandomState,
+) -> Result<Option<Shown>, AllocError>
+    ensures shown { IfOk result (λ found. IfSome found (IsShown (files_of sources.now) tag.now)) }
+    ensures breaks { IfOk result (λ found. GuessBreaks guess → IfSome found (λ shown. BreaksIt shown.harm)) }
+    ensures none { IfOk result (λ found. found ≡ None → FilesFit (files_of sources.now) → IsWrongAtOnce (files_of sources.now) tag.now poster guess) }
+{
+    let files = read_files(alloc, sources)?;
+    let mut moves = Vec::new(alloc);
+    moves.push(Move::Scan(poster))?;
+    let plan = Plan {
+        poster,
+        moves,
+        guess,
+    };
+    confirmed(alloc, files, tag, plan, hasher)
+}
