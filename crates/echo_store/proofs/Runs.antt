@@ -29,12 +29,13 @@ quiet_disk d = record {
 }
 
 pub no_look : (s : StoreState) → s.is_ready → LooksOn s s
-no_look s ready = record { ready = ready; keeps = λ base h. h; committed = λ base h. h; quiet = quiet_disk s.disk; same = same_store s }
+no_look s ready = record { ready = ready; keeps = λ base h. h; keeps_no_other = λ base h. h; committed = λ base h. h; quiet = quiet_disk s.disk; same = same_store s }
 
 pub looks_twice : (old mid new : StoreState) → LooksOn old mid → LooksOn mid new → LooksOn old new
 looks_twice old mid new first second = record {
   ready = second.ready;
   keeps = λ base h. second.keeps base (first.keeps base h);
+  keeps_no_other = λ base h. first.keeps_no_other base (second.keeps_no_other base h);
   committed = λ base h. second.committed base (first.committed base h);
   quiet = nothing_twice old.disk mid.disk new.disk first.quiet second.quiet;
   same = same_twice old mid new first.same second.same;

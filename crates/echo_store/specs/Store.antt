@@ -59,6 +59,7 @@ pub record IsSameStore (old new : StoreState) : Type 0 where
 pub record LooksOn (old new : StoreState) : Type 0 where
   pub ready : new.is_ready
   pub keeps : (base : Base) → old.keeps base → new.keeps base
+  pub keeps_no_other : (base : Base) → new.keeps base → old.keeps base
   pub committed : (base : Base) → old.committed base → new.committed base
   pub quiet : ChangesNothing old.disk new.disk
   pub same : IsSameStore old new

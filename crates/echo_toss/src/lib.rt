@@ -2,9 +2,10 @@
 //!
 //! The contract for the layer above: `post`, `toss_message`, `scan` and `purge` are the steps of
 //! echo_steps on the whole state of the system, `toss` is the step of each message of a packet, in
-//! order, and what a refused call finds it leaves.
+//! order, and what a refused call finds it leaves. `post_in` and `toss_in` are the same steps over any
+//! store of messages, and commit nothing.
 //!
-//! Modules in reading order: `tosser` (the type), `moment`, `refusing`, `drafting` and `posting` (a
+//! Modules in reading order: `tosser` (the type), `moment`, `refusing`, `drafting`, `stop` and `posting` (a
 //! draft is judged, made a message and filed), `receiving` and `tossing` (the same of a received
 //! message), `sets`, `outgoing`, `packing` and `scanning` (what waits, its packets, and the scan),
 //! `purging`, `tally` (what became of the messages of a packet), `fault` and `packets` (a whole packet

@@ -63,7 +63,15 @@ impl<S: BuildHasher> Tosser<S> {
     ) -> Result<(), PostFault>
         ensures { PostStep self.old tag.now draft.now serial stamp result self.new }
     {
-        match post_in(self.alloc, &self.links, &mut self.store, tag, draft, serial, stamp) {
+        match post_in(
+            self.alloc,
+            &self.links,
+            &mut self.store,
+            tag,
+            draft,
+            serial,
+            stamp,
+        ) {
             Ok(()) => Ok(()),
             Err(PostStop::Refused(refusal)) => Err(refusal),
             // A base in memory fails only where a growth is refused.
