@@ -32,6 +32,8 @@ pub record StoreState : Type 1 where
   pub stands : Base → Files → Type 0
   -- the paths of its own files
   pub is_own : List ℕ → Type 0
+  -- a call that fails in the middle of a change takes it back
+  pub undoes : Type 0
   -- a crash now leaves the base that was committed last
   pub stays : is_ready → (base : Base) → committed base → (c : Files) → disk.may_leave c → stands base c
 
@@ -47,15 +49,17 @@ all_scanned base = record { messages = base.messages; cursor = length base.messa
 abbrev pub purged : Base → Base
 purged base = record { messages = map stub_of (take base.cursor base.messages) ++ drop base.cursor base.messages; cursor = base.cursor }
 
--- files stand for the same bases as they did, and the same paths are the store's own
+-- files stand for the same bases as they did, the same paths are the store's own, and it takes back what failed if it did
 pub record IsSameStore (old new : StoreState) : Type 0 where
   pub stands : (base : Base) (c : Files) → new.stands base c ↔ old.stands base c
   pub own : (m : List ℕ) → new.is_own m ↔ old.is_own m
+  pub undoes : new.undoes ↔ old.undoes
 
 -- a look at the store: nothing has changed but the message at hand
 pub record LooksOn (old new : StoreState) : Type 0 where
   pub ready : new.is_ready
   pub keeps : (base : Base) → old.keeps base → new.keeps base
+  pub keeps_no_other : (base : Base) → new.keeps base → old.keeps base
   pub committed : (base : Base) → old.committed base → new.committed base
   pub quiet : ChangesNothing old.disk new.disk
   pub same : IsSameStore old new
@@ -103,6 +107,10 @@ pub record Commits (old new : StoreState) : Type 0 where
   pub ready : new.is_ready
   pub keeps : (base : Base) → old.keeps base → new.keeps base
   pub committed : (base : Base) → old.keeps base → new.committed base
+
+-- what a store that takes back what failed has held, it holds
+abbrev pub Undoes : StoreState → StoreState → Type 0
+Undoes old new = old.undoes → (base : Base) → old.keeps base → new.keeps base
 
 -- A failure of the device is answered only where its count of failures rose, and damage only of a store that holds no base.
 pub record HasStoreCause {T : Type 0} (old : StoreState) (before now : ℕ) (result : Result T StoreError) : Type 0 where

@@ -25,6 +25,13 @@ impl<S: BuildHasher> MemoryStore<S> {
     }
 
     /// The base.
+    pub fn base(&self) -> &Base<S>
+        ensures { (⟦<MemoryStore<S> as Store>⟧.state self.now).keeps result.now }
+    {
+        &self.base
+    }
+
+    /// The base, taken out.
     pub fn into_base(self) -> Base<S>
         ensures { (⟦<MemoryStore<S> as Store>⟧.state self).keeps result }
     {
@@ -41,6 +48,7 @@ impl<S: BuildHasher> Store for MemoryStore<S> {
       at_hand = slice_get store.base.messages store.place;
       stands = λ base c. ⊥;
       is_own = λ m. ⊥;
+      undoes = Unit {0};
       stays = λ ready base is c left. left;
     } };
 

@@ -1,10 +1,10 @@
 //! Messages and a cursor, wherever they are kept.
-ghost use Rattle.std.specs.Prelude.{◌≡◌, ◌<◌, ℕ, not, false, length, take, count_by, slice_get, option_copied, IfOk, OnOk};
+ghost use Rattle.std.specs.Prelude.{◌≡◌, ◌<◌, ℕ, not, false, length, take, count_by, slice_get, option_copied, IfOk, OnOk, OnErr};
 ghost use Rattle.std.specs.List.{list_any};
 ghost use Rattle.echo_base.specs.Base.{Base, IsBase, is_known};
 ghost use Rattle.echo_filed.specs.Filed.{has_id, key_of};
 ghost use Rattle.echo_filed.specs.Stubs.{is_stub};
-ghost use Rattle.echo_store.specs.Store.{StoreState, LooksOn, CommitsNothing, MayCommit, GoesOn, Commits, HasStoreCause, with_message, all_scanned, purged};
+ghost use Rattle.echo_store.specs.Store.{StoreState, LooksOn, CommitsNothing, MayCommit, GoesOn, Undoes, Commits, HasStoreCause, with_message, all_scanned, purged};
 
 use crate::store_error::StoreError;
 use echo_filed::{Filed, Key};
@@ -12,7 +12,8 @@ use echo_filed::{Filed, Key};
 /// The messages of a system in order of filing, no key twice, and the cursor: the messages before it were scanned.
 ///
 /// What is filed and moved stays once it is committed; until then a crash leaves what was committed before. After a
-/// call that failed in the middle of a change nothing is known but what a crash may leave: the store is opened again.
+/// call that failed in the middle of a change nothing is known but what a crash may leave: the store is opened again,
+/// but for one that takes back what failed.
 pub trait Store {
     // What it holds, and what a crash may leave.
     ghost state: { Self → StoreState };
@@ -64,6 +65,7 @@ pub trait Store {
         requires new { (base : Base) → (state self.old).keeps base → is_known base.messages key ≡ false }
         ensures filed { (base : Base) → (state self.old).keeps base → OnOk result ((state self.new).keeps (with_message base message)) }
         ensures goes_on { OnOk result (GoesOn (state self.old) (state self.new)) }
+        ensures undone { OnErr result (Undoes (state self.old) (state self.new)) }
         ensures commits { CommitsNothing (state self.old) (state self.new) }
         ensures cause { HasStoreCause (state self.old) (failures self.old) (failures self.new) result };
 
@@ -72,6 +74,7 @@ pub trait Store {
         requires { (state self.old).is_ready }
         ensures moved { (base : Base) → (state self.old).keeps base → OnOk result ((state self.new).keeps (all_scanned base)) }
         ensures goes_on { OnOk result (GoesOn (state self.old) (state self.new)) }
+        ensures undone { OnErr result (Undoes (state self.old) (state self.new)) }
         ensures commits { CommitsNothing (state self.old) (state self.new) }
         ensures cause { HasStoreCause (state self.old) (failures self.old) (failures self.new) result };
 
@@ -94,6 +97,7 @@ pub trait PurgedStore: Store {
         ensures purged { (base : Base) → (Self.state self.old).keeps base → OnOk result ((Self.state self.new).keeps (purged base)) }
         ensures committed { (base : Base) → (Self.state self.old).keeps base → OnOk result ((Self.state self.new).committed base) }
         ensures ready { OnOk result (Self.state self.new).is_ready }
+        ensures undone { OnErr result (Undoes (Self.state self.old) (Self.state self.new)) }
         ensures either { MayCommit (Self.state self.old) (Self.state self.new) }
         ensures cause { HasStoreCause (Self.state self.old) (Self.failures self.old) (Self.failures self.new) result };
 }

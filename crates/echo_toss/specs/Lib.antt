@@ -5,3 +5,4 @@ pub mod Exports
 pub mod PacketSteps
 pub mod Messages
 pub mod Stored
+pub mod Stores

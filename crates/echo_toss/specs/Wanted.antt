@@ -51,3 +51,8 @@ pub record IsNew (file : LinkFile) (base : List Filed) (sender : Address) (packe
 abbrev pub IsVerdict : LinkFile → List Filed → Address → Message → Verdict → Type 0
 IsVerdict file base sender packed (New key m) = IsNew file base sender packed key m
 IsVerdict file base sender packed (Left answer) = (answer ≡ toss_outcome file base sender packed) × (None ≡ tossing file base sender packed)
+
+-- the key of a message that is to be filed is its own
+abbrev pub HasOwnKey : Verdict → Type 0
+HasOwnKey (New key m) = key ≡ key_of m
+HasOwnKey (Left answer) = Unit {0}

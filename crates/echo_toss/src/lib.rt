@@ -2,9 +2,10 @@
 //!
 //! The contract for the layer above: `post`, `toss_message`, `scan` and `purge` are the steps of
 //! echo_steps on the whole state of the system, `toss` is the step of each message of a packet, in
-//! order, and what a refused call finds it leaves.
+//! order, and what a refused call finds it leaves. `post_in` and `toss_in` are the same steps over any
+//! store of messages, and commit nothing.
 //!
-//! Modules in reading order: `tosser` (the type), `moment`, `refusing`, `drafting` and `posting` (a
+//! Modules in reading order: `tosser` (the type), `moment`, `refusing`, `drafting`, `stop` and `posting` (a
 //! draft is judged, made a message and filed), `receiving` and `tossing` (the same of a received
 //! message), `sets`, `outgoing`, `packing` and `scanning` (what waits, its packets, and the scan),
 //! `purging`, `tally` (what became of the messages of a packet), `fault` and `packets` (a whole packet
@@ -24,6 +25,7 @@ mod receiving;
 mod refusing;
 mod scanning;
 mod sets;
+mod stop;
 mod storing;
 mod tally;
 mod tosser;
@@ -35,5 +37,8 @@ pub use echo_links::{LinkFault, LinkFile};
 pub use echo_steps::{Draft, Outcome, Packet, PostFault, ScanFault, Stamp};
 pub use fault::{TossCause, TossFault};
 pub use laws::packet_laws;
+pub use posting::post_in;
+pub use stop::PostStop;
 pub use tally::Tally;
 pub use tosser::Tosser;
+pub use tossing::toss_in;

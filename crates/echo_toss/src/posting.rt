@@ -1,21 +1,55 @@
-ghost use Rattle.std.specs.Prelude.{◌≡◌, None, IfOk, MatchResult};
+ghost use Rattle.std.specs.Prelude.{◌≡◌, None, IfErr, IfOk, MatchResult, OnErr, OnOk};
 ghost use Rattle.std.specs.List.{list_any};
 ghost use Rattle.echo_text.specs.Ids.{id_of};
 ghost use Rattle.echo_filed.specs.Filed.{has_id, key_of};
-ghost use Rattle.echo_steps.specs.Posting.{IsPostFault, PostStep, posted};
+ghost use Rattle.echo_base.specs.Base.{Base};
+ghost use Rattle.echo_store.specs.Store.{CommitsNothing, GoesOn, HasStoreCause, LooksOn, Undoes, with_message};
+ghost use Rattle.echo_steps.specs.Posting.{PostStep, post_refusal, posted};
 ghost use Rattle.echo_toss.specs.Refusals.{IsPrepared, draft_refusal};
+ghost use Rattle.echo_toss.specs.Stores.{IsPostStop, LooksWhereRefused, post_answer};
 
 use crate::drafting::posted;
 use crate::refusing::judge;
+use crate::stop::PostStop;
 use crate::tosser::Tosser;
 use echo_addr::Address;
-use echo_base::Base;
 use echo_filed::{Filed, Key};
 use echo_links::LinkFile;
 use echo_steps::{Draft, PostFault, Stamp};
+use echo_store::{Store, StoreError};
 use echo_text::MsgId;
 use std::alloc::{AllocError, Global};
 use std::hash::BuildHasher;
+
+/// Files in the store a message of the area with this tag, whatever the case of its letters. Its id is the own address
+/// and the serial (FTS-0009), which no message of the store may have. Nothing is committed.
+pub fn post_in<T: Store>(
+    alloc: Global,
+    links: &LinkFile,
+    store: &mut T,
+    tag: &[u8],
+    draft: &Draft,
+    serial: u32,
+    stamp: Stamp,
+) -> Result<(), PostStop>
+    requires { (T.state store.old).is_ready }
+    ensures allowed { (base : Base) → (T.state store.old).keeps base
+        → OnOk result (post_refusal links.now base.messages tag.now draft.now serial stamp ≡ None) }
+    ensures filed { (base : Base) → (T.state store.old).keeps base
+        → OnOk result ((T.state store.new).keeps (with_message base (posted links.now tag.now draft.now serial stamp))) }
+    ensures stop { (base : Base) → (T.state store.old).keeps base
+        → IfErr result (IsPostStop links.now base.messages tag.now draft.now serial stamp) }
+    ensures looks { IfErr result (LooksWhereRefused (T.state store.old) (T.state store.new)) }
+    ensures goes_on { OnOk result (GoesOn (T.state store.old) (T.state store.new)) }
+    ensures undone { OnErr result (Undoes (T.state store.old) (T.state store.new)) }
+    ensures commits { CommitsNothing (T.state store.old) (T.state store.new) }
+    ensures cause { HasStoreCause (T.state store.old) (T.failures store.old) (T.failures store.new) (post_answer result) }
+{
+    let new = prepared(alloc, links, store, tag, draft, serial, stamp)?;
+    let (key, message) = new;
+    store.file(key, message)?;
+    Ok(())
+}
 
 impl<S: BuildHasher> Tosser<S> {
     /// Files a message of the area with this tag, whatever the case of its letters. Its id is the own
@@ -29,44 +63,62 @@ impl<S: BuildHasher> Tosser<S> {
     ) -> Result<(), PostFault>
         ensures { PostStep self.old tag.now draft.now serial stamp result self.new }
     {
-        let base = &self.base;
-        let new = prepared(self.alloc, &self.links, base, tag, draft, serial, stamp)?;
-        let (key, message) = new;
-        self.base.file(key, message)?;
-        Ok(())
+        match post_in(
+            self.alloc,
+            &self.links,
+            &mut self.store,
+            tag,
+            draft,
+            serial,
+            stamp,
+        ) {
+            Ok(()) => Ok(()),
+            Err(PostStop::Refused(refusal)) => Err(refusal),
+            // A base in memory fails only where a growth is refused.
+            Err(PostStop::Store(_)) => Err(PostFault::Memory),
+        }
     }
 }
 
 // The message and its key, where nothing refuses it.
-fn prepared<S: BuildHasher>(
+fn prepared<T: Store>(
     alloc: Global,
     links: &LinkFile,
-    base: &Base<S>,
+    store: &mut T,
     tag: &[u8],
     draft: &Draft,
     serial: u32,
     stamp: Stamp,
-) -> Result<(Key, Filed), PostFault>
-    ensures { MatchResult result (λ new. IsPrepared links.now base.now.messages tag.now draft.now serial stamp new.0 new.1) (IsPostFault links.now base.now.messages tag.now draft.now serial stamp) }
+) -> Result<(Key, Filed), PostStop>
+    requires { (T.state store.old).is_ready }
+    ensures prepared { (base : Base) → (T.state store.old).keeps base
+        → MatchResult result (λ new. IsPrepared links.now base.messages tag.now draft.now serial stamp new.0 new.1) (IsPostStop links.now base.messages tag.now draft.now serial stamp) }
+    ensures key { IfOk result (λ new. new.0 ≡ key_of new.1) }
+    ensures looks { LooksOn (T.state store.old) (T.state store.new) }
+    ensures cause { HasStoreCause (T.state store.old) (T.failures store.old) (T.failures store.new) (post_answer result) }
 {
     judge(links, tag, draft, stamp)?;
-    if is_known(alloc, base, links.system(), serial)? {
-        return Err(PostFault::KnownSerial);
+    if is_known(alloc, store, links.system(), serial)? {
+        return Err(PostStop::Refused(PostFault::KnownSerial));
     }
     Ok(made(alloc, links, tag, draft, serial, stamp)?)
 }
 
-// Whether a message of the base has the id of the system and the serial.
-fn is_known<S: BuildHasher>(
+// Whether a message of the store has the id of the system and the serial.
+fn is_known<T: Store>(
     alloc: Global,
-    base: &Base<S>,
+    store: &mut T,
     system: Address,
     serial: u32,
-) -> Result<bool, AllocError>
-    ensures { IfOk result (λ known. known ≡ list_any (has_id (id_of system serial)) base.now.messages) }
+) -> Result<bool, StoreError>
+    requires { (T.state store.old).is_ready }
+    ensures known { (base : Base) → (T.state store.old).keeps base
+        → IfOk result (λ known. known ≡ list_any (has_id (id_of system serial)) base.messages) }
+    ensures looks { LooksOn (T.state store.old) (T.state store.new) }
+    ensures cause { HasStoreCause (T.state store.old) (T.failures store.old) (T.failures store.new) result }
 {
     let id = MsgId::write(alloc, system, serial)?;
-    base.has_id(&id)
+    store.has_id(&id)
 }
 
 // The message and its key.

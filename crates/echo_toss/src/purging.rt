@@ -1,6 +1,7 @@
 ghost use Rattle.echo_steps.specs.Purging.{PurgeStep};
 
 use crate::tosser::Tosser;
+use echo_store::PurgedStore;
 use std::alloc::AllocError;
 use std::hash::BuildHasher;
 
@@ -11,6 +12,10 @@ impl<S: BuildHasher> Tosser<S> {
     pub fn purge(&mut self) -> Result<u64, AllocError>
         ensures { PurgeStep self.old result self.new }
     {
-        self.base.purge()
+        match self.store.purge() {
+            Ok(count) => Ok(count),
+            // A base in memory fails only where a growth is refused.
+            Err(_) => Err(AllocError),
+        }
     }
 }

@@ -10,6 +10,7 @@ use crate::tosser::Tosser;
 use echo_base::Base;
 use echo_links::LinkFile;
 use echo_steps::{Packet, ScanFault, Stamp};
+use echo_store::Store;
 use std::alloc::{AllocError, Global};
 use std::hash::BuildHasher;
 
@@ -22,9 +23,11 @@ impl<S: BuildHasher> Tosser<S> {
         if !is_stamp(stamp) {
             return Err(ScanFault::BadStamp);
         }
-        let packets = scanned(self.alloc, &self.links, &self.base, stamp)?;
-        self.base.move_to_end();
-        Ok(packets)
+        let packets = scanned(self.alloc, &self.links, self.store.base(), stamp)?;
+        match self.store.move_to_end() {
+            Ok(()) => Ok(packets),
+            Err(_) => Err(ScanFault::Memory),
+        }
     }
 }
 

@@ -12,6 +12,7 @@ use crate::tosser::Tosser;
 use echo_base::{Base, BaseFault};
 use echo_device::{Sink, Source};
 use echo_links::LinkFile;
+use echo_store::MemoryStore;
 use std::alloc::Global;
 use std::hash::BuildHasher;
 
@@ -25,7 +26,7 @@ impl<S: BuildHasher> Tosser<S> {
         ensures device { CountsSaved result (W.failures writer.old) (W.failures writer.new) }
         ensures too_many { TellsTooMany (is_countable self.now.base self.now.cursor) result }
     {
-        self.base.save(writer)
+        self.store.base().save(writer)
     }
 
     /// The system of the link file with the base at the front of what the reader has. No byte after the
@@ -47,6 +48,10 @@ impl<S: BuildHasher> Tosser<S> {
         ensures device { CountsLoad result (R.failures reader.old) (R.failures reader.new) }
     {
         let base = Base::load(alloc, reader, hasher)?;
-        Ok(Tosser { alloc, links, base })
+        Ok(Tosser {
+            alloc,
+            links,
+            store: MemoryStore::new(base),
+        })
     }
 }

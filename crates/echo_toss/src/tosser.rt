@@ -5,6 +5,7 @@ ghost use Rattle.echo_steps.specs.SystemState.{state_at_first};
 use echo_base::Base;
 use echo_filed::Filed;
 use echo_links::LinkFile;
+use echo_store::MemoryStore;
 use std::alloc::Global;
 use std::hash::BuildHasher;
 use std::marker::Model;
@@ -15,7 +16,7 @@ use std::marker::Model;
 pub struct Tosser<S: BuildHasher> {
     pub(crate) alloc: Global,
     pub(crate) links: LinkFile,
-    pub(crate) base: Base<S>,
+    pub(crate) store: MemoryStore<S>,
 }
 
 impl<S: BuildHasher> Model for Tosser<S> {
@@ -23,7 +24,7 @@ impl<S: BuildHasher> Model for Tosser<S> {
 
     ghost Value = { SystemState };
 
-    ghost view = { λ t. record { file = t.links; base = t.base.messages; cursor = t.base.cursor } };
+    ghost view = { λ t. record { file = t.links; base = t.store.base.messages; cursor = t.store.base.cursor } };
 }
 
 impl<S: BuildHasher> Tosser<S> {
@@ -34,7 +35,7 @@ impl<S: BuildHasher> Tosser<S> {
         Tosser {
             alloc,
             links,
-            base: Base::new(alloc, hasher),
+            store: MemoryStore::new(Base::new(alloc, hasher)),
         }
     }
 
@@ -50,20 +51,21 @@ impl<S: BuildHasher> Tosser<S> {
         ensures count { result ≡ length self.now.base }
         ensures base { IsBase self.now.base self.now.cursor }
     {
-        self.base.len()
+        self.store.base().len()
     }
 
     /// How many of them were not yet scanned.
     pub fn waiting(&self) -> usize
         ensures { result ≡ length self.now.base - self.now.cursor }
     {
-        self.base.len() - self.base.cursor()
+        let base = self.store.base();
+        base.len() - base.cursor()
     }
 
     /// The message of this number, counted from 0 in order of filing.
     pub fn message(&self, i: usize) -> Option<&Filed>
         ensures { option_copied result ≡ slice_get self.now.base i }
     {
-        self.base.message(i)
+        self.store.base().message(i)
     }
 }

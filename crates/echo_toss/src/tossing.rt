@@ -1,30 +1,60 @@
-ghost use Rattle.std.specs.Prelude.{IfOk};
-ghost use Rattle.echo_steps.specs.Tossing.{TossStep};
-ghost use Rattle.echo_toss.specs.Wanted.{IsVerdict};
+ghost use Rattle.std.specs.Prelude.{◌≡◌, IfOk, OnErr, OnOk};
+ghost use Rattle.echo_base.specs.Base.{Base};
+ghost use Rattle.echo_store.specs.Store.{CommitsNothing, GoesOn, HasStoreCause, LooksOn, Undoes};
+ghost use Rattle.echo_steps.specs.Tossing.{TossStep, toss_outcome, tossing};
+ghost use Rattle.echo_toss.specs.Stores.{LooksUnlessFiled, and_filed};
+ghost use Rattle.echo_toss.specs.Wanted.{HasOwnKey, IsVerdict};
 
 use crate::receiving::{Reading, key_in, read, received};
 use crate::tosser::Tosser;
 use echo_addr::Address;
-use echo_base::Base;
 use echo_filed::{Filed, Key};
 use echo_links::LinkFile;
 use echo_packet::Packed;
 use echo_steps::Outcome;
+use echo_store::{Store, StoreError};
 use std::alloc::{AllocError, Global};
 use std::hash::BuildHasher;
+
+/// Files a received message in the store, or answers why not. The first outcome that applies is answered. Nothing is
+/// committed.
+pub fn toss_in<T: Store>(
+    alloc: Global,
+    links: &LinkFile,
+    store: &mut T,
+    sender: Address,
+    packed: &Packed,
+) -> Result<Outcome, StoreError>
+    requires { (T.state store.old).is_ready }
+    ensures outcome { (base : Base) → (T.state store.old).keeps base
+        → IfOk result (λ outcome. outcome ≡ toss_outcome links.now base.messages sender packed.now) }
+    ensures filed { (base : Base) → (T.state store.old).keeps base
+        → OnOk result ((T.state store.new).keeps (and_filed base (tossing links.now base.messages sender packed.now))) }
+    ensures looks { IfOk result (LooksUnlessFiled (T.state store.old) (T.state store.new)) }
+    ensures goes_on { OnOk result (GoesOn (T.state store.old) (T.state store.new)) }
+    ensures undone { OnErr result (Undoes (T.state store.old) (T.state store.new)) }
+    ensures commits { CommitsNothing (T.state store.old) (T.state store.new) }
+    ensures cause { HasStoreCause (T.state store.old) (T.failures store.old) (T.failures store.new) result }
+{
+    let verdict = judged(alloc, links, store, sender, packed)?;
+    match verdict {
+        Verdict::New(key, message) => {
+            store.file(key, message)?;
+            Ok(Outcome::Filed)
+        }
+        Verdict::Left(outcome) => Ok(outcome),
+    }
+}
 
 impl<S: BuildHasher> Tosser<S> {
     /// Files a received message, or answers why not. The first outcome that applies is answered.
     pub fn toss_message(&mut self, sender: Address, packed: &Packed) -> Result<Outcome, AllocError>
         ensures { TossStep self.old sender packed.now result self.new }
     {
-        let verdict = judged(self.alloc, &self.links, &self.base, sender, packed)?;
-        match verdict {
-            Verdict::New(key, message) => {
-                self.base.file(key, message)?;
-                Ok(Outcome::Filed)
-            }
-            Verdict::Left(outcome) => Ok(outcome),
+        match toss_in(self.alloc, &self.links, &mut self.store, sender, packed) {
+            Ok(outcome) => Ok(outcome),
+            // A base in memory fails only where a growth is refused.
+            Err(_) => Err(AllocError),
         }
     }
 }
@@ -39,21 +69,26 @@ enum Verdict {
 }
 
 // What becomes of the message.
-fn judged<S: BuildHasher>(
+fn judged<T: Store>(
     alloc: Global,
     links: &LinkFile,
-    base: &Base<S>,
+    store: &mut T,
     sender: Address,
     packed: &Packed,
-) -> Result<Verdict, AllocError>
-    ensures { IfOk result (IsVerdict links.now base.now.messages sender packed.now) }
+) -> Result<Verdict, StoreError>
+    requires { (T.state store.old).is_ready }
+    ensures verdict { (base : Base) → (T.state store.old).keeps base
+        → IfOk result (IsVerdict links.now base.messages sender packed.now) }
+    ensures key { IfOk result HasOwnKey }
+    ensures looks { LooksOn (T.state store.old) (T.state store.new) }
+    ensures cause { HasStoreCause (T.state store.old) (T.failures store.old) (T.failures store.new) result }
 {
     let reading = read(alloc, links, sender, packed)?;
     match reading {
         Reading::Unwanted(outcome) => Ok(Verdict::Left(outcome)),
         Reading::Wanted(view) => {
             let key = key_in(alloc, packed, &view)?;
-            if base.knows(&key) {
+            if store.knows(&key)? {
                 return Ok(Verdict::Left(Outcome::Known));
             }
             let message = received(alloc, sender, packed, view)?;

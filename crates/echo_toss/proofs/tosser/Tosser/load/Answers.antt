@@ -1,7 +1,19 @@
+use Rattle.std.proofs.Common.{IfSome, Ok, Result, subst}
 use Rattle.std.proofs.lemmas.Result.{err_from_is_err_and}
+use Rattle.echo_packet.specs.Header.{AreBytes}
+use Rattle.echo_base.specs.declared.fault.BaseFault.{BaseFault as Fault}
+use Rattle.echo_base.specs.Base.{Base}
+use Rattle.echo_base.specs.BaseFile.{LoadOf, Loaded}
+use Rattle.echo_base.specs.Loading.{AnswersLoad}
 use Rattle.echo_toss.proofs.tosser.Tosser.load.Goals as goal
 
 pub returns-in_err-base-clause-only : goal.returns-in_err-base-clause-only
 returns-in_err-base-clause-only g c =
     let p = err_from_is_err_and c.from_residual.result c.from_residual.ensures.1 in
     rw (p.1, p.2) c.in_err-base.ensures.only
+
+pub returns-clause-only : goal.returns-clause-only
+returns-clause-only g c =
+    let P : Base → Type 0 = λ base.
+    (other : Result Loaded Fault) → IfSome (g.R.Read.remaining c.args.reader.now) (λ bytes. AreBytes bytes → LoadOf bytes other → AnswersLoad (Ok base) other) in
+    subst P c.new.ensures c.in_ok-base.ensures.only

@@ -1,0 +1,39 @@
+-- Why calls of a store failed, one after another.
+use Rattle.std.proofs.Common.{◌≡◌, ◌<◌, ◌≤◌, ℕ, inl, inr, Result, Ok, Err, refl, ◌∙◌, ap, arith}
+use Rattle.std.proofs.Math.Nat.{eq-or-lt_of_le}
+use Rattle.echo_device.specs.Device.{Failed}
+use Rattle.echo_base.specs.Base.{Base}
+use Rattle.echo_store.specs.Store.{StoreState, HasStoreCause}
+use Rattle.echo_store.specs.declared.store_error.StoreError.{StoreError}
+use Rattle.echo_store.specs.declared.store_error.StoreError.TheVariants as error
+
+-- nothing failed
+pub no_cause : {T : Type 0} (old : StoreState) (before now : ℕ) (value : T) → before ≤ now → HasStoreCause old before now (Ok value)
+no_cause old before now value later = record { later = later; failed = λ e. absurd (cc); damaged = λ e base h. cc }
+
+-- a growth was refused
+pub memory_cause : {T : Type 0} (old : StoreState) (before now : ℕ) → before ≤ now → HasStoreCause {T = T} old before now (Err error.Memory)
+memory_cause old before now later = record { later = later; failed = λ e. absurd (cc); damaged = λ e base h. cc }
+
+failed_since : (before mid now : ℕ) → before ≤ mid → Failed mid now → Failed before now
+failed_since before mid now le (inl rose) = inl (omega arith)
+failed_since before mid now le (inr (full, same)) = elim (eq-or-lt_of_le le) [
+  | inl is ↦ inr (omega arith, omega arith)
+  | inr less ↦ inl (omega arith)
+]
+
+-- one answer has one error
+same_error : {T : Type 0} (r : Result T StoreError) (e f : StoreError) → r ≡ Err e → r ≡ Err f → e ≡ f
+same_error r e f one other = cc
+
+-- the failure of a call after others, of which the store holds a base where it held one
+pub cause_after : {A T : Type 0} (old mid : StoreState) (before between now : ℕ) (r : Result A StoreError) (e : StoreError) → before ≤ between
+    → ((base : Base) → old.keeps base → (next : Base) × mid.keeps next) → r ≡ Err e → HasStoreCause mid between now r → HasStoreCause {T = T} old before now (Err e)
+cause_after {A} {T} old mid before between now r e le holds is cause =
+    let passed = cause.later in
+    record {
+      later = omega arith;
+      failed = λ failed. failed_since before between now le (cause.failed (is ∙ ap (λ (x : StoreError). Err x) (same_error (Err e) e error.Device refl failed)));
+      damaged = λ damaged base h.
+          let next = holds base h in cause.damaged (is ∙ ap (λ (x : StoreError). Err x) (same_error (Err e) e error.Damaged refl damaged)) next.0 next.1;
+    }

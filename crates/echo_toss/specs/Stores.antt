@@ -1,0 +1,40 @@
+-- Steps of a system whose messages and cursor are in a store.
+use Rattle.std.specs.Prelude.{◌≡◌, ◌++◌, ℕ, List, Option, Some, option_to_list, Result, Ok, Err}
+use Rattle.echo_base.specs.Base.{Base}
+use Rattle.echo_filed.specs.Filed.{Filed}
+use Rattle.echo_links.specs.Links.{LinkFile}
+use Rattle.echo_store.specs.Store.{LooksOn, StoreState}
+use Rattle.echo_store.specs.declared.store_error.StoreError.{StoreError}
+use Rattle.echo_steps.specs.declared.draft.Draft.{Draft}
+use Rattle.echo_steps.specs.declared.stamp.Stamp.{Stamp}
+use Rattle.echo_steps.specs.declared.fault.PostFault.TheVariants as fault
+use Rattle.echo_steps.specs.declared.outcome.Outcome.{Outcome}
+use Rattle.echo_steps.specs.declared.outcome.Outcome.TheVariants as outcome
+use Rattle.echo_steps.specs.Posting.{IsPostFault, post_refusal}
+use Rattle.echo_toss.specs.declared.stop.PostStop.{PostStop}
+use Rattle.echo_toss.specs.declared.stop.PostStop.TheVariants as post
+
+-- one message more at the end, where there is one
+abbrev pub and_filed : Base → Option Filed → Base
+and_filed base m = record { messages = base.messages ++ option_to_list m; cursor = base.cursor }
+
+-- where nothing was filed, nothing has changed but the message at hand
+abbrev pub LooksUnlessFiled : StoreState → StoreState → Outcome → Type 0
+LooksUnlessFiled old new outcome.Filed = Unit {0}
+LooksUnlessFiled old new other = LooksOn old new
+
+-- why a posting was not filed: the refusal that applies, or the store, once the draft is in order
+abbrev pub IsPostStop : LinkFile → List Filed → List ℕ → Draft → ℕ → Stamp → PostStop → Type 0
+IsPostStop file base tag draft serial stamp (post.Refused refusal) = post_refusal file base tag draft serial stamp ≡ Some refusal
+IsPostStop file base tag draft serial stamp (post.Store cause) = IsPostFault file base tag draft serial stamp fault.Memory
+
+-- a refusal has changed nothing but the message at hand
+abbrev pub LooksWhereRefused : StoreState → StoreState → PostStop → Type 0
+LooksWhereRefused old new (post.Refused refusal) = LooksOn old new
+LooksWhereRefused old new (post.Store cause) = Unit {0}
+
+-- what the store answered to a posting
+abbrev pub post_answer : {T : Type 0} → Result T PostStop → Result (Unit {0}) StoreError
+post_answer (Ok done) = Ok tt
+post_answer (Err (post.Refused refusal)) = Ok tt
+post_answer (Err (post.Store cause)) = Err cause

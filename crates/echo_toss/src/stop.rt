@@ -1,0 +1,49 @@
+//! Why a step of a system whose messages are in a store was not done.
+ghost use Rattle.std.specs.Prelude.{◌≡◌};
+ghost use Rattle.echo_store.specs.declared.store_error.StoreError.TheVariants as error;
+
+use echo_steps::PostFault;
+use echo_store::StoreError;
+use std::alloc::AllocError;
+use thiserror::Error;
+
+/// Why a draft was not posted.
+#[derive(Clone, Copy, Debug, PartialEq, Eq, Error)]
+pub enum PostStop {
+    /// The draft, or what was filed before, refuses it.
+    #[error("{0}")]
+    Refused(PostFault),
+    /// The store failed.
+    #[error("{0}")]
+    Store(StoreError),
+}
+
+impl From<PostFault> for PostStop {
+    ghost use Rattle.echo_toss.specs.declared.stop.PostStop.TheVariants as post;
+
+    ghost from_gives = { λ refusal stop. stop ≡ post.Refused refusal };
+
+    fn from(refusal: PostFault) -> PostStop {
+        PostStop::Refused(refusal)
+    }
+}
+
+impl From<StoreError> for PostStop {
+    ghost use Rattle.echo_toss.specs.declared.stop.PostStop.TheVariants as post;
+
+    ghost from_gives = { λ cause stop. stop ≡ post.Store cause };
+
+    fn from(cause: StoreError) -> PostStop {
+        PostStop::Store(cause)
+    }
+}
+
+impl From<AllocError> for PostStop {
+    ghost use Rattle.echo_toss.specs.declared.stop.PostStop.TheVariants as post;
+
+    ghost from_gives = { λ _ stop. stop ≡ post.Store error.Memory };
+
+    fn from(_refused: AllocError) -> PostStop {
+        PostStop::Store(StoreError::Memory)
+    }
+}
