@@ -1,0 +1,7 @@
+mod Bases
+mod Causes
+mod Looked
+mod Numbered
+mod OneMore
+mod Single
+mod Whole
