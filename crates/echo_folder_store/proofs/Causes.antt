@@ -1,14 +1,9 @@
--- What reads answer, carried from one to the next, and why they fail.
-use Rattle.std.proofs.Common.{◌≡◌, ◌≤◌, ℕ, Result, Ok, Err, refl, sym, ◌∙◌, ap, arith}
-use Rattle.std.specs.Prelude.{IsErrOf}
-use Rattle.echo_device.specs.Device.{Failed}
-use Rattle.echo_disk.specs.Runs.{HasCause}
-use Rattle.echo_disk.specs.declared.disk_error.DiskError.{DiskError}
-use Rattle.echo_disk.specs.declared.disk_error.DiskError.TheVariants as disk_error
-use Rattle.echo_store.specs.Store.{store_cause}
+-- What reads answer, carried from one to the next.
+use Rattle.std.proofs.Common.{◌≡◌, Result, Ok, Err, ap, sym, ◌∙◌}
+use Rattle.std.specs.Result.{IsErrAnd, IsErrOf}
 use Rattle.echo_store.specs.declared.store_error.StoreError.{StoreError}
 use Rattle.echo_store.specs.declared.store_error.StoreError.TheVariants as error
-use Rattle.echo_folder_store.specs.Answers.{Answers, HasReadCause}
+use Rattle.echo_folder_store.specs.Answers.{Answers}
 
 pub answers_map : {T : Type 0} (P Q : T → Type 0) → ((x : T) → P x → Q x) → (r : Result T StoreError) → Answers P r → Answers Q r
 answers_map P Q gives (Ok x) was = gives x was
@@ -17,21 +12,10 @@ answers_map P Q gives (Err error.Memory) was = tt
 answers_map P Q gives (Err error.Device) was = tt
 answers_map P Q gives (Err error.TooMany) was = tt
 
--- a disk's fault is no damage
-pub disk_answers : {T : Type 0} (P : T → Type 0) (e : DiskError) → Answers P (Err (store_cause e))
-disk_answers P disk_error.Memory = tt
-disk_answers P disk_error.Device = tt
-
-device_is : (e : DiskError) → store_cause e ≡ error.Device → e ≡ disk_error.Device
-device_is disk_error.Memory is = cc
-device_is disk_error.Device is = refl
-
-same_err : {T : Type 0} (e f : StoreError) → Err {T = T} e ≡ Err f → e ≡ f
-same_err e f is = cc
-
--- and fails where the disk failed
-pub disk_fails : {A T : Type 0} (before now : ℕ) (r : Result A DiskError) (e : DiskError) → r ≡ Err e → HasCause before now r → HasReadCause {T = T} before now (Err (store_cause e))
-disk_fails {A} {T} before now r e is cause = record {
-  later = cause.later;
-  failed = λ failed. cause.failed (is ∙ ap (λ (x : DiskError). Err x) (device_is e (same_err {T = T} (store_cause e) error.Device failed)));
-}
+-- an error that was handed on as it is
+pub handed_on : {T U E : Type 0} (e f : E) (r : Result T E) → IsErrAnd r (λ x. x ≡ e) → IsErrOf r f → IsErrOf {T = U} (Err e) f
+handed_on e f (Ok x) same is = absurd same
+handed_on {E = E} e f (Err x) same is =
+    let first : x ≡ e = same in
+    let inside : x ≡ f = cc (is) in
+    ap (λ (y : E). Err y) (sym first ∙ inside)

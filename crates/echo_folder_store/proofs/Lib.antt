@@ -2,6 +2,4 @@ mod Bases
 mod Causes
 mod Looked
 mod Numbered
-mod OneMore
-mod Single
 mod Whole

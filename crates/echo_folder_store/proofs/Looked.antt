@@ -1,7 +1,7 @@
 -- A message looked up among those of a base.
-use Rattle.std.proofs.Common.{◌≡◌, ◌≢◌, ℕ, zero, suc, ◌+◌, ◌<◌, ◌≤◌, ◌||◌, Bool, true, false, List, [], ◌∷◌, length, get_or, refl, sym, ap, subst, ◌∙◌, arith, inl, inr, ⊎_elim}
+use Rattle.std.proofs.Common.{◌≡◌, ◌≢◌, ℕ, suc, ◌+◌, ◌*◌, ◌/◌, ◌<◌, ◌≤◌, ◌||◌, Bool, true, false, List, [], ◌∷◌, length, get_or, refl, sym, ap, subst, ◌∙◌, arith, ⊎_elim}
 use Rattle.std.specs.List.{list_any}
-use Rattle.std.proofs.lemmas.Bool.{cases_Bool, false_from_ne_true, or_from, or_parts, true≢false}
+use Rattle.std.proofs.lemmas.Bool.{cases_lt, false_from_ne_true, or_from, or_parts}
 use Rattle.std.proofs.lemmas.List.Folds.{list_any_at}
 use Rattle.echo_filed.specs.Filed.{Filed}
 use Rattle.echo_base.specs.Base.{Base}
@@ -30,3 +30,24 @@ alone_passes test base place alone d within is passes =
     one_passes : (b : Bool) → b || false ≡ true → b ≡ true
     one_passes true h = refl
     one_passes false h = h
+
+-- a message of a base that has one
+pub some_message : (base : List Filed) (i : ℕ) → i < length base → Filed
+some_message [] i within = absurd (omega (arith, within))
+some_message (m ∷ rest) i within = m
+
+-- those up to one that was looked at do not pass
+pub passed_on : (test : Filed → Bool) (digest : ℕ) (base : List Filed) (keys : List ℕ) (from place : ℕ) (alone : Base) → HaveDigest test digest base keys
+    → ((j : ℕ) (d : Filed) → j < from → j < length base → test (get_or base j d) ≡ false) → ((j : ℕ) → from ≤ j → j < place → digest_at keys j ≢ digest)
+    → IsAloneOf base place alone → list_any test alone.messages ≡ false → (j : ℕ) (d : Filed) → j < place + 1 → j < length base → test (get_or base j d) ≡ false
+passed_on test digest base keys from place alone have before others is fails j d upto inside =
+    let here : (j ≡ place) → test (get_or base j d) ≡ false = λ at. subst (λ (n : ℕ). test (get_or base n d) ≡ false) (sym at) (alone_fails test base place alone d is fails) in
+    ⊎_elim (λ (h : j < from). before j d h inside)
+    (λ (h : from ≤ j). ⊎_elim (λ (k : j < place). other_digest test digest base keys have j d inside (others j h k)) (λ (k : place ≤ j). here (omega (arith, k, upto))) (cases_lt j place))
+    (cases_lt j from)
+
+-- where all up to a number fail, and none behind has the digest, none passes
+pub none_found : (test : Filed → Bool) (digest : ℕ) (base : List Filed) (keys : List ℕ) (from : ℕ) → length keys ≡ 16 * length base → HaveDigest test digest base keys
+    → ((j : ℕ) (d : Filed) → j < from → j < length base → test (get_or base j d) ≡ false) → ((j : ℕ) → from ≤ j → j < length keys / 16 → digest_at keys j ≢ digest) → list_any test base ≡ false
+none_found test digest base keys from many have before others =
+    none_passes test base (λ j d inside. ⊎_elim (λ (h : j < from). before j d h inside) (λ (h : from ≤ j). other_digest test digest base keys have j d inside (others j h (omega (arith, many, inside)))) (cases_lt j from))

@@ -1,6 +1,5 @@
 -- A message as the only one of a base file.
-use Rattle.std.proofs.Common.{◌≡◌, ◌≢◌, ℕ, ◌+◌, ◌^◌, ◌<◌, ◌≤◌, Bool, true, false, List, [], ◌∷◌, ◌++◌, length, map, take, refl, sym, ap, subst, ◌∙◌, Result, Ok, Err, if◌then◌else◌, arith, lit<, lit≤, ⊎_elim}
-use Rattle.std.specs.List.{flat_map}
+use Rattle.std.proofs.Common.{◌≡◌, ◌≢◌, ℕ, ◌-◌, ◌^◌, ◌<◌, ◌≤◌, Bool, true, false, List, [], ◌∷◌, ◌++◌, length, get_or, refl, sym, ap, subst, ◌∙◌, Result, Ok, Err, if◌then◌else◌, arith, lit<, lit≤, ⊎_elim}
 use Rattle.std.proofs.lemmas.List.{append-nil, take_all}
 use Rattle.echo_device.specs.Device.{Failed}
 use Rattle.echo_filed.specs.Filed.{Filed}
@@ -62,3 +61,18 @@ refused_not x fault.Read answers counts other = never_failed counts
 refused_not x (fault.Write n) answers counts other = ok_no_err x (fault.Write n) answers
 refused_not x fault.Memory answers counts other = other refl
 refused_not x fault.TooMany answers counts other = ok_no_err x fault.TooMany answers
+
+-- the bytes of a message behind the head that goes with their first byte
+pub stored_loads : (s : Stored) (bytes whole : List ℕ) (kind : ℕ) → IsStored Second s → MayStandAlone s → bytes ≡ stored_bytes Second s → kind ≡ get_or bytes 0 kind
+    → whole ≡ head_bytes Second (if has_tag Second kind then 1 else 0) 1 ++ bytes → LoadOf whole (Ok (message_in Second s ∷ [], cursor_alone s, length whole))
+unfolding stored_bytes
+stored_loads s bytes whole kind size alone is first all =
+    let same : kind ≡ s.kind = first ∙ ap (λ (l : List ℕ). get_or l 0 kind) is in
+    let file : whole ≡ head_bytes Second (cursor_alone s) 1 ++ stored_bytes Second s =
+    all ∙ (λ i. head_bytes Second (if has_tag Second (same i) then 1 else 0) 1 ++ is i) in
+    subst (λ (l : List ℕ). LoadOf l (Ok (message_in Second s ∷ [], cursor_alone s, length l))) (sym file) (whole_loads s size alone)
+
+-- there is a first byte
+pub some_byte : (s : Stored) (bytes : List ℕ) → bytes ≡ stored_bytes Second s → 0 < length bytes
+unfolding stored_bytes
+some_byte s bytes is = let more : length bytes ≡ length (stored_bytes Second s) = ap (λ (l : List ℕ). length l) is in omega (arith, more)

@@ -1,4 +1,3 @@
-pub mod Added
 pub mod Answers
 pub mod Held
 pub mod Opened

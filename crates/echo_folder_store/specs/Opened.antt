@@ -14,10 +14,6 @@ path_of folder = folder_of folder.names
 abbrev pub held_by : DiskState → Folder → BaseBytes
 held_by disk folder = base_at disk (path_of folder) folder.told
 
--- what was committed last
-abbrev pub committed_by : DiskState → Folder → BaseBytes
-committed_by disk folder = base_at disk (path_of folder) folder.end.told
-
 -- the files are as it knows them
 pub record IsOpen (disk : DiskState) (folder : Folder) : Type 0 where
   pub names : AreNames folder.names folder.told.number

@@ -39,8 +39,10 @@ fn load_whole(alloc: Global, whole: &[u8]) -> Result<Alone, StoreError>
     let mut reader = whole;
     match Base::load(alloc, &mut reader, BuildHasherDefault::new()) {
         Ok(base) => Ok(base),
-        Err(BaseFault::Memory) => Err(StoreError::Memory),
-        Err(_) => Err(StoreError::Damaged),
+        Err(fault) => match fault {
+            BaseFault::Memory => Err(StoreError::Memory),
+            _ => Err(StoreError::Damaged),
+        },
     }
 }
 

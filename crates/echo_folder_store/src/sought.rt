@@ -25,6 +25,7 @@ impl Sought for Key {
 }
 
 /// An id, in any area.
+#[derive(Clone, Copy)]
 pub struct Id<'a> {
     pub msgid: &'a [u8],
 }

@@ -1,10 +1,10 @@
-use Rattle.std.proofs.Common.{◌≡◌, ◌+◌, ◌-◌, ◌/◌, ◌<◌, ◌≤◌, ℕ, List, false, length, get_or}
+use Rattle.std.proofs.Common.{◌≡◌, ◌-◌, ◌/◌, ◌<◌, ◌≤◌, ℕ, List, false, length, get_or}
 use Rattle.echo_disk.specs.Runs.{ChangesNothing}
 use Rattle.echo_filed.specs.Filed.{Filed}
 use Rattle.echo_keys.specs.Keys.{StandWhereTold}
 use Rattle.echo_folder_store.specs.Answers.{HaveDigest}
 use Rattle.echo_folder_store.specs.Opened.{held_by}
-use Rattle.echo_folder_store.proofs.finding.Folder.find.Given as goal
+use Rattle.echo_folder_store.proofs.folder.Folder.find.Given as goal
 
 abbrev pub invariant-entries : goal.invariant-entries
 invariant-entries g l = record {
