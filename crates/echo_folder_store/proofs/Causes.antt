@@ -1,0 +1,21 @@
+-- What reads answer, carried from one to the next.
+use Rattle.std.proofs.Common.{◌≡◌, Result, Ok, Err, ap, sym, ◌∙◌}
+use Rattle.std.specs.Result.{IsErrAnd, IsErrOf}
+use Rattle.echo_store.specs.declared.store_error.StoreError.{StoreError}
+use Rattle.echo_store.specs.declared.store_error.StoreError.TheVariants as error
+use Rattle.echo_folder_store.specs.Answers.{Answers}
+
+pub answers_map : {T : Type 0} (P Q : T → Type 0) → ((x : T) → P x → Q x) → (r : Result T StoreError) → Answers P r → Answers Q r
+answers_map P Q gives (Ok x) was = gives x was
+answers_map P Q gives (Err error.Damaged) was = was
+answers_map P Q gives (Err error.Memory) was = tt
+answers_map P Q gives (Err error.Device) was = tt
+answers_map P Q gives (Err error.TooMany) was = tt
+
+-- an error that was handed on as it is
+pub handed_on : {T U E : Type 0} (e f : E) (r : Result T E) → IsErrAnd r (λ x. x ≡ e) → IsErrOf r f → IsErrOf {T = U} (Err e) f
+handed_on e f (Ok x) same is = absurd same
+handed_on {E = E} e f (Err x) same is =
+    let first : x ≡ e = same in
+    let inside : x ≡ f = cc (is) in
+    ap (λ (y : E). Err y) (sym first ∙ inside)

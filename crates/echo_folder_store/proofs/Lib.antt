@@ -1,0 +1,5 @@
+mod Bases
+mod Causes
+mod Looked
+mod Numbered
+mod Whole

@@ -1,0 +1,53 @@
+-- A message looked up among those of a base.
+use Rattle.std.proofs.Common.{◌≡◌, ◌≢◌, ℕ, suc, ◌+◌, ◌*◌, ◌/◌, ◌<◌, ◌≤◌, ◌||◌, Bool, true, false, List, [], ◌∷◌, length, get_or, refl, sym, ap, subst, ◌∙◌, arith, ⊎_elim}
+use Rattle.std.specs.List.{list_any}
+use Rattle.std.proofs.lemmas.Bool.{cases_lt, false_from_ne_true, or_from, or_parts}
+use Rattle.std.proofs.lemmas.List.Folds.{list_any_at}
+use Rattle.echo_filed.specs.Filed.{Filed}
+use Rattle.echo_base.specs.Base.{Base}
+use Rattle.echo_keys.specs.Keys.{digest_at}
+use Rattle.echo_folder_store.specs.Answers.{HaveDigest, IsAloneOf}
+
+-- none passes
+pub none_passes : {X : Type 0} (test : X → Bool) (xs : List X) → ((i : ℕ) (d : X) → i < length xs → test (get_or xs i d) ≡ false) → list_any test xs ≡ false
+none_passes test [] each = refl
+none_passes test (x ∷ xs) each = or_from (test x) (list_any test xs) (each 0 x (omega arith)) (none_passes test xs (λ i d within. each (suc i) d (omega arith)))
+
+-- a message whose entry has another digest does not pass
+pub other_digest : (test : Filed → Bool) (digest : ℕ) (base : List Filed) (keys : List ℕ) → HaveDigest test digest base keys → (j : ℕ) (d : Filed) → j < length base → digest_at keys j ≢ digest
+    → test (get_or base j d) ≡ false
+other_digest test digest base keys have j d within other = false_from_ne_true (test (get_or base j d)) (λ passes. other (have j d within passes))
+
+-- the only message of a base passes, or it does not
+pub alone_fails : (test : Filed → Bool) (base : List Filed) (place : ℕ) (alone : Base) (d : Filed) → IsAloneOf base place alone → list_any test alone.messages ≡ false → test (get_or base place d) ≡ false
+alone_fails test base place alone d is fails =
+    (or_parts (test (get_or base place d)) false (sym (ap (list_any test) (is d)) ∙ fails)).0
+
+pub alone_passes : (test : Filed → Bool) (base : List Filed) (place : ℕ) (alone : Base) (d : Filed) → place < length base → IsAloneOf base place alone → list_any test alone.messages ≡ true → list_any test base ≡ true
+alone_passes test base place alone d within is passes =
+    list_any_at test base place d within (one_passes (test (get_or base place d)) (sym (ap (list_any test) (is d)) ∙ passes))
+  where
+    one_passes : (b : Bool) → b || false ≡ true → b ≡ true
+    one_passes true h = refl
+    one_passes false h = h
+
+-- a message of a base that has one
+pub some_message : (base : List Filed) (i : ℕ) → i < length base → Filed
+some_message [] i within = absurd (omega (arith, within))
+some_message (m ∷ rest) i within = m
+
+-- those up to one that was looked at do not pass
+pub passed_on : (test : Filed → Bool) (digest : ℕ) (base : List Filed) (keys : List ℕ) (from place : ℕ) (alone : Base) → HaveDigest test digest base keys
+    → ((j : ℕ) (d : Filed) → j < from → j < length base → test (get_or base j d) ≡ false) → ((j : ℕ) → from ≤ j → j < place → digest_at keys j ≢ digest)
+    → IsAloneOf base place alone → list_any test alone.messages ≡ false → (j : ℕ) (d : Filed) → j < place + 1 → j < length base → test (get_or base j d) ≡ false
+passed_on test digest base keys from place alone have before others is fails j d upto inside =
+    let here : (j ≡ place) → test (get_or base j d) ≡ false = λ at. subst (λ (n : ℕ). test (get_or base n d) ≡ false) (sym at) (alone_fails test base place alone d is fails) in
+    ⊎_elim (λ (h : j < from). before j d h inside)
+    (λ (h : from ≤ j). ⊎_elim (λ (k : j < place). other_digest test digest base keys have j d inside (others j h k)) (λ (k : place ≤ j). here (omega (arith, k, upto))) (cases_lt j place))
+    (cases_lt j from)
+
+-- where all up to a number fail, and none behind has the digest, none passes
+pub none_found : (test : Filed → Bool) (digest : ℕ) (base : List Filed) (keys : List ℕ) (from : ℕ) → length keys ≡ 16 * length base → HaveDigest test digest base keys
+    → ((j : ℕ) (d : Filed) → j < from → j < length base → test (get_or base j d) ≡ false) → ((j : ℕ) → from ≤ j → j < length keys / 16 → digest_at keys j ≢ digest) → list_any test base ≡ false
+none_found test digest base keys from many have before others =
+    none_passes test base (λ j d inside. ⊎_elim (λ (h : j < from). before j d h inside) (λ (h : from ≤ j). other_digest test digest base keys have j d inside (others j h (omega (arith, many, inside)))) (cases_lt j from))

@@ -1,0 +1,20 @@
+use Rattle.std.proofs.Common.{◌≡◌, ◌-◌, ◌/◌, ◌<◌, ◌≤◌, ℕ, List, false, length, get_or}
+use Rattle.echo_disk.specs.Runs.{ChangesNothing}
+use Rattle.echo_filed.specs.Filed.{Filed}
+use Rattle.echo_keys.specs.Keys.{StandWhereTold}
+use Rattle.echo_folder_store.specs.Answers.{HaveDigest}
+use Rattle.echo_folder_store.specs.Opened.{held_by}
+use Rattle.echo_folder_store.proofs.folder.Folder.find.Given as goal
+
+abbrev pub invariant-entries : goal.invariant-entries
+invariant-entries g l = record {
+  quiet : ChangesNothing (g.D.Disk.state l.fn.disk) (g.D.Disk.state l.disk);
+  cause : g.D.Disk.failures l.fn.disk ≤ g.D.Disk.failures l.disk;
+  within : l.from ≤ length l.self.keys.items / 16;
+  passed : (base : List Filed) → StandWhereTold base (held_by (g.D.Disk.state l.fn.disk) l.self).messages l.self.keys.items
+      → HaveDigest (g.W.Sought.test l.sought) l.digest base l.self.keys.items
+      → (j : ℕ) (d : Filed) → j < l.from → j < length base → g.W.Sought.test l.sought (get_or base j d) ≡ false;
+}
+
+abbrev pub decreases-entries : goal.decreases-entries
+decreases-entries g l = length l.self.keys.items / 16 - l.from

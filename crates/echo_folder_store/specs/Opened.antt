@@ -1,0 +1,21 @@
+-- A base folder that is open.
+use Rattle.std.specs.Prelude.{◌≡◌, ℕ, List}
+use Rattle.echo_disk.specs.Disk.{DiskState}
+use Rattle.echo_folder.specs.Names.{AreNames, folder_of}
+use Rattle.echo_folder.specs.AtRest.{IsStaged}
+use Rattle.echo_folder.specs.Standing.{BaseBytes, base_at}
+use Rattle.echo_folder_store.specs.declared.folder.Folder.{Folder}
+
+-- its path
+abbrev pub path_of : Folder → List ℕ
+path_of folder = folder_of folder.names
+
+-- what it holds, with what is not committed yet
+abbrev pub held_by : DiskState → Folder → BaseBytes
+held_by disk folder = base_at disk (path_of folder) folder.told
+
+-- the files are as it knows them
+pub record IsOpen (disk : DiskState) (folder : Folder) : Type 0 where
+  pub names : AreNames folder.names folder.told.number
+  pub staged : IsStaged disk (path_of folder) folder.end folder.told
+  pub keys : folder.keys.items ≡ (held_by disk folder).keys

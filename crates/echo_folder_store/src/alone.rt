@@ -1,0 +1,61 @@
+//! One message, read by itself: as the only one of a base file.
+ghost use Rattle.std.specs.Prelude.{◌≡◌, ℕ, List, [], ◌∷◌, Ok, IsErrOf, if◌then◌else◌};
+ghost use Rattle.echo_filed.specs.declared.stored.Version.TheVariants.{Second};
+ghost use Rattle.echo_filed.specs.Filed.{Filed};
+ghost use Rattle.echo_filed.specs.Stored.{IsStored, Stored, has_tag, message_in, stored_bytes};
+ghost use Rattle.echo_base.specs.BaseFile.{LoadOf, head_bytes};
+ghost use Rattle.echo_keys.specs.Keys.{MayStandAlone};
+ghost use Rattle.echo_folder_store.specs.Answers.{Answers};
+
+use echo_base::{Base, BaseFault};
+use echo_device::are_bytes;
+use echo_filed::{Version, has_tag};
+use echo_store::StoreError;
+use std::alloc::Global;
+use std::hash::{BuildHasherDefault, FoldHasher};
+
+/// A base with one message.
+pub type Alone = Base<BuildHasherDefault<FoldHasher>>;
+
+// What stands before the message in a base file that has it alone. It was scanned where it has tag and id in place
+// of the text.
+fn head_of(kind: u8) -> [u8; 16]
+    ensures { result ≡ head_bytes Second (if has_tag Second kind then 1 else 0) 1 }
+{
+    if has_tag(Version::Second, kind) {
+        *b"ECHOBAS2\x01\0\0\0\x01\0\0\0"
+    } else {
+        *b"ECHOBAS2\0\0\0\0\x01\0\0\0"
+    }
+}
+
+// The base that these bytes are, as a base file.
+fn load_whole(alloc: Global, whole: &[u8]) -> Result<Alone, StoreError>
+    ensures loaded { (base : List Filed) (cursor count : ℕ) → LoadOf whole.now (Ok (base, cursor, count))
+        → Answers (λ alone. alone.messages ≡ base) result }
+    ensures device { IsErrOf result StoreError.Device → ⊥ }
+{
+    are_bytes(whole);
+    let mut reader = whole;
+    match Base::load(alloc, &mut reader, BuildHasherDefault::new()) {
+        Ok(base) => Ok(base),
+        Err(fault) => match fault {
+            BaseFault::Memory => Err(StoreError::Memory),
+            _ => Err(StoreError::Damaged),
+        },
+    }
+}
+
+/// The message that is stored so.
+pub(crate) fn read_alone(alloc: Global, bytes: &[u8]) -> Result<Alone, StoreError>
+    ensures read { (s : Stored) → IsStored Second s → MayStandAlone s → bytes.now ≡ stored_bytes Second s
+        → Answers (λ alone. alone.messages ≡ message_in Second s ∷ []) result }
+    ensures device { IsErrOf result StoreError.Device → ⊥ }
+{
+    let Some(kind) = bytes.first() else {
+        return Err(StoreError::Damaged);
+    };
+    let mut whole = Vec::from_slice(alloc, &head_of(*kind))?;
+    whole.extend_from_slice(bytes)?;
+    load_whole(alloc, &whole)
+}

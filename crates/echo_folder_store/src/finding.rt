@@ -1,0 +1,43 @@
+//! A message looked up by its digest: only those that have it are read, and the whole key is compared.
+ghost use Rattle.std.specs.Prelude.{◌≡◌, List};
+ghost use Rattle.std.specs.List.{list_any};
+ghost use Rattle.echo_disk.specs.Runs.{ChangesNothing};
+ghost use Rattle.echo_filed.specs.Filed.{Filed};
+ghost use Rattle.echo_keys.specs.Keys.{StandWhereTold};
+ghost use Rattle.echo_folder_store.specs.Answers.{Answers, HasReadCause, HaveDigest};
+ghost use Rattle.echo_folder_store.specs.Opened.{IsOpen, held_by};
+
+use crate::folder::Folder;
+use crate::sought::Sought;
+use echo_disk::Disk;
+use echo_keys::next_with;
+use echo_store::StoreError;
+use std::alloc::Global;
+
+impl Folder {
+    /// Whether a message is the one that is looked for, where each such message has the digest.
+    pub fn find<D: Disk, W: Sought>(
+        &self,
+        alloc: Global,
+        disk: &mut D,
+        sought: &W,
+        digest: u64,
+    ) -> Result<bool, StoreError>
+        requires { IsOpen (D.state disk.old) self.now }
+        ensures found { (base : List Filed) → StandWhereTold base (held_by (D.state disk.old) self.now).messages self.now.keys.items
+            → HaveDigest (W.test sought.now) digest base self.now.keys.items
+            → Answers (λ found. found ≡ list_any (W.test sought.now) base) result }
+        ensures quiet { ChangesNothing (D.state disk.old) (D.state disk.new) }
+        ensures cause { HasReadCause (D.failures disk.old) (D.failures disk.new) result }
+    {
+        let mut from = 0;
+        'entries: while let Some(place) = next_with(&self.keys, digest, from) {
+            let alone = self.read(alloc, disk, place)?;
+            if sought.is_in(&alone)? {
+                return Ok(true);
+            }
+            from = place + 1;
+        }
+        Ok(false)
+    }
+}

@@ -1,0 +1,125 @@
+//! A base folder that is open: what is known of its files, and a message read by its number.
+ghost use Rattle.std.specs.Prelude.{◌≡◌, ◌≤◌, ◌<◌, ◌/◌, ℕ, List, length, IfOk, IsErrOf, IsSome, take};
+ghost use Rattle.echo_disk.specs.Disk.{bytes_in};
+ghost use Rattle.echo_disk.specs.Runs.{ChangesNothing, LeavesOnly};
+ghost use Rattle.echo_folder.specs.Moments.{KeepsOutside};
+ghost use Rattle.echo_folder.specs.Opening.{AreAlone, HasFolderCause};
+ghost use Rattle.echo_base.specs.Base.{Base};
+ghost use Rattle.echo_filed.specs.Filed.{Filed};
+ghost use Rattle.echo_keys.specs.Keys.{StandWhereTold};
+ghost use Rattle.echo_folder_store.specs.Answers.{Answers, HasReadCause, IsAloneOf};
+ghost use Rattle.echo_folder_store.specs.Held.{HoldsBase, StandsForBase, StandsForBaseOrWasLeft};
+ghost use Rattle.echo_folder_store.specs.Opened.{IsOpen, held_by, path_of};
+
+use crate::alone::{Alone, read_alone};
+use echo_disk::Disk;
+use echo_folder::{End, FolderError, Names, Told, open, read_part};
+use echo_keys::{end_of, place_of};
+use echo_store::StoreError;
+use std::alloc::Global;
+
+/// How many bytes of the keys tell of a message.
+const ENTRY: usize = 16;
+
+/// What is known of the files of a base folder: where its log ends, what a commit would tell now, and the keys.
+#[derive(Drop)]
+pub struct Folder {
+    pub(crate) names: Names,
+    pub(crate) end: End,
+    pub(crate) told: Told,
+    pub(crate) keys: Vec<u8>,
+}
+
+// The message that stands between two places of the messages.
+pub(crate) fn message_at<D: Disk>(
+    alloc: Global,
+    disk: &mut D,
+    messages: &[u8],
+    all: usize,
+    keys: &[u8],
+    place: usize,
+) -> Result<Alone, StoreError>
+    requires there { IsSome ((D.state disk.old).seen messages.now) }
+    requires long { all ≤ length (bytes_in ((D.state disk.old).seen messages.now)) }
+    requires within { place < length keys.now / 16 }
+    ensures read { (base : List Filed) → StandWhereTold base (take all (bytes_in ((D.state disk.old).seen messages.now))) keys.now
+        → place < length base → Answers (IsAloneOf base place) result }
+    ensures quiet { ChangesNothing (D.state disk.old) (D.state disk.new) }
+    ensures cause { HasReadCause (D.failures disk.old) (D.failures disk.new) result }
+{
+    let begins = place_of(keys, place) as usize;
+    let ends = end_of(keys, place, all as u64) as usize;
+    if begins > ends || ends > all {
+        return Err(StoreError::Damaged);
+    }
+    let bytes = read_part(alloc, disk, messages, begins, ends)?;
+    read_alone(alloc, &bytes)
+}
+
+impl Folder {
+    /// Opens the base folder, and mends the end of its log. Its files are made where there are none. A path ends in
+    /// a slash, or is empty.
+    ///
+    /// It is `Corrupt` where its files stand for no base. What is wrong with a message is told where it is read.
+    pub fn open<D: Disk>(alloc: Global, disk: &mut D, path: &[u8]) -> Result<Folder, FolderError>
+        requires { AreAlone path.now (D.state disk.old) }
+        ensures opened { IfOk result (IsOpen (D.state disk.new)) }
+        ensures path { IfOk result (λ folder. path_of folder ≡ path.now) }
+        ensures settled { IfOk result (λ folder. folder.told ≡ folder.end.told) }
+        ensures same { (digest : List ℕ → ℕ) (base : Base) → StandsForBase digest path.now base (D.state disk.old).seen
+            → IfOk result (λ folder. HoldsBase digest (held_by (D.state disk.new) folder) base) }
+
+        // A crash at any moment leaves the same base and all else as it was, or what a crash might have left before.
+        ensures any_moment { (digest : List ℕ → ℕ) (base : Base) → StandsForBase digest path.now base (D.state disk.old).seen
+            → LeavesOnly (D.state disk.old) (D.state disk.new) (StandsForBaseOrWasLeft digest path.now (D.state disk.old) base) }
+        ensures outside { KeepsOutside path.now (D.state disk.old) (D.state disk.new) }
+        ensures corrupt { IsErrOf result FolderError.Corrupt
+            → (digest : List ℕ → ℕ) (base : Base) → StandsForBase digest path.now base (D.state disk.old).seen → ⊥ }
+        ensures cause { HasFolderCause (D.failures disk.old) (D.failures disk.new) result }
+    {
+        let end = open(alloc, disk, path)?;
+        let names = Names::new(alloc, path, end.told.number)?;
+        let keys = read_part(alloc, disk, &names.keys, 0, end.told.keys)?;
+        let count = keys.len() / ENTRY;
+        if keys.len() % ENTRY != 0 || end.told.cursor as usize > count {
+            return Err(FolderError::Corrupt);
+        }
+        Ok(Folder {
+            names,
+            end,
+            told: end.told,
+            keys,
+        })
+    }
+
+    /// How many messages it has.
+    pub fn count(&self) -> usize
+        ensures { result ≡ length self.now.keys.items / 16 }
+    {
+        self.keys.len() / ENTRY
+    }
+
+    /// The message of this number, counted from 0.
+    pub fn read<D: Disk>(
+        &self,
+        alloc: Global,
+        disk: &mut D,
+        place: usize,
+    ) -> Result<Alone, StoreError>
+        requires opened { IsOpen (D.state disk.old) self.now }
+        requires within { place < length self.now.keys.items / 16 }
+        ensures read { (base : List Filed) → StandWhereTold base (held_by (D.state disk.old) self.now).messages self.now.keys.items
+            → place < length base → Answers (IsAloneOf base place) result }
+        ensures quiet { ChangesNothing (D.state disk.old) (D.state disk.new) }
+        ensures cause { HasReadCause (D.failures disk.old) (D.failures disk.new) result }
+    {
+        message_at(
+            alloc,
+            disk,
+            &self.names.messages,
+            self.told.messages,
+            &self.keys,
+            place,
+        )
+    }
+}
