@@ -1,6 +1,6 @@
 -- What reads answer, carried from one to the next.
 use Rattle.std.proofs.Common.{◌≡◌, Result, Ok, Err, ap, sym, ◌∙◌}
-use Rattle.std.specs.Result.{IsErrAnd, IsErrOf}
+use Rattle.std.specs.Result.{IfOk, IsErrAnd, IsErrOf}
 use Rattle.echo_store.specs.declared.store_error.StoreError.{StoreError}
 use Rattle.echo_store.specs.declared.store_error.StoreError.TheVariants as error
 use Rattle.echo_folder_store.specs.Answers.{Answers}
@@ -19,3 +19,8 @@ handed_on {E = E} e f (Err x) same is =
     let first : x ≡ e = same in
     let inside : x ≡ f = cc (is) in
     ap (λ (y : E). Err y) (sym first ∙ inside)
+
+-- what two clauses say of one value
+pub ok_both : {T E : Type 0} (P Q R : T → Type 0) → ((x : T) → P x → Q x → R x) → (r : Result T E) → IfOk r P → IfOk r Q → IfOk r R
+ok_both P Q R gives (Ok x) p q = gives x p q
+ok_both P Q R gives (Err e) p q = tt

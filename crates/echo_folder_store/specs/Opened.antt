@@ -19,3 +19,7 @@ pub record IsOpen (disk : DiskState) (folder : Folder) : Type 0 where
   pub names : AreNames folder.names folder.told.number
   pub staged : IsStaged disk (path_of folder) folder.end folder.told
   pub keys : folder.keys.items ≡ (held_by disk folder).keys
+
+-- what was committed last
+abbrev pub committed_by : DiskState → Folder → BaseBytes
+committed_by disk folder = base_at disk (path_of folder) folder.end.told

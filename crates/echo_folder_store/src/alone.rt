@@ -1,15 +1,16 @@
-//! One message, read by itself: as the only one of a base file.
-ghost use Rattle.std.specs.Prelude.{◌≡◌, ℕ, List, [], ◌∷◌, Ok, IsErrOf, if◌then◌else◌};
+//! One message by itself, read and made: as the only one of a base file.
+ghost use Rattle.std.specs.Prelude.{◌≡◌, ℕ, List, [], ◌∷◌, false, true, Ok, IfOk, IsErrOf, if◌then◌else◌};
 ghost use Rattle.echo_filed.specs.declared.stored.Version.TheVariants.{Second};
-ghost use Rattle.echo_filed.specs.Filed.{Filed};
-ghost use Rattle.echo_filed.specs.Stored.{IsStored, Stored, has_tag, message_in, stored_bytes};
+ghost use Rattle.echo_filed.specs.Filed.{Filed, IsFiled};
+ghost use Rattle.echo_filed.specs.Stored.{IsStored, Stored, has_tag, is_short_enough, message_in, stored_as, stored_bytes};
 ghost use Rattle.echo_base.specs.BaseFile.{LoadOf, head_bytes};
 ghost use Rattle.echo_keys.specs.Keys.{MayStandAlone};
+ghost use Rattle.echo_folder_store.specs.Added.{IsStoredAlone};
 ghost use Rattle.echo_folder_store.specs.Answers.{Answers};
 
 use echo_base::{Base, BaseFault};
-use echo_device::are_bytes;
-use echo_filed::{Version, has_tag};
+use echo_device::{Watched, are_bytes};
+use echo_filed::{Filed, Version, has_tag, is_short_enough, send_message};
 use echo_store::StoreError;
 use std::alloc::Global;
 use std::hash::{BuildHasherDefault, FoldHasher};
@@ -58,4 +59,39 @@ pub(crate) fn read_alone(alloc: Global, bytes: &[u8]) -> Result<Alone, StoreErro
     let mut whole = Vec::from_slice(alloc, &head_of(*kind))?;
     whole.extend_from_slice(bytes)?;
     load_whole(alloc, &whole)
+}
+
+// Does nothing: its contract is for the prover, and says what holds of each message.
+fn is_filed(message: &Filed)
+    ensures { IsFiled message.now }
+{
+    let _sender = message.sender;
+}
+
+// The bytes of the message, which are few enough.
+fn write_whole(alloc: Global, message: &Filed) -> Result<Vec<u8>, StoreError>
+    ensures bytes { IfOk result (λ bytes. bytes.items ≡ stored_bytes Second (stored_as false message.now)) }
+    ensures room { IfOk result (λ _. is_short_enough (stored_as false message.now) ≡ true) }
+    ensures whole { IsErrOf result StoreError.Damaged → ⊥ }
+    ensures device { IsErrOf result StoreError.Device → ⊥ }
+{
+    if !is_short_enough(alloc, message, false)? {
+        return Err(StoreError::TooMany);
+    }
+    let mut bytes = Watched::new(Vec::new(alloc));
+    match send_message(alloc, &mut bytes, message, false, &mut 0) {
+        Ok(()) => Ok(bytes.into_inner()),
+        Err(_) => Err(StoreError::Memory),
+    }
+}
+
+/// The message as it is stored, its text whole. It is `TooMany` where four bytes do not count its text.
+pub fn bytes_alone(alloc: Global, message: &Filed) -> Result<Vec<u8>, StoreError>
+    ensures stored { IfOk result (λ bytes. IsStoredAlone message.now bytes.items) }
+    ensures filed { IsFiled message.now }
+    ensures whole { IsErrOf result StoreError.Damaged → ⊥ }
+    ensures device { IsErrOf result StoreError.Device → ⊥ }
+{
+    is_filed(message);
+    write_whole(alloc, message)
 }

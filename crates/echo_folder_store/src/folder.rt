@@ -99,6 +99,13 @@ impl Folder {
         self.keys.len() / ENTRY
     }
 
+    /// How many of them, from the front, were scanned.
+    pub fn cursor(&self) -> usize
+        ensures { result ≡ self.now.told.cursor }
+    {
+        self.told.cursor as usize
+    }
+
     /// The message of this number, counted from 0.
     pub fn read<D: Disk>(
         &self,

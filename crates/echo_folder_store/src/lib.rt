@@ -1,14 +1,18 @@
 //! A base folder, of which a command reads and writes only what it handles.
 //!
-//! Modules in reading order: `alone` (one message, read by itself), `sought` (what is looked for), `folder` (opened,
-//! a message read by its number) and `finding` (looked up by digests).
+//! Modules in reading order: `alone` (one message by itself, read and made), `sought` (what is looked for), `folder`
+//! (opened, a message read by its number), `finding` (looked up by digests), `adding` (added to and committed) and
+//! `laws` (what holds of the definitions).
 #![tactic(auto)]
 
+mod adding;
 mod alone;
 mod finding;
 mod folder;
+mod laws;
 mod sought;
 
-pub use alone::Alone;
+pub use alone::{Alone, bytes_alone};
 pub use folder::Folder;
+pub use laws::one_message_more;
 pub use sought::{Id, Sought};

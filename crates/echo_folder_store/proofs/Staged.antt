@@ -1,0 +1,110 @@
+-- What staging and committing leave of an open base folder.
+use Rattle.std.proofs.Common.{◌≡◌, ◌<◌, ◌+◌, ◌^◌, ℕ, List, ◌++◌, length, refl, sym, ap, subst, ◌∙◌, arith, inl, length-append}
+use Rattle.std.proofs.lemmas.List.{length-take-le}
+use Rattle.echo_disk.specs.Disk.{DiskState, Files, bytes_in}
+use Rattle.echo_disk.specs.Runs.{LeavesOnly}
+use Rattle.echo_disk.proofs.Moments.{no_call, then_run}
+use Rattle.echo_folder.specs.AtRest.{IsAtRest, IsStaged}
+use Rattle.echo_folder.specs.Moments.{IsBeforeOrAfter, KeepsOutside, StandsAlone}
+use Rattle.echo_folder.specs.Names.{AreNames, folder_of, keys_of, messages_of}
+use Rattle.echo_folder.specs.Standing.{BaseBytes, StandsFor, and_keys, and_messages, base_at}
+use Rattle.echo_folder.specs.declared.log.End.{End}
+use Rattle.echo_folder.specs.declared.log.Told.{Told}
+use Rattle.echo_folder.specs.declared.names.Names.{Names}
+use Rattle.echo_folder.proofs.Rested.{rest_staged}
+use Rattle.echo_keys.specs.Keys.{entry}
+use Rattle.echo_folder_store.specs.Added.{with_stored}
+use Rattle.echo_folder_store.specs.Opened.{IsOpen, committed_by, held_by, path_of}
+use Rattle.echo_folder_store.specs.declared.folder.Folder.{Folder}
+
+-- nothing outside has changed where nothing was called
+pub outside_same : (path : List ℕ) (d : DiskState) → KeepsOutside path d d
+outside_same path d = record {
+  seen = λ m out. refl;
+  named = λ m out is. is;
+  flushed = λ m out is. is;
+  alone = λ m out is. is;
+}
+
+-- what is so of the disk behind a call that kept what is outside is so of the one before it
+pub alone_before : (path : List ℕ) (d e : DiskState) (base now : BaseBytes) → KeepsOutside path d e → now ≡ base → (c : Files) → StandsAlone path e now c → StandsAlone path d base c
+alone_before path d e base now kept same c left = record {
+  outside = λ m out named flushed. left.outside m out (kept.named m out named) (kept.flushed m out flushed) ∙ kept.seen m out;
+  stands = subst (λ (b : BaseBytes). StandsFor path b c) same left.stands;
+}
+
+-- one run after another
+pub both_runs : (path : List ℕ) (d e f : DiskState) (base now : BaseBytes) → LeavesOnly d e (StandsAlone path d base) → LeavesOnly e f (StandsAlone path e now) → KeepsOutside path d e → now ≡ base → LeavesOnly d f (StandsAlone path d base)
+both_runs path d e f base now one two kept same =
+    then_run d e f (StandsAlone path d base) (StandsAlone path e now) one two (alone_before path d e base now kept same)
+
+-- so many bytes of the messages count, and so many of the keys
+pub messages_count : (d : DiskState) (path : List ℕ) (end : End) (told : Told) → IsStaged d path end told → length (base_at d path told).messages ≡ told.messages
+messages_count d path end told staged = length-take-le told.messages (bytes_in (d.seen (messages_of path told.number))) staged.messages_long
+
+pub keys_count : (d : DiskState) (path : List ℕ) (end : End) (told : Told) → IsStaged d path end told → length (base_at d path told).keys ≡ told.keys
+keys_count d path end told staged = length-take-le told.keys (bytes_in (d.seen (keys_of path told.number))) staged.keys_long
+
+-- what was committed is staged
+pub committed_staged : (d : DiskState) (path : List ℕ) (after : End) (told : Told) → IsAtRest d path after → after.told ≡ told → IsStaged d path after told
+committed_staged d path after told rest is = subst (λ (t : Told). IsStaged d path after t) is (rest_staged d path after after.told.cursor rest)
+
+-- what was staged of an open folder leaves it open
+pub opened_more : (d e : DiskState) (f g : Folder) (bytes one : List ℕ) → IsOpen d f → g.names ≡ f.names → g.end ≡ f.end → g.told.number ≡ f.told.number → IsStaged e (path_of f) f.end g.told
+    → g.keys.items ≡ f.keys.items ++ one → base_at e (path_of f) g.told ≡ and_keys (and_messages (held_by d f) bytes) one → IsOpen e g
+opened_more d e f g bytes one was names end number staged keys added =
+    let path : path_of g ≡ path_of f = ap (λ (n : Names). folder_of n) names in
+    record {
+      names = subst (λ (n : ℕ). AreNames g.names n) (sym number) (subst (λ (n : Names). AreNames n f.told.number) (sym names) was.names);
+      staged = subst (λ (x : End). IsStaged e (path_of g) x g.told) (sym end) (subst (λ (p : List ℕ). IsStaged e p f.end g.told) (sym path) staged);
+      keys = keys ∙ (λ i. was.keys i ++ one) ∙ sym (ap (λ (b : BaseBytes). b.keys) added) ∙ (λ i. (base_at e (sym path i) g.told).keys);
+    }
+
+-- and it holds the message, with its entry
+pub holds_staged : (d e : DiskState) (f g : Folder) (bytes one : List ℕ) (digest : ℕ) → IsOpen d f → g.names ≡ f.names → one ≡ entry f.told.messages digest
+    → base_at e (path_of f) g.told ≡ and_keys (and_messages (held_by d f) bytes) one → held_by e g ≡ with_stored (held_by d f) bytes digest
+holds_staged d e f g bytes one digest was names entered added =
+    let path : path_of g ≡ path_of f = ap (λ (n : Names). folder_of n) names in
+    let place : f.told.messages ≡ length (held_by d f).messages = sym (messages_count d (path_of f) f.end f.told was.staged) in
+    (λ i. base_at e (path i) g.told) ∙ added ∙ ap (λ (l : List ℕ). and_keys (and_messages (held_by d f) bytes) l) (entered ∙ ap (λ (n : ℕ). entry n digest) place)
+
+pub messages_fit : (d e : DiskState) (f g : Folder) (bytes : List ℕ) (digest : ℕ) → IsOpen d f → held_by e g ≡ with_stored (held_by d f) bytes digest → f.told.messages + length bytes < 2 ^ 64 → length (held_by e g).messages < 2 ^ 64
+messages_fit d e f g bytes digest was staged room =
+    let count = messages_count d (path_of f) f.end f.told was.staged in
+    let more = length-append (held_by d f).messages bytes in
+    let all : length (held_by e g).messages ≡ length ((held_by d f).messages ++ bytes) = ap (λ (b : BaseBytes). length b.messages) staged in
+    omega (arith, count, more, all, room)
+
+-- there is room for one entry more
+pub entry_room : (d : DiskState) (f : Folder) → IsOpen d f → f.told.keys + 16 < 2 ^ 64
+entry_room d f was =
+    let count = keys_count d (path_of f) f.end f.told was.staged in
+    let long : length f.keys.items ≡ length (held_by d f).keys = ap (λ (l : List ℕ). length l) was.keys in
+    let ok = f.keys.ok in
+    let small = f.keys.small in
+    omega (arith, count, long, ok.0, ok.1, small)
+
+-- nothing is committed where nothing was called
+pub nothing_left : (d : DiskState) (f : Folder) → IsOpen d f → LeavesOnly d d (StandsAlone (path_of f) d (committed_by d f))
+nothing_left d f was = no_call d (StandsAlone (path_of f) d (committed_by d f)) (λ c left. record { outside = λ m out named flushed. d.on_disk m named flushed c left; stands = was.staged.stands c left })
+
+pub nothing_committed : (d : DiskState) (f : Folder) → IsOpen d f → LeavesOnly d d (IsBeforeOrAfter (path_of f) d (committed_by d f) (held_by d f))
+nothing_committed d f was =
+    no_call d (IsBeforeOrAfter (path_of f) d (committed_by d f) (held_by d f)) (λ c left. record { outside = λ m out named flushed. d.on_disk m named flushed c left; stands = inl (was.staged.stands c left) })
+
+-- what was committed is open, and is what was held
+pub committed_open : (d e : DiskState) (f g : Folder) → IsOpen d f → g.names ≡ f.names → g.told ≡ f.told → g.keys.items ≡ f.keys.items → IsAtRest e (path_of f) g.end → g.end.told ≡ f.told → base_at e (path_of f) g.end.told ≡ held_by d f → IsOpen e g
+committed_open d e f g was names told keys rest is held =
+    let path : path_of g ≡ path_of f = ap (λ (n : Names). folder_of n) names in
+    let staged : IsStaged e (path_of f) g.end f.told = committed_staged e (path_of f) g.end f.told rest is in
+    record {
+      names = subst (λ (t : Told). AreNames g.names t.number) (sym told) (subst (λ (n : Names). AreNames n f.told.number) (sym names) was.names);
+      staged = subst (λ (t : Told). IsStaged e (path_of g) g.end t) (sym told) (subst (λ (p : List ℕ). IsStaged e p g.end f.told) (sym path) staged);
+      keys = keys ∙ was.keys ∙ sym (ap (λ (b : BaseBytes). b.keys) held) ∙ (λ i. (base_at e (sym path i) (is i)).keys) ∙ (λ i. (base_at e (path_of g) (sym told i)).keys);
+    }
+
+pub committed_held : (d e : DiskState) (f g : Folder) → g.names ≡ f.names → g.told ≡ f.told → g.end.told ≡ f.told → base_at e (path_of f) g.end.told ≡ held_by d f → held_by e g ≡ held_by d f
+committed_held d e f g names told is held = (λ i. base_at e (folder_of (names i)) (told i)) ∙ (λ i. base_at e (path_of f) (sym is i)) ∙ held
+
+pub committed_told : (d e : DiskState) (f g : Folder) → g.names ≡ f.names → base_at e (path_of f) g.end.told ≡ held_by d f → committed_by e g ≡ held_by d f
+committed_told d e f g names held = (λ i. base_at e (folder_of (names i)) g.end.told) ∙ held

@@ -1,0 +1,22 @@
+use Rattle.std.proofs.Common.{refl}
+use Rattle.echo_folder_store.specs.declared.folder.Folder.{Folder}
+use Rattle.echo_folder_store.proofs.Staged.{committed_held, committed_open, committed_told}
+use Rattle.echo_folder_store.proofs.folder.Folder.commit.Goals as goal
+
+pub returns-clause-opened : goal.returns-clause-opened
+returns-clause-opened g c =
+    let f = c.args.self.now in
+    let now : Folder = record { names = f.names; end = c.in_ok-end.end; told = f.told; keys = f.keys } in
+    committed_open (g.D.Disk.state c.args.disk.now) (g.D.Disk.state c.commit.new.disk) f now c.requires refl refl refl c.in_ok-end.ensures.settled c.in_ok-end.ensures.told c.in_ok-end.ensures.acknowledged
+
+pub returns-clause-same : goal.returns-clause-same
+returns-clause-same g c =
+    let f = c.args.self.now in
+    let now : Folder = record { names = f.names; end = c.in_ok-end.end; told = f.told; keys = f.keys } in
+    committed_held (g.D.Disk.state c.args.disk.now) (g.D.Disk.state c.commit.new.disk) f now refl refl c.in_ok-end.ensures.told c.in_ok-end.ensures.acknowledged
+
+pub returns-clause-committed : goal.returns-clause-committed
+returns-clause-committed g c =
+    let f = c.args.self.now in
+    let now : Folder = record { names = f.names; end = c.in_ok-end.end; told = f.told; keys = f.keys } in
+    committed_told (g.D.Disk.state c.args.disk.now) (g.D.Disk.state c.commit.new.disk) f now refl c.in_ok-end.ensures.acknowledged

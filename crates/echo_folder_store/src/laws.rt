@@ -1,0 +1,16 @@
+//! What holds of the definitions. Each law is the contract of a function that does nothing.
+ghost use Rattle.std.specs.Prelude.{◌≡◌, ◌<◌, ◌^◌, ◌++◌, ℕ, List, false, length};
+ghost use Rattle.echo_base.specs.Base.{Base, is_known};
+ghost use Rattle.echo_filed.specs.Filed.{Filed, IsFiled, key_of};
+ghost use Rattle.echo_folder.specs.Standing.{BaseBytes};
+ghost use Rattle.echo_keys.specs.Keys.{digested};
+ghost use Rattle.echo_store.specs.Store.{with_message};
+ghost use Rattle.echo_folder_store.specs.Added.{IsStoredAlone, with_stored};
+ghost use Rattle.echo_folder_store.specs.Held.{HoldsBase};
+
+/// With the bytes of a new message, and its entry, a folder holds the base with that message at its end.
+pub fn one_message_more()
+    ensures { (digest : List ℕ → ℕ) (held : BaseBytes) (base : Base) (m : Filed) (bytes : List ℕ) → HoldsBase digest held base
+        → IsStoredAlone m bytes → IsFiled m → is_known base.messages (key_of m) ≡ false → length (held.messages ++ bytes) < 2 ^ 64
+        → HoldsBase digest (with_stored held bytes (digest (digested m))) (with_message base m) }
+{}
