@@ -1,0 +1,131 @@
+-- What `check --all` answers, from what its parts do.
+use Rattle.std.proofs.Common.{◌≡◌, ◌&&◌, ◌++◌, ◌∙◌, ◌∷◌, ◌⊎◌, [], ap, append-nil, append_assoc, Bool, cond, Contains, Err, false, List, Ok, Option, refl, Result, subst, sym, true, ℕ}
+use Rattle.std.specs.List.{AllByRecursion}
+use Rattle.std.proofs.lemmas.Bool.{and_from, and_parts}
+use Rattle.std.proofs.lemmas.List.Elements.{All-from_recursion, recursion_from_All}
+use Rattle.echo_status.specs.Devices.{Output}
+use Rattle.echo_links.specs.Links.{LinkFile}
+use Rattle.echo_nodelist.specs.declared.line.Line.{Line}
+use Rattle.echo_run.specs.Tidy.{Tidy}
+use Rattle.echo_net.specs.Faults.{IsCarried}
+use Rattle.echo_status.specs.declared.fault.Fault.{Fault}
+use Rattle.echo_status.specs.declared.status.Status.{Status}
+use Rattle.echo_status.specs.declared.status.Status.TheVariants.{Good, Differs}
+use Rattle.echo_status.specs.Inputs.{AreLinkFiles, IsNodelistGiven}
+use Rattle.echo_status.proofs.Lines.{alone}
+use Rattle.echo_print.specs.Pushed.{Pushes}
+use Rattle.echo_checking.specs.AreaTags.{AreAllTags}
+use Rattle.echo_checking.specs.Checking.{RunsAreOrderly}
+use Rattle.echo_checking.specs.CheckingAll.{AreAreasChecked, AreJoined, CheckAllAnswers, IsAllChecked, IsAreaChecked, verdicts_status}
+use Rattle.echo_checking.proofs.Checks.{one_reading}
+
+both_with_true : (a : Bool) → a ≡ (a && true)
+both_with_true true = refl
+both_with_true false = refl
+
+both_regrouped : (a b c : Bool) → ((a && b) && c) ≡ (a && (b && c))
+both_regrouped true b c = refl
+both_regrouped false b c = refl
+
+module _ (files : List LinkFile) (list : Option (List Line)) where
+  -- no areas, and no lines
+  pub none_checked : (lines : List ℕ) → Pushes (AreAreasChecked files list [] true) lines lines
+  none_checked lines = record { lines = []; are = (refl, refl); whole = sym (append-nil lines) }
+
+  -- one more area
+  areas_then : (tags : List (List ℕ)) (tag : List ℕ) (yes one : Bool) (lines own : List ℕ) → AreAreasChecked files list tags yes lines
+      → IsAreaChecked files list tag one own → AreAreasChecked files list (tags ++ tag ∷ []) (yes && one) (lines ++ own)
+  areas_then [] tag yes one lines own before last = record {
+    first_yes = one;
+    rest_yes = true;
+    first_lines = own;
+    rest_lines = [];
+    is_first = last;
+    is_rest = (refl, refl);
+    both = ap (λ b. b && one) before.0 ∙ both_with_true one;
+    whole = ap (λ l. l ++ own) before.1 ∙ sym (append-nil own);
+  }
+  areas_then (t ∷ tags) tag yes one lines own before last = record {
+    first_yes = before.first_yes;
+    rest_yes = before.rest_yes && one;
+    first_lines = before.first_lines;
+    rest_lines = before.rest_lines ++ own;
+    is_first = before.is_first;
+    is_rest = areas_then tags tag before.rest_yes one before.rest_lines own before.is_rest last;
+    both = ap (λ b. b && one) before.both ∙ both_regrouped before.first_yes before.rest_yes one;
+    whole = ap (λ l. l ++ own) before.whole ∙ append_assoc before.first_lines before.rest_lines own;
+  }
+
+  pub area_pushed : (tags : List (List ℕ)) (tag : List ℕ) (yes one : Bool) (first old new : List ℕ) → Pushes (AreAreasChecked files list tags yes) first old
+      → Pushes (IsAreaChecked files list tag one) old new → Pushes (AreAreasChecked files list (tags ++ tag ∷ []) (yes && one)) first new
+  area_pushed tags tag yes one first old new before last = record {
+    lines = before.lines ++ last.lines;
+    are = areas_then tags tag yes one before.lines last.lines before.are last.are;
+    whole = last.whole ∙ ap (λ l. l ++ last.lines) before.whole ∙ append_assoc first before.lines last.lines;
+  }
+
+  -- where each verdict is yes each area is in order, and where each area is tidy each verdict is yes
+  in_order : (tags : List (List ℕ)) (yes : Bool) (lines : List ℕ) → AreAreasChecked files list tags yes lines → yes ≡ true
+      → AllByRecursion (λ tag. Tidy files tag × RunsAreOrderly files tag) tags
+  in_order [] yes lines checked is = tt
+  in_order (tag ∷ tags) yes lines checked is =
+      let both = and_parts checked.first_yes checked.rest_yes (sym checked.both ∙ is) in
+      let own = checked.is_first in
+      ((own.is_verdict.tidy.0 (own.is_yes.0 both.0), own.orderly both.0), in_order tags checked.rest_yes checked.rest_lines checked.is_rest both.1)
+
+  all_yes : (tags : List (List ℕ)) (yes : Bool) (lines : List ℕ) → AreAreasChecked files list tags yes lines → AllByRecursion (λ tag. Tidy files tag) tags → yes ≡ true
+  all_yes [] yes lines checked tidy = checked.0
+  all_yes (tag ∷ tags) yes lines checked tidy =
+      let own = checked.is_first in
+      checked.both ∙ and_from checked.first_yes checked.rest_yes (own.is_yes.1 (own.is_verdict.tidy.1 tidy.0)) (all_yes tags checked.rest_yes checked.rest_lines checked.is_rest tidy.1)
+
+-- what holds of each of some tags holds of one of them
+of_tag : (P : List ℕ → Type 0) (tags : List (List ℕ)) (tag : List ℕ) → AllByRecursion P tags → Contains tags tag → P tag
+of_tag P tags tag all there = subst P there.2 (All-from_recursion P tags all there.0 tag there.1)
+
+each_tag : (P : List ℕ → Type 0) (tags : List (List ℕ)) → ((tag : List ℕ) → Contains tags tag → P tag) → AllByRecursion P tags
+each_tag P tags each = recursion_from_All P tags (λ k d within. each _ (k, within, refl))
+
+-- 0 where each verdict is yes, and only there
+good_is_yes : (yes : Bool) → verdicts_status yes ≡ Good → yes ≡ true
+good_is_yes true good = refl
+good_is_yes false good = absurd cc
+
+-- the lines of the verdicts on link files that were read
+pub were_checked : (nodelist : Option (List ℕ)) (list : Option (List Line)) (inputs : List (List ℕ)) (files : List LinkFile) (tags : List (List ℕ)) (yes : Bool)
+    (none lines : List ℕ) (status : Status) → IsNodelistGiven nodelist list → AreLinkFiles inputs files → AreAllTags files tags → none ≡ []
+    → Pushes (AreAreasChecked files list tags yes) none lines → status ≡ verdicts_status yes → IsAllChecked nodelist inputs lines status
+were_checked nodelist list inputs files tags yes none lines status is_list are are_tags nothing pushed ended =
+    let ordered : status ≡ Good → AllByRecursion (λ tag. Tidy files tag × RunsAreOrderly files tag) tags =
+    λ good. in_order files list tags yes pushed.lines pushed.are (good_is_yes yes (sym ended ∙ good)) in
+    let in_all : status ≡ Good → (tag : List ℕ) → IsCarried files tag → Tidy files tag × RunsAreOrderly files tag =
+    λ good tag carried. of_tag (λ t. Tidy files t × RunsAreOrderly files t) tags tag (ordered good) ((are_tags.members tag).1 carried) in
+    record {
+      files = files;
+      are_files = are;
+      list = list;
+      is_list = is_list;
+      tags = tags;
+      are_tags = are_tags;
+      yes = yes;
+      printed = subst (AreAreasChecked files list tags yes) (sym (alone none lines pushed.lines nothing pushed.whole)) pushed.are;
+      status_is = ended;
+      tidy = (
+        λ good tag carried. (in_all good tag carried).0,
+        λ tidy. ended ∙ ap verdicts_status (all_yes files list tags yes pushed.lines pushed.are
+            (each_tag (λ tag. Tidy files tag) tags (λ tag there. tidy tag ((are_tags.members tag).0 there)))),
+      );
+      orderly = λ good tag carried. (in_all good tag carried).1;
+    }
+
+-- a 0 is so of each run in each area
+pub headline_of_all : (nodelist : Option (List ℕ)) (inputs : List (List ℕ)) (stopped : Option Fault) (old new : Output)
+    (answer : Result Status Fault) → CheckAllAnswers nodelist inputs stopped old new answer → answer ≡ Ok Good
+    → (links : List LinkFile) → AreLinkFiles inputs links → (tag : List ℕ) → IsCarried links tag → Tidy links tag × RunsAreOrderly links tag
+headline_of_all nodelist inputs stopped old new (Ok found) so good links are tag carried =
+    let checked = so.right.0 in
+    let is_good : found ≡ Good = cc good in
+    let same : checked.files ≡ links = one_reading inputs checked.files links checked.are_files are in
+    let P : List LinkFile → Type 0 = λ f. (t : List ℕ) → IsCarried f t → Tidy f t × RunsAreOrderly f t in
+    subst P same (λ t c. (checked.tidy.0 is_good t c, checked.orderly is_good t c)) tag carried
+headline_of_all nodelist inputs stopped old new (Err f) so good links are tag carried = absurd (cc good)
