@@ -1,5 +1,5 @@
 -- What `check --all` answers, from what its parts do.
-use Rattle.std.proofs.Common.{◌≡◌, ◌&&◌, ◌++◌, ◌∙◌, ◌∷◌, ◌⊎◌, [], ap, append-nil, append_assoc, Bool, cond, Contains, Err, false, List, Ok, Option, refl, Result, subst, sym, true, ℕ}
+use Rattle.std.proofs.Common.{◌≡◌, ◌↔◌, ◌&&◌, ◌++◌, ◌∙◌, ◌∷◌, ◌⊎◌, [], ap, append-nil, append_assoc, Bool, cond, Contains, Err, false, List, Ok, Option, refl, Result, subst, sym, true, ℕ}
 use Rattle.std.specs.List.{AllByRecursion}
 use Rattle.std.proofs.lemmas.Bool.{and_from, and_parts}
 use Rattle.std.proofs.lemmas.List.Elements.{All-from_recursion, recursion_from_All}
@@ -7,15 +7,17 @@ use Rattle.echo_status.specs.Devices.{Output}
 use Rattle.echo_links.specs.Links.{LinkFile}
 use Rattle.echo_nodelist.specs.declared.line.Line.{Line}
 use Rattle.echo_run.specs.Tidy.{Tidy}
-use Rattle.echo_net.specs.Faults.{IsCarried}
+use Rattle.echo_net.specs.declared.verdict.Verdict.{Verdict}
+use Rattle.echo_net.specs.Faults.{IsCarried, IsYes}
 use Rattle.echo_status.specs.declared.fault.Fault.{Fault}
 use Rattle.echo_status.specs.declared.status.Status.{Status}
 use Rattle.echo_status.specs.declared.status.Status.TheVariants.{Good, Differs}
 use Rattle.echo_status.specs.Inputs.{AreLinkFiles, IsNodelistGiven}
 use Rattle.echo_status.proofs.Lines.{alone}
+use Rattle.echo_print.specs.Checked.{CheckShown}
 use Rattle.echo_print.specs.Pushed.{Pushes}
 use Rattle.echo_checking.specs.AreaTags.{AreAllTags}
-use Rattle.echo_checking.specs.Checking.{RunsAreOrderly}
+use Rattle.echo_checking.specs.Checking.{IsCheckVerdict, RunsAreOrderly}
 use Rattle.echo_checking.specs.CheckingAll.{AreAreasChecked, AreJoined, CheckAllAnswers, IsAllChecked, IsAreaChecked, verdicts_status}
 use Rattle.echo_checking.proofs.Checks.{one_reading}
 
@@ -28,6 +30,16 @@ both_regrouped true b c = refl
 both_regrouped false b c = refl
 
 module _ (files : List LinkFile) (list : Option (List Line)) where
+  -- the lines of the verdict on an area
+  pub area_checked : (tag : List ℕ) (verdict : Verdict) (yes : Bool) (old new : List ℕ) → IsCheckVerdict files tag verdict
+      → (IsYes verdict → RunsAreOrderly files tag) → (yes ≡ true ↔ IsYes verdict) → Pushes (CheckShown files tag list verdict) old new
+      → Pushes (IsAreaChecked files list tag yes) old new
+  area_checked tag verdict yes old new judged runs is pushed = record {
+    lines = pushed.lines;
+    are = record { verdict = verdict; is_verdict = judged; printed = pushed.are; is_yes = is; orderly = λ so. runs (is.0 so) };
+    whole = pushed.whole;
+  }
+
   -- no areas, and no lines
   pub none_checked : (lines : List ℕ) → Pushes (AreAreasChecked files list [] true) lines lines
   none_checked lines = record { lines = []; are = (refl, refl); whole = sym (append-nil lines) }

@@ -1,5 +1,5 @@
 -- Tags that are gathered in order, from the areas of link files.
-use Rattle.std.proofs.Common.{◌≡◌, ◌+◌, ◌<◌, ◌∙◌, ◌⊎◌, ◌||◌, ◌↔◌, ◌∷◌, [], arith, Bool, Contains, IsTrue, List, None, Option, Some, ℕ, ap, false, inl, inr, length, map, refl, subst, sym, take, true}
+use Rattle.std.proofs.Common.{◌≡◌, ◌+◌, ◌<◌, ◌∙◌, ◌⊎◌, ◌||◌, ◌↔◌, ◌∷◌, [], arith, Bool, Contains, Err, IfOk, IsTrue, List, None, Ok, Option, Result, Some, ℕ, ap, false, inl, inr, length, map, refl, subst, sym, take, true}
 use Rattle.std.specs.Prelude.{bytes_eq, find, is_some, option_map, slice_get}
 use Rattle.std.specs.List.{AllByRecursion, list_any}
 use Rattle.std.specs.List.Sorted.{IsStrictlySortedBy}
@@ -125,6 +125,15 @@ module _ {K : Type 0} (bytes : K → List ℕ) (first : List K) where
     | inr past ↦ absurd (let less = past.0 in omega (arith, less, inside))
   ]
 
+  -- there is a tag at each number below that of the areas
+  pub tag_missed : (areas : List Area) (k : ℕ) → k < length areas → None ≡ option_map (λ (area : Area). area.tag) (slice_get areas k) → ⊥
+  tag_missed areas k inside told = elim (slice_get_cases areas k).1 [
+    | inl (area, below, got, read) ↦
+        let none : (t : List ℕ) → None ≡ Some t → ⊥ = λ t e. absurd cc in
+        none area.tag (told ∙ ap (option_map (λ (a : Area). a.tag)) got)
+    | inr past ↦ absurd (let less = past.0 in omega (arith, less, inside))
+  ]
+
   -- all areas of a file
   pub tags_of_file : (file : LinkFile) (keys : List K) → HaveTags file.areas keys
       → (tag : List ℕ) → has_tag bytes keys tag ≡ (has_tag bytes first tag || has_area file tag)
@@ -143,3 +152,10 @@ all_tags bytes files keys all have ascend same = record {
         λ carried. (among_tags bytes all tag).1 (found ∙ carried),
       );
 }
+
+pub all_tags_if_ok : {K V E : Type 0} (bytes : K → List ℕ) (items : V → List K) (files : List LinkFile) (keys : List K) (r : Result V E)
+    → ((tag : List ℕ) → has_tag bytes keys tag ≡ list_any (λ file. has_area file tag) files)
+    → IfOk r (λ all. IsStrictlySortedBy (λ one later. tag_order (bytes one) (bytes later)) (items all)) → IfOk r (λ all. items all ≡ keys)
+    → IfOk r (λ all. AreAllTags files (map bytes (items all)))
+all_tags_if_ok bytes items files keys (Ok all) have ascend same = all_tags bytes files keys (items all) have ascend same
+all_tags_if_ok bytes items files keys (Err e) have ascend same = tt

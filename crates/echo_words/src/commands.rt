@@ -24,7 +24,7 @@ enum Form {
     /// `NAME`
     One,
     /// `NAME`, or nothing where both options stand
-    OneUnless([&'static str; 2]),
+    OneUnless(&'static str, &'static str),
     /// `NAME...`, one or more, or in its place this option
     ManyUnless(&'static str),
     /// the same, or nothing where the second option stands, with which the word before it is one of these
@@ -129,7 +129,7 @@ const COMMANDS: &[Entry] = &[
                 "Each area that a file has, in place of TAG",
             ),
             LINKS_FROM,
-            Word("TAG", Form::OneUnless(["all", "links-from"]), AREA),
+            Word("TAG", Form::OneUnless("all", "links-from"), AREA),
             Word(
                 "LINKS",
                 Form::RestUnless("links-from", "all"),
@@ -259,14 +259,14 @@ fn argument<'a>(alloc: Global, word: Word) -> Result<Arg<'a>, AllocError> {
         Form::Option(value) => arg.long(name).value_name(value),
         Form::Needed(value) => arg.long(name).value_name(value).required(true),
         Form::One => arg.required(true),
-        Form::OneUnless(options) => arg.required_unless_present_all(&options)?,
+        Form::OneUnless(one, other) => arg.required_unless_present_all(&[one, other])?,
         Form::ManyUnless(option) => {
             let many = arg.num_args(1..).required_unless_present(option)?;
             many.conflicts_with(option)?
         }
         Form::RestUnless(list, option) => {
-            let rest = arg.num_args(1..).required_unless_present_any(&[list, option])?;
-            rest.conflicts_with(list)?
+            let rest = arg.num_args(1..).required_unless_present(list)?;
+            rest.required_unless_present(option)?.conflicts_with(list)?
         }
     })
 }
