@@ -119,7 +119,7 @@ module _ {K : Type 0} (bytes : K → List ℕ) (first : List K) where
               let p : Area → Bool = λ a. bytes_eq a.tag other in
               step other ∙ ap (λ b. b || bytes_eq other tag) (have.so other)
               ∙ either_regrouped (has_tag bytes first other) (list_any p (take k areas)) (bytes_eq other tag)
-              ∙ ap (λ b. has_tag bytes first other || (list_any p (take k areas) || b)) (ap (bytes_eq other) own ∙ bytes_turned other area.tag ∙ ap p read)
+              ∙ ap (λ b. has_tag bytes first other || (list_any p (take k areas) || b)) (ap (bytes_eq other) own ∙ bytes_turned other area.tag ∙ sym (ap p read))
               ∙ ap (λ b. has_tag bytes first other || b) (sym (list_any_more p areas k area inside));
         }
     | inr past ↦ absurd (let less = past.0 in omega (arith, less, inside))

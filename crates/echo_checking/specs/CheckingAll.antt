@@ -16,32 +16,32 @@ use Rattle.echo_checking.specs.AreaTags.{AreAllTags}
 use Rattle.echo_checking.specs.Checking.{IsCheckVerdict, RunsAreOrderly}
 
 -- the lines of `check` on an area of these files, and whether the verdict is yes; then every run is orderly in it
-pub record IsAreaChecked (files : List LinkFile) (list : Option (List Line)) (tag : List ℕ) (yes : Bool) (lines : List ℕ) : Type 0 where
+pub record IsAreaChecked (files : List LinkFile) (list : Option (List Line)) (tag : List ℕ) (good : Bool) (lines : List ℕ) : Type 0 where
   pub verdict : Verdict
   pub is_verdict : IsCheckVerdict files tag verdict
   pub printed : CheckShown files tag list verdict lines
-  pub is_yes : IsTrue yes ↔ IsYes verdict
-  pub orderly : IsTrue yes → RunsAreOrderly files tag
+  pub is_good : IsTrue good ↔ IsYes verdict
+  pub orderly : IsTrue good → RunsAreOrderly files tag
 
 -- lines of one kind and then of another, and whether both say yes
-pub record AreJoined (First Rest : Bool → List ℕ → Type 0) (yes : Bool) (lines : List ℕ) : Type 0 where
-  pub first_yes : Bool
-  pub rest_yes : Bool
+pub record AreJoined (First Rest : Bool → List ℕ → Type 0) (good : Bool) (lines : List ℕ) : Type 0 where
+  pub first_good : Bool
+  pub rest_good : Bool
   pub first_lines : List ℕ
   pub rest_lines : List ℕ
-  pub is_first : First first_yes first_lines
-  pub is_rest : Rest rest_yes rest_lines
-  pub both : yes ≡ (first_yes && rest_yes)
+  pub is_first : First first_good first_lines
+  pub is_rest : Rest rest_good rest_lines
+  pub both : good ≡ (first_good && rest_good)
   pub whole : lines ≡ first_lines ++ rest_lines
 
 -- the lines of `check` on each of these areas, one after another, and whether each verdict is yes
 abbrev pub AreAreasChecked : List LinkFile → Option (List Line) → List (List ℕ) → Bool → List ℕ → Type 0
-AreAreasChecked files list [] yes lines = (yes ≡ true) × (lines ≡ [])
-AreAreasChecked files list (tag ∷ tags) yes lines = AreJoined (IsAreaChecked files list tag) (AreAreasChecked files list tags) yes lines
+AreAreasChecked files list [] good lines = (good ≡ true) × (lines ≡ [])
+AreAreasChecked files list (tag ∷ tags) good lines = AreJoined (IsAreaChecked files list tag) (AreAreasChecked files list tags) good lines
 
 -- 1 where one verdict is a no
 abbrev pub verdicts_status : Bool → Status
-verdicts_status yes = if yes then Good else Differs
+verdicts_status good = if good then Good else Differs
 
 -- The link files and the nodelist have no fault; these are the lines of the verdict on each area that a file has, ascending by tag. The status is 0 exactly where each of these areas is tidy, and then every run is orderly in each.
 pub record IsAllChecked (nodelist : Option (List ℕ)) (inputs : List (List ℕ)) (lines : List ℕ) (status : Status) : Type 0 where
@@ -51,9 +51,9 @@ pub record IsAllChecked (nodelist : Option (List ℕ)) (inputs : List (List ℕ)
   pub is_list : IsNodelistGiven nodelist list
   pub tags : List (List ℕ)
   pub are_tags : AreAllTags files tags
-  pub yes : Bool
-  pub printed : AreAreasChecked files list tags yes lines
-  pub status_is : status ≡ verdicts_status yes
+  pub good : Bool
+  pub printed : AreAreasChecked files list tags good lines
+  pub status_is : status ≡ verdicts_status good
   pub tidy : (status ≡ Good) ↔ ((tag : List ℕ) → IsCarried files tag → Tidy files tag)
   pub orderly : status ≡ Good → (tag : List ℕ) → IsCarried files tag → RunsAreOrderly files tag
 

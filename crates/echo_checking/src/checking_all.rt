@@ -54,9 +54,9 @@ fn check_areas<'a, W: Sink>(
     }
     let tags = area_tags(alloc, &links)?;
     let mut lines = Vec::new(alloc);
-    let yes = push_areas(alloc, &mut lines, list.as_ref(), &links, &tags)?;
+    let good = push_areas(alloc, &mut lines, list.as_ref(), &links, &tags)?;
     print_rest(&mut lines, out)?;
-    Ok(status_of_verdicts(yes))
+    Ok(status_of_verdicts(good))
 }
 
 // Adds the lines of each of these areas, and answers whether each verdict is yes.
@@ -67,14 +67,14 @@ fn push_areas(
     links: &[LinkFile],
     tags: &[Vec<u8>],
 ) -> Result<bool, AllocError>
-    ensures { IfOk result (λ yes. Pushes (AreAreasChecked links.now (option_copied list.entry) (map (λ tag. tag.items) tags.now) yes) lines.old.items lines.new.items) }
+    ensures { IfOk result (λ good. Pushes (AreAreasChecked links.now (option_copied list.entry) (map (λ tag. tag.items) tags.now) good) lines.old.items lines.new.items) }
 {
-    let mut yes = true;
+    let mut good = true;
     'tags: for tag in tags {
-        let is_yes = push_area(alloc, lines, list, links, tag)?;
-        yes = yes && is_yes;
+        let fine = push_area(alloc, lines, list, links, tag)?;
+        good = good && fine;
     }
-    Ok(yes)
+    Ok(good)
 }
 
 // Adds the lines of the area, and answers whether its verdict is yes.
@@ -85,7 +85,7 @@ fn push_area(
     links: &[LinkFile],
     tag: &[u8],
 ) -> Result<bool, AllocError>
-    ensures { IfOk result (λ yes. Pushes (IsAreaChecked links.now (option_copied list.entry) tag.now yes) lines.old.items lines.new.items) }
+    ensures { IfOk result (λ good. Pushes (IsAreaChecked links.now (option_copied list.entry) tag.now good) lines.old.items lines.new.items) }
 {
     let verdict = echo_net::check(alloc, links, tag)?;
     push_check(alloc, lines, list, links, tag, &verdict)?;
@@ -99,8 +99,8 @@ fn is_yes(verdict: &Verdict) -> bool
 }
 
 // The status, by whether each verdict is yes.
-fn status_of_verdicts(yes: bool) -> Status
-    ensures { result ≡ verdicts_status yes }
+fn status_of_verdicts(good: bool) -> Status
+    ensures { result ≡ verdicts_status good }
 {
-    if yes { Status::Good } else { Status::Differs }
+    if good { Status::Good } else { Status::Differs }
 }

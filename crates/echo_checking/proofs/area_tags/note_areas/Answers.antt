@@ -12,7 +12,7 @@ areas-preserved c =
           subst (λ tags. HaveTags bytes c.args.tags.now.keys (take (c.areas.k + 1) areas) tags.keys) (sym w.tags-is)
           (tags_more bytes c.args.tags.now.keys areas c.areas.k c.areas.tags.keys w.note_tag.new.tags.keys w.in-Some.tag.now
           (omega (arith, c.areas-test.true, c.areas-k-end.ensures)) w.in-Some.ensures c.areas.invariant w.in_ok-note_tag.ensures)
-      | in_default w ↦ absurd (tag_missed bytes c.args.tags.now.keys areas c.areas.k (omega (arith, c.areas-test.true, c.areas-k-end.ensures)) ?)
+      | in_default w ↦ absurd (tag_missed bytes c.args.tags.now.keys areas c.areas.k (omega (arith, c.areas-test.true, c.areas-k-end.ensures)) (rw w.in_default.is at c.area.ensures))
     ]
 
 pub returns : goal.returns

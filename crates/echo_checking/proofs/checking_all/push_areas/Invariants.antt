@@ -6,4 +6,4 @@ use Rattle.echo_checking.specs.CheckingAll.{AreAreasChecked}
 use Rattle.echo_checking.proofs.checking_all.push_areas.Given as goal
 
 abbrev pub invariant-tags : goal.invariant-tags
-invariant-tags l = Pushes (AreAreasChecked l.links (option_copied l.fn.list) (map (λ tag. tag.items) (take l.tag-index l.tags)) l.yes) l.initial.lines.items l.lines.items
+invariant-tags l = Pushes (AreAreasChecked l.links (option_copied l.fn.list) (map (λ tag. tag.items) (take l.tag-index l.tags)) l.good) l.initial.lines.items l.lines.items
