@@ -1,5 +1,5 @@
 -- What `check --all` answers, from what its parts do.
-use Rattle.std.proofs.Common.{◌≡◌, ◌↔◌, ◌&&◌, ◌+◌, ◌++◌, ◌<◌, ◌∙◌, ◌∷◌, [], ap, append-nil, append_assoc, Bool, cond, Contains, Err, false, get_or, length, List, map, Ok, Option, refl, Result, subst, sym, take, true, ℕ}
+use Rattle.std.proofs.Common.{◌≡◌, ◌↔◌, ◌&&◌, ◌+◌, ◌++◌, ◌<◌, ◌∙◌, ◌∷◌, [], ap, append-nil, append_assoc, Bool, Contains, Err, false, get_or, length, List, map, Ok, Option, refl, Result, subst, sym, take, true, ℕ}
 use Rattle.std.specs.List.{AllByRecursion}
 use Rattle.std.proofs.lemmas.Bool.{and_from, and_parts}
 use Rattle.std.proofs.lemmas.List.{get_or_default, map-append, take_more}
@@ -12,14 +12,14 @@ use Rattle.echo_net.specs.declared.verdict.Verdict.{Verdict}
 use Rattle.echo_net.specs.Faults.{IsCarried, IsYes}
 use Rattle.echo_status.specs.declared.fault.Fault.{Fault}
 use Rattle.echo_status.specs.declared.status.Status.{Status}
-use Rattle.echo_status.specs.declared.status.Status.TheVariants.{Good, Differs}
+use Rattle.echo_status.specs.declared.status.Status.TheVariants.{Good}
 use Rattle.echo_status.specs.Inputs.{AreLinkFiles, IsNodelistGiven}
 use Rattle.echo_status.proofs.Lines.{alone}
 use Rattle.echo_print.specs.Checked.{CheckShown}
 use Rattle.echo_print.specs.Pushed.{Pushes}
 use Rattle.echo_checking.specs.AreaTags.{AreAllTags}
 use Rattle.echo_checking.specs.Checking.{IsCheckVerdict, RunsAreOrderly}
-use Rattle.echo_checking.specs.CheckingAll.{AreAreasChecked, AreJoined, CheckAllAnswers, IsAllChecked, IsAreaChecked, verdicts_status}
+use Rattle.echo_checking.specs.CheckingAll.{AreAreasChecked, CheckAllAnswers, IsAllChecked, IsAreaChecked, verdicts_status}
 use Rattle.echo_checking.proofs.Checks.{one_reading}
 
 both_with_true : (a : Bool) → a ≡ (a && true)

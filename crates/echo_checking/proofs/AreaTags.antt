@@ -1,5 +1,5 @@
 -- Tags that are gathered in order, from the areas of link files.
-use Rattle.std.proofs.Common.{◌≡◌, ◌+◌, ◌<◌, ◌∙◌, ◌⊎◌, ◌||◌, ◌↔◌, ◌∷◌, [], arith, Bool, Contains, Err, IfOk, IsTrue, List, None, Ok, Option, Result, Some, ℕ, ap, false, inl, inr, length, map, refl, subst, sym, take, true}
+use Rattle.std.proofs.Common.{◌≡◌, ◌+◌, ◌<◌, ◌∙◌, ◌||◌, ◌↔◌, ◌∷◌, [], arith, Bool, Contains, Err, IfOk, IsTrue, List, None, Ok, Result, Some, ℕ, ap, false, inl, inr, length, map, refl, sym, take, true}
 use Rattle.std.specs.Prelude.{bytes_eq, find, is_some, option_map, slice_get}
 use Rattle.std.specs.List.{AllByRecursion, list_any}
 use Rattle.std.specs.List.Sorted.{IsStrictlySortedBy}
@@ -15,7 +15,6 @@ use Rattle.std.proofs.lemmas.Map.Views.{Contains-from_any, list_any-from_Contain
 use Rattle.std.proofs.lemmas.Option.{slice_get_cases}
 use Rattle.echo_links.specs.Links.{Area, LinkFile, has_area}
 use Rattle.echo_links.proofs.Found.{bytes_turned}
-use Rattle.echo_net.specs.Faults.{IsCarried}
 use Rattle.echo_checking.specs.AreaTags.{AreAllTags, has_tag, tag_order}
 
 either_twice : (a b c : Bool) → a ≡ b → (b || c) ≡ (a || (b || c))

@@ -1,4 +1,4 @@
-use Rattle.std.proofs.Common.{arith, Global, length, List, subst, sym, take, take_all, Vec, ℕ}
+use Rattle.std.proofs.Common.{◌+◌, arith, Global, List, subst, sym, take, take_all, Vec, ℕ}
 use Rattle.echo_checking.proofs.AreaTags.{HaveTags, tag_missed, tags_more, tags_of_file}
 use Rattle.echo_checking.proofs.area_tags.note_areas.Goals as goal
 use Rattle.echo_checking.proofs.area_tags.note_areas.Goals.{in-Some+in_ok-note_tag, in_default}

@@ -1,7 +1,5 @@
-use Rattle.std.proofs.Common.{◌≡◌, ◌&&◌, Global, List, subst, Vec, ℕ}
+use Rattle.std.proofs.Common.{◌≡◌, ◌&&◌, Global, List, Vec, ℕ}
 use Rattle.std.specs.Option.{option_copied}
-use Rattle.echo_print.specs.Pushed.{Pushes}
-use Rattle.echo_checking.specs.CheckingAll.{IsAreaChecked}
 use Rattle.echo_checking.proofs.AllAreas.{both_where, neither_where, none_checked, one_more}
 use Rattle.echo_checking.proofs.checking_all.push_areas.Goals as goal
 use Rattle.echo_checking.proofs.checking_all.push_areas.Goals.{then-good, else-good}
