@@ -130,11 +130,7 @@ const COMMANDS: &[Entry] = &[
             ),
             LINKS_FROM,
             Word("TAG", Form::OneUnless("all", "links-from"), AREA),
-            Word(
-                "LINKS",
-                Form::RestUnless("links-from", "all"),
-                NET,
-            ),
+            Word("LINKS", Form::RestUnless("links-from", "all"), NET),
         ],
     ),
     Entry(

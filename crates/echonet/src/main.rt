@@ -54,15 +54,14 @@ fn run_nodelist<'a, W: Sink>(
 // `check [--nodelist LIST] TAG LINKS...`, and `check --all` without a tag
 fn run_check<'a, W: Sink>(
     rt: &HostRuntime,
-    list: Option<&'a str>,
-    tag: Option<&'a str>,
+    words: &CheckWords<'a>,
     links: &'a PathNames<'a>,
     out: &mut W,
 ) -> Result<Status, Fault<'a>> {
-    let list = read_if_given(rt, list, MAX_INPUT)?;
+    let list = read_if_given(rt, words.nodelist, MAX_INPUT)?;
     let (files, stopped) = read_links(rt, links);
     let list = list.as_ref().map(|bytes| bytes.as_slice());
-    match tag {
+    match words.tag {
         Some(tag) => check(rt.alloc(), list, tag.as_bytes(), &files, stopped, out),
         None => check_all(rt.alloc(), list, &files, stopped, out),
     }
@@ -145,12 +144,8 @@ fn run_words<W: Sink, E: Sink>(
     match words {
         Words::Show { hex, packet } => ended(run_show(rt, hex, packet, out), errors),
         Words::Nodelist { find, file } => ended(run_nodelist(rt, find, file, out), errors),
-        Words::Check(CheckWords {
-            nodelist,
-            tag,
-            links,
-        }) => ended(
-            run_check(rt, nodelist, tag, &names_of(rt, &links), out),
+        Words::Check(words) => ended(
+            run_check(rt, &words, &names_of(rt, &words.links), out),
             errors,
         ),
         Words::Links { areas, links } => run_links(rt, areas, &names_of(rt, &links), out, errors),
