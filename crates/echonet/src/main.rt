@@ -11,12 +11,12 @@ mod placing;
 mod station;
 
 use echo_base::BaseFault;
-use echo_checking::{check, picture};
+use echo_checking::{check, check_all, picture};
 use echo_device::{Sink, Watched};
 use echo_reading::{list, nodelist, show};
 use echo_rehearsing::{replay, why};
 use echo_status::{Fault, Status, ended, number_of, wanted};
-use echo_words::{Ending, Words, explain, parse};
+use echo_words::{CheckWords, Ending, Words, explain, parse};
 use inputs::{MAX_INPUT, read_file, read_given, read_if_given, read_links, read_script};
 use judging::run_links;
 use paths::{PathNames, names_of};
@@ -51,18 +51,20 @@ fn run_nodelist<'a, W: Sink>(
     nodelist(rt.alloc(), address, &input, out)
 }
 
-// `check [--nodelist LIST] TAG LINKS...`
+// `check [--nodelist LIST] TAG LINKS...`, and `check --all` without a tag
 fn run_check<'a, W: Sink>(
     rt: &HostRuntime,
-    list: Option<&'a str>,
-    tag: &'a str,
+    words: &CheckWords<'a>,
     links: &'a PathNames<'a>,
     out: &mut W,
 ) -> Result<Status, Fault<'a>> {
-    let list = read_if_given(rt, list, MAX_INPUT)?;
+    let list = read_if_given(rt, words.nodelist, MAX_INPUT)?;
     let (files, stopped) = read_links(rt, links);
     let list = list.as_ref().map(|bytes| bytes.as_slice());
-    check(rt.alloc(), list, tag.as_bytes(), &files, stopped, out)
+    match words.tag {
+        Some(tag) => check(rt.alloc(), list, tag.as_bytes(), &files, stopped, out),
+        None => check_all(rt.alloc(), list, &files, stopped, out),
+    }
 }
 
 // `why TAG LINKS...`. A seed for the hasher that cannot be had is a failed read of the first link file.
@@ -143,12 +145,8 @@ fn run_words<W: Sink, E: Sink>(
     match words {
         Words::Show { hex, packet } => ended(run_show(rt, *hex, *packet, out), errors),
         Words::Nodelist { find, file } => ended(run_nodelist(rt, *find, *file, out), errors),
-        Words::Check {
-            nodelist,
-            tag,
-            links,
-        } => ended(
-            run_check(rt, *nodelist, *tag, &names_of(rt, links), out),
+        Words::Check(words) => ended(
+            run_check(rt, words, &names_of(rt, &words.links), out),
             errors,
         ),
         Words::Links { areas, links } => run_links(rt, *areas, &names_of(rt, links), out, errors),
