@@ -38,11 +38,15 @@ state_word Scanned = codes "scanned"
 state_word Waiting = codes "waiting"
 state_word Purged = codes "purged"
 
+-- its area
+abbrev pub area_member : EchoText → List Token
+area_member e = text_member (Some Ascii) (codes "area") e.tag
+
 -- its number in the base, where it stands, and which system sent it; it was posted here where none did
 abbrev pub place_members : ℕ → State → Filed → List Token
 place_members i state m =
     member_of (codes "number") (number (decimal i))
-    ++ (text_member (Some Ascii) (codes "area") m.echo.tag
+    ++ (area_member m.echo
     ++ (member_of (codes "state") (string (state_word state))
     ++ member_of (codes "sender") (string_or_null (option_map address_text m.sender))))
 
@@ -77,12 +81,16 @@ list_members charset e =
     ++ (key (codes "path") ∷ array_of (flat_map (λ entry. string (net_node_text entry) ∷ []) e.path)
     ++ key (codes "lines") ∷ array_of (flat_map (λ line. string (text_as charset line) ∷ []) e.kept))
 
+-- what its text says
+abbrev pub echo_members : Option Charset → EchoText → List Token
+echo_members charset e = found_members charset e.kept ++ list_members charset e
+
 -- all members of the message of this number
 abbrev pub message_members : Option (List ℕ) → ℕ → State → Filed → List Token
 message_members label i state m =
     place_members i state m
     ++ (name_members (charset_for label) m
-    ++ (charset_members label ++ (found_members (charset_for label) m.echo.kept ++ list_members (charset_for label) m.echo)))
+    ++ (charset_members label ++ echo_members (charset_for label) m.echo))
 
 -- the message of this number as an object of JSON
 abbrev pub message_object : ℕ → State → Filed → List Token

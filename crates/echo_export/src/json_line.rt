@@ -3,7 +3,7 @@ ghost use Rattle.std.specs.Prelude.{◌≡◌, ◌++◌, IfOk, OnOk, option_copi
 ghost use Rattle.json.specs.Print.{print};
 ghost use Rattle.echo_charset.specs.Losses as losses;
 ghost use Rattle.echo_export.specs.Label as labels;
-ghost use Rattle.echo_export.specs.JsonLine.{charset_members, found_members, json_line, message_members, message_object, name_members, place_members, state_word};
+ghost use Rattle.echo_export.specs.JsonLine.{area_member, charset_members, echo_members, found_members, json_line, message_members, message_object, name_members, place_members, state_word};
 
 use crate::label::{charset_for, label, without_zeros};
 use crate::lists::write_lists;
@@ -51,30 +51,35 @@ fn object_of(
 {
     let mut writer = Writer::new(Vec::new(alloc));
     writer.begin_object()?;
-    write_members(&mut writer, alloc, i, state, message)?;
+    write_members(&mut writer, alloc, label_in(message), i, state, message)?;
     writer.end_object()?;
     Ok(writer.into_inner())
+}
+
+// What the message's CHRS line says.
+fn label_in(message: &Filed) -> Option<&[u8]>
+    ensures { option_copied result ≡ labels.label_of message.now.echo.kept }
+{
+    label(message.echo.kept.as_text())
 }
 
 // Writes all members of the message.
 fn write_members(
     writer: &mut Writer,
     alloc: Global,
+    label: Option<&[u8]>,
     i: usize,
     state: State,
     message: &Filed,
 ) -> Result<(), AllocError>
-    ensures tokens { OnOk result (writer.new.tokens ≡ writer.old.tokens ++ message_members (labels.label_of message.now.echo.kept) i state message.now) }
+    ensures tokens { OnOk result (writer.new.tokens ≡ writer.old.tokens ++ message_members (option_copied label.entry) i state message.now) }
     ensures before { OnOk result (writer.new.before ≡ writer.old.before) }
 {
-    let echo = &message.echo;
-    let label = label(echo.kept.as_text());
     let charset = charset_for(label);
     write_place(writer, alloc, i, state, message)?;
     write_names(writer, alloc, charset, message)?;
     write_charset(writer, alloc, label)?;
-    write_ids(writer, alloc, charset, echo)?;
-    write_lists(writer, alloc, charset, echo)
+    write_echo(writer, alloc, charset, message)
 }
 
 // Writes the number, the area, what has become of the message, and who sent it.
@@ -89,10 +94,32 @@ fn write_place(
     ensures before { OnOk result (writer.new.before ≡ writer.old.before) }
 {
     write_number(writer, "number", i as u64)?;
-    let tag = message.echo.tag.as_slice();
-    write_text(writer, alloc, "area", Some(Charset::Ascii), tag)?;
+    write_area(writer, alloc, &message.echo)?;
     write_string(writer, "state", state_word(state))?;
     write_address(writer, alloc, "sender", message.sender)
+}
+
+// Writes the area.
+fn write_area(writer: &mut Writer, alloc: Global, echo: &Echo) -> Result<(), AllocError>
+    ensures tokens { OnOk result (writer.new.tokens ≡ writer.old.tokens ++ area_member echo.now) }
+    ensures before { OnOk result (writer.new.before ≡ writer.old.before) }
+{
+    write_text(writer, alloc, "area", Some(Charset::Ascii), echo.tag.as_slice())
+}
+
+// Writes what the text says.
+fn write_echo(
+    writer: &mut Writer,
+    alloc: Global,
+    charset: Option<Charset>,
+    message: &Filed,
+) -> Result<(), AllocError>
+    ensures tokens { OnOk result (writer.new.tokens ≡ writer.old.tokens ++ echo_members charset message.now.echo) }
+    ensures before { OnOk result (writer.new.before ≡ writer.old.before) }
+{
+    let echo = &message.echo;
+    write_ids(writer, alloc, charset, echo)?;
+    write_lists(writer, alloc, charset, echo)
 }
 
 // The word for it.

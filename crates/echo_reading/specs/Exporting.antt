@@ -1,5 +1,5 @@
 -- What `export` prints of the messages of a base, and what it answers.
-use Rattle.std.specs.Prelude.{◌≡◌, ℕ, zero, suc, ◌+◌, ◌&&◌, not, nat_le, Bool, true, false, List, [], ◌++◌, length, codes, decimal, if◌then◌else◌, slice_get, Option, Some, None, option_map, Result}
+use Rattle.std.specs.Prelude.{◌≡◌, ℕ, zero, suc, ◌+◌, ◌==◌, ◌&&◌, nat_le, Bool, true, false, List, [], ◌++◌, length, codes, decimal, if◌then◌else◌, slice_get, Option, Some, None, option_map, Result}
 use Rattle.echo_charset.specs.Losses.{lost}
 use Rattle.echo_export.specs.declared.json_line.State.{State}
 use Rattle.echo_export.specs.declared.json_line.State.TheVariants.{Purged, Scanned, Waiting}
@@ -66,5 +66,4 @@ ExportAnswers area first purged base old new answer =
 
 -- the line on standard error that tells how many U+FFFD were printed
 abbrev pub lost_line : ℕ → List ℕ
-lost_line zero = []
-lost_line (suc n) = codes "echonet: " ++ (decimal (suc n) ++ codes " characters replaced by U+FFFD\n")
+lost_line count = if count == 0 then [] else codes "echonet: " ++ (decimal count ++ codes " characters replaced by U+FFFD\n")

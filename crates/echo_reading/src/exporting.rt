@@ -4,17 +4,19 @@ ghost use Rattle.echo_charset.specs.Losses as losses;
 ghost use Rattle.echo_status.specs.Devices.{output_of};
 ghost use Rattle.echo_status.specs.Ended.{Stops};
 ghost use Rattle.echo_status.specs.Lines.{PassesOn, WritesFront};
-ghost use Rattle.echo_reading.specs.Exporting.{ExportAnswers, is_exported, is_sought, sought_lost, sought_text, sought_texts, state_of};
+ghost use Rattle.echo_reading.specs.Exporting.{ExportAnswers, is_exported, is_sought, lost_line, sought_lost, sought_text, sought_texts, state_of};
 
 use crate::listing::{base_read, is_of_area, raised};
 use echo_addr::Items;
 use echo_base::Base;
 use echo_device::Sink;
+use echo_escape::written;
 use echo_export::{State, push_json};
 use echo_filed::{Filed, is_stub};
 use echo_status::{Fault, pass_on, print_rest};
-use std::alloc::Global;
+use std::alloc::{AllocError, Global};
 use std::hash::BuildHasher;
+use std::io::Write;
 
 /// `export [--area TAG] [--from I] [--purged] --json BASE`: prints the messages of a base, a line of JSON each,
 /// those of the area where one is given, from the number `first` on. Of those that a purge left there is none
@@ -37,6 +39,26 @@ pub fn export<'a, S: BuildHasher + Drop, W: Sink>(
     let count = print_sought(alloc, area.as_ref(), first, purged, &base, &mut lines, out)?;
     print_rest(&mut lines, out)?;
     Ok(count)
+}
+
+/// Tells on standard error how many U+FFFD were printed, and nothing where none was.
+pub fn tell_lost<E: Sink>(alloc: Global, count: u128, errors: &mut E)
+    ensures { WritesFront (lost_line count) (E.contents errors.old) (E.contents errors.new) }
+{
+    let mut line = Vec::new(alloc);
+    if push_lost(&mut line, count).is_ok() {
+        let _ = print_rest(&mut line, errors);
+    }
+}
+
+// Adds the line that tells it.
+fn push_lost(line: &mut Vec<u8>, count: u128) -> Result<(), AllocError>
+    ensures { OnOk result (line.new.items ≡ line.old.items ++ lost_line count) }
+{
+    if count == 0 {
+        return Ok(());
+    }
+    written(writeln!(line, "echonet: {count} characters replaced by U+FFFD"))
 }
 
 // Prints the lines of the messages that are asked for, and counts the U+FFFD in them; the last ones stay in
