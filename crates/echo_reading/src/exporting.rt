@@ -1,5 +1,5 @@
 //! The command `export`: the messages of a base for other programs.
-ghost use Rattle.std.specs.Prelude.{◌≡◌, ◌≤◌, ◌++◌, IfErr, IfOk, OnOk, OnErr, length, option_copied};
+ghost use Rattle.std.specs.Prelude.{◌≡◌, ◌<◌, ◌^◌, ◌++◌, IfErr, IfOk, OnOk, OnErr, length, option_copied};
 ghost use Rattle.echo_charset.specs.Losses as losses;
 ghost use Rattle.echo_status.specs.Devices.{output_of};
 ghost use Rattle.echo_status.specs.Ended.{Stops};
@@ -81,7 +81,9 @@ fn print_sought<'a, S: BuildHasher, W: Sink>(
     let cursor = base.cursor();
     let mut count: u128 = 0;
     'messages: for i in 0..base.len() {
-        count += print_one(alloc, area, first, purged, cursor, i, base.message(i), lines, out)? as u128;
+        let message = base.message(i);
+        let more = print_one(alloc, area, first, purged, cursor, i, message, lines, out)?;
+        count += more as u128;
     }
     Ok(count)
 }
@@ -100,6 +102,7 @@ fn print_one<'a, W: Sink>(
 ) -> Result<usize, Fault<'a>>
     ensures lines { OnOk result (PassesOn (lines.old.items ++ sought_text (option_copied area.entry) first purged cursor i (option_copied message.entry)) lines.new.items (W.contents out.old) (W.contents out.new)) }
     ensures count { IfOk result (λ n. n ≡ losses.lost (sought_text (option_copied area.entry) first purged cursor i (option_copied message.entry))) }
+    ensures few { IfOk result (λ n. n < 2 ^ 64) }
     ensures begun { OnErr result (WritesFront (lines.old.items ++ sought_text (option_copied area.entry) first purged cursor i (option_copied message.entry)) (W.contents out.old) (W.contents out.new)) }
     ensures ok { OnOk result (W.failures out.new ≡ W.failures out.old) }
     ensures err { IfErr result (Stops (W.failures out.old) (W.failures out.new)) }

@@ -4,10 +4,10 @@ use Rattle.echo_status.specs.Devices.{output_of}
 use Rattle.echo_reading.proofs.Exportings.{export_begun, exported, unexported}
 use Rattle.echo_reading.proofs.exporting.export.Goals as goal
 
-pub returns-in_err-print_sought : goal.returns-in_err-print_sought
-returns-in_err-print_sought g c =
-    let p = err_from_is_err_and c.from_residual-in_err-print_sought.result c.from_residual-in_err-print_sought.ensures.1 in
-    let e = c.in_err-print_sought.ensures in
+pub returns-in_err-count : goal.returns-in_err-count
+returns-in_err-count g c =
+    let p = err_from_is_err_and c.from_residual-in_err-count.result c.from_residual-in_err-count.ensures.1 in
+    let e = c.in_err-count.ensures in
     rw (p.1, p.2) (inl (
       e.err,
       export_begun _ c.args.first c.args.purged _ c.in_ok-base.base.messages c.in_ok-base.base.cursor c.in_ok-base.ensures.ok _ _ (c.as_ref.ensures.value ∙ c.in_ok-area.ensures) c.new-lines.ensures.items
