@@ -231,6 +231,30 @@ const COMMANDS: &[Entry] = &[
         ],
     ),
     Entry(
+        "export",
+        "Prints the messages of a base for other programs, a line of JSON each",
+        ending!("echonet export --json --area TEST base | jq .subject"),
+        &[
+            Word(
+                "area",
+                Form::Option("TAG"),
+                "Prints the messages of this area alone, in letters of either case",
+            ),
+            Word(
+                "from",
+                Form::Option("I"),
+                "Prints from the message of this number on, counted from 0",
+            ),
+            Word("json", Form::Flag, "Prints a line of JSON for each message"),
+            Word(
+                "purged",
+                Form::Flag,
+                "Prints what is left of purged messages, too",
+            ),
+            Word("BASE", Form::One, "The base of the system"),
+        ],
+    ),
+    Entry(
         "replay",
         "Prints what the systems of a net have after what a script says",
         ending!("echonet replay chain.script links/*"),

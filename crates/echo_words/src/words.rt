@@ -38,6 +38,7 @@ pub enum Words<'a> {
         from: Option<&'a str>,
         base: &'a str,
     },
+    Export(ExportWords<'a>),
     Post(PostWords<'a>),
     Toss(TossWords<'a>),
     Scan {
@@ -78,6 +79,16 @@ pub struct PostWords<'a> {
     pub at: &'a str,
     pub reply: Option<&'a str>,
     pub links: &'a str,
+    pub base: &'a str,
+}
+
+/// The words of `export`.
+#[derive(Drop)]
+pub struct ExportWords<'a> {
+    pub json: bool,
+    pub purged: bool,
+    pub area: Option<&'a str>,
+    pub from: Option<&'a str>,
     pub base: &'a str,
 }
 
@@ -213,6 +224,16 @@ fn list_words<'a>(matches: &ArgMatches<'a>) -> Option<Words<'a>> {
     })
 }
 
+fn export_words<'a>(matches: &ArgMatches<'a>) -> Option<Words<'a>> {
+    Some(Words::Export(ExportWords {
+        json: matches.get_flag("json"),
+        purged: matches.get_flag("purged"),
+        area: matches.get_str("area"),
+        from: matches.get_str("from"),
+        base: matches.get_str("BASE")?,
+    }))
+}
+
 fn replay_words<'a>(matches: &ArgMatches<'a>, links: Paths<'a>) -> Option<Words<'a>> {
     Some(Words::Replay {
         script: matches.get_str("SCRIPT")?,
@@ -253,6 +274,7 @@ fn words_of<'a>(alloc: Global, matches: &ArgMatches<'a>) -> Result<Option<Words<
         Some(("scan", given)) => scan_words(given),
         Some(("purge", given)) => purge_words(given),
         Some(("list", given)) => list_words(given),
+        Some(("export", given)) => export_words(given),
         Some(("replay", given)) => replay_words(given, links(alloc, given)?),
         _ => None,
     })

@@ -13,15 +13,16 @@ mod station;
 use echo_base::BaseFault;
 use echo_checking::{check, check_all, picture};
 use echo_device::{Sink, Watched};
-use echo_reading::{list, nodelist, show};
+use echo_reading::{export, list, nodelist, show, tell_lost};
 use echo_rehearsing::{replay, why};
 use echo_status::{Fault, Status, ended, number_of, wanted};
-use echo_words::{CheckWords, Ending, Words, explain, parse};
+use echo_words::{CheckWords, Ending, ExportWords, Words, explain, parse};
 use inputs::{MAX_INPUT, read_file, read_given, read_if_given, read_links, read_script};
 use judging::run_links;
 use paths::{PathNames, names_of};
 use station::{run_post, run_purge, run_scan, run_toss};
 use std::collections::hash_map::RandomState;
+use std::io::Write;
 use std::process::ExitCode;
 use std::{env, io};
 
@@ -113,6 +114,41 @@ fn run_list<'a, W: Sink>(
     list(rt.alloc(), area, first, &bytes, hasher, out)
 }
 
+// `export [--area TAG] [--from I] [--purged] --json BASE`, judged as `list` is.
+fn export_given<'a, W: Sink>(
+    rt: &HostRuntime,
+    words: &ExportWords<'a>,
+    out: &mut W,
+) -> Result<u128, Fault<'a>> {
+    let first = match words.from {
+        Some(word) => number_of(word)?,
+        None => 0,
+    };
+    let hasher = RandomState::new(rt).map_err(|_| Fault::Base(BaseFault::Read))?;
+    let bytes = read_file(rt, words.base, usize::MAX)?;
+    let area = words.area.map(|tag| tag.as_bytes());
+    export(rt.alloc(), area, first, words.purged, &bytes, hasher, out)
+}
+
+fn run_export<W: Sink, E: Sink>(
+    rt: &HostRuntime,
+    words: &ExportWords<'_>,
+    out: &mut W,
+    errors: &mut E,
+) -> Status {
+    if !words.json {
+        let _ = writeln!(errors, "error: export has to be told --json");
+        return Status::CommandLine;
+    }
+    match export_given(rt, words, out) {
+        Ok(count) => {
+            tell_lost(rt.alloc(), count, errors);
+            Status::Good
+        }
+        Err(fault) => fault.report(errors),
+    }
+}
+
 // What `replay` is asked for first: the script. A seed for the hasher that cannot be had is a failed read.
 fn replay_input<'a>(
     rt: &HostRuntime,
@@ -164,6 +200,7 @@ fn run_words<W: Sink, E: Sink>(
         } => run_scan(rt, *at, *links, *base, *folder, out, errors),
         Words::Purge { links, base } => run_purge(rt, *links, *base, out, errors),
         Words::List { area, from, base } => ended(run_list(rt, *area, *from, *base, out), errors),
+        Words::Export(words) => run_export(rt, words, out, errors),
         Words::Replay { script, links } => {
             ended(run_replay(rt, *script, &names_of(rt, links), out), errors)
         }
