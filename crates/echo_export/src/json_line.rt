@@ -7,7 +7,7 @@ ghost use Rattle.echo_export.specs.JsonLine.{area_member, charset_members, echo_
 
 use crate::label::{charset_for, label, without_zeros};
 use crate::lists::write_lists;
-use crate::members::{write_address, write_found, write_number, write_text, write_string};
+use crate::members::{write_address, write_found, write_number, write_string, write_text};
 use echo_charset::{Charset, lost};
 use echo_filed::Filed;
 use echo_text::Echo;
@@ -41,12 +41,7 @@ pub fn push_json(
 }
 
 // The message as an object.
-fn object_of(
-    alloc: Global,
-    i: usize,
-    state: State,
-    message: &Filed,
-) -> Result<Vec<u8>, AllocError>
+fn object_of(alloc: Global, i: usize, state: State, message: &Filed) -> Result<Vec<u8>, AllocError>
     ensures { IfOk result (λ line. line.items ≡ print (message_object i state message.now)) }
 {
     let mut writer = Writer::new(Vec::new(alloc));
@@ -104,7 +99,13 @@ fn write_area(writer: &mut Writer, alloc: Global, echo: &Echo) -> Result<(), All
     ensures tokens { OnOk result (writer.new.tokens ≡ writer.old.tokens ++ area_member echo.now) }
     ensures before { OnOk result (writer.new.before ≡ writer.old.before) }
 {
-    write_text(writer, alloc, "area", Some(Charset::Ascii), echo.tag.as_slice())
+    write_text(
+        writer,
+        alloc,
+        "area",
+        Some(Charset::Ascii),
+        echo.tag.as_slice(),
+    )
 }
 
 // Writes what the text says.
@@ -145,16 +146,18 @@ fn write_names(
 {
     write_text(writer, alloc, "from", charset, message.from_name.as_slice())?;
     write_text(writer, alloc, "to", charset, message.to_name.as_slice())?;
-    write_text(writer, alloc, "subject", charset, message.subject.as_slice())?;
+    write_text(
+        writer,
+        alloc,
+        "subject",
+        charset,
+        message.subject.as_slice(),
+    )?;
     write_text(writer, alloc, "date", charset, without_zeros(&message.date))
 }
 
 // Writes the charset, and what names it.
-fn write_charset(
-    writer: &mut Writer,
-    alloc: Global,
-    label: Option<&[u8]>,
-) -> Result<(), AllocError>
+fn write_charset(writer: &mut Writer, alloc: Global, label: Option<&[u8]>) -> Result<(), AllocError>
     ensures tokens { OnOk result (writer.new.tokens ≡ writer.old.tokens ++ charset_members (option_copied label.entry)) }
     ensures before { OnOk result (writer.new.before ≡ writer.old.before) }
 {

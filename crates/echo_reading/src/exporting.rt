@@ -130,9 +130,7 @@ fn is_sought(
     ensures { result ≡ is_sought (option_copied area.entry) first purged cursor i message.now }
 {
     let tag = message.echo.tag.as_slice();
-    first <= i as u64
-        && is_of_area(area, tag)
-        && is_exported(purged, state_of(cursor, i, message))
+    first <= i as u64 && is_of_area(area, tag) && is_exported(purged, state_of(cursor, i, message))
 }
 
 // Whether messages of this state are exported.
