@@ -1,2 +1,4 @@
+pub mod AllAreas
+pub mod AreaTags
 pub mod Checks
 pub mod Pictures

@@ -1,2 +1,4 @@
+pub mod AreaTags
 pub mod Checking
+pub mod CheckingAll
 pub mod Picturing

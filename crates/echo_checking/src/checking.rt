@@ -60,8 +60,8 @@ fn check_given<'a, W: Sink>(
     Ok(status_of(&verdict))
 }
 
-// Adds the lines of the verdict and of the systems that the nodelist does not hold.
-fn push_check(
+/// Adds the lines of the verdict and of the systems that the nodelist does not hold.
+pub(crate) fn push_check(
     alloc: Global,
     lines: &mut Vec<u8>,
     list: Option<&Nodelist>,

@@ -8,12 +8,15 @@
 //! Which lines are printed of a verdict or a drawing stands in the crate `echo_print`, how a command ends in
 //! `echo_status`.
 //!
-//! Modules in reading order, each named for its command: `checking` (is an area in order) and `picturing` (an
-//! area as a graph).
+//! Modules in reading order: `checking` (`check`: is an area in order), `area_tags` (which areas there are) and
+//! `checking_all` (`check --all`: is each of them), and `picturing` (`picture`: an area as a graph).
 #![tactic(auto)]
 
+mod area_tags;
 mod checking;
+mod checking_all;
 mod picturing;
 
 pub use checking::{check, status_of};
+pub use checking_all::check_all;
 pub use picturing::picture;

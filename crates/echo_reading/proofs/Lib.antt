@@ -7,3 +7,4 @@ pub mod Saying
 pub mod OnePrinting
 pub mod Listings
 pub mod LinkLines
+pub mod Exportings

@@ -4,3 +4,4 @@ pub mod Nodelists
 pub mod Listing
 pub mod LinksShown
 pub mod Linking
+pub mod Exporting

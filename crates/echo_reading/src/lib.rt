@@ -11,9 +11,10 @@
 //!
 //! Modules in reading order, each named for its command: `showing` (a packet), `nodelists` (a nodelist),
 //! `linking` and `links_text` (`links`: link files one by one, and their lines), `listing` (the messages of a
-//! base), and `laws` (what holds of the definitions).
+//! base), `exporting` (`export`: the same for other programs), and `laws` (what holds of the definitions).
 #![tactic(auto)]
 
+mod exporting;
 mod laws;
 mod linking;
 mod links_text;
@@ -21,6 +22,7 @@ mod listing;
 mod nodelists;
 mod showing;
 
+pub use exporting::{export, tell_lost};
 pub use laws::one_printing;
 pub use linking::{NamedFile, links};
 pub use listing::list;

@@ -39,8 +39,8 @@ pub fn list<'a, S: BuildHasher + Drop, W: Sink>(
     Ok(Status::Good)
 }
 
-// The base of the file.
-fn base_read<'a, S: BuildHasher + Drop>(
+/// The base of the file.
+pub(crate) fn base_read<'a, S: BuildHasher + Drop>(
     alloc: Global,
     base: &[u8],
     hasher: S,
@@ -51,8 +51,8 @@ fn base_read<'a, S: BuildHasher + Drop>(
     Ok(Base::load(alloc, &mut &*base, hasher)?)
 }
 
-// The tag in capital letters, if one is given.
-fn raised(alloc: Global, area: Option<&[u8]>) -> Result<Option<Items<u8>>, AllocError>
+/// The tag in capital letters, if one is given.
+pub(crate) fn raised(alloc: Global, area: Option<&[u8]>) -> Result<Option<Items<u8>>, AllocError>
     ensures { IfOk result (λ raised. raised ≡ option_map upper (option_copied area.entry)) }
 {
     match area {
@@ -107,8 +107,8 @@ fn print_message<'a, W: Sink>(
     pass_on(lines, out)
 }
 
-// Whether this is the tag that is asked for, if one is.
-fn is_of_area(area: Option<&Items<u8>>, tag: &[u8]) -> bool
+/// Whether this is the tag that is asked for, if one is.
+pub(crate) fn is_of_area(area: Option<&Items<u8>>, tag: &[u8]) -> bool
     ensures { result ≡ is_of_area (option_copied area.entry) tag.now }
 {
     match area {

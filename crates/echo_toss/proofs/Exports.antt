@@ -1,11 +1,11 @@
 -- What goes out, message by message, is what a scan is to make.
-use Rattle.std.proofs.Common.{◌≡◌, ℕ, ◌+◌, ◌<◌, Bool, List, [], ◌∷◌, ◌++◌, map, length, drop, get_or, refl, sym, ap, ◌∙◌, Some, None, append_assoc, append-nil, nat_lt, inl, inr, Result, Ok, Err, IfOk, Vec}
+use Rattle.std.proofs.Common.{◌≡◌, ℕ, ◌+◌, ◌<◌, Bool, List, [], ◌∷◌, ◌++◌, map, length, drop, get_or, refl, sym, ap, ◌∙◌, Some, append_assoc, inl, inr, Result, Ok, Err, IfOk, Vec}
 use Rattle.std.specs.Prelude.{filter, slice_get}
 use Rattle.std.specs.List.{flat_map}
-use Rattle.std.proofs.lemmas.Bool.{cases_Bool, cond-false, cond-true, ltb-false, ltb-true}
-use Rattle.std.proofs.lemmas.List.{drop_all, drop_more, map-append}
+use Rattle.std.proofs.lemmas.Bool.{cases_Bool, cond-false, cond-true}
+use Rattle.std.proofs.lemmas.List.{drop_more, map-append}
 use Rattle.std.proofs.lemmas.List.Elements.{filter-append}
-use Rattle.std.proofs.lemmas.Option.{get_or_from_slice_get, slice_get-get_or, slice_get_within}
+use Rattle.std.proofs.lemmas.Option.{get_or_from_slice_get, slice_get_within}
 use Rattle.std.specs.declared.alloc.Global.{Global}
 use Rattle.echo_addr.specs.declared.address.Address.{Address}
 use Rattle.echo_addr.specs.declared.address.NetNode.{NetNode}
@@ -36,19 +36,6 @@ next_waits f xs i x old new all is so_far grown =
     ∙ ap (λ l. old ++ l) (ap (λ y. f y ∷ map f (drop (i + 1) xs)) (sym here) ∙ ap (map f) (sym (drop_more xs i x within)))
     ∙ so_far
 
--- nothing more waits
-pub none_waits : {X Y : Type 0} (f : X → Y) (d : X) (xs : List X) (i : ℕ) (old all : List Y) → None ≡ slice_get xs i → old ++ map f (drop i xs) ≡ all → old ≡ all
-none_waits f d xs i old all none so_far = elim (cases_Bool (nat_lt i (length xs))) [
-  | inl within ↦ absurd (no_some (none ∙ slice_get-get_or xs i d (ltb-true i (length xs) within)))
-  | inr past ↦
-      let past' = ltb-false i (length xs) past in
-      let gone : drop i xs ≡ [] = drop_all i xs past' in
-      sym (append-nil old) ∙ ap (λ l. old ++ map f l) (sym gone) ∙ so_far
-]
-  where
-    no_some : {Z : Type 0} {z : Z} → None ≡ Some z → ⊥
-    no_some e = cc
-
 -- one more that may go to an address
 pub one_more_packed : {X Y : Type 0} (p : X → Bool) (f : X → Y) (xs : List X) (i : ℕ) (x : X) (old new all : List Y) → i < length xs → x ≡ get_or xs i x
     → old ++ map f (filter p (drop i xs)) ≡ all → new ≡ old ++ map f (filter p (x ∷ [])) → new ++ map f (filter p (drop (i + 1) xs)) ≡ all
@@ -63,18 +50,18 @@ same_targets : (file : LinkFile) (ms : List Filed) → flat_map (λ o. o.targets
 same_targets file [] = refl
 same_targets file (m ∷ ms) = ap (λ l. targets file m ++ l) (same_targets file ms)
 
-same_copies : (file : LinkFile) (a : Address) (ms : List Filed) → map (copy_out file a) (filter (goes_out a) (map (outgoing_of file) ms)) ≡ map (copy_to file a) (filter (goes_to file a) ms)
+same_copies : (file : LinkFile) (a : Address) (ms : List Filed) → map (copy_out a) (filter (goes_out a) (map (outgoing_of file) ms)) ≡ map (copy_to file a) (filter (goes_to file a) ms)
 unfolding copy_to
 same_copies file a [] = refl
 same_copies file a (m ∷ ms) =
     let outs = map (outgoing_of file) ms in
     elim (cases_Bool (goes_to file a m)) [
       | inl goes ↦
-          ap (map (copy_out file a)) (cond-true (goes_to file a m) (outgoing_of file m ∷ filter (goes_out a) outs) (filter (goes_out a) outs) goes)
+          ap (map (copy_out a)) (cond-true (goes_to file a m) (outgoing_of file m ∷ filter (goes_out a) outs) (filter (goes_out a) outs) goes)
           ∙ ap (λ l. copy_to file a m ∷ l) (same_copies file a ms)
           ∙ ap (map (copy_to file a)) (sym (cond-true (goes_to file a m) (m ∷ filter (goes_to file a) ms) (filter (goes_to file a) ms) goes))
       | inr stays ↦
-          ap (map (copy_out file a)) (cond-false (goes_to file a m) (outgoing_of file m ∷ filter (goes_out a) outs) (filter (goes_out a) outs) stays)
+          ap (map (copy_out a)) (cond-false (goes_to file a m) (outgoing_of file m ∷ filter (goes_out a) outs) (filter (goes_out a) outs) stays)
           ∙ same_copies file a ms
           ∙ ap (map (copy_to file a)) (sym (cond-false (goes_to file a m) (m ∷ filter (goes_to file a) ms) (filter (goes_to file a) ms) stays))
     ]
@@ -94,10 +81,9 @@ packets_are file stamp base cursor =
     ap (λ l. map (packet_out file stamp (map (outgoing_of file) ms)) (address_set l)) (same_targets file ms)
     ∙ each_same (packet_out file stamp (map (outgoing_of file) ms)) (packet_to file stamp ms) (same_packet file stamp ms) (address_set (flat_map (targets file) ms))
 
-pub scan_made : {E : Type 0} (r : Result (Vec Packet Global) E) (file : LinkFile) (stamp : Stamp) (base : List Filed) (cursor : ℕ) (all : List Outgoing)
-    → all ≡ map (outgoing_of file) (drop cursor base) → IfOk r (λ v. v.items ≡ packets_out file stamp all) → IfOk r (λ v. v.items ≡ scanned file base cursor stamp)
-scan_made (Ok v) file stamp base cursor all e h = h ∙ ap (packets_out file stamp) e ∙ packets_are file stamp base cursor
-scan_made (Err e') file stamp base cursor all e h = tt
+pub scan_made : (file : LinkFile) (stamp : Stamp) (base : List Filed) (cursor : ℕ) (packets : List Packet) (all : List Outgoing)
+    → all ≡ map (outgoing_of file) (drop cursor base) → packets ≡ packets_out file stamp all → packets ≡ scanned file base cursor stamp
+scan_made file stamp base cursor packets all e h = h ∙ ap (packets_out file stamp) e ∙ packets_are file stamp base cursor
 
 -- what is exported, part by part
 pub exported_is : (file : LinkFile) (e : EchoText) (tag : List ℕ) (kept : List (List ℕ)) (seen path : List NetNode) → tag ≡ e.tag → kept ≡ e.kept
@@ -127,30 +113,30 @@ exported_no_zero file is e h =
     written_has_no_zero (exported file e) (text_of (exported file e)) out (text_is_text (exported file e) out)
 
 -- the packets of what is ready are those of what goes out
-same_ready : (file : LinkFile) (a : Address) (all : List Outgoing) → map (ready_copy a) (filter (goes_ready a) (map (ready_of file) all)) ≡ map (copy_out file a) (filter (goes_out a) all)
-same_ready file a [] = refl
-same_ready file a (o ∷ all) =
-    let rest = map (ready_of file) all in
+same_ready : (a : Address) (all : List Outgoing) → map (ready_copy a) (filter (goes_ready a) (map ready_of all)) ≡ map (copy_out a) (filter (goes_out a) all)
+same_ready a [] = refl
+same_ready a (o ∷ all) =
+    let rest = map ready_of all in
     let same = among_set a o.targets in
     elim (cases_Bool (goes_out a o)) [
       | inl goes ↦
-          ap (map (ready_copy a)) (cond-true (goes_ready a (ready_of file o)) (ready_of file o ∷ filter (goes_ready a) rest) (filter (goes_ready a) rest) (same ∙ goes))
-          ∙ ap (λ l. copy_out file a o ∷ l) (same_ready file a all)
-          ∙ ap (map (copy_out file a)) (sym (cond-true (goes_out a o) (o ∷ filter (goes_out a) all) (filter (goes_out a) all) goes))
+          ap (map (ready_copy a)) (cond-true (goes_ready a (ready_of o)) (ready_of o ∷ filter (goes_ready a) rest) (filter (goes_ready a) rest) (same ∙ goes))
+          ∙ ap (λ l. copy_out a o ∷ l) (same_ready a all)
+          ∙ ap (map (copy_out a)) (sym (cond-true (goes_out a o) (o ∷ filter (goes_out a) all) (filter (goes_out a) all) goes))
       | inr stays ↦
-          ap (map (ready_copy a)) (cond-false (goes_ready a (ready_of file o)) (ready_of file o ∷ filter (goes_ready a) rest) (filter (goes_ready a) rest) (same ∙ stays))
-          ∙ same_ready file a all
-          ∙ ap (map (copy_out file a)) (sym (cond-false (goes_out a o) (o ∷ filter (goes_out a) all) (filter (goes_out a) all) stays))
+          ap (map (ready_copy a)) (cond-false (goes_ready a (ready_of o)) (ready_of o ∷ filter (goes_ready a) rest) (filter (goes_ready a) rest) (same ∙ stays))
+          ∙ same_ready a all
+          ∙ ap (map (copy_out a)) (sym (cond-false (goes_out a o) (o ∷ filter (goes_out a) all) (filter (goes_out a) all) stays))
     ]
 
-ready_packet : (file : LinkFile) (stamp : Stamp) (all : List Outgoing) (a : Address) → packet_ready file stamp (map (ready_of file) all) a ≡ packet_out file stamp all a
-ready_packet file stamp all a = let e = same_ready file a all in λ i. record { header = header_to file stamp a; messages = e i }
+ready_packet : (file : LinkFile) (stamp : Stamp) (all : List Outgoing) (a : Address) → packet_ready file stamp (map ready_of all) a ≡ packet_out file stamp all a
+ready_packet file stamp all a = let e = same_ready a all in λ i. record { header = header_to file stamp a; messages = e i }
 
 pub ready_packets : {E : Type 0} (r : Result (Vec Packet Global) E) (file : LinkFile) (stamp : Stamp) (all : List Outgoing) (ready : List Ready) (recipients : List Address)
-    → ready ≡ map (ready_of file) all → recipients ≡ address_set (flat_map (λ o. o.targets) all)
+    → ready ≡ map ready_of all → recipients ≡ address_set (flat_map (λ o. o.targets) all)
     → IfOk r (λ v. v.items ≡ map (packet_ready file stamp ready) recipients) → IfOk r (λ v. v.items ≡ packets_out file stamp all)
 ready_packets (Ok v) file stamp all ready recipients e f h =
     h
     ∙ (λ i. map (packet_ready file stamp (e i)) (f i))
-    ∙ each_same (packet_ready file stamp (map (ready_of file) all)) (packet_out file stamp all) (ready_packet file stamp all) (address_set (flat_map (λ o. o.targets) all))
+    ∙ each_same (packet_ready file stamp (map ready_of all)) (packet_out file stamp all) (ready_packet file stamp all) (address_set (flat_map (λ o. o.targets) all))
 ready_packets (Err e') file stamp all ready recipients e f h = tt

@@ -1,5 +1,5 @@
 -- Steps of a system whose messages and cursor are in a store.
-use Rattle.std.specs.Prelude.{◌≡◌, ◌++◌, ℕ, List, Option, Some, option_to_list, Result, Ok, Err}
+use Rattle.std.specs.Prelude.{◌≡◌, ◌++◌, true, false, ℕ, List, Option, Some, option_to_list, Result, Ok, Err}
 use Rattle.echo_base.specs.Base.{Base}
 use Rattle.echo_filed.specs.Filed.{Filed}
 use Rattle.echo_links.specs.Links.{LinkFile}
@@ -11,8 +11,11 @@ use Rattle.echo_steps.specs.declared.fault.PostFault.TheVariants as fault
 use Rattle.echo_steps.specs.declared.outcome.Outcome.{Outcome}
 use Rattle.echo_steps.specs.declared.outcome.Outcome.TheVariants as outcome
 use Rattle.echo_steps.specs.Posting.{IsPostFault, post_refusal}
+use Rattle.echo_steps.specs.Stamps.{is_stamp}
 use Rattle.echo_toss.specs.declared.stop.PostStop.{PostStop}
 use Rattle.echo_toss.specs.declared.stop.PostStop.TheVariants as post
+use Rattle.echo_toss.specs.declared.stop.ScanStop.{ScanStop}
+use Rattle.echo_toss.specs.declared.stop.ScanStop.TheVariants as scan
 
 -- one message more at the end, where there is one
 abbrev pub and_filed : Base → Option Filed → Base
@@ -38,3 +41,14 @@ abbrev pub post_answer : {T : Type 0} → Result T PostStop → Result (Unit {0}
 post_answer (Ok done) = Ok tt
 post_answer (Err (post.Refused refusal)) = Ok tt
 post_answer (Err (post.Store cause)) = Err cause
+
+-- why nothing was scanned: the stamp, and nothing has changed, or the store, the stamp being in order
+abbrev pub IsScanStop : Stamp → StoreState → StoreState → ScanStop → Type 0
+IsScanStop stamp old new scan.BadStamp = (is_stamp stamp ≡ false) × LooksOn old new
+IsScanStop stamp old new (scan.Store cause) = is_stamp stamp ≡ true
+
+-- what the store answered to a scan
+abbrev pub scan_answer : {T : Type 0} → Result T ScanStop → Result (Unit {0}) StoreError
+scan_answer (Ok done) = Ok tt
+scan_answer (Err scan.BadStamp) = Ok tt
+scan_answer (Err (scan.Store cause)) = Err cause

@@ -1,77 +1,91 @@
 //! What goes out of a message that waits for a scan.
-ghost use Rattle.std.specs.Prelude.{◌≡◌, ◌∷◌, ◌++◌, ◌&&◌, not, false, map, filter, drop, option_map, unwrap_or, IfOk};
+ghost use Rattle.std.specs.Prelude.{◌≡◌, ◌<◌, ◌∷◌, ◌++◌, ◌&&◌, not, false, length, map, filter, drop, option_map, unwrap_or, IfOk};
 ghost use Rattle.std.specs.List.{list_any};
 ghost use Rattle.echo_addr.specs.Address.{net_node_of};
 ghost use Rattle.echo_packet.specs.Message.{HasNoZero};
 ghost use Rattle.echo_links.specs.Links.{links_of, same_address};
 ghost use Rattle.echo_filed.specs.Sets.{entry_set, same_entry};
 ghost use Rattle.echo_filed.specs.Written.{text_of};
-ghost use Rattle.echo_steps.specs.Scanning.{exported, targets};
-ghost use Rattle.echo_toss.specs.Exports.{outgoing_of};
+ghost use Rattle.echo_base.specs.Base.{Base};
+ghost use Rattle.echo_store.specs.Store.{HasStoreCause, LooksOn};
+ghost use Rattle.echo_steps.specs.Scanning.{exported, message_out, targets};
+ghost use Rattle.echo_toss.specs.Exports.{IsOutgoingAt, nowhere, outgoing_of};
 
 use crate::sets::entry_set;
 use echo_addr::{Address, Items, NetNode};
-use echo_base::Base;
 use echo_filed::Filed;
 use echo_links::LinkFile;
+use echo_packet::Packed;
+use echo_store::{Store, StoreError};
 use echo_text::{Echo, write_parts};
 use std::alloc::{AllocError, Global};
-use std::hash::BuildHasher;
 use std::marker::Model;
 
-/// A message that waits: whom it goes to, and the text that goes out.
+/// A message that waits, as it goes out, to no system alone, and whom it goes to.
 #[derive(Drop)]
-pub(crate) struct Outgoing<'a> {
-    pub(crate) message: &'a Filed,
+pub(crate) struct Outgoing {
+    pub(crate) message: Packed,
     pub(crate) targets: Items<Address>,
-    pub(crate) text: Items<u8>,
 }
 
-impl<'a> Model for Outgoing<'a> {
+impl Model for Outgoing {
     ghost use Rattle.echo_toss.specs.Exports as model;
 
     ghost Value = { model.Outgoing };
 
-    ghost view = { λ o. record { message = o.message.now; targets = o.targets; text = o.text } };
-
-    ghost use Rattle.echo_packet.specs.Message.{HasNoZero};
-
-    ghost invariant = { λ o. HasNoZero o.text };
+    ghost view = { λ o. record { message = o.message; targets = o.targets } };
 }
 
 /// What goes out of the messages from the cursor on, in order.
-pub(crate) fn waiting<'a, S: BuildHasher>(
+pub(crate) fn waiting<T: Store>(
     alloc: Global,
     links: &LinkFile,
-    base: &'a Base<S>,
-) -> Result<Vec<Outgoing<'a>>, AllocError>
-    ensures { IfOk result (λ all. all.items ≡ map (outgoing_of links.now) (drop base.now.cursor base.now.messages)) }
+    store: &mut T,
+) -> Result<Vec<Outgoing>, StoreError>
+    requires { (T.state store.old).is_ready }
+    ensures outgoing { (base : Base) → (T.state store.old).keeps base
+        → IfOk result (λ all. all.items ≡ map (outgoing_of links.now) (drop base.cursor base.messages)) }
+    ensures looks { LooksOn (T.state store.old) (T.state store.new) }
+    ensures cause { HasStoreCause (T.state store.old) (T.failures store.old) (T.failures store.new) result }
 {
-    // For the prover alone: the cursor is within the base.
-    base.len();
     let mut all = Vec::new(alloc);
-    let mut at = base.cursor();
-    'waiting: while let Some(message) = base.message(at) {
-        all.push(prepared(alloc, links, message)?)?;
+    let count = store.len();
+    let mut at = store.cursor();
+    'waiting: while at < count {
+        all.push(outgoing_at(alloc, links, store, at)?)?;
         at += 1;
     }
     Ok(all)
 }
 
-fn prepared<'a>(
+// What goes out of the message of this number. It is copied while it is at hand.
+fn outgoing_at<T: Store>(
     alloc: Global,
     links: &LinkFile,
-    message: &'a Filed,
-) -> Result<Outgoing<'a>, AllocError>
+    store: &mut T,
+    place: usize,
+) -> Result<Outgoing, StoreError>
+    requires ready { (T.state store.old).is_ready }
+    requires within { (base : Base) → (T.state store.old).keeps base → place < length base.messages }
+    ensures outgoing { (base : Base) → (T.state store.old).keeps base → IfOk result (IsOutgoingAt links.now base.messages place) }
+    ensures looks { LooksOn (T.state store.old) (T.state store.new) }
+    ensures cause { HasStoreCause (T.state store.old) (T.failures store.old) (T.failures store.new) result }
+{
+    store.fetch(place)?;
+    match store.at_hand() {
+        Some(message) => Ok(prepared(alloc, links, message)?),
+        None => Err(StoreError::Damaged),
+    }
+}
+
+#[tactic(auto, unfolding(echo_steps::specs::Scanning::copy_to))]
+fn prepared(alloc: Global, links: &LinkFile, message: &Filed) -> Result<Outgoing, AllocError>
     ensures { IfOk result (λ o. o ≡ outgoing_of links.now message.now) }
 {
     let targets = targets(alloc, links, message)?;
     let text = exported_text(alloc, links, &message.echo)?;
-    Ok(Outgoing {
-        message,
-        targets,
-        text,
-    })
+    let message = packed(alloc, links, message, text)?;
+    Ok(Outgoing { message, targets })
 }
 
 // The links of the area, none where there is no such area.
@@ -159,4 +173,30 @@ fn joined(
         all.push(link.net_node())?;
     }
     Ok(Items::new(entry_set(all)))
+}
+
+// The message, whose text goes into it, as it goes to no system alone.
+fn packed(
+    alloc: Global,
+    links: &LinkFile,
+    message: &Filed,
+    text: Items<u8>,
+) -> Result<Packed, AllocError>
+    requires { HasNoZero text }
+    ensures { IfOk result (λ copy. copy ≡ message_out links.now nowhere message.now text) }
+{
+    let system = links.system();
+    Ok(Packed::from_parts(
+        system.node,
+        0,
+        system.net,
+        0,
+        0,
+        0,
+        message.date,
+        Vec::from_slice(alloc, message.to_name.as_slice())?,
+        Vec::from_slice(alloc, message.from_name.as_slice())?,
+        Vec::from_slice(alloc, message.subject.as_slice())?,
+        text.into_vec(),
+    ))
 }

@@ -1,16 +1,14 @@
 //! The packets of what goes out.
 ghost use Rattle.std.specs.Prelude.{◌≡◌, [], ◌∷◌, ◌++◌, true, map, filter, IfOk, OnOk};
 ghost use Rattle.std.specs.List.{flat_map};
-ghost use Rattle.echo_packet.specs.Message.{HasNoZero};
 ghost use Rattle.echo_filed.specs.Sets.{address_set};
-ghost use Rattle.echo_steps.specs.Scanning.{header_to, message_out};
+ghost use Rattle.echo_steps.specs.Scanning.{header_to};
 ghost use Rattle.echo_steps.specs.Stamps.{is_stamp};
-ghost use Rattle.echo_toss.specs.Exports.{goes_ready, nowhere, packet_ready, packets_out, ready_copy, ready_of};
+ghost use Rattle.echo_toss.specs.Exports.{goes_ready, packet_ready, packets_out, ready_copy, ready_of};
 
 use crate::outgoing::Outgoing;
 use crate::sets::address_set;
 use echo_addr::{Address, Items};
-use echo_filed::Filed;
 use echo_links::LinkFile;
 use echo_packet::{Header, Packed};
 use echo_steps::{Packet, Stamp};
@@ -41,18 +39,18 @@ pub(crate) fn packets(
     alloc: Global,
     links: &LinkFile,
     stamp: Stamp,
-    outgoing: Vec<Outgoing<'_>>,
+    outgoing: Vec<Outgoing>,
 ) -> Result<Vec<Packet>, AllocError>
     requires { is_stamp stamp ≡ true }
-    ensures { IfOk result (λ all. all.items ≡ packets_out links.now stamp outgoing.entry.items) }
+    ensures { IfOk result (λ all. all.items ≡ packets_out links.now stamp outgoing.items) }
 {
     let recipients = recipients(alloc, outgoing.as_slice())?;
-    let ready = all_ready(alloc, links, outgoing)?;
+    let ready = all_ready(alloc, outgoing)?;
     packets_to(alloc, links, stamp, recipients.as_slice(), ready.as_slice())
 }
 
 // The addresses that get some of the messages, ascending.
-fn recipients(alloc: Global, outgoing: &[Outgoing<'_>]) -> Result<Vec<Address>, AllocError>
+fn recipients(alloc: Global, outgoing: &[Outgoing]) -> Result<Vec<Address>, AllocError>
     ensures { IfOk result (λ all. all.items ≡ address_set (flat_map (λ o. o.targets) outgoing.now)) }
 {
     let mut all = Vec::new(alloc);
@@ -63,32 +61,23 @@ fn recipients(alloc: Global, outgoing: &[Outgoing<'_>]) -> Result<Vec<Address>, 
 }
 
 // The messages, ready to be copied.
-fn all_ready(
-    alloc: Global,
-    links: &LinkFile,
-    outgoing: Vec<Outgoing<'_>>,
-) -> Result<Vec<Ready>, AllocError>
-    ensures { IfOk result (λ all. all.items ≡ map (ready_of links.now) outgoing.entry.items) }
+fn all_ready(alloc: Global, outgoing: Vec<Outgoing>) -> Result<Vec<Ready>, AllocError>
+    ensures { IfOk result (λ all. all.items ≡ map ready_of outgoing.items) }
 {
     let mut all = Vec::with_capacity(alloc, outgoing.len())?;
     'outgoing: for one in outgoing {
-        all.push(made_ready(alloc, links, one)?)?;
+        all.push(made_ready(alloc, one)?)?;
     }
     Ok(all)
 }
 
 // The message, ready to be copied.
-fn made_ready(alloc: Global, links: &LinkFile, one: Outgoing<'_>) -> Result<Ready, AllocError>
-    ensures { IfOk result (λ r. r ≡ ready_of links.now one.entry) }
+fn made_ready(alloc: Global, one: Outgoing) -> Result<Ready, AllocError>
+    ensures { IfOk result (λ r. r ≡ ready_of one) }
 {
-    let Outgoing {
-        message,
-        targets,
-        text,
-    } = one;
-    let message = packed(alloc, links, message, text)?.shared(alloc)?;
+    let Outgoing { message, targets } = one;
     Ok(Ready {
-        message,
+        message: message.shared(alloc)?,
         targets: Items::new(address_set(targets.into_vec())),
     })
 }
@@ -152,32 +141,6 @@ fn goes_to(one: &Ready, address: Address) -> bool
     ensures { result ≡ goes_ready address one.now }
 {
     one.targets.as_slice().binary_search(&address).is_ok()
-}
-
-// The message, whose text goes into it, as it goes to no system alone.
-fn packed(
-    alloc: Global,
-    links: &LinkFile,
-    message: &Filed,
-    text: Items<u8>,
-) -> Result<Packed, AllocError>
-    requires { HasNoZero text }
-    ensures { IfOk result (λ copy. copy ≡ message_out links.now nowhere message.now text) }
-{
-    let system = links.system();
-    Ok(Packed::from_parts(
-        system.node,
-        0,
-        system.net,
-        0,
-        0,
-        0,
-        message.date,
-        Vec::from_slice(alloc, message.to_name.as_slice())?,
-        Vec::from_slice(alloc, message.from_name.as_slice())?,
-        Vec::from_slice(alloc, message.subject.as_slice())?,
-        text.into_vec(),
-    ))
 }
 
 // The header of a packet to the address.

@@ -1,18 +1,48 @@
-ghost use Rattle.std.specs.Prelude.{◌≡◌, true, IfOk};
+ghost use Rattle.std.specs.Prelude.{◌≡◌, true, false, IfErr, IfOk, OnErr, OnOk};
+ghost use Rattle.echo_base.specs.Base.{Base};
+ghost use Rattle.echo_store.specs.Store.{CommitsNothing, GoesOn, HasStoreCause, LooksOn, Undoes, all_scanned};
 ghost use Rattle.echo_steps.specs.Scanning.{ScanStep, scanned};
 ghost use Rattle.echo_steps.specs.Stamps.{is_stamp};
 ghost use Rattle.echo_toss.specs.Exports.{listed};
+ghost use Rattle.echo_toss.specs.Stores.{IsScanStop, scan_answer};
 
 use crate::moment::is_stamp;
 use crate::outgoing::waiting;
 use crate::packing::packets;
+use crate::stop::ScanStop;
 use crate::tosser::Tosser;
-use echo_base::Base;
 use echo_links::LinkFile;
 use echo_steps::{Packet, ScanFault, Stamp};
-use echo_store::Store;
-use std::alloc::{AllocError, Global};
+use echo_store::{Store, StoreError};
+use std::alloc::Global;
 use std::hash::BuildHasher;
+
+/// Makes the packets of the messages of the store that wait: one for each address that gets some of them, ascending,
+/// its messages in order of filing. Afterwards no message waits. Nothing is committed.
+pub fn scan_in<T: Store>(
+    alloc: Global,
+    links: &LinkFile,
+    store: &mut T,
+    stamp: Stamp,
+) -> Result<Vec<Packet>, ScanStop>
+    requires { (T.state store.old).is_ready }
+    ensures stamp { OnOk result (is_stamp stamp ≡ true) }
+    ensures packets { (base : Base) → (T.state store.old).keeps base
+        → IfOk result (λ all. all.items ≡ scanned links.now base.messages base.cursor stamp) }
+    ensures moved { (base : Base) → (T.state store.old).keeps base → OnOk result ((T.state store.new).keeps (all_scanned base)) }
+    ensures stop { IfErr result (IsScanStop stamp (T.state store.old) (T.state store.new)) }
+    ensures goes_on { OnOk result (GoesOn (T.state store.old) (T.state store.new)) }
+    ensures undone { OnErr result (Undoes (T.state store.old) (T.state store.new)) }
+    ensures commits { CommitsNothing (T.state store.old) (T.state store.new) }
+    ensures cause { HasStoreCause (T.state store.old) (T.failures store.old) (T.failures store.new) (scan_answer result) }
+{
+    if !is_stamp(stamp) {
+        return Err(ScanStop::BadStamp);
+    }
+    let packets = scanned(alloc, links, store, stamp)?;
+    store.move_to_end()?;
+    Ok(packets)
+}
 
 impl<S: BuildHasher> Tosser<S> {
     /// Makes the packets of the messages that wait: one for each address that gets some of them,
@@ -20,27 +50,29 @@ impl<S: BuildHasher> Tosser<S> {
     pub fn scan(&mut self, stamp: Stamp) -> Result<Vec<Packet>, ScanFault>
         ensures { ScanStep self.old stamp (listed result) self.new }
     {
-        if !is_stamp(stamp) {
-            return Err(ScanFault::BadStamp);
-        }
-        let packets = scanned(self.alloc, &self.links, self.store.base(), stamp)?;
-        match self.store.move_to_end() {
-            Ok(()) => Ok(packets),
-            Err(_) => Err(ScanFault::Memory),
+        match scan_in(self.alloc, &self.links, &mut self.store, stamp) {
+            Ok(packets) => Ok(packets),
+            Err(ScanStop::BadStamp) => Err(ScanFault::BadStamp),
+            // A base in memory fails only where a growth is refused.
+            Err(ScanStop::Store(_)) => Err(ScanFault::Memory),
         }
     }
 }
 
 // The packets of the messages from the cursor on.
-fn scanned<S: BuildHasher>(
+fn scanned<T: Store>(
     alloc: Global,
     links: &LinkFile,
-    base: &Base<S>,
+    store: &mut T,
     stamp: Stamp,
-) -> Result<Vec<Packet>, AllocError>
-    requires { is_stamp stamp ≡ true }
-    ensures { IfOk result (λ all. all.items ≡ scanned links.now base.now.messages base.now.cursor stamp) }
+) -> Result<Vec<Packet>, StoreError>
+    requires ready { (T.state store.old).is_ready }
+    requires stamp { is_stamp stamp ≡ true }
+    ensures packets { (base : Base) → (T.state store.old).keeps base
+        → IfOk result (λ all. all.items ≡ scanned links.now base.messages base.cursor stamp) }
+    ensures looks { LooksOn (T.state store.old) (T.state store.new) }
+    ensures cause { HasStoreCause (T.state store.old) (T.failures store.old) (T.failures store.new) result }
 {
-    let outgoing = waiting(alloc, links, base)?;
-    packets(alloc, links, stamp, outgoing)
+    let outgoing = waiting(alloc, links, store)?;
+    Ok(packets(alloc, links, stamp, outgoing)?)
 }

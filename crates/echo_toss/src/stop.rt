@@ -47,3 +47,24 @@ impl From<AllocError> for PostStop {
         PostStop::Store(StoreError::Memory)
     }
 }
+
+/// Why nothing was scanned.
+#[derive(Clone, Copy, Debug, PartialEq, Eq, Error)]
+pub enum ScanStop {
+    /// A part of the stamp is out of its range.
+    #[error("S1 BadStamp")]
+    BadStamp,
+    /// The store failed.
+    #[error("{0}")]
+    Store(StoreError),
+}
+
+impl From<StoreError> for ScanStop {
+    ghost use Rattle.echo_toss.specs.declared.stop.ScanStop.TheVariants as scan;
+
+    ghost from_gives = { λ cause stop. stop ≡ scan.Store cause };
+
+    fn from(cause: StoreError) -> ScanStop {
+        ScanStop::Store(cause)
+    }
+}

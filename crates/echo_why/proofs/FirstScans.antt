@@ -8,11 +8,12 @@ use Rattle.echo_run.specs.Event.{RunEvent}
 use Rattle.echo_run.specs.Run.{System, run_of, start}
 use Rattle.echo_run.specs.Orderly.{sent_count}
 use Rattle.echo_run.specs.Tidy.{lists}
+use Rattle.echo_run.proofs.Lists.{Among-map_to}
 use Rattle.echo_run.proofs.WholeRuns.{along, event-files, fresh-files}
 use Rattle.echo_harm.specs.LawsOfRuns.{LawsOfRuns}
 use Rattle.echo_harm.specs.Postings.{post_and_scan}
 use Rattle.echo_harm.proofs.Entries.{link-among}
-use Rattle.echo_harm.proofs.Lists.{among-nth, Among-map_to}
+use Rattle.echo_harm.proofs.Lists.{among-nth}
 use Rattle.echo_harm.proofs.Places.{lists-file}
 use Rattle.echo_harm.proofs.PostAndScan.{scanned-poster, scanned-there, sent-to_link}
 use Rattle.echo_harm.proofs.Tags.{link-area}

@@ -23,8 +23,12 @@ enum Form {
     Needed(&'static str),
     /// `NAME`
     One,
+    /// `NAME`, or nothing where both options stand
+    OneUnless(&'static str, &'static str),
     /// `NAME...`, one or more, or in its place this option
     ManyUnless(&'static str),
+    /// the same, or nothing where the second option stands, with which the word before it is one of these
+    RestUnless(&'static str, &'static str),
 }
 
 /// A word that a command takes: its name, how it is given, and its help.
@@ -39,12 +43,10 @@ const AREA: &str = "The area, in letters of either case";
 
 const TAG: Word = Word("TAG", Form::One, AREA);
 
+const NET: &str = "The link file of each system of the net";
+
 /// The link files of a net, as words or as a list.
-const ALL_LINKS: Word = Word(
-    "LINKS",
-    Form::ManyUnless("links-from"),
-    "The link file of each system of the net",
-);
+const ALL_LINKS: Word = Word("LINKS", Form::ManyUnless("links-from"), NET);
 
 const LINKS_FROM: Word = Word(
     "links-from",
@@ -121,9 +123,14 @@ const COMMANDS: &[Entry] = &[
                 Form::Option("LIST"),
                 "Prints which systems of the area this nodelist does not hold",
             ),
+            Word(
+                "all",
+                Form::Flag,
+                "Each area that a file has, in place of TAG",
+            ),
             LINKS_FROM,
-            TAG,
-            ALL_LINKS,
+            Word("TAG", Form::OneUnless("all", "links-from"), AREA),
+            Word("LINKS", Form::RestUnless("links-from", "all"), NET),
         ],
     ),
     Entry(
@@ -224,6 +231,30 @@ const COMMANDS: &[Entry] = &[
         ],
     ),
     Entry(
+        "export",
+        "Prints the messages of a base for other programs, a line of JSON each",
+        ending!("echonet export --json --area TEST base | jq .subject"),
+        &[
+            Word(
+                "area",
+                Form::Option("TAG"),
+                "Prints the messages of this area alone, in letters of either case",
+            ),
+            Word(
+                "from",
+                Form::Option("I"),
+                "Prints from the message of this number on, counted from 0",
+            ),
+            Word("json", Form::Flag, "Prints a line of JSON for each message"),
+            Word(
+                "purged",
+                Form::Flag,
+                "Prints what is left of purged messages, too",
+            ),
+            Word("BASE", Form::One, "The base of the system"),
+        ],
+    ),
+    Entry(
         "replay",
         "Prints what the systems of a net have after what a script says",
         ending!("echonet replay chain.script links/*"),
@@ -248,9 +279,14 @@ fn argument<'a>(alloc: Global, word: Word) -> Result<Arg<'a>, AllocError> {
         Form::Option(value) => arg.long(name).value_name(value),
         Form::Needed(value) => arg.long(name).value_name(value).required(true),
         Form::One => arg.required(true),
+        Form::OneUnless(one, other) => arg.required_unless_present_all(&[one, other])?,
         Form::ManyUnless(option) => {
             let many = arg.num_args(1..).required_unless_present(option)?;
             many.conflicts_with(option)?
+        }
+        Form::RestUnless(list, option) => {
+            let rest = arg.num_args(1..).required_unless_present(list)?;
+            rest.required_unless_present(option)?.conflicts_with(list)?
         }
     })
 }

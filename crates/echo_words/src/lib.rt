@@ -7,4 +7,4 @@ mod refusing;
 mod words;
 
 pub use refusing::{Ending, explain};
-pub use words::{Paths, PostWords, TossWords, Words, parse};
+pub use words::{CheckWords, ExportWords, Paths, PostWords, TossWords, Words, parse};

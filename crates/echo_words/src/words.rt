@@ -1,6 +1,7 @@
 //! What the words of a command line ask for.
 
 use crate::commands::command;
+use clap::error::ErrorKind;
 use clap::{ArgMatches, Error};
 use std::alloc::{AllocError, Global};
 
@@ -19,11 +20,7 @@ pub enum Words<'a> {
         areas: bool,
         links: Paths<'a>,
     },
-    Check {
-        nodelist: Option<&'a str>,
-        tag: &'a str,
-        links: Paths<'a>,
-    },
+    Check(CheckWords<'a>),
     Picture {
         tag: &'a str,
         links: Paths<'a>,
@@ -41,6 +38,7 @@ pub enum Words<'a> {
         from: Option<&'a str>,
         base: &'a str,
     },
+    Export(ExportWords<'a>),
     Post(PostWords<'a>),
     Toss(TossWords<'a>),
     Scan {
@@ -62,6 +60,14 @@ pub struct Paths<'a> {
     pub from: Option<&'a str>,
 }
 
+/// The words of `check`: without a tag, all areas.
+#[derive(Drop)]
+pub struct CheckWords<'a> {
+    pub nodelist: Option<&'a str>,
+    pub tag: Option<&'a str>,
+    pub links: Paths<'a>,
+}
+
 /// The words of `post`.
 #[derive(Drop)]
 pub struct PostWords<'a> {
@@ -73,6 +79,16 @@ pub struct PostWords<'a> {
     pub at: &'a str,
     pub reply: Option<&'a str>,
     pub links: &'a str,
+    pub base: &'a str,
+}
+
+/// The words of `export`.
+#[derive(Drop)]
+pub struct ExportWords<'a> {
+    pub json: bool,
+    pub purged: bool,
+    pub area: Option<&'a str>,
+    pub from: Option<&'a str>,
     pub base: &'a str,
 }
 
@@ -126,12 +142,25 @@ fn nodelist_words<'a>(matches: &ArgMatches<'a>) -> Option<Words<'a>> {
     })
 }
 
-fn check_words<'a>(matches: &ArgMatches<'a>, links: Paths<'a>) -> Option<Words<'a>> {
-    Some(Words::Check {
+// With `--all` the first word is a link file, too.
+fn check_words<'a>(
+    alloc: Global,
+    matches: &ArgMatches<'a>,
+) -> Result<Option<Words<'a>>, AllocError> {
+    let mut links = links(alloc, matches)?;
+    let first = matches.get_str("TAG");
+    let all = matches.get_flag("all");
+    if let (true, Some(path)) = (all, first) {
+        links.words.insert(0, path)?;
+    }
+    if !all && first.is_none() {
+        return Ok(None);
+    }
+    Ok(Some(Words::Check(CheckWords {
         nodelist: matches.get_str("nodelist"),
-        tag: matches.get_str("TAG")?,
+        tag: if all { None } else { first },
         links,
-    })
+    })))
 }
 
 fn picture_words<'a>(matches: &ArgMatches<'a>, links: Paths<'a>) -> Option<Words<'a>> {
@@ -195,11 +224,35 @@ fn list_words<'a>(matches: &ArgMatches<'a>) -> Option<Words<'a>> {
     })
 }
 
+fn export_words<'a>(matches: &ArgMatches<'a>) -> Option<Words<'a>> {
+    Some(Words::Export(ExportWords {
+        json: matches.get_flag("json"),
+        purged: matches.get_flag("purged"),
+        area: matches.get_str("area"),
+        from: matches.get_str("from"),
+        base: matches.get_str("BASE")?,
+    }))
+}
+
 fn replay_words<'a>(matches: &ArgMatches<'a>, links: Paths<'a>) -> Option<Words<'a>> {
     Some(Words::Replay {
         script: matches.get_str("SCRIPT")?,
         links,
     })
+}
+
+const LINKS_TWICE: &str = "the argument '--links-from <FILE>' cannot be used with '[LINKS]...'";
+
+// With `check --all` a list of link files is given, and link files too: the first of them stands where else
+// the tag does, so the parser takes both.
+fn names_links_twice(matches: &ArgMatches<'_>) -> bool {
+    match matches.subcommand() {
+        Some(("check", given)) => {
+            let list = given.get_str("links-from");
+            given.get_flag("all") && list.is_some() && given.get_str("TAG").is_some()
+        }
+        _ => false,
+    }
 }
 
 fn words_of<'a>(alloc: Global, matches: &ArgMatches<'a>) -> Result<Option<Words<'a>>, AllocError> {
@@ -210,7 +263,7 @@ fn words_of<'a>(alloc: Global, matches: &ArgMatches<'a>) -> Result<Option<Words<
             areas: given.get_flag("areas"),
             links: links(alloc, given)?,
         }),
-        Some(("check", given)) => check_words(given, links(alloc, given)?),
+        Some(("check", given)) => check_words(alloc, given)?,
         Some(("why", given)) => why_words(given, links(alloc, given)?),
         Some(("picture", given)) => picture_words(given, links(alloc, given)?),
         Some(("post", given)) => post_words(given),
@@ -221,6 +274,7 @@ fn words_of<'a>(alloc: Global, matches: &ArgMatches<'a>) -> Result<Option<Words<
         Some(("scan", given)) => scan_words(given),
         Some(("purge", given)) => purge_words(given),
         Some(("list", given)) => list_words(given),
+        Some(("export", given)) => export_words(given),
         Some(("replay", given)) => replay_words(given, links(alloc, given)?),
         _ => None,
     })
@@ -229,6 +283,10 @@ fn words_of<'a>(alloc: Global, matches: &ArgMatches<'a>) -> Result<Option<Words<
 /// What the words ask for, or why they were refused; help that was asked for is such an error too.
 /// `None` is a command that the program does not have.
 pub fn parse<'a>(alloc: Global, words: &'a [String]) -> Result<Option<Words<'a>>, Error> {
-    let matches = command(alloc)?.try_get_matches_from(words)?;
+    let mut program = command(alloc)?;
+    let matches = program.try_get_matches_from_mut(words)?;
+    if names_links_twice(&matches) {
+        return Err(program.error(ErrorKind::ArgumentConflict, LINKS_TWICE)?);
+    }
     Ok(words_of(alloc, &matches)?)
 }

@@ -11,17 +11,18 @@ mod placing;
 mod station;
 
 use echo_base::BaseFault;
-use echo_checking::{check, picture};
+use echo_checking::{check, check_all, picture};
 use echo_device::{Sink, Watched};
-use echo_reading::{list, nodelist, show};
+use echo_reading::{export, list, nodelist, show, tell_lost};
 use echo_rehearsing::{replay, why};
 use echo_status::{Fault, Status, ended, number_of, wanted};
-use echo_words::{Ending, Words, explain, parse};
+use echo_words::{CheckWords, Ending, ExportWords, Words, explain, parse};
 use inputs::{MAX_INPUT, read_file, read_given, read_if_given, read_links, read_script};
 use judging::run_links;
 use paths::{PathNames, names_of};
 use station::{run_post, run_purge, run_scan, run_toss};
 use std::collections::hash_map::RandomState;
+use std::io::Write;
 use std::process::ExitCode;
 use std::{env, io};
 
@@ -51,18 +52,20 @@ fn run_nodelist<'a, W: Sink>(
     nodelist(rt.alloc(), address, &input, out)
 }
 
-// `check [--nodelist LIST] TAG LINKS...`
+// `check [--nodelist LIST] TAG LINKS...`, and `check --all` without a tag
 fn run_check<'a, W: Sink>(
     rt: &HostRuntime,
-    list: Option<&'a str>,
-    tag: &'a str,
+    words: &CheckWords<'a>,
     links: &'a PathNames<'a>,
     out: &mut W,
 ) -> Result<Status, Fault<'a>> {
-    let list = read_if_given(rt, list, MAX_INPUT)?;
+    let list = read_if_given(rt, words.nodelist, MAX_INPUT)?;
     let (files, stopped) = read_links(rt, links);
     let list = list.as_ref().map(|bytes| bytes.as_slice());
-    check(rt.alloc(), list, tag.as_bytes(), &files, stopped, out)
+    match words.tag {
+        Some(tag) => check(rt.alloc(), list, tag.as_bytes(), &files, stopped, out),
+        None => check_all(rt.alloc(), list, &files, stopped, out),
+    }
 }
 
 // `why TAG LINKS...`. A seed for the hasher that cannot be had is a failed read of the first link file.
@@ -111,6 +114,41 @@ fn run_list<'a, W: Sink>(
     list(rt.alloc(), area, first, &bytes, hasher, out)
 }
 
+// `export [--area TAG] [--from I] [--purged] --json BASE`, judged as `list` is.
+fn export_given<'a, W: Sink>(
+    rt: &HostRuntime,
+    words: &ExportWords<'a>,
+    out: &mut W,
+) -> Result<u128, Fault<'a>> {
+    let first = match words.from {
+        Some(word) => number_of(word)?,
+        None => 0,
+    };
+    let hasher = RandomState::new(rt).map_err(|_| Fault::Base(BaseFault::Read))?;
+    let bytes = read_file(rt, words.base, usize::MAX)?;
+    let area = words.area.map(|tag| tag.as_bytes());
+    export(rt.alloc(), area, first, words.purged, &bytes, hasher, out)
+}
+
+fn run_export<W: Sink, E: Sink>(
+    rt: &HostRuntime,
+    words: &ExportWords<'_>,
+    out: &mut W,
+    errors: &mut E,
+) -> Status {
+    if !words.json {
+        let _ = writeln!(errors, "error: export has to be told --json");
+        return Status::CommandLine;
+    }
+    match export_given(rt, words, out) {
+        Ok(count) => {
+            tell_lost(rt.alloc(), count, errors);
+            Status::Good
+        }
+        Err(fault) => fault.report(errors),
+    }
+}
+
 // What `replay` is asked for first: the script. A seed for the hasher that cannot be had is a failed read.
 fn replay_input<'a>(
     rt: &HostRuntime,
@@ -143,12 +181,8 @@ fn run_words<W: Sink, E: Sink>(
     match words {
         Words::Show { hex, packet } => ended(run_show(rt, *hex, *packet, out), errors),
         Words::Nodelist { find, file } => ended(run_nodelist(rt, *find, *file, out), errors),
-        Words::Check {
-            nodelist,
-            tag,
-            links,
-        } => ended(
-            run_check(rt, *nodelist, *tag, &names_of(rt, links), out),
+        Words::Check(words) => ended(
+            run_check(rt, words, &names_of(rt, &words.links), out),
             errors,
         ),
         Words::Links { areas, links } => run_links(rt, *areas, &names_of(rt, links), out, errors),
@@ -166,6 +200,7 @@ fn run_words<W: Sink, E: Sink>(
         } => run_scan(rt, *at, *links, *base, *folder, out, errors),
         Words::Purge { links, base } => run_purge(rt, *links, *base, out, errors),
         Words::List { area, from, base } => ended(run_list(rt, *area, *from, *base, out), errors),
+        Words::Export(words) => run_export(rt, words, out, errors),
         Words::Replay { script, links } => {
             ended(run_replay(rt, *script, &names_of(rt, links), out), errors)
         }

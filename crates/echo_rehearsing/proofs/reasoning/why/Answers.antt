@@ -1,4 +1,4 @@
-use Rattle.std.proofs.Common.{◌≡◌, ◌++◌, ℕ, List, Option, inl, refl, subst}
+use Rattle.std.proofs.Common.{◌≡◌, ◌++◌, ℕ, List, inl, refl, subst}
 use Rattle.std.proofs.lemmas.Result.{err_from_is_err_and}
 use Rattle.echo_links.specs.Links.{LinkFile}
 use Rattle.echo_rehearsing.specs.Whys.{why_lines}

@@ -1,0 +1,46 @@
+-- The charset that a message names in its CHRS line (FTS-5003).
+use Rattle.std.specs.Prelude.{ℕ, ◌-◌, ◌==◌, nat_eq, not, Bool, List, [], ◌∷◌, length, take, drop, codes, Option, Some, None, if◌then◌else◌, unwrap_or}
+use Rattle.std.specs.List.{prefix_len, starts_with, suffix_len}
+use Rattle.echo_addr.specs.Entries.{is_blank}
+use Rattle.echo_charset.specs.declared.charset.Charset.{Charset}
+use Rattle.echo_charset.specs.declared.charset.Charset.TheVariants.{Cp437, Latin1}
+use Rattle.echo_charset.specs.Charset.{decoded_text, named}
+use Rattle.echo_text.specs.Lines.{trimmed}
+
+-- what the line of a charset begins with
+abbrev pub charset_word : List ℕ
+charset_word = 1 ∷ codes "CHRS:"
+
+-- whether this is such a line, without the blanks at both ends
+abbrev pub names_charset : List ℕ → Bool
+names_charset line = starts_with nat_eq (trimmed line) charset_word
+
+-- what it says behind the colon
+abbrev pub named_in : List ℕ → List ℕ
+named_in line = trimmed (drop (length charset_word) (trimmed line))
+
+-- what the first such line says
+abbrev pub label_of : List (List ℕ) → Option (List ℕ)
+label_of [] = None
+label_of (line ∷ later) = if names_charset line then Some (named_in line) else label_of later
+
+-- the name at the front of a label
+abbrev pub name_in : List ℕ → List ℕ
+name_in label = take (prefix_len (λ b. not (is_blank b)) label) label
+
+-- the charset of a label, none where that is another one; without a label it is CP437
+abbrev pub charset_for : Option (List ℕ) → Option Charset
+charset_for None = Some Cp437
+charset_for (Some label) = named (name_in label)
+
+-- the charset of a message
+abbrev pub charset_of : List (List ℕ) → Option Charset
+charset_of kept = charset_for (label_of kept)
+
+-- bytes as text; where the charset is another one each byte is the character of its number
+abbrev pub text_as : Option Charset → List ℕ → List ℕ
+text_as charset bytes = decoded_text (unwrap_or charset Latin1) bytes
+
+-- bytes without the 00 at their end
+abbrev pub without_zeros : List ℕ → List ℕ
+without_zeros bytes = take (length bytes - suffix_len (λ b. b == 0) bytes) bytes

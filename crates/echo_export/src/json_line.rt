@@ -1,0 +1,183 @@
+//! A message as one line of JSON.
+ghost use Rattle.std.specs.Prelude.{◌≡◌, ◌++◌, IfOk, OnOk, option_copied};
+ghost use Rattle.json.specs.Print.{print};
+ghost use Rattle.echo_charset.specs.Losses as losses;
+ghost use Rattle.echo_export.specs.Label as labels;
+ghost use Rattle.echo_export.specs.JsonLine.{area_member, charset_members, echo_members, found_members, json_line, message_members, message_object, name_members, place_members, state_word};
+
+use crate::label::{charset_for, label, without_zeros};
+use crate::lists::write_lists;
+use crate::members::{write_address, write_found, write_number, write_string, write_text};
+use echo_charset::{Charset, lost};
+use echo_filed::Filed;
+use echo_text::Echo;
+use json::Writer;
+use std::alloc::{AllocError, Global};
+
+/// What has become of a message of a base: it waits for a scan, it was scanned, or a purge left its id alone.
+#[derive(Clone, Copy, Debug, PartialEq, Eq)]
+pub enum State {
+    Scanned,
+    Waiting,
+    Purged,
+}
+
+/// Adds the message of this number as a line of JSON (RFC 8259): one object, in UTF-8. The answer is how many
+/// U+FFFD stand in it, for what the message's charset does not have.
+pub fn push_json(
+    alloc: Global,
+    lines: &mut Vec<u8>,
+    i: usize,
+    state: State,
+    message: &Filed,
+) -> Result<usize, AllocError>
+    ensures line { OnOk result (lines.new.items ≡ lines.old.items ++ json_line i state message.now) }
+    ensures lost { IfOk result (λ n. n ≡ losses.lost (json_line i state message.now)) }
+{
+    let mut line = object_of(alloc, i, state, message)?;
+    line.push(b'\n')?;
+    lines.extend_from_slice(&line)?;
+    Ok(lost(&line))
+}
+
+// The message as an object.
+fn object_of(alloc: Global, i: usize, state: State, message: &Filed) -> Result<Vec<u8>, AllocError>
+    ensures { IfOk result (λ line. line.items ≡ print (message_object i state message.now)) }
+{
+    let mut writer = Writer::new(Vec::new(alloc));
+    writer.begin_object()?;
+    write_members(&mut writer, alloc, label_in(message), i, state, message)?;
+    writer.end_object()?;
+    Ok(writer.into_inner())
+}
+
+// What the message's CHRS line says.
+fn label_in(message: &Filed) -> Option<&[u8]>
+    ensures { option_copied result ≡ labels.label_of message.now.echo.kept }
+{
+    label(message.echo.kept.as_text())
+}
+
+// Writes all members of the message.
+fn write_members(
+    writer: &mut Writer,
+    alloc: Global,
+    label: Option<&[u8]>,
+    i: usize,
+    state: State,
+    message: &Filed,
+) -> Result<(), AllocError>
+    ensures tokens { OnOk result (writer.new.tokens ≡ writer.old.tokens ++ message_members (option_copied label.entry) i state message.now) }
+    ensures before { OnOk result (writer.new.before ≡ writer.old.before) }
+{
+    let charset = charset_for(label);
+    write_place(writer, alloc, i, state, message)?;
+    write_names(writer, alloc, charset, message)?;
+    write_charset(writer, alloc, label)?;
+    write_echo(writer, alloc, charset, message)
+}
+
+// Writes the number, the area, what has become of the message, and who sent it.
+fn write_place(
+    writer: &mut Writer,
+    alloc: Global,
+    i: usize,
+    state: State,
+    message: &Filed,
+) -> Result<(), AllocError>
+    ensures tokens { OnOk result (writer.new.tokens ≡ writer.old.tokens ++ place_members i state message.now) }
+    ensures before { OnOk result (writer.new.before ≡ writer.old.before) }
+{
+    write_number(writer, "number", i as u64)?;
+    write_area(writer, alloc, &message.echo)?;
+    write_string(writer, "state", state_word(state))?;
+    write_address(writer, alloc, "sender", message.sender)
+}
+
+// Writes the area.
+fn write_area(writer: &mut Writer, alloc: Global, echo: &Echo) -> Result<(), AllocError>
+    ensures tokens { OnOk result (writer.new.tokens ≡ writer.old.tokens ++ area_member echo.now) }
+    ensures before { OnOk result (writer.new.before ≡ writer.old.before) }
+{
+    write_text(
+        writer,
+        alloc,
+        "area",
+        Some(Charset::Ascii),
+        echo.tag.as_slice(),
+    )
+}
+
+// Writes what the text says.
+fn write_echo(
+    writer: &mut Writer,
+    alloc: Global,
+    charset: Option<Charset>,
+    message: &Filed,
+) -> Result<(), AllocError>
+    ensures tokens { OnOk result (writer.new.tokens ≡ writer.old.tokens ++ echo_members charset message.now.echo) }
+    ensures before { OnOk result (writer.new.before ≡ writer.old.before) }
+{
+    let echo = &message.echo;
+    write_ids(writer, alloc, charset, echo)?;
+    write_lists(writer, alloc, charset, echo)
+}
+
+// The word for it.
+fn state_word(state: State) -> &'static str
+    ensures { result.now ≡ state_word state }
+{
+    match state {
+        State::Scanned => "scanned",
+        State::Waiting => "waiting",
+        State::Purged => "purged",
+    }
+}
+
+// Writes the names, the subject and the DateTime.
+fn write_names(
+    writer: &mut Writer,
+    alloc: Global,
+    charset: Option<Charset>,
+    message: &Filed,
+) -> Result<(), AllocError>
+    ensures tokens { OnOk result (writer.new.tokens ≡ writer.old.tokens ++ name_members charset message.now) }
+    ensures before { OnOk result (writer.new.before ≡ writer.old.before) }
+{
+    write_text(writer, alloc, "from", charset, message.from_name.as_slice())?;
+    write_text(writer, alloc, "to", charset, message.to_name.as_slice())?;
+    write_text(
+        writer,
+        alloc,
+        "subject",
+        charset,
+        message.subject.as_slice(),
+    )?;
+    write_text(writer, alloc, "date", charset, without_zeros(&message.date))
+}
+
+// Writes the charset, and what names it.
+fn write_charset(writer: &mut Writer, alloc: Global, label: Option<&[u8]>) -> Result<(), AllocError>
+    ensures tokens { OnOk result (writer.new.tokens ≡ writer.old.tokens ++ charset_members (option_copied label.entry)) }
+    ensures before { OnOk result (writer.new.before ≡ writer.old.before) }
+{
+    let name = charset_for(label).map(|charset| charset.name());
+    write_found(writer, alloc, "charset", Some(Charset::Ascii), name)?;
+    write_found(writer, alloc, "label", Some(Charset::Latin1), label)
+}
+
+// Writes the ids, the tear and the origin line.
+fn write_ids(
+    writer: &mut Writer,
+    alloc: Global,
+    charset: Option<Charset>,
+    echo: &Echo,
+) -> Result<(), AllocError>
+    ensures tokens { OnOk result (writer.new.tokens ≡ writer.old.tokens ++ found_members charset echo.now.kept) }
+    ensures before { OnOk result (writer.new.before ≡ writer.old.before) }
+{
+    write_found(writer, alloc, "msgid", charset, echo.msgid())?;
+    write_found(writer, alloc, "reply", charset, echo.reply())?;
+    write_found(writer, alloc, "tear", charset, echo.tear())?;
+    write_found(writer, alloc, "origin", charset, echo.origin())
+}

@@ -1,0 +1,90 @@
+//! Lists in an object of JSON.
+ghost use Rattle.std.specs.Prelude.{◌≡◌, ◌++◌, ◌∷◌, [], codes, OnOk};
+ghost use Rattle.std.specs.List.{flat_map};
+ghost use Rattle.json.specs.Token.{key, string};
+ghost use Rattle.echo_addr.specs.Address.{net_node_text};
+ghost use Rattle.echo_text.specs.Lines.{lines};
+ghost use Rattle.echo_export.specs.JsonLine.{array_of, list_members};
+ghost use Rattle.echo_export.specs.Label.{text_as};
+
+use crate::label::text_as;
+use crate::members::write_number;
+use echo_addr::NetNode;
+use echo_charset::Charset;
+use echo_text::{Echo, split_line};
+use json::Writer;
+use std::alloc::{AllocError, Global};
+
+/// Writes how many entries SEEN-BY has, the PATH, and the kept lines.
+pub(crate) fn write_lists(
+    writer: &mut Writer,
+    alloc: Global,
+    charset: Option<Charset>,
+    echo: &Echo,
+) -> Result<(), AllocError>
+    ensures tokens { OnOk result (writer.new.tokens ≡ writer.old.tokens ++ list_members charset echo.now) }
+    ensures before { OnOk result (writer.new.before ≡ writer.old.before) }
+{
+    write_number(writer, "seen", echo.seen.len() as u64)?;
+    write_path(writer, alloc, echo.path.as_slice())?;
+    write_lines(writer, alloc, charset, echo.kept.as_text())
+}
+
+// Writes the entries of a PATH as a list.
+fn write_path(writer: &mut Writer, alloc: Global, path: &[NetNode]) -> Result<(), AllocError>
+    ensures tokens { OnOk result (writer.new.tokens ≡ writer.old.tokens ++ key (codes "path") ∷ array_of (flat_map (λ entry. string (net_node_text entry) ∷ []) path.now)) }
+    ensures before { OnOk result (writer.new.before ≡ writer.old.before) }
+{
+    writer.key("path")?;
+    writer.begin_array()?;
+    write_entries(writer, alloc, path)?;
+    writer.end_array()
+}
+
+// Writes the entries.
+fn write_entries(writer: &mut Writer, alloc: Global, path: &[NetNode]) -> Result<(), AllocError>
+    ensures tokens { OnOk result (writer.new.tokens ≡ writer.old.tokens ++ flat_map (λ entry. string (net_node_text entry) ∷ []) path.now) }
+    ensures before { OnOk result (writer.new.before ≡ writer.old.before) }
+{
+    'path: for entry in path {
+        let text = format!(in alloc; "{entry}")?;
+        writer.string(text.as_str())?;
+    }
+    Ok(())
+}
+
+// Writes the lines of a text as a list.
+fn write_lines(
+    writer: &mut Writer,
+    alloc: Global,
+    charset: Option<Charset>,
+    kept: &[u8],
+) -> Result<(), AllocError>
+    ensures tokens { OnOk result (writer.new.tokens ≡ writer.old.tokens ++ key (codes "lines") ∷ array_of (flat_map (λ line. string (text_as charset line) ∷ []) (lines kept.now))) }
+    ensures before { OnOk result (writer.new.before ≡ writer.old.before) }
+{
+    writer.key("lines")?;
+    writer.begin_array()?;
+    write_each_line(writer, alloc, charset, kept)?;
+    writer.end_array()
+}
+
+// Writes the lines.
+fn write_each_line(
+    writer: &mut Writer,
+    alloc: Global,
+    charset: Option<Charset>,
+    kept: &[u8],
+) -> Result<(), AllocError>
+    ensures tokens { OnOk result (writer.new.tokens ≡ writer.old.tokens ++ flat_map (λ line. string (text_as charset line) ∷ []) (lines kept.now)) }
+    ensures before { OnOk result (writer.new.before ≡ writer.old.before) }
+{
+    let mut rest = kept;
+    'kept: while !rest.is_empty() {
+        let (line, after) = split_line(rest);
+        let text = text_as(alloc, charset, line)?;
+        writer.string(text.as_str())?;
+        rest = after;
+    }
+    Ok(())
+}
