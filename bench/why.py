@@ -1,5 +1,5 @@
 """How long `check` and `why` take on great nets with one loop, beside the yes of the same net without it, by
-processor time. For each net three rows of figures: the yes of `check`, its no, which names the loop, and `why`,
+processor time. For each net three figures: the yes of `check`, its no, which names the loop, and `why`,
 each the middle one of three runs with the link files read, and how many times the yes the others take.
 
 Words: names of nets; with none, all but the rings. ECHONET names the program, bin/echonet without it.
