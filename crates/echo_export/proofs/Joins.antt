@@ -9,3 +9,8 @@ on_ok (Err e) f p = tt
 -- some were added, and then others
 pub joined : {X : Type 0} (old a b mid new : List X) → mid ≡ old ++ a → new ≡ mid ++ b → new ≡ old ++ (a ++ b)
 joined old a b mid new first second = second ∙ ap (λ t. t ++ b) first ∙ append_assoc old a b
+
+-- what holds anyhow holds where all went well
+pub anyhow : {T E P : Type 0} (r : Result T E) → P → OnOk r P
+anyhow (Ok x) p = p
+anyhow (Err e) p = tt

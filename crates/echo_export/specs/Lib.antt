@@ -1,2 +1,4 @@
 pub mod Label
 pub mod JsonLine
+pub mod MailText
+pub mod HeaderText

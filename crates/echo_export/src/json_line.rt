@@ -2,10 +2,9 @@
 ghost use Rattle.std.specs.Prelude.{◌≡◌, ◌++◌, IfOk, OnOk, option_copied};
 ghost use Rattle.json.specs.Print.{print};
 ghost use Rattle.echo_charset.specs.Losses as losses;
-ghost use Rattle.echo_export.specs.Label as labels;
 ghost use Rattle.echo_export.specs.JsonLine.{area_member, charset_members, echo_members, found_members, json_line, message_members, message_object, name_members, place_members, state_word};
 
-use crate::label::{charset_for, label, without_zeros};
+use crate::label::{charset_for, label_in, without_zeros};
 use crate::lists::write_lists;
 use crate::members::{write_address, write_found, write_number, write_string, write_text};
 use echo_charset::{Charset, lost};
@@ -49,13 +48,6 @@ fn object_of(alloc: Global, i: usize, state: State, message: &Filed) -> Result<V
     write_members(&mut writer, alloc, label_in(message), i, state, message)?;
     writer.end_object()?;
     Ok(writer.into_inner())
-}
-
-// What the message's CHRS line says.
-fn label_in(message: &Filed) -> Option<&[u8]>
-    ensures { option_copied result ≡ labels.label_of message.now.echo.kept }
-{
-    label(message.echo.kept.as_text())
 }
 
 // Writes all members of the message.

@@ -6,14 +6,22 @@ ghost use Rattle.echo_export.specs.Label.{charset_for, charset_word, label_of, n
 
 use echo_addr::is_blank;
 use echo_charset::Charset;
+use echo_filed::Filed;
 use echo_text::{split_line, trimmed};
 use std::alloc::{AllocError, Global};
 
 // What the line of a charset begins with.
 const CHRS: &[u8] = b"\x01CHRS:";
 
-/// What the first CHRS line of these lines says behind its colon.
-pub(crate) fn label(kept: &[u8]) -> Option<&[u8]>
+/// What the CHRS line of a message says behind its colon.
+pub(crate) fn label_in(message: &Filed) -> Option<&[u8]>
+    ensures { option_copied result ≡ label_of message.now.echo.kept }
+{
+    label(message.echo.kept.as_text())
+}
+
+// What the first CHRS line of these lines says.
+fn label(kept: &[u8]) -> Option<&[u8]>
     ensures { option_copied result ≡ label_of (lines kept.now) }
 {
     let mut rest = kept;

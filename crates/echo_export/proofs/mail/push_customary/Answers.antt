@@ -1,0 +1,18 @@
+use Rattle.std.proofs.Common.{ap, ◌++◌, ◌∙◌, codes, take}
+use Rattle.std.specs.Prelude.{slice_range}
+use Rattle.echo_export.specs.MailText.{century}
+use Rattle.echo_export.proofs.Joins.{joined, on_ok}
+use Rattle.echo_export.proofs.mail.push_customary.Goals as goal
+
+pub returns : goal.returns
+returns c =
+    let date = c.args.date.now in
+    on_ok c.push_bytes-7.result
+    (λ last.
+    joined _ (codes "Date: ") _ _ _ c.in_ok-push_bytes.ensures
+    (joined _ (take 7 date) _ _ _ c.in_ok-push_bytes-2.ensures
+    (joined _ (century date) _ _ _ (c.in_ok-push_bytes-3.ensures ∙ ap (λ t. c.push_bytes-2.new.mail.items ++ t) c.century.ensures)
+    (joined _ (slice_range date 7 9) _ _ _ c.in_ok-push_bytes-4.ensures
+    (joined _ (codes " ") _ _ _ c.in_ok-push_bytes-5.ensures
+    (joined _ (slice_range date 11 19) _ _ _ c.in_ok-push_bytes-6.ensures last))))))
+    c.push_bytes-7.ensures

@@ -1,0 +1,95 @@
+-- Header lines of a mail (RFC 5322, RFC 2047).
+use Rattle.std.specs.Prelude.{ℕ, ◌-◌, ◌/◌, ◌%◌, ◌==◌, ◌&&◌, ◌||◌, not, nat_lt, Bool, List, [], ◌∷◌, ◌++◌, codes, slice_index, bytes_eq, if◌then◌else◌, Option, Some, None}
+use Rattle.std.specs.List.{list_all}
+use Rattle.std.specs.Int.{is_in_range}
+use Rattle.hex.specs.Hex.{encode_lower, upper_digits}
+use Rattle.echo_charset.specs.declared.charset.Charset.{Charset}
+use Rattle.echo_charset.specs.Charset.{decoded_text}
+use Rattle.echo_text.specs.Lines.{trimmed}
+
+-- bytes of a message in its mail: UTF-8, or as they stand where the program does not know the charset
+abbrev pub mail_bytes : Option Charset → List ℕ → List ℕ
+mail_bytes None bytes = bytes
+mail_bytes (Some charset) bytes = decoded_text charset bytes
+
+-- what the mail calls their charset (RFC 1428 has the second name)
+abbrev pub mail_charset : Option Charset → List ℕ
+mail_charset None = codes "unknown-8bit"
+mail_charset (Some charset) = codes "UTF-8"
+
+-- letters and digits
+abbrev pub is_alphanumeric : ℕ → Bool
+is_alphanumeric b = is_in_range 48 57 b || (is_in_range 65 90 b || is_in_range 97 122 b)
+
+-- what a field may have as it stands: visible ASCII but for `=`, which begins encoded words, and blanks
+abbrev pub is_field_byte : ℕ → Bool
+is_field_byte b = is_in_range 32 126 b && not (b == 61)
+
+-- what a name may have so between quotes
+abbrev pub is_name_byte : ℕ → Bool
+is_name_byte b = is_field_byte b && (not (b == 34) && not (b == 92))
+
+-- whether bytes may stand as they are: all of this kind, and no blank at an end
+abbrev pub is_plain_text : (ℕ → Bool) → List ℕ → Bool
+is_plain_text is_byte bytes = list_all is_byte bytes && bytes_eq (trimmed bytes) bytes
+
+-- a byte by `=` and its two digits
+abbrev pub hex_byte : ℕ → List ℕ
+hex_byte b = codes "=" ++ (slice_index upper_digits (b / 16) ∷ slice_index upper_digits (b % 16) ∷ [])
+
+-- a byte in an encoded word, by the encoding Q
+abbrev pub q_byte : ℕ → List ℕ
+q_byte b = if is_alphanumeric b then b ∷ [] else if b == 32 then codes "_" else hex_byte b
+
+-- how an encoded word begins
+abbrev pub q_front : Option Charset → List ℕ
+q_front charset = codes "=?" ++ (mail_charset charset ++ codes "?Q?")
+
+-- a byte that follows another one of its character
+abbrev pub is_following : ℕ → Bool
+is_following b = is_in_range 128 191 b
+
+-- for how many characters more a word has room behind a byte
+abbrev pub next_room : ℕ → ℕ → ℕ
+next_room room b = if is_following b then room else if nat_lt 0 room then room - 1 else 4
+
+-- what a byte adds to a word that has room for so many characters: a character is in one word, five are in each
+abbrev pub next_text : Option Charset → ℕ → ℕ → List ℕ
+next_text charset room b =
+    if is_following b || nat_lt 0 room then q_byte b else codes "?=\n " ++ (q_front charset ++ q_byte b)
+
+-- bytes in words of which the first has room for so many characters
+abbrev pub q_text : Option Charset → ℕ → List ℕ → List ℕ
+q_text charset room [] = []
+q_text charset room (b ∷ rest) = next_text charset room b ++ q_text charset (next_room room b) rest
+
+-- bytes as encoded words
+abbrev pub encoded_words : Option Charset → List ℕ → List ℕ
+encoded_words charset bytes = q_front charset ++ (q_text charset 5 (mail_bytes charset bytes) ++ codes "?=")
+
+-- bytes of a message in a header line: as they stand where that may be, else as encoded words
+abbrev pub header_text : Option Charset → List ℕ → List ℕ
+header_text charset bytes = if is_plain_text is_field_byte bytes then bytes else encoded_words charset bytes
+
+-- a name in a header line, likewise: between quotes where that may be
+abbrev pub name_text : Option Charset → List ℕ → List ℕ
+name_text charset name =
+    if is_plain_text is_name_byte name then codes "\"" ++ (name ++ codes "\"") else encoded_words charset name
+
+-- the line of a name, which has no mail address
+abbrev pub name_line : List ℕ → Option Charset → List ℕ → List ℕ
+name_line field charset name = field ++ (codes ": " ++ (name_text charset name ++ codes " <fido@fido.invalid>\n"))
+
+-- the line of another field
+abbrev pub field_line : List ℕ → Option Charset → List ℕ → List ℕ
+field_line field charset bytes = field ++ (codes ": " ++ (header_text charset bytes ++ codes "\n"))
+
+-- the same of what may be absent, without blanks at both ends
+abbrev pub found_line : List ℕ → Option Charset → Option (List ℕ) → List ℕ
+found_line field charset None = []
+found_line field charset (Some bytes) = field_line field charset (trimmed bytes)
+
+-- the line of a message id made of one of FTS-0009: its bytes in hexadecimal digits, so that it can be had back
+abbrev pub id_line : List ℕ → Option (List ℕ) → List ℕ
+id_line field None = []
+id_line field (Some id) = field ++ (codes ": <" ++ (encode_lower id ++ codes "@fido.invalid>\n"))

@@ -1,0 +1,137 @@
+-- A message as one of a mailbox (RFC 4155).
+use Rattle.std.specs.Prelude.{ℕ, ◌+◌, ◌==◌, ◌&&◌, nat_eq, nat_le, Bool, true, List, [], ◌∷◌, ◌++◌, codes, decimal, length, slice_index, slice_range, take, if◌then◌else◌, Option, None}
+use Rattle.std.specs.List.{flat_map, starts_with}
+use Rattle.std.specs.Int.{is_in_range}
+use Rattle.echo_addr.specs.declared.address.NetNode.{NetNode}
+use Rattle.echo_addr.specs.Address.{net_node_text}
+use Rattle.echo_charset.specs.declared.charset.Charset.{Charset}
+use Rattle.echo_charset.specs.Losses.{lost}
+use Rattle.echo_filed.specs.Filed.{Filed}
+use Rattle.echo_text.specs.Lines.{after_feeds, is_control}
+use Rattle.echo_text.specs.Echo.{EchoText, msgid_of, origin_of, reply_of, tear_of}
+use Rattle.echo_export.specs.HeaderText.{field_line, found_line, id_line, mail_bytes, mail_charset, name_line}
+use Rattle.echo_export.specs.Label.{charset_for, label_of, without_zeros}
+
+-- whether a digit stands at an index
+abbrev pub is_digit_at : List ℕ → ℕ → Bool
+is_digit_at date i = is_in_range 48 57 (slice_index date i)
+
+-- whether two digits do
+abbrev pub are_digits_at : List ℕ → ℕ → Bool
+are_digits_at date i = is_digit_at date i && is_digit_at date (i + 1)
+
+-- whether this byte stands at an index
+abbrev pub is_byte_at : List ℕ → ℕ → ℕ → Bool
+is_byte_at date i b = slice_index date i == b
+
+-- whether a DateTime has its customary form, `03 Jul 26  12:34:56`: first the day, then the time
+abbrev pub has_day : List ℕ → Bool
+has_day date = are_digits_at date 0 && (is_byte_at date 2 32 && (is_byte_at date 6 32 && are_digits_at date 7))
+
+abbrev pub has_time : List ℕ → Bool
+has_time date = are_digits_at date 11 && (is_byte_at date 13 58 && (are_digits_at date 14 && (is_byte_at date 16 58 && are_digits_at date 17)))
+
+abbrev pub is_customary : List ℕ → Bool
+is_customary date = has_day date && has_time date
+
+-- the century of a year of two digits
+abbrev pub century : List ℕ → List ℕ
+century date = if nat_le 56 (slice_index date 7) then codes "19" else codes "20"
+
+-- the line of a date that has that form
+abbrev pub customary_line : List ℕ → List ℕ
+customary_line date =
+    codes "Date: " ++ (take 7 date ++ (century date ++ (slice_range date 7 9 ++ (codes " " ++ (slice_range date 11 19 ++ codes " -0000\n")))))
+
+-- the line of a date, by the form that a mail has; of a DateTime of another form as it stands
+abbrev pub date_line : Option Charset → List ℕ → List ℕ
+date_line charset date =
+    if is_customary date then customary_line date else field_line (codes "X-FTN-Date") charset (without_zeros date)
+
+-- the line that a message of a mailbox begins with, of no author and no moment
+abbrev pub mailbox_line : List ℕ
+mailbox_line = codes "From fido@fido.invalid Thu Jan  1 00:00:00 1970\n"
+
+-- the lines of names, subject and date
+abbrev pub name_lines : Option Charset → Filed → List ℕ
+name_lines charset m =
+    name_line (codes "From") charset m.from_name
+    ++ (name_line (codes "To") charset m.to_name
+    ++ (field_line (codes "Subject") charset m.subject ++ date_line charset m.date))
+
+-- the lines of ids, by which mail programs show threads
+abbrev pub id_lines : List (List ℕ) → List ℕ
+id_lines kept =
+    id_line (codes "Message-ID") (msgid_of kept) ++ (id_line (codes "In-Reply-To") (reply_of kept) ++ id_line (codes "References") (reply_of kept))
+
+-- the lines of what FidoNet says
+abbrev pub found_lines : Option Charset → List (List ℕ) → List ℕ
+found_lines charset kept =
+    found_line (codes "X-FTN-MSGID") charset (msgid_of kept)
+    ++ (found_line (codes "X-FTN-REPLY") charset (reply_of kept)
+    ++ (found_line (codes "X-FTN-Tear") charset (tear_of kept) ++ found_line (codes "X-FTN-Origin") charset (origin_of kept)))
+
+-- the entries of a PATH
+abbrev pub written_path : List NetNode → List ℕ
+written_path path = flat_map (λ entry. codes " " ++ net_node_text entry) path
+
+-- how many entries SEEN-BY has, and how the line of the PATH begins
+abbrev pub seen_line : ℕ → List ℕ
+seen_line seen = codes "\nX-FTN-SEEN-BY: " ++ (decimal seen ++ codes "\nX-FTN-PATH:")
+
+-- the lines of the area, of SEEN-BY and of PATH
+abbrev pub way_lines : EchoText → List ℕ
+way_lines e = codes "Newsgroups: " ++ (e.tag ++ (seen_line (length e.seen) ++ (written_path e.path ++ codes "\n")))
+
+-- the lines that say what the body is, and the empty line behind them
+abbrev pub form_lines : Option Charset → List ℕ
+form_lines charset =
+    codes "MIME-Version: 1.0\nContent-Type: text/plain; charset=" ++ (mail_charset charset ++ codes "\nContent-Transfer-Encoding: 8bit\n\n")
+
+-- what a line of a mailbox may not begin with
+abbrev pub from_word : List ℕ
+from_word = codes "From "
+
+-- bytes of a body, with `>` before each line that begins so; whether the first one begins a line
+abbrev pub quoted_body : Bool → List ℕ → List ℕ
+quoted_body first [] = []
+quoted_body first (b ∷ rest) =
+    (if first && starts_with nat_eq (b ∷ rest) from_word then codes ">" else []) ++ b ∷ quoted_body (b == 10) rest
+
+-- a line of the body, without the line feeds at its front; a control line is none
+abbrev pub body_line : Option Charset → List ℕ → List ℕ
+body_line charset line =
+    if is_control line then [] else quoted_body true (mail_bytes charset (after_feeds line)) ++ codes "\n"
+
+-- all of them
+abbrev pub body_text : Option Charset → List (List ℕ) → List ℕ
+body_text charset kept = flat_map (body_line charset) kept
+
+-- the lines of what the text says
+abbrev pub echo_head : Option Charset → EchoText → List ℕ
+echo_head charset e = id_lines e.kept ++ (way_lines e ++ found_lines charset e.kept)
+
+-- the lines before the body of a message whose CHRS line says this
+abbrev pub head_text : Option (List ℕ) → Filed → List ℕ
+head_text label m =
+    mailbox_line
+    ++ (name_lines (charset_for label) m
+    ++ (echo_head (charset_for label) m.echo ++ (found_line (codes "X-FTN-CHRS") None label ++ form_lines (charset_for label))))
+
+-- a message of a mailbox, with the empty line at its end
+abbrev pub mail_text : Filed → List ℕ
+mail_text m =
+    head_text (label_of m.echo.kept) m ++ (body_text (charset_for (label_of m.echo.kept)) m.echo.kept ++ codes "\n")
+
+-- names and subject as a mail has them, one behind the other
+abbrev pub name_bytes : Option Charset → Filed → List ℕ
+name_bytes charset m = mail_bytes charset m.from_name ++ (mail_bytes charset m.to_name ++ mail_bytes charset m.subject)
+
+-- the same, and a body behind them
+abbrev pub all_bytes : Option Charset → Filed → List ℕ → List ℕ
+all_bytes charset m body = name_bytes charset m ++ body
+
+-- how many U+FFFD stand in names, subject and body
+abbrev pub mail_lost : Filed → ℕ
+mail_lost m =
+    lost (all_bytes (charset_for (label_of m.echo.kept)) m (body_text (charset_for (label_of m.echo.kept)) m.echo.kept))

@@ -1,0 +1,97 @@
+//! The body of a mail.
+ghost use Rattle.std.specs.Prelude.{◌≡◌, ◌++◌, ◌≤◌, [], codes, if◌then◌else◌, length, take_while, true, OnOk};
+ghost use Rattle.echo_text.specs.Lines.{after_feeds, is_control, is_feed, lines};
+ghost use Rattle.echo_export.specs.MailText.{body_line, body_text, quoted_body};
+
+use crate::header::{mail_bytes, push_bytes};
+use echo_charset::Charset;
+use echo_text::split_line;
+use std::alloc::{AllocError, Global};
+
+/// What a line of a mailbox may not begin with.
+const FROM: &[u8] = b"From ";
+
+/// Adds the lines of a text that are no control lines.
+pub(crate) fn push_body(
+    mail: &mut Vec<u8>,
+    alloc: Global,
+    charset: Option<Charset>,
+    kept: &[u8],
+) -> Result<(), AllocError>
+    ensures { OnOk result (mail.new.items ≡ mail.old.items ++ body_text charset (lines kept.now)) }
+{
+    let mut rest = kept;
+    'kept: while !rest.is_empty() {
+        let (line, after) = split_line(rest);
+        push_line(mail, alloc, charset, line)?;
+        rest = after;
+    }
+    Ok(())
+}
+
+// Adds a line, if it is no control line.
+fn push_line(
+    mail: &mut Vec<u8>,
+    alloc: Global,
+    charset: Option<Charset>,
+    line: &[u8],
+) -> Result<(), AllocError>
+    ensures { OnOk result (mail.new.items ≡ mail.old.items ++ body_line charset line.now) }
+{
+    if is_control(line) {
+        return Ok(());
+    }
+    let text = mail_bytes(alloc, charset, after_feeds(line))?;
+    push_quoted(mail, &text)?;
+    push_bytes(mail, b"\n")
+}
+
+// Adds bytes of a body, with `>` before each line that a mailbox may not have.
+fn push_quoted(mail: &mut Vec<u8>, text: &[u8]) -> Result<(), AllocError>
+    ensures { OnOk result (mail.new.items ≡ mail.old.items ++ quoted_body true text.now) }
+{
+    let mut first = true;
+    let mut rest = text;
+    'text: while !rest.is_empty() {
+        push_mark(mail, first && rest.starts_with(FROM))?;
+        let byte = rest[0];
+        push_bytes(mail, &[byte])?;
+        first = byte == b'\n';
+        rest = &rest[1..];
+    }
+    Ok(())
+}
+
+// Adds the mark, where one is wanted.
+fn push_mark(mail: &mut Vec<u8>, wanted: bool) -> Result<(), AllocError>
+    ensures { OnOk result (mail.new.items ≡ mail.old.items ++ (if wanted then codes ">" else [])) }
+{
+    if wanted {
+        push_bytes(mail, b">")
+    } else {
+        Ok(())
+    }
+}
+
+// Whether the line is a control line.
+#[tactic(auto, unfolding(echo_text::specs::Lines::begins))]
+fn is_control(line: &[u8]) -> bool
+    ensures { result ≡ is_control line.now }
+{
+    after_feeds(line).starts_with(b"\x01")
+}
+
+// The line without the line feeds at its front.
+fn after_feeds(line: &[u8]) -> &[u8]
+    ensures { result.now ≡ after_feeds line.now }
+{
+    &line[feed_count(line)..]
+}
+
+// How many line feeds stand at the front.
+fn feed_count(line: &[u8]) -> usize
+    ensures exact { result ≡ length (take_while is_feed line.now) }
+    ensures within { result ≤ length line.now }
+{
+    line.iter().take_while(|b| **b == b'\n').count()
+}

@@ -1,0 +1,306 @@
+//! Header lines of a mail.
+ghost use Rattle.std.specs.Prelude.{◌≡◌, ◌++◌, bytes_eq, codes, option_copied, IfOk, OnOk};
+ghost use Rattle.std.specs.List.{list_all};
+ghost use Rattle.echo_text.specs.Lines as text_lines;
+ghost use Rattle.echo_export.specs.HeaderText.{encoded_words, field_line, found_line, header_text, hex_byte, id_line, is_alphanumeric, is_field_byte, is_following, is_name_byte, is_plain_text, mail_bytes, mail_charset, name_line, name_text, next_room, next_text, q_byte, q_front, q_text};
+
+use echo_charset::Charset;
+use echo_text::trimmed;
+use std::alloc::{AllocError, Global};
+
+/// The digits of a byte in an encoded word.
+const DIGITS: [u8; 16] = *b"0123456789ABCDEF";
+
+/// How many characters an encoded word has.
+const WORD: u8 = 5;
+
+/// Adds bytes as they stand.
+pub(crate) fn push_bytes(mail: &mut Vec<u8>, bytes: &[u8]) -> Result<(), AllocError>
+    ensures { OnOk result (mail.new.items ≡ mail.old.items ++ bytes.now) }
+{
+    mail.extend_from_slice(bytes)
+}
+
+/// Adds the line of a name, whose mail address is none.
+pub(crate) fn push_name(
+    mail: &mut Vec<u8>,
+    alloc: Global,
+    field: &[u8],
+    charset: Option<Charset>,
+    name: &[u8],
+) -> Result<(), AllocError>
+    ensures { OnOk result (mail.new.items ≡ mail.old.items ++ name_line field.now charset name.now) }
+{
+    push_bytes(mail, field)?;
+    push_bytes(mail, b": ")?;
+    push_name_text(mail, alloc, charset, name)?;
+    push_bytes(mail, b" <fido@fido.invalid>\n")
+}
+
+/// Adds the line of another field.
+pub(crate) fn push_field(
+    mail: &mut Vec<u8>,
+    alloc: Global,
+    field: &[u8],
+    charset: Option<Charset>,
+    bytes: &[u8],
+) -> Result<(), AllocError>
+    ensures { OnOk result (mail.new.items ≡ mail.old.items ++ field_line field.now charset bytes.now) }
+{
+    push_bytes(mail, field)?;
+    push_bytes(mail, b": ")?;
+    push_text(mail, alloc, charset, bytes)?;
+    push_bytes(mail, b"\n")
+}
+
+/// Adds the same of what was found, if anything was.
+pub(crate) fn push_found(
+    mail: &mut Vec<u8>,
+    alloc: Global,
+    field: &[u8],
+    charset: Option<Charset>,
+    found: Option<&[u8]>,
+) -> Result<(), AllocError>
+    ensures { OnOk result (mail.new.items ≡ mail.old.items ++ found_line field.now charset (option_copied found.entry)) }
+{
+    match found {
+        Some(bytes) => push_field(mail, alloc, field, charset, trimmed(bytes)),
+        None => Ok(()),
+    }
+}
+
+/// Adds the line of a message id, if there is one.
+pub(crate) fn push_id(
+    mail: &mut Vec<u8>,
+    alloc: Global,
+    field: &[u8],
+    id: Option<&[u8]>,
+) -> Result<(), AllocError>
+    ensures { OnOk result (mail.new.items ≡ mail.old.items ++ id_line field.now (option_copied id.entry)) }
+{
+    match id {
+        Some(id) => {
+            let digits = hex::encode(alloc, id)?;
+            push_id_digits(mail, field, digits.as_bytes())
+        }
+        None => Ok(()),
+    }
+}
+
+// Adds the line of a message id with these digits.
+fn push_id_digits(mail: &mut Vec<u8>, field: &[u8], digits: &[u8]) -> Result<(), AllocError>
+    ensures { OnOk result (mail.new.items ≡ mail.old.items ++ (field.now ++ (codes ": <" ++ (digits.now ++ codes "@fido.invalid>\n")))) }
+{
+    push_bytes(mail, field)?;
+    push_bytes(mail, b": <")?;
+    push_bytes(mail, digits)?;
+    push_bytes(mail, b"@fido.invalid>\n")
+}
+
+// Adds bytes as they stand, or as encoded words.
+fn push_text(
+    mail: &mut Vec<u8>,
+    alloc: Global,
+    charset: Option<Charset>,
+    bytes: &[u8],
+) -> Result<(), AllocError>
+    ensures { OnOk result (mail.new.items ≡ mail.old.items ++ header_text charset bytes.now) }
+{
+    if is_plain_field(bytes) {
+        push_bytes(mail, bytes)
+    } else {
+        push_encoded(mail, alloc, charset, bytes)
+    }
+}
+
+// Adds a name between quotes, or as encoded words.
+fn push_name_text(
+    mail: &mut Vec<u8>,
+    alloc: Global,
+    charset: Option<Charset>,
+    name: &[u8],
+) -> Result<(), AllocError>
+    ensures { OnOk result (mail.new.items ≡ mail.old.items ++ name_text charset name.now) }
+{
+    if is_plain_name(name) {
+        push_bytes(mail, b"\"")?;
+        push_bytes(mail, name)?;
+        push_bytes(mail, b"\"")
+    } else {
+        push_encoded(mail, alloc, charset, name)
+    }
+}
+
+// Adds bytes as encoded words.
+fn push_encoded(
+    mail: &mut Vec<u8>,
+    alloc: Global,
+    charset: Option<Charset>,
+    bytes: &[u8],
+) -> Result<(), AllocError>
+    ensures { OnOk result (mail.new.items ≡ mail.old.items ++ encoded_words charset bytes.now) }
+{
+    let text = mail_bytes(alloc, charset, bytes)?;
+    push_front(mail, charset)?;
+    push_words(mail, charset, &text)?;
+    push_bytes(mail, b"?=")
+}
+
+/// The bytes in a mail.
+pub(crate) fn mail_bytes(
+    alloc: Global,
+    charset: Option<Charset>,
+    bytes: &[u8],
+) -> Result<Vec<u8>, AllocError>
+    ensures { IfOk result (λ text. text.items ≡ mail_bytes charset bytes.now) }
+{
+    match charset {
+        Some(charset) => Ok(charset.text(alloc, bytes)?.into_bytes()),
+        None => Vec::from_slice(alloc, bytes),
+    }
+}
+
+/// What the mail calls its charset.
+pub(crate) fn mail_charset(charset: Option<Charset>) -> &'static [u8]
+    ensures { result.now ≡ mail_charset charset }
+{
+    match charset {
+        Some(_) => b"UTF-8",
+        None => b"unknown-8bit",
+    }
+}
+
+// Adds how an encoded word begins.
+fn push_front(mail: &mut Vec<u8>, charset: Option<Charset>) -> Result<(), AllocError>
+    ensures { OnOk result (mail.new.items ≡ mail.old.items ++ q_front charset) }
+{
+    push_bytes(mail, b"=?")?;
+    push_bytes(mail, mail_charset(charset))?;
+    push_bytes(mail, b"?Q?")
+}
+
+// Adds the characters of a text, five in each word.
+fn push_words(mail: &mut Vec<u8>, charset: Option<Charset>, text: &[u8]) -> Result<(), AllocError>
+    ensures { OnOk result (mail.new.items ≡ mail.old.items ++ q_text charset 5 text.now) }
+{
+    let mut room = WORD;
+    let mut rest = text;
+    'text: while !rest.is_empty() {
+        let byte = rest[0];
+        push_next(mail, charset, room, byte)?;
+        room = next_room(room, byte);
+        rest = &rest[1..];
+    }
+    Ok(())
+}
+
+// Adds a byte of a text behind a word that has room for so many more characters.
+fn push_next(
+    mail: &mut Vec<u8>,
+    charset: Option<Charset>,
+    room: u8,
+    byte: u8,
+) -> Result<(), AllocError>
+    ensures { OnOk result (mail.new.items ≡ mail.old.items ++ next_text charset room byte) }
+{
+    if is_following(byte) || room > 0 {
+        push_q(mail, byte)
+    } else {
+        push_bytes(mail, b"?=\n ")?;
+        push_front(mail, charset)?;
+        push_q(mail, byte)
+    }
+}
+
+// For how many characters more a word has room behind a byte.
+fn next_room(room: u8, byte: u8) -> u8
+    ensures { result ≡ next_room room byte }
+{
+    if is_following(byte) {
+        room
+    } else if room > 0 {
+        room - 1
+    } else {
+        WORD - 1
+    }
+}
+
+// Adds a byte by the encoding Q.
+fn push_q(mail: &mut Vec<u8>, byte: u8) -> Result<(), AllocError>
+    ensures { OnOk result (mail.new.items ≡ mail.old.items ++ q_byte byte) }
+{
+    if is_alphanumeric(byte) {
+        push_bytes(mail, &[byte])
+    } else if byte == b' ' {
+        push_bytes(mail, b"_")
+    } else {
+        push_digits(mail, byte)
+    }
+}
+
+// Adds `=` and the digits of a byte.
+fn push_digits(mail: &mut Vec<u8>, byte: u8) -> Result<(), AllocError>
+    ensures { OnOk result (mail.new.items ≡ mail.old.items ++ hex_byte byte) }
+{
+    let high = DIGITS[usize::from(byte / 16)];
+    let low = DIGITS[usize::from(byte % 16)];
+    push_bytes(mail, &[b'=', high, low])
+}
+
+// Whether a name may stand as it is.
+fn is_plain_name(name: &[u8]) -> bool
+    ensures { result ≡ is_plain_text is_name_byte name.now }
+{
+    are_name_bytes(name) && is_trimmed(name)
+}
+
+// Whether another field may.
+fn is_plain_field(bytes: &[u8]) -> bool
+    ensures { result ≡ is_plain_text is_field_byte bytes.now }
+{
+    are_field_bytes(bytes) && is_trimmed(bytes)
+}
+
+fn are_name_bytes(name: &[u8]) -> bool
+    ensures { result ≡ list_all is_name_byte name.now }
+{
+    name.iter().all(|b| is_name_byte(*b))
+}
+
+fn are_field_bytes(bytes: &[u8]) -> bool
+    ensures { result ≡ list_all is_field_byte bytes.now }
+{
+    bytes.iter().all(|b| is_field_byte(*b))
+}
+
+// Whether no blank stands at an end.
+fn is_trimmed(bytes: &[u8]) -> bool
+    ensures { result ≡ bytes_eq (text_lines.trimmed bytes.now) bytes.now }
+{
+    trimmed(bytes) == bytes
+}
+
+fn is_name_byte(byte: u8) -> bool
+    ensures { result ≡ is_name_byte byte }
+{
+    is_field_byte(byte) && byte != b'"' && byte != b'\\'
+}
+
+fn is_field_byte(byte: u8) -> bool
+    ensures { result ≡ is_field_byte byte }
+{
+    32 <= byte && byte <= 126 && byte != b'='
+}
+
+fn is_alphanumeric(byte: u8) -> bool
+    ensures { result ≡ is_alphanumeric byte }
+{
+    byte.is_ascii_alphanumeric()
+}
+
+// A byte that follows another one of its character.
+fn is_following(byte: u8) -> bool
+    ensures { result ≡ is_following byte }
+{
+    128 <= byte && byte <= 191
+}

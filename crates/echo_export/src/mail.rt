@@ -1,0 +1,289 @@
+//! A message as one of a mailbox.
+ghost use Rattle.std.specs.Prelude.{◌≡◌, ◌++◌, ◌<◌, IfOk, OnOk, length, option_copied, slice_index};
+ghost use Rattle.echo_charset.specs.Losses as losses;
+ghost use Rattle.echo_export.specs.MailText.{are_digits_at, body_text, century, customary_line, date_line, echo_head, form_lines, found_lines, has_day, has_time, head_text, id_lines, is_byte_at, is_customary, is_digit_at, all_bytes, name_bytes, mail_lost, mail_text, name_lines, seen_line, way_lines, written_path};
+
+use crate::body::push_body;
+use crate::header::{
+    mail_bytes, mail_charset, push_bytes, push_field, push_found, push_id, push_name,
+};
+use crate::label::{charset_for, label_in, without_zeros};
+use echo_addr::NetNode;
+use echo_charset::{Charset, lost};
+use echo_escape::written;
+use echo_filed::Filed;
+use echo_text::Echo;
+use std::alloc::{AllocError, Global};
+use std::io::Write;
+
+/// Adds the message as one of a mailbox (RFC 4155). The answer is how many U+FFFD stand in its names, its
+/// subject and its body, for what its charset does not have.
+pub fn push_mail(alloc: Global, mail: &mut Vec<u8>, message: &Filed) -> Result<usize, AllocError>
+    ensures mail { OnOk result (mail.new.items ≡ mail.old.items ++ mail_text message.now) }
+    ensures lost { IfOk result (λ n. n ≡ mail_lost message.now) }
+{
+    let label = label_in(message);
+    let charset = charset_for(label);
+    push_head(mail, alloc, label, message)?;
+    let body = body_of(alloc, charset, message)?;
+    push_bytes(mail, &body)?;
+    push_bytes(mail, b"\n")?;
+    lost_with(alloc, charset, message, &body)
+}
+
+// Adds the lines before the body.
+fn push_head(
+    mail: &mut Vec<u8>,
+    alloc: Global,
+    label: Option<&[u8]>,
+    message: &Filed,
+) -> Result<(), AllocError>
+    ensures { OnOk result (mail.new.items ≡ mail.old.items ++ head_text (option_copied label.entry) message.now) }
+{
+    let charset = charset_for(label);
+    push_bytes(mail, b"From fido@fido.invalid Thu Jan  1 00:00:00 1970\n")?;
+    push_names(mail, alloc, charset, message)?;
+    push_echo(mail, alloc, charset, message)?;
+    push_found(mail, alloc, b"X-FTN-CHRS", None, label)?;
+    push_form(mail, charset)
+}
+
+// Adds the lines of names, subject and date.
+fn push_names(
+    mail: &mut Vec<u8>,
+    alloc: Global,
+    charset: Option<Charset>,
+    message: &Filed,
+) -> Result<(), AllocError>
+    ensures { OnOk result (mail.new.items ≡ mail.old.items ++ name_lines charset message.now) }
+{
+    push_name(mail, alloc, b"From", charset, message.from_name.as_slice())?;
+    push_name(mail, alloc, b"To", charset, message.to_name.as_slice())?;
+    push_field(mail, alloc, b"Subject", charset, message.subject.as_slice())?;
+    push_date(mail, alloc, charset, &message.date)
+}
+
+// Adds the line of a date.
+fn push_date(
+    mail: &mut Vec<u8>,
+    alloc: Global,
+    charset: Option<Charset>,
+    date: &[u8],
+) -> Result<(), AllocError>
+    requires { length date.now ≡ 20 }
+    ensures { OnOk result (mail.new.items ≡ mail.old.items ++ date_line charset date.now) }
+{
+    if is_customary(date) {
+        push_customary(mail, date)
+    } else {
+        push_field(mail, alloc, b"X-FTN-Date", charset, without_zeros(date))
+    }
+}
+
+// Adds the line of a date that has its customary form.
+fn push_customary(mail: &mut Vec<u8>, date: &[u8]) -> Result<(), AllocError>
+    requires { length date.now ≡ 20 }
+    ensures { OnOk result (mail.new.items ≡ mail.old.items ++ customary_line date.now) }
+{
+    push_bytes(mail, b"Date: ")?;
+    push_bytes(mail, &date[..7])?;
+    push_bytes(mail, century(date))?;
+    push_bytes(mail, &date[7..9])?;
+    push_bytes(mail, b" ")?;
+    push_bytes(mail, &date[11..19])?;
+    push_bytes(mail, b" -0000\n")
+}
+
+// Whether a DateTime has its customary form.
+fn is_customary(date: &[u8]) -> bool
+    ensures { result ≡ is_customary date.now }
+{
+    has_day(date) && has_time(date)
+}
+
+fn has_day(date: &[u8]) -> bool
+    ensures { result ≡ has_day date.now }
+{
+    are_digits_at(date, 0)
+        && is_byte_at(date, 2, b' ')
+        && is_byte_at(date, 6, b' ')
+        && are_digits_at(date, 7)
+}
+
+fn has_time(date: &[u8]) -> bool
+    ensures { result ≡ has_time date.now }
+{
+    are_digits_at(date, 11)
+        && is_byte_at(date, 13, b':')
+        && are_digits_at(date, 14)
+        && is_byte_at(date, 16, b':')
+        && are_digits_at(date, 17)
+}
+
+// Whether two digits stand at an index.
+fn are_digits_at(date: &[u8], i: usize) -> bool
+    requires { i < 100 }
+    ensures { result ≡ are_digits_at date.now i }
+{
+    is_digit_at(date, i) && is_digit_at(date, i + 1)
+}
+
+fn is_digit_at(date: &[u8], i: usize) -> bool
+    ensures { result ≡ is_digit_at date.now i }
+{
+    let byte = byte_at(date, i);
+    48 <= byte && byte <= 57
+}
+
+fn is_byte_at(date: &[u8], i: usize, byte: u8) -> bool
+    ensures { result ≡ is_byte_at date.now i byte }
+{
+    byte_at(date, i) == byte
+}
+
+// The byte at an index, 0 past the end.
+fn byte_at(bytes: &[u8], i: usize) -> u8
+    ensures { result ≡ slice_index bytes.now i }
+{
+    match bytes.get(i) {
+        Some(byte) => *byte,
+        None => 0,
+    }
+}
+
+// The century of the year.
+fn century(date: &[u8]) -> &'static [u8]
+    ensures { result.now ≡ century date.now }
+{
+    if byte_at(date, 7) >= b'8' {
+        b"19"
+    } else {
+        b"20"
+    }
+}
+
+// Adds the lines of what the text says.
+fn push_echo(
+    mail: &mut Vec<u8>,
+    alloc: Global,
+    charset: Option<Charset>,
+    message: &Filed,
+) -> Result<(), AllocError>
+    ensures { OnOk result (mail.new.items ≡ mail.old.items ++ echo_head charset message.now.echo) }
+{
+    let echo = &message.echo;
+    push_ids(mail, alloc, echo)?;
+    push_way(mail, echo)?;
+    push_kept(mail, alloc, charset, echo)
+}
+
+// Adds the lines of ids.
+fn push_ids(mail: &mut Vec<u8>, alloc: Global, echo: &Echo) -> Result<(), AllocError>
+    ensures { OnOk result (mail.new.items ≡ mail.old.items ++ id_lines echo.now.kept) }
+{
+    push_id(mail, alloc, b"Message-ID", echo.msgid())?;
+    push_id(mail, alloc, b"In-Reply-To", echo.reply())?;
+    push_id(mail, alloc, b"References", echo.reply())
+}
+
+// Adds the lines of the area, of SEEN-BY and of PATH.
+fn push_way(mail: &mut Vec<u8>, echo: &Echo) -> Result<(), AllocError>
+    ensures { OnOk result (mail.new.items ≡ mail.old.items ++ way_lines echo.now) }
+{
+    push_bytes(mail, b"Newsgroups: ")?;
+    push_bytes(mail, echo.tag.as_slice())?;
+    push_seen(mail, echo.seen.len())?;
+    push_path(mail, echo.path.as_slice())?;
+    push_bytes(mail, b"\n")
+}
+
+// Adds how many entries SEEN-BY has, and how the line of the PATH begins.
+fn push_seen(mail: &mut Vec<u8>, seen: usize) -> Result<(), AllocError>
+    ensures { OnOk result (mail.new.items ≡ mail.old.items ++ seen_line seen) }
+{
+    written(write!(mail, "\nX-FTN-SEEN-BY: {seen}\nX-FTN-PATH:"))
+}
+
+// Adds the entries of a PATH.
+fn push_path(mail: &mut Vec<u8>, path: &[NetNode]) -> Result<(), AllocError>
+    ensures { OnOk result (mail.new.items ≡ mail.old.items ++ written_path path.now) }
+{
+    'path: for entry in path {
+        written(write!(mail, " {entry}"))?;
+    }
+    Ok(())
+}
+
+// Adds the lines of ids as they stand, of the tear and of the origin line.
+fn push_kept(
+    mail: &mut Vec<u8>,
+    alloc: Global,
+    charset: Option<Charset>,
+    echo: &Echo,
+) -> Result<(), AllocError>
+    ensures { OnOk result (mail.new.items ≡ mail.old.items ++ found_lines charset echo.now.kept) }
+{
+    push_found(mail, alloc, b"X-FTN-MSGID", charset, echo.msgid())?;
+    push_found(mail, alloc, b"X-FTN-REPLY", charset, echo.reply())?;
+    push_found(mail, alloc, b"X-FTN-Tear", charset, echo.tear())?;
+    push_found(mail, alloc, b"X-FTN-Origin", charset, echo.origin())
+}
+
+// Adds what the body is, and the empty line before it.
+fn push_form(mail: &mut Vec<u8>, charset: Option<Charset>) -> Result<(), AllocError>
+    ensures { OnOk result (mail.new.items ≡ mail.old.items ++ form_lines charset) }
+{
+    push_bytes(
+        mail,
+        b"MIME-Version: 1.0\nContent-Type: text/plain; charset=",
+    )?;
+    push_bytes(mail, mail_charset(charset))?;
+    push_bytes(mail, b"\nContent-Transfer-Encoding: 8bit\n\n")
+}
+
+// The body of the message.
+fn body_of(alloc: Global, charset: Option<Charset>, message: &Filed) -> Result<Vec<u8>, AllocError>
+    ensures { IfOk result (λ body. body.items ≡ body_text charset message.now.echo.kept) }
+{
+    let mut body = Vec::new(alloc);
+    push_body(&mut body, alloc, charset, message.echo.kept.as_text())?;
+    Ok(body)
+}
+
+// How many U+FFFD stand in names, subject and body.
+fn lost_with(
+    alloc: Global,
+    charset: Option<Charset>,
+    message: &Filed,
+    body: &[u8],
+) -> Result<usize, AllocError>
+    ensures { IfOk result (λ n. n ≡ losses.lost (all_bytes charset message.now body.now)) }
+{
+    let mut all = Vec::new(alloc);
+    push_each(&mut all, alloc, charset, message)?;
+    push_bytes(&mut all, body)?;
+    Ok(lost(&all))
+}
+
+// Adds names and subject as a mail has them.
+fn push_each(
+    all: &mut Vec<u8>,
+    alloc: Global,
+    charset: Option<Charset>,
+    message: &Filed,
+) -> Result<(), AllocError>
+    ensures { OnOk result (all.new.items ≡ all.old.items ++ name_bytes charset message.now) }
+{
+    push_bytes(
+        all,
+        &mail_bytes(alloc, charset, message.from_name.as_slice())?,
+    )?;
+    push_bytes(
+        all,
+        &mail_bytes(alloc, charset, message.to_name.as_slice())?,
+    )?;
+    push_bytes(
+        all,
+        &mail_bytes(alloc, charset, message.subject.as_slice())?,
+    )
+}
