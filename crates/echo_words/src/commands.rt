@@ -68,7 +68,8 @@ const AT: Word = Word(
     "The moment, as YYYY-MM-DDThh:mm:ss",
 );
 
-const COMMANDS: &[Entry] = &[
+// The commands that look at packets, lists and nets.
+const LOOKING: &[Entry] = &[
     Entry(
         "show",
         "Prints a packet",
@@ -145,6 +146,10 @@ const COMMANDS: &[Entry] = &[
         ending!("echonet picture TEST links/* | dot -Tsvg > area.svg"),
         &[LINKS_FROM, TAG, ALL_LINKS],
     ),
+];
+
+// The commands that change a base.
+const CHANGING: &[Entry] = &[
     Entry(
         "post",
         "Files a message, whose body is standard input",
@@ -212,6 +217,10 @@ const COMMANDS: &[Entry] = &[
         ending!("echonet purge links base"),
         &[LINKS, BASE],
     ),
+];
+
+// The commands that read a base, or none.
+const READING: &[Entry] = &[
     Entry(
         "list",
         "Prints the messages of a base, and which of them wait",
@@ -301,15 +310,39 @@ fn subcommand<'a>(alloc: Global, entry: Entry) -> Result<Command<'a>, AllocError
     Ok(command)
 }
 
+// The program with the commands of a table.
+fn with_commands<'a>(
+    alloc: Global,
+    program: Command<'a>,
+    table: &'static [Entry],
+) -> Result<Command<'a>, AllocError> {
+    let mut program = program;
+    for entry in table {
+        program = program.subcommand(subcommand(alloc, *entry)?)?;
+    }
+    Ok(program)
+}
+
+fn with_looking<'a>(alloc: Global, program: Command<'a>) -> Result<Command<'a>, AllocError> {
+    with_commands(alloc, program, LOOKING)
+}
+
+fn with_changing<'a>(alloc: Global, program: Command<'a>) -> Result<Command<'a>, AllocError> {
+    with_commands(alloc, program, CHANGING)
+}
+
+fn with_reading<'a>(alloc: Global, program: Command<'a>) -> Result<Command<'a>, AllocError> {
+    with_commands(alloc, program, READING)
+}
+
 /// The program's command line: its commands and what each takes.
 pub fn command<'a>(alloc: Global) -> Result<Command<'a>, AllocError> {
-    let mut program = Command::new(alloc, "echonet")
+    let program = Command::new(alloc, "echonet")
         .about("An echomail tosser and topology checker for FidoNet")
         .version(VERSION)
         .after_help(ending!("echonet show mail.pkt"))
         .subcommand_required(true);
-    for entry in COMMANDS {
-        program = program.subcommand(subcommand(alloc, *entry)?)?;
-    }
-    Ok(program)
+    let program = with_looking(alloc, program)?;
+    let program = with_changing(alloc, program)?;
+    with_reading(alloc, program)
 }
