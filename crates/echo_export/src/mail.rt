@@ -18,7 +18,11 @@ use std::io::Write;
 
 /// Adds the message as one of a mailbox (RFC 4155). The answer is how many U+FFFD stand in its names, its
 /// subject and its body, for what its charset does not have.
-pub(crate) fn push_mail(alloc: Global, mail: &mut Vec<u8>, message: &Filed) -> Result<usize, AllocError>
+pub(crate) fn push_mail(
+    alloc: Global,
+    mail: &mut Vec<u8>,
+    message: &Filed,
+) -> Result<usize, AllocError>
     ensures mail { OnOk result (mail.new.items ≡ mail.old.items ++ mail_text message.now) }
     ensures lost { IfOk result (λ n. n ≡ mail_lost message.now) }
 {

@@ -36,7 +36,16 @@ pub fn export<'a, S: BuildHasher + Drop, W: Sink>(
     let base = base_read(alloc, base, hasher)?;
     let area = raised(alloc, area)?;
     let mut lines = Vec::new(alloc);
-    let count = print_sought(alloc, form, area.as_ref(), first, purged, &base, &mut lines, out)?;
+    let count = print_sought(
+        alloc,
+        form,
+        area.as_ref(),
+        first,
+        purged,
+        &base,
+        &mut lines,
+        out,
+    )?;
     print_rest(&mut lines, out)?;
     Ok(count)
 }
@@ -83,7 +92,9 @@ fn print_sought<'a, S: BuildHasher, W: Sink>(
     let mut count: u128 = 0;
     'messages: for i in 0..base.len() {
         let message = base.message(i);
-        let more = print_one(alloc, form, area, first, purged, cursor, i, message, lines, out)?;
+        let more = print_one(
+            alloc, form, area, first, purged, cursor, i, message, lines, out,
+        )?;
         count += more as u128;
     }
     Ok(count)

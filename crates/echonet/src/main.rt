@@ -126,7 +126,11 @@ fn export_given<'a, W: Sink>(
     };
     let hasher = RandomState::new(rt).map_err(|_| Fault::Base(BaseFault::Read))?;
     let bytes = read_file(rt, words.base, usize::MAX)?;
-    let form = if words.json { Form::Json } else { Form::Mailbox };
+    let form = if words.json {
+        Form::Json
+    } else {
+        Form::Mailbox
+    };
     let area = words.area.map(|tag| tag.as_bytes());
     export(
         rt.alloc(),
