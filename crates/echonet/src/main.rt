@@ -13,6 +13,7 @@ mod station;
 use echo_base::BaseFault;
 use echo_checking::{check, check_all, picture};
 use echo_device::{Sink, Watched};
+use echo_export::Form;
 use echo_reading::{export, list, nodelist, show, tell_lost};
 use echo_rehearsing::{replay, why};
 use echo_status::{Fault, Status, ended, number_of, wanted};
@@ -22,7 +23,6 @@ use judging::run_links;
 use paths::{PathNames, names_of};
 use station::{run_post, run_purge, run_scan, run_toss};
 use std::collections::hash_map::RandomState;
-use std::io::Write;
 use std::process::ExitCode;
 use std::{env, io};
 
@@ -114,7 +114,7 @@ fn run_list<'a, W: Sink>(
     list(rt.alloc(), area, first, &bytes, hasher, out)
 }
 
-// `export [--area TAG] [--from I] [--purged] --json BASE`, judged as `list` is.
+// `export [--area TAG] [--from I] [--purged] [--mbox | --json] BASE`, judged as `list` is.
 fn export_given<'a, W: Sink>(
     rt: &HostRuntime,
     words: &ExportWords<'a>,
@@ -126,8 +126,22 @@ fn export_given<'a, W: Sink>(
     };
     let hasher = RandomState::new(rt).map_err(|_| Fault::Base(BaseFault::Read))?;
     let bytes = read_file(rt, words.base, usize::MAX)?;
+    let form = if words.json {
+        Form::Json
+    } else {
+        Form::Mailbox
+    };
     let area = words.area.map(|tag| tag.as_bytes());
-    export(rt.alloc(), area, first, words.purged, &bytes, hasher, out)
+    export(
+        rt.alloc(),
+        form,
+        area,
+        first,
+        words.purged,
+        &bytes,
+        hasher,
+        out,
+    )
 }
 
 fn run_export<W: Sink, E: Sink>(
@@ -136,10 +150,6 @@ fn run_export<W: Sink, E: Sink>(
     out: &mut W,
     errors: &mut E,
 ) -> Status {
-    if !words.json {
-        let _ = writeln!(errors, "error: export has to be told --json");
-        return Status::CommandLine;
-    }
     match export_given(rt, words, out) {
         Ok(count) => {
             tell_lost(rt.alloc(), count, errors);
