@@ -1,6 +1,5 @@
 -- How the message of a harm comes to the system that the harm names: the packets to that system that hold it.
-use Rattle.std.specs.Prelude.{ℕ, ◌+◌, ◌&&◌, nat_lt, Bool, if◌then◌else◌, List, [], ◌∷◌, ◌++◌, Option, Some, None}
-use Rattle.std.specs.List.{position_or_len}
+use Rattle.std.specs.Prelude.{ℕ, ◌+◌, ◌&&◌, nat_le, nat_lt, Bool, count_by, if◌then◌else◌, List, [], ◌∷◌, ◌++◌, Option, Some, None}
 use Rattle.echo_addr.specs.declared.address.Address.{Address}
 use Rattle.echo_links.specs.Links.{LinkFile, same_address}
 use Rattle.echo_filed.specs.declared.key.Key.{Key}
@@ -26,9 +25,9 @@ system_named NeverRests = None
 abbrev pub brings : Address → Key → Packet → Bool
 brings to key p = same_address (destination p) to && nat_lt 0 (count key (copies p))
 
--- The number of the event that made the packet of this index, where so many packets were there after each event: the first after which more were there. The first event has the number 1.
+-- The number of the event that made the packet of this index, where so many packets were there after each event: it comes after those after which it was not there. The first event has the number 1.
 abbrev pub step_of : List ℕ → ℕ → ℕ
-step_of counts k = position_or_len (λ n. nat_lt k n) counts + 1
+step_of counts k = count_by (λ n. nat_le n k) counts + 1
 
 -- a packet on its way, from who made it to whom it is for
 abbrev pub crossing : List ℕ → ℕ → Packet → Crossing

@@ -105,15 +105,29 @@ fn add_crossing(
     if !is_for(world, k, to) {
         return Ok(());
     }
-    let Some(bytes) = world.packet(k) else {
-        return Ok(());
-    };
-    let found = sender_in(alloc, bytes, tag, id)?;
+    let found = sender_at(alloc, world, k, tag, id)?;
     if let Some(from) = found {
         let step = step_of(counts, k);
         all.push(Crossing { step, from, to })?;
     }
     Ok(())
+}
+
+// Who sent the packet of this index, if it holds the message.
+fn sender_at(
+    alloc: Global,
+    world: &World,
+    k: usize,
+    tag: &[u8],
+    id: &[u8],
+) -> Result<Option<Address>, AllocError>
+    ensures { IfOk result (λ found. (run : Run) → IsWorldOf world.now run → (p : Packet) → nth k run.packets ≡ Some p →
+        found ≡ (if nat_lt 0 (count (ById tag.now id.now) (copies p)) then Some (origin p) else None)) }
+{
+    match world.packet(k) {
+        Some(bytes) => sender_in(alloc, bytes, tag, id),
+        None => Ok(None),
+    }
 }
 
 // Who sent these bytes of a packet, if they hold the message.
@@ -155,12 +169,9 @@ fn origin(header: &Header) -> Address
     }
 }
 
-// The number of the event that made the packet of this index: the first after which more packets were there.
+// The number of the event that made the packet of this index: it comes after those after which it was not there.
 fn step_of(counts: &[usize], k: usize) -> usize
     ensures { result ≡ step_of counts.now k }
 {
-    match counts.iter().position(|count| *count > k) {
-        Some(before) => before + 1,
-        None => counts.len() + 1,
-    }
+    counts.iter().filter(|count| **count <= k).count() + 1
 }
