@@ -26,6 +26,6 @@ mod searching;
 mod verdict;
 
 pub use checker::check;
-pub use drawing::{Drawing, DrawnLink, DrawnSystem, Mark, Sides, draw};
+pub use drawing::{Crossing, Drawing, DrawnLink, DrawnSystem, Mark, Sides, draw};
 pub use presence::{Absence, listed};
 pub use verdict::{NetFault, Verdict};

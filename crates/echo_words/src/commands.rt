@@ -146,7 +146,16 @@ const LOOKING: &[Entry] = &[
         "picture",
         "Prints an area as a graph that Graphviz draws, with what is wrong marked",
         ending!("echonet picture TEST links/* | dot -Tsvg > area.svg"),
-        &[LINKS_FROM, TAG, ALL_LINKS],
+        &[
+            Word(
+                "why",
+                Form::Flag,
+                "Labels links with the events of why that send what goes wrong over them",
+            ),
+            LINKS_FROM,
+            TAG,
+            ALL_LINKS,
+        ],
     ),
 ];
 

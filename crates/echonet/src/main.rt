@@ -15,7 +15,7 @@ use echo_checking::{check, check_all, picture};
 use echo_device::{Sink, Watched};
 use echo_export::Form;
 use echo_reading::{export, list, nodelist, show, tell_lost};
-use echo_rehearsing::{replay, why};
+use echo_rehearsing::{picture_why, replay, why};
 use echo_status::{Fault, Status, ended, number_of, wanted};
 use echo_words::{CheckWords, Ending, ExportWords, Words, explain, parse};
 use inputs::{MAX_INPUT, read_file, read_given, read_if_given, read_links, read_script};
@@ -68,31 +68,43 @@ fn run_check<'a, W: Sink>(
     }
 }
 
-// `why TAG LINKS...`. A seed for the hasher that cannot be had is a failed read of the first link file.
+// The hasher. A seed for it that cannot be had is a failed read of the first link file.
+fn hasher_for<'a>(rt: &HostRuntime, links: &'a PathNames<'a>) -> Result<RandomState, Fault<'a>> {
+    let first = match links.names.first() {
+        Some(name) => name.shown(),
+        None => "-",
+    };
+    RandomState::new(rt).map_err(|_| Fault::CannotUse(first))
+}
+
+// `why TAG LINKS...`
 fn run_why<'a, W: Sink>(
     rt: &HostRuntime,
     tag: &'a str,
     links: &'a PathNames<'a>,
     out: &mut W,
 ) -> Result<Status, Fault<'a>> {
-    let first = match links.names.first() {
-        Some(name) => name.shown(),
-        None => "-",
-    };
-    let hasher = RandomState::new(rt).map_err(|_| Fault::CannotUse(first))?;
+    let hasher = hasher_for(rt, links)?;
     let (files, stopped) = read_links(rt, links);
     why(rt.alloc(), tag.as_bytes(), &files, stopped, hasher, out)
 }
 
-// `picture TAG LINKS...`
+// `picture [--why] TAG LINKS...`
 fn run_picture<'a, W: Sink>(
     rt: &HostRuntime,
+    with_why: bool,
     tag: &'a str,
     links: &'a PathNames<'a>,
     out: &mut W,
 ) -> Result<Status, Fault<'a>> {
-    let (files, stopped) = read_links(rt, links);
-    picture(rt.alloc(), tag.as_bytes(), &files, stopped, out)
+    if with_why {
+        let hasher = hasher_for(rt, links)?;
+        let (files, stopped) = read_links(rt, links);
+        picture_why(rt.alloc(), tag.as_bytes(), &files, stopped, hasher, out)
+    } else {
+        let (files, stopped) = read_links(rt, links);
+        picture(rt.alloc(), tag.as_bytes(), &files, stopped, out)
+    }
 }
 
 // `list [--area TAG] [--from I] BASE`: the number is judged first, then the base. A seed for the hasher that
@@ -197,9 +209,10 @@ fn run_words<W: Sink, E: Sink>(
         ),
         Words::Links { areas, links } => run_links(rt, *areas, &names_of(rt, links), out, errors),
         Words::Why { tag, links } => ended(run_why(rt, *tag, &names_of(rt, links), out), errors),
-        Words::Picture { tag, links } => {
-            ended(run_picture(rt, *tag, &names_of(rt, links), out), errors)
-        }
+        Words::Picture { why, tag, links } => ended(
+            run_picture(rt, *why, *tag, &names_of(rt, links), out),
+            errors,
+        ),
         Words::Post(words) => run_post(rt, words, out, errors),
         Words::Toss(words) => run_toss(rt, words, out, errors),
         Words::Scan {
