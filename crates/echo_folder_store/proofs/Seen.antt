@@ -1,5 +1,5 @@
 -- What a store over a base folder answers of the base that it holds.
-use Rattle.std.proofs.Common.{◌≡◌, ◌≤◌, ◌<◌, ◌*◌, ◌/◌, ℕ, Bool, false, true, List, [], ◌∷◌, length, get_or, Option, Some, None, sym, ap, ◌∙◌, arith}
+use Rattle.std.proofs.Common.{◌≡◌, ◌≤◌, ◌<◌, ◌*◌, ◌/◌, ◌^◌, ◌++◌, ℕ, Bool, false, true, List, [], ◌∷◌, length, get_or, Option, Some, None, sym, ap, subst, ◌∙◌, arith}
 use Rattle.std.specs.Prelude.{bytes_eq, option_map, slice_get, unwrap_or}
 use Rattle.std.specs.Cmp.Lexicographic.{bytes_decides}
 use Rattle.std.proofs.lemmas.Option.{slice_get-get_or}
@@ -7,14 +7,15 @@ use Rattle.echo_disk.specs.Disk.{DiskState}
 use Rattle.echo_folder.specs.AtRest.{IsStaged}
 use Rattle.echo_folder.specs.Standing.{BaseBytes}
 use Rattle.echo_text.specs.Echo.{msgid_of}
-use Rattle.echo_filed.specs.Filed.{Filed, has_id, key_of, same_key}
+use Rattle.echo_filed.specs.Filed.{Filed, IsFiled, has_id, key_of, same_key}
 use Rattle.echo_filed.specs.declared.key.Key.{Key}
 use Rattle.echo_filed.proofs.Keys.{same_key_decides}
-use Rattle.echo_base.specs.Base.{Base, IsBase}
-use Rattle.echo_keys.specs.Keys.{digest_at, digested, digested_key, digested_with}
+use Rattle.echo_base.specs.Base.{Base, IsBase, is_known}
+use Rattle.echo_keys.specs.Keys.{StandWhereTold, digest_at, digested, digested_key, digested_with}
 use Rattle.echo_keys.proofs.Digests.{of_key}
 use Rattle.echo_keys.proofs.Told.{tells_each}
-use Rattle.echo_store.specs.Store.{all_scanned}
+use Rattle.echo_store.specs.Store.{all_scanned, with_message}
+use Rattle.echo_folder_store.specs.Added.{IsStoredAlone, with_stored}
 use Rattle.echo_folder_store.specs.Answers.{HaveDigest, IsAloneOf}
 use Rattle.echo_folder_store.specs.Held.{HoldsBase}
 use Rattle.echo_folder_store.specs.Opened.{IsOpen, held_by, path_of}
@@ -22,6 +23,7 @@ use Rattle.echo_folder_store.specs.State.{only_message}
 use Rattle.echo_folder_store.specs.declared.folder.Folder.{Folder}
 use Rattle.echo_folder_store.proofs.Bases.{told_where}
 use Rattle.echo_folder_store.proofs.Looked.{some_message}
+use Rattle.echo_folder_store.proofs.OneMore.{holds_more}
 
 -- messages with this key have its digest
 pub key_digest : (digest : List ℕ → ℕ) (bytes : BaseBytes) (base : Base) (key : Key) (keys : List ℕ) (number : ℕ) → HoldsBase digest bytes base → keys ≡ bytes.keys → number ≡ digest (digested_key key)
@@ -102,3 +104,17 @@ end_holds digest d f base opened holds =
       };
       cursor = many_messages digest d f base opened holds;
     }
+
+-- a message that was filed, with its digest
+pub filed_more : (digest : List ℕ → ℕ) (now held : BaseBytes) (base : Base) (m : Filed) (key : Key) (bytes taken : List ℕ) (number : ℕ) → now ≡ with_stored held bytes number → length now.messages < 2 ^ 64
+    → HoldsBase digest held base → IsStoredAlone m bytes → IsFiled m → key ≡ key_of m → is_known base.messages key ≡ false → taken ≡ digested_key key → number ≡ digest taken → HoldsBase digest now (with_message base m)
+filed_more digest now held base m key bytes taken number staged fits holds stored filed own new is told =
+    let number_is : number ≡ digest (digested m) = told ∙ ap digest (is ∙ ap digested_key own ∙ sym (of_key m)) in
+    let unknown : is_known base.messages (key_of m) ≡ false = subst (λ (k : Key). is_known base.messages k ≡ false) own new in
+    let room : length (held.messages ++ bytes) < 2 ^ 64 = subst (λ (b : BaseBytes). length b.messages < 2 ^ 64) staged fits in
+    subst (λ (b : BaseBytes). HoldsBase digest b (with_message base m)) (sym staged) (holds_more digest held base m bytes number holds stored filed unknown number_is room)
+
+-- each message stands where the keys that were read tell
+pub told_here : (digest : List ℕ → ℕ) (d : DiskState) (f : Folder) (base : Base) → IsOpen d f → HoldsBase digest (held_by d f) base → StandWhereTold base.messages (held_by d f).messages f.keys.items
+told_here digest d f base opened holds =
+    subst (λ (l : List ℕ). StandWhereTold base.messages (held_by d f).messages l) (sym opened.keys) (told_where digest (held_by d f) base holds)

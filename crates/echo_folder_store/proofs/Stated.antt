@@ -101,3 +101,24 @@ change_cause s before now r cause whole = record { later = cause.later; failed =
 pub answered : {T : Type 0} (P : T → Type 0) (r : Result T StoreError) → Answers P r → IfOk r P
 answered P (Ok value) was = was
 answered P (Err e) was = tt
+
+-- why a read failed whose error was handed on
+pub handed_cause : {T U : Type 0} (s : StoreState) (P : Base → T → Type 0) (before now : ℕ) (e : StoreError) → HasReadCause {T = T} before now (Err e) → ((base : Base) → s.keeps base → Answers (P base) (Err e))
+    → HasStoreCause {T = U} s before now (Err e)
+handed_cause {T} {U} s P before now e cause answers = record {
+  later = cause.later;
+  failed = λ is. cause.failed (ap (λ (x : StoreError). Err x) (same_error e error.Device is));
+  damaged = λ is base keeps. not_damaged (P base) (Err e) (answers base keeps) (ap (λ (x : StoreError). Err x) (same_error e error.Damaged is));
+}
+  where
+    same_error : (x y : StoreError) → Err {U} x ≡ Err y → x ≡ y
+    same_error x y same = cc (same)
+
+-- a message that is not there is damage where no base is held
+pub none_there : {T : Type 0} (s : StoreState) (now place count : ℕ) → ((base : Base) → s.keeps base → place < length base.messages) → ((base : Base) → s.keeps base → count ≡ length base.messages) → count ≤ place
+    → HasStoreCause {T = T} s now now (Err error.Damaged)
+none_there s now place count within many past = record {
+  later = omega arith;
+  failed = λ is. absurd (cc);
+  damaged = λ is base keeps. let inside = within base keeps in let all = many base keeps in omega (arith, inside, all, past);
+}

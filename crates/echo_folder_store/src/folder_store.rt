@@ -1,6 +1,8 @@
 //! A base folder, as a store.
-ghost use Rattle.std.specs.Prelude.{◌≡◌, None};
-ghost use Rattle.echo_folder_store.specs.Opened.{IsOpen};
+ghost use Rattle.std.specs.Prelude.{◌≡◌};
+ghost use Rattle.echo_base.specs.Base.{Base};
+ghost use Rattle.echo_folder_store.specs.Held.{HoldsBase};
+ghost use Rattle.echo_folder_store.specs.Opened.{IsOpen, committed_by, held_by};
 ghost use Rattle.echo_folder_store.specs.State.{state_of};
 
 use crate::alone::{Alone, bytes_alone};
@@ -27,8 +29,14 @@ impl<D: Disk, H: Digest> FolderStore<D, H> {
     /// A folder that is open on the disk, as a store. Its entries have this digest.
     pub fn new(alloc: Global, disk: D, digest: H, folder: Folder) -> FolderStore<D, H>
         requires { IsOpen (D.state disk) folder }
-        ensures state { ⟦<FolderStore<D, H> as Store>⟧.state result ≡ state_of (D.state disk) (H.digest digest) folder None }
-        ensures failures { ⟦<FolderStore<D, H> as Store>⟧.failures result ≡ D.failures disk }
+        ensures ready { (⟦<FolderStore<D, H> as Store>⟧.state result).is_ready }
+        ensures keeps { (base : Base) → HoldsBase (H.digest digest) (held_by (D.state disk) folder) base
+            → (⟦<FolderStore<D, H> as Store>⟧.state result).keeps base }
+        ensures committed { (base : Base) → HoldsBase (H.digest digest) (committed_by (D.state disk) folder) base
+            → (⟦<FolderStore<D, H> as Store>⟧.state result).committed base }
+        ensures disk { result.disk ≡ disk }
+        ensures digest { result.digest ≡ digest }
+        ensures folder { result.folder ≡ folder }
     {
         FolderStore {
             alloc,
