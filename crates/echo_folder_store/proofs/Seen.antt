@@ -1,10 +1,9 @@
 -- What a store over a base folder answers of the base that it holds.
-use Rattle.std.proofs.Common.{◌≡◌, ◌≤◌, ◌<◌, ◌*◌, ◌/◌, ◌^◌, ◌++◌, ℕ, Bool, false, true, List, [], ◌∷◌, length, get_or, Option, Some, None, sym, ap, subst, ◌∙◌, arith}
+use Rattle.std.proofs.Common.{◌≡◌, ◌<◌, ◌/◌, ◌^◌, ◌++◌, ℕ, false, true, List, length, get_or, Option, Some, None, sym, ap, subst, ◌∙◌, arith}
 use Rattle.std.specs.Prelude.{bytes_eq, option_map, slice_get, unwrap_or}
 use Rattle.std.specs.Cmp.Lexicographic.{bytes_decides}
 use Rattle.std.proofs.lemmas.Option.{slice_get-get_or}
 use Rattle.echo_disk.specs.Disk.{DiskState}
-use Rattle.echo_folder.specs.AtRest.{IsStaged}
 use Rattle.echo_folder.specs.Standing.{BaseBytes}
 use Rattle.echo_text.specs.Echo.{msgid_of}
 use Rattle.echo_filed.specs.Filed.{Filed, IsFiled, has_id, key_of, same_key}
@@ -18,7 +17,7 @@ use Rattle.echo_store.specs.Store.{all_scanned, with_message}
 use Rattle.echo_folder_store.specs.Added.{IsStoredAlone, with_stored}
 use Rattle.echo_folder_store.specs.Answers.{HaveDigest, IsAloneOf}
 use Rattle.echo_folder_store.specs.Held.{HoldsBase}
-use Rattle.echo_folder_store.specs.Opened.{IsOpen, held_by, path_of}
+use Rattle.echo_folder_store.specs.Opened.{IsOpen, held_by}
 use Rattle.echo_folder_store.specs.State.{only_message}
 use Rattle.echo_folder_store.specs.declared.folder.Folder.{Folder}
 use Rattle.echo_folder_store.proofs.Bases.{told_where}

@@ -1,22 +1,20 @@
 -- A base folder as a store, before and after calls.
-use Rattle.std.proofs.Common.{◌≡◌, ◌≤◌, ◌<◌, ◌*◌, ◌/◌, ℕ, Bool, true, List, [], ◌∷◌, length, Option, Some, None, Result, Ok, Err, refl, sym, ap, subst, ◌∙◌, arith, get_or}
-use Rattle.std.specs.Prelude.{◌⊎◌, inl, inr, IfOk, IsErrOf, slice_get}
-use Rattle.echo_device.specs.Device.{Failed}
+use Rattle.std.proofs.Common.{◌≡◌, ◌≤◌, ◌<◌, ◌⊎◌, inl, inr, ℕ, List, length, Option, Result, Ok, Err, refl, sym, ap, subst, arith}
+use Rattle.std.specs.Prelude.{IfOk, IsErrOf}
 use Rattle.echo_disk.specs.Disk.{DiskState, Files, IsIn}
 use Rattle.echo_disk.specs.Runs.{ChangesNothing, LeavesOnly}
 use Rattle.echo_disk.proofs.Moments.{weaker_run}
 use Rattle.echo_folder.specs.Moments.{IsBeforeOrAfter, KeepsOutside, StandsAlone}
 use Rattle.echo_folder.specs.Standing.{BaseBytes, StandsFor}
-use Rattle.echo_folder.specs.declared.log.Told.{Told}
 use Rattle.echo_folder.proofs.Quiet.{base_quiet}
 use Rattle.echo_base.specs.Base.{Base}
-use Rattle.echo_store.specs.Store.{CommitsNothing, GoesOn, HasStoreCause, IsSameStore, KeepsBeside, LooksOn, MayCommit, StandsBeside, StandsForEither, StoreState}
+use Rattle.echo_store.specs.Store.{CommitsNothing, HasStoreCause, IsSameStore, KeepsBeside, LooksOn, MayCommit, StandsBeside, StandsForEither, StoreState}
 use Rattle.echo_store.specs.declared.store_error.StoreError.{StoreError}
 use Rattle.echo_store.specs.declared.store_error.StoreError.TheVariants as error
-use Rattle.echo_folder_store.specs.Answers.{Answers, HasReadCause, IsAloneOf}
+use Rattle.echo_folder_store.specs.Answers.{Answers, HasReadCause}
 use Rattle.echo_folder_store.specs.Held.{HoldsBase, StandsForBase}
 use Rattle.echo_folder_store.specs.Opened.{IsOpen, committed_by, held_by, path_of}
-use Rattle.echo_folder_store.specs.State.{only_message, state_of}
+use Rattle.echo_folder_store.specs.State.{state_of}
 use Rattle.echo_folder_store.specs.declared.folder.Folder.{Folder}
 use Rattle.echo_folder_store.proofs.Bases.{open_quiet}
 
@@ -102,17 +100,18 @@ pub answered : {T : Type 0} (P : T → Type 0) (r : Result T StoreError) → Ans
 answered P (Ok value) was = was
 answered P (Err e) was = tt
 
+-- one answer has one error
+same_error : {T : Type 0} (r : Result T StoreError) (e f : StoreError) → r ≡ Err e → r ≡ Err f → e ≡ f
+same_error r e f one other = cc
+
 -- why a read failed whose error was handed on
 pub handed_cause : {T U : Type 0} (s : StoreState) (P : Base → T → Type 0) (before now : ℕ) (e : StoreError) → HasReadCause {T = T} before now (Err e) → ((base : Base) → s.keeps base → Answers (P base) (Err e))
     → HasStoreCause {T = U} s before now (Err e)
 handed_cause {T} {U} s P before now e cause answers = record {
   later = cause.later;
-  failed = λ is. cause.failed (ap (λ (x : StoreError). Err x) (same_error e error.Device is));
-  damaged = λ is base keeps. not_damaged (P base) (Err e) (answers base keeps) (ap (λ (x : StoreError). Err x) (same_error e error.Damaged is));
+  failed = λ is. cause.failed (ap (λ (x : StoreError). Err x) (same_error {T = U} (Err e) e error.Device refl is));
+  damaged = λ is base keeps. not_damaged (P base) (Err e) (answers base keeps) (ap (λ (x : StoreError). Err x) (same_error {T = U} (Err e) e error.Damaged refl is));
 }
-  where
-    same_error : (x y : StoreError) → Err {U} x ≡ Err y → x ≡ y
-    same_error x y same = cc (same)
 
 -- a message that is not there is damage where no base is held
 pub none_there : {T : Type 0} (s : StoreState) (now place count : ℕ) → ((base : Base) → s.keeps base → place < length base.messages) → ((base : Base) → s.keeps base → count ≡ length base.messages) → count ≤ place

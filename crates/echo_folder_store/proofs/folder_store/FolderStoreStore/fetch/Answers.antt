@@ -1,4 +1,4 @@
-use Rattle.std.proofs.Common.{◌≡◌, ◌<◌, ◌/◌, ℕ, List, length, sym, subst, ◌∙◌, Err, arith}
+use Rattle.std.proofs.Common.{◌∙◌, arith}
 use Rattle.std.proofs.lemmas.Result.{err_from_is_err_and}
 use Rattle.echo_base.specs.Base.{Base}
 use Rattle.echo_folder_store.specs.Answers.{IsAloneOf}

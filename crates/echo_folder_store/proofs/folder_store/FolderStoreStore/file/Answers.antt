@@ -1,4 +1,4 @@
-use Rattle.std.proofs.Common.{◌≡◌, ◌<◌, ◌^◌, List, ℕ, length, ap, subst, sym, ◌∙◌}
+use Rattle.std.proofs.Common.{List, ℕ, subst, sym, ◌∙◌}
 use Rattle.echo_store.proofs.Runs.{looks_commit, no_look}
 use Rattle.echo_folder_store.specs.Added.{IsStoredAlone}
 use Rattle.echo_folder_store.specs.Opened.{held_by}
