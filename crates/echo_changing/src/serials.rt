@@ -1,5 +1,6 @@
 //! A posting whose serial is looked for.
-ghost use Rattle.std.specs.Prelude.{◌≡◌, None};
+ghost use Rattle.std.specs.Prelude.{◌≡◌, ◌↔◌, None, IsTrue};
+ghost use Rattle.echo_steps.specs.declared.fault.PostFault.TheVariants.{KnownSerial};
 ghost use Rattle.echo_status.specs.Devices.{output_of};
 ghost use Rattle.echo_changing.specs.Files.{Leaves};
 ghost use Rattle.echo_changing.specs.FreeSerial.{FilesFree, FreeAnswers, PostsFree};
@@ -73,10 +74,17 @@ fn file_free<S: BuildHasher>(
     'serials: for _steps in 0..u32::MAX {
         match system.post(tag, draft, serial, stamp) {
             Ok(()) => return Ok(serial),
-            Err(PostFault::KnownSerial) => serial = serial.wrapping_add(1),
-            Err(fault) => return Err(fault),
+            Err(fault) if !is_of_serial(fault) => return Err(fault),
+            Err(_) => serial = serial.wrapping_add(1),
         }
     }
     system.post(tag, draft, serial, stamp)?;
     Ok(serial)
+}
+
+// Whether the serial is known.
+fn is_of_serial(fault: PostFault) -> bool
+    ensures { IsTrue result ↔ (fault ≡ KnownSerial) }
+{
+    matches!(fault, PostFault::KnownSerial)
 }
