@@ -91,23 +91,24 @@ refused_draft : (words : NewMessage) (body : List ℕ) (system : SystemState) (d
 refused_draft words body system draft why drafted refused =
     subst (λ (d : Draft). post_refusal system.file system.base words.tag.now d words.serial words.stamp ≡ Some why) drafted refused
 
+-- a posting to which a refusal applies
+pub refusal_answered : (words : NewMessage) (handed : Handed) (body : List ℕ) (system : SystemState) (draft : Draft) (why : PostFault) (old : Output)
+    → IsSystemGiven handed.links handed.base system → handed.stopped ≡ None → draft ≡ draft_given words body
+    → post_refusal system.file system.base words.tag.now draft words.serial words.stamp ≡ Some why → PostAnswers words handed body old old (Err (Post why))
+refusal_answered words handed body system draft why old given went_on drafted refused =
+    inr (inr (inr (system, given, went_on, inl (why, refl, refused_draft words body system draft why drafted refused))), refl)
+
 -- a posting that is refused
 pub post_refused : (words : NewMessage) (handed : Handed) (body : List ℕ) (system left : SystemState) (draft : Draft)
     (why : PostFault) (old : Output) → IsSystemGiven handed.links handed.base system → handed.stopped ≡ None → draft ≡ draft_given words body
     → IsPostFault system.file system.base words.tag.now draft words.serial words.stamp why → PostAnswers words handed body old old (Err (Post why))
 post_refused words handed body system left draft post.Memory old given went_on drafted step = inr (inl tt, refl)
-post_refused words handed body system left draft post.NoArea old given went_on drafted step =
-    inr (inr (inr (system, given, went_on, inl (post.NoArea, refl, refused_draft words body system draft post.NoArea drafted step))), refl)
-post_refused words handed body system left draft post.ByteZero old given went_on drafted step =
-    inr (inr (inr (system, given, went_on, inl (post.ByteZero, refl, refused_draft words body system draft post.ByteZero drafted step))), refl)
-post_refused words handed body system left draft post.FieldTooLong old given went_on drafted step =
-    inr (inr (inr (system, given, went_on, inl (post.FieldTooLong, refl, refused_draft words body system draft post.FieldTooLong drafted step))), refl)
-post_refused words handed body system left draft post.BadStamp old given went_on drafted step =
-    inr (inr (inr (system, given, went_on, inl (post.BadStamp, refl, refused_draft words body system draft post.BadStamp drafted step))), refl)
-post_refused words handed body system left draft post.BadReply old given went_on drafted step =
-    inr (inr (inr (system, given, went_on, inl (post.BadReply, refl, refused_draft words body system draft post.BadReply drafted step))), refl)
-post_refused words handed body system left draft post.KnownSerial old given went_on drafted step =
-    inr (inr (inr (system, given, went_on, inl (post.KnownSerial, refl, refused_draft words body system draft post.KnownSerial drafted step))), refl)
+post_refused words handed body system left draft post.NoArea old given went_on drafted step = refusal_answered words handed body system draft post.NoArea old given went_on drafted step
+post_refused words handed body system left draft post.ByteZero old given went_on drafted step = refusal_answered words handed body system draft post.ByteZero old given went_on drafted step
+post_refused words handed body system left draft post.FieldTooLong old given went_on drafted step = refusal_answered words handed body system draft post.FieldTooLong old given went_on drafted step
+post_refused words handed body system left draft post.BadStamp old given went_on drafted step = refusal_answered words handed body system draft post.BadStamp old given went_on drafted step
+post_refused words handed body system left draft post.BadReply old given went_on drafted step = refusal_answered words handed body system draft post.BadReply old given went_on drafted step
+post_refused words handed body system left draft post.KnownSerial old given went_on drafted step = refusal_answered words handed body system draft post.KnownSerial old given went_on drafted step
 
 -- what is left and printed after the posting, or why not
 pub post_left : (words : NewMessage) (handed : Handed) (body : List ℕ) (system left : SystemState) (draft : Draft) (old new : Output) (answer : Result Files Fault)
