@@ -3,7 +3,7 @@ ghost use Rattle.std.specs.Prelude.{◌≡◌, ◌↔◌, IsTrue, List, Ok, IfOk
 ghost use Rattle.echo_status.specs.Devices.{output_of};
 ghost use Rattle.echo_links.specs.Links.{LinkFile};
 ghost use Rattle.echo_run.specs.Tidy.{Tidy};
-ghost use Rattle.echo_net.specs.Faults.{IsCarried, IsYes};
+ghost use Rattle.echo_net.specs.Faults.{IsCarried, IsSharedSystem, IsYes};
 ghost use Rattle.echo_status.specs.declared.status.Status.TheVariants.{Good};
 ghost use Rattle.echo_status.specs.Inputs.{AreLinkFiles};
 ghost use Rattle.echo_print.specs.Pushed.{Pushes};
@@ -12,7 +12,7 @@ ghost use Rattle.echo_checking.specs.CheckingAll.{AreAreasChecked, CheckAllAnswe
 
 use crate::area_tags::area_tags;
 use crate::checking::push_check;
-use echo_addr::Items;
+use echo_addr::{Address, Items};
 use echo_device::Sink;
 use echo_links::LinkFile;
 use echo_net::Verdict;
@@ -69,25 +69,28 @@ fn push_areas(
 ) -> Result<bool, AllocError>
     ensures { IfOk result (λ good. Pushes (AreAreasChecked links.now (option_copied list.entry) (map (λ tag. tag.items) tags.now) good) lines.old.items lines.new.items) }
 {
+    let shared = echo_net::shared_system(alloc, links)?;
     let mut good = true;
     'tags: for tag in tags {
-        let fine = push_area(alloc, lines, list, links, tag)?;
+        let fine = push_area(alloc, lines, list, links, shared, tag)?;
         good = good && fine;
     }
     Ok(good)
 }
 
-// Adds the lines of the area, and answers whether its verdict is yes.
+// Adds the lines of the area, and answers whether its verdict is yes. Two of the files have the address `shared`.
 fn push_area(
     alloc: Global,
     lines: &mut Vec<u8>,
     list: Option<&Nodelist>,
     links: &[LinkFile],
+    shared: Option<Address>,
     tag: &[u8],
 ) -> Result<bool, AllocError>
+    requires { IsSharedSystem links.now shared }
     ensures { IfOk result (λ good. Pushes (IsAreaChecked links.now (option_copied list.entry) tag.now good) lines.old.items lines.new.items) }
 {
-    let verdict = echo_net::check(alloc, links, tag)?;
+    let verdict = echo_net::check_area(alloc, links, shared, tag)?;
     push_check(alloc, lines, list, links, tag, &verdict)?;
     Ok(is_yes(&verdict))
 }

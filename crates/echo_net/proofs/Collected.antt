@@ -1,18 +1,21 @@
 -- What the lists of carriers and of links hold.
-use Rattle.std.proofs.Common.{◌≡◌, ◌↔◌, ◌&&◌, IsTrue, List, [], ◌∷◌, ◌++◌, Option, refl, sym, ap, subst, ◌∙◌, inl, inr, ℕ, ◌<◌, ◌+◌, length, take, get_or}
+use Rattle.std.proofs.Common.{◌≡◌, ◌↔◌, ◌&&◌, IsTrue, List, [], ◌∷◌, ◌++◌, Option, refl, sym, ap, subst, ◌∙◌, inl, inr, ℕ, ◌<◌, ◌+◌, Bool, cond, filter, map, length, take, get_or}
 use Rattle.std.specs.Prelude.{Contains, option_map, unwrap_or}
-use Rattle.std.specs.List.{flat_map}
+use Rattle.std.specs.List.{count_by, flat_map, fold}
 use Rattle.std.proofs.lemmas.Bool.{and_from, and_parts}
-use Rattle.std.proofs.lemmas.List.{append-nil, take_more}
+use Rattle.std.proofs.lemmas.List.{append-nil, length-map, map-append, take_more}
 use Rattle.std.proofs.lemmas.List.Concat.{flat_map-append}
+use Rattle.std.proofs.lemmas.List.Elements.{filter-append}
+use Rattle.std.proofs.lemmas.List.Sums.{length-filter, sum_by-append, sum_by-cons}
 use Rattle.echo_addr.specs.declared.address.Address.{Address}
 use Rattle.echo_graph.specs.Walk.{Among}
 use Rattle.echo_graph.proofs.Members.{Among-append_cases, Among-append_left, Among-append_right, Among-from_Contains, Contains-from_Among}
 use Rattle.echo_links.specs.Links.{LinkFile, area_of, has_area, is_link, links_of, same_address}
+use Rattle.echo_filed.specs.Sets.{address_before}
 use Rattle.echo_run.specs.Tidy.{carries, lists}
 use Rattle.echo_run.proofs.Lists.{Among-filter_from, Among-filter_to, Among-map_from, Among-map_to, any-from, any-to}
 use Rattle.echo_net.specs.declared.link.Link.{Link}
-use Rattle.echo_net.specs.Nets.{carrying, link, links_from_file, listed_links, systems}
+use Rattle.echo_net.specs.Nets.{carrier_count, carrying, link, linked_pairs, links_from_file, listed_links, systems}
 use Rattle.echo_net.proofs.Orders.{same_exact, same_itself}
 
 pub carries_listed : (files : List LinkFile) (tag : List ℕ) (a : Address) → Contains (systems (carrying files tag)) a ↔ IsTrue (carries files tag a)
@@ -67,3 +70,33 @@ pub flat_map_take : {X Y : Type 0} (f : X → List Y) (xs : List X) (i : ℕ) (d
 flat_map_take {X} {Y} f xs i d inside =
     ap (flat_map f) (take_more xs i d inside)
     ∙ (flat_map-append f (take i xs) (get_or xs i d ∷ []) ∙ ap (λ (ys : List Y). flat_map f (take i xs) ++ ys) (append-nil (f (get_or xs i d))))
+
+-- the carriers among one more file
+pub systems_take : (tag : List ℕ) (files : List LinkFile) (i : ℕ) (d : LinkFile) → i < length files →
+    systems (carrying (take (i + 1) files) tag) ≡ systems (carrying (take i files) tag) ++ systems (carrying (get_or files i d ∷ []) tag)
+systems_take tag files i d inside =
+    let has : LinkFile → Bool = λ file. has_area file tag in
+    let own : LinkFile → Address = λ file. file.system in
+    ap (λ (fs : List LinkFile). map own (filter has fs)) (take_more files i d inside)
+    ∙ (ap (map own) (filter-append has (take i files) (get_or files i d ∷ [])) ∙ map-append own (filter has (take i files)) (filter has (get_or files i d ∷ [])))
+
+-- the carriers are as many as the files that have the area
+pub systems_counted : (tag : List ℕ) (files : List LinkFile) → length (systems (carrying files tag)) ≡ carrier_count files tag
+systems_counted tag files =
+    let has : LinkFile → Bool = λ file. has_area file tag in
+    length-map (filter has files) (λ (file : LinkFile). file.system) ∙ length-filter has files
+
+counted_from : {X Y : Type 0} (p : Y → Bool) (f : X → Y) (n : ℕ) (xs : List X) →
+    fold (λ (m : ℕ) y. m + cond (p y) 1 0) n (map f xs) ≡ fold (λ (m : ℕ) x. m + cond (p (f x)) 1 0) n xs
+counted_from p f n [] = refl
+counted_from p f n (x ∷ xs) = counted_from p f (n + cond (p (f x)) 1 0) xs
+
+-- the links upward are the linked pairs
+pub pairs_counted : (tag : List ℕ) (files : List LinkFile) → count_by (λ (l : Link). address_before l.from l.to) (listed_links files tag) ≡ linked_pairs files tag
+pairs_counted tag [] = refl
+pairs_counted tag (file ∷ files) =
+    let up : Link → Bool = λ l. address_before l.from l.to in
+    sum_by-append (λ l. cond (up l) 1 0) (links_from_file tag file) (listed_links files tag)
+    ∙ (ap (λ (n : ℕ). n + count_by up (listed_links files tag)) (counted_from up (link file.system) 0 (links_of file tag))
+    ∙ (ap (λ (n : ℕ). count_by (address_before file.system) (links_of file tag) + n) (pairs_counted tag files)
+    ∙ sym (sum_by-cons (λ (f : LinkFile). count_by (address_before f.system) (links_of f tag)) file files)))

@@ -1,5 +1,5 @@
 -- What is wrong with an area of a net: the first clause that fails, and where.
-use Rattle.std.specs.Prelude.{◌≡◌, ◌<◌, ◌&&◌, ◌↔◌, ⊤, nat_lt, ℕ, Bool, true, IsTrue, List, Contains, length}
+use Rattle.std.specs.Prelude.{◌≡◌, ◌<◌, ◌&&◌, ◌↔◌, ⊤, nat_lt, ℕ, Bool, true, IsTrue, List, Option, MatchOption, Contains, length}
 use Rattle.std.specs.List.{list_any}
 use Rattle.echo_addr.specs.declared.address.Address.{Address}
 use Rattle.echo_addr.specs.Address.{net_node_of}
@@ -23,6 +23,10 @@ IsCarried files tag = IsTrue (list_any (λ file. has_area file tag) files)
 -- no two files have one address
 abbrev pub HaveOneFileEach : List LinkFile → Type 0
 HaveOneFileEach files = Different (systems files)
+
+-- the smallest address that two files have, and none where each has its own
+abbrev pub IsSharedSystem : List LinkFile → Option Address → Type 0
+IsSharedSystem files shared = MatchOption shared (HaveOneFileEach files) (IsSmallest (StandsTwice (systems files)))
 
 -- no system lists itself
 abbrev pub NoneListsItself : List LinkFile → List ℕ → Type 0

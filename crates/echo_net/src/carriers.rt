@@ -1,10 +1,10 @@
 //! The systems that carry an area, and their links.
 
 ghost use Rattle.std.specs.Prelude.{◌≡◌, ◌++◌, ◌↔◌, IsTrue, IfOk, OnOk, Contains, map};
-ghost use Rattle.std.specs.List.{All, count_by};
+ghost use Rattle.std.specs.List.{All};
 ghost use Rattle.std.specs.List.Sorted.{IsStrictlySortedBy};
 ghost use Rattle.echo_addr.specs.declared.address.Address.{Address};
-ghost use Rattle.echo_links.specs.Links.{IsFile, links_of};
+ghost use Rattle.echo_links.specs.Links.{IsFile};
 ghost use Rattle.echo_filed.specs.Sets.{address_before};
 ghost use Rattle.echo_run.specs.Tidy.{carries, lists};
 ghost use Rattle.echo_net.specs.declared.link.Link.{Link};
@@ -24,16 +24,6 @@ pub fn systems(alloc: Global, files: &[LinkFile]) -> Result<Vec<Address>, AllocE
         all.push(file.system())?;
     }
     Ok(all)
-}
-
-/// How many files have the area.
-pub fn count_carriers(files: &[LinkFile], tag: &[u8]) -> usize
-    ensures { result ≡ net.carrier_count files.now tag.now }
-{
-    files
-        .iter()
-        .filter(|file| file.links(tag).is_some())
-        .count()
 }
 
 /// The addresses of the systems that carry the area, ascending, each once.
@@ -93,45 +83,13 @@ fn push_links(all: &mut Vec<Link>, file: &LinkFile, tag: &[u8]) -> Result<(), Al
 }
 
 /// Appends the links from this system to these.
-fn push_each(all: &mut Vec<Link>, from: Address, listed: &[Address]) -> Result<(), AllocError>
+pub fn push_each(all: &mut Vec<Link>, from: Address, listed: &[Address]) -> Result<(), AllocError>
     ensures { OnOk result (all.new.items ≡ all.old.items ++ map (net.link from) listed.now) }
 {
     'listed: for to in listed {
         all.push(Link { from, to: *to })?;
     }
     Ok(())
-}
-
-/// How many pairs of systems are linked in the area.
-pub fn count_pairs(files: &[LinkFile], tag: &[u8]) -> u128
-    ensures { result ≡ net.linked_pairs files.now tag.now }
-{
-    let mut pairs = 0;
-    'files: for file in files {
-        pairs += links_upward(file, tag) as u128;
-    }
-    pairs
-}
-
-/// How many of the links of the file lead to a greater address.
-fn links_upward(file: &LinkFile, tag: &[u8]) -> usize
-    ensures { result ≡ count_by (address_before file.now.system) (links_of file.now tag.now) }
-{
-    let from = file.system();
-    match file.links(tag) {
-        Some(listed) => count_after(from, listed),
-        None => 0,
-    }
-}
-
-/// How many of these addresses are greater.
-fn count_after(one: Address, others: &[Address]) -> usize
-    ensures { result ≡ count_by (address_before one) others.now }
-{
-    others
-        .iter()
-        .filter(|other| is_before(one, **other))
-        .count()
 }
 
 /// Does the first address come before the second?

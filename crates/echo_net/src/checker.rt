@@ -5,14 +5,17 @@ ghost use Rattle.echo_run.specs.Event.{RunEvent};
 ghost use Rattle.echo_run.specs.Orderly.{Orderly};
 ghost use Rattle.echo_run.specs.Run.{run_of};
 ghost use Rattle.echo_run.specs.Tidy.{Tidy};
-ghost use Rattle.echo_net.specs.Faults.{IfNo, IfYes, IsFirstFault, IsYes};
+ghost use Rattle.echo_net.specs.Faults.{IfNo, IfYes, IsFirstFault, IsSharedSystem, IsYes};
 ghost use Rattle.echo_net.specs.Nets.{carrier_count, linked_pairs};
 
-use crate::carriers::{carriers, count_carriers, count_pairs, links};
+use crate::area::{Area, area_of};
+use crate::carriers::systems;
 use crate::graph_faults::graph_fault;
 use crate::link_faults::link_fault;
+use crate::owners::shared_address;
 use crate::rows::rows;
 use crate::verdict::Verdict;
+use echo_addr::Address;
 use echo_graph::Graph;
 use echo_links::LinkFile;
 use echo_run::every_run_of_a_tidy_area_is_orderly;
@@ -37,9 +40,42 @@ pub fn check(alloc: Global, files: &[LinkFile], tag: &[u8]) -> Result<Verdict, A
         (events : List RunEvent) → Orderly (run_of files.now events) tag.now) }
     ensures first { IfOk result (λ verdict. IfNo verdict (IsFirstFault files.now tag.now)) }
 {
-    let carriers = carriers(alloc, files, tag)?;
-    let links = links(alloc, files, tag)?;
-    let wrong_link = link_fault(alloc, files, tag, &carriers, &links)?;
+    let shared = shared_system(alloc, files)?;
+    check_area(alloc, files, shared, tag)
+}
+
+/// The smallest address that two of the files have. Fails only when out of memory.
+pub fn shared_system(alloc: Global, files: &[LinkFile]) -> Result<Option<Address>, AllocError>
+    ensures { IfOk result (IsSharedSystem files.now) }
+{
+    let systems = systems(alloc, files)?;
+    shared_address(alloc, &systems)
+}
+
+/// What `check` answers, where it is known which address two of the files have: for many areas that is found
+/// out once.
+pub fn check_area(
+    alloc: Global,
+    files: &[LinkFile],
+    shared: Option<Address>,
+    tag: &[u8],
+) -> Result<Verdict, AllocError>
+    requires { IsSharedSystem files.now shared }
+    ensures tidy { IfOk result (λ verdict. IsYes verdict ↔ Tidy files.now tag.now) }
+    ensures counted { IfOk result (λ verdict. IfYes verdict (λ systems links.
+        (systems ≡ carrier_count files.now tag.now) × (links ≡ linked_pairs files.now tag.now))) }
+    ensures orderly { IfOk result (λ verdict. IsYes verdict →
+        (events : List RunEvent) → Orderly (run_of files.now events) tag.now) }
+    ensures first { IfOk result (λ verdict. IfNo verdict (IsFirstFault files.now tag.now)) }
+{
+    let area = area_of(alloc, files, tag)?;
+    let Area {
+        carriers,
+        links,
+        systems,
+        pairs,
+    } = area;
+    let wrong_link = link_fault(alloc, files, shared, tag, &carriers, &links)?;
     if let Some(fault) = wrong_link {
         return Ok(Verdict::No(fault));
     }
@@ -51,8 +87,8 @@ pub fn check(alloc: Global, files: &[LinkFile], tag: &[u8]) -> Result<Verdict, A
             // The law that the clause on runs rests on.
             every_run_of_a_tidy_area_is_orderly();
             Ok(Verdict::Yes {
-                systems: count_carriers(files, tag),
-                links: count_pairs(files, tag),
+                systems,
+                links: pairs as u128,
             })
         }
     }

@@ -5,26 +5,26 @@ ghost use Rattle.std.specs.List.Sorted.{IsStrictlySortedBy};
 ghost use Rattle.echo_addr.specs.declared.address.Address.{Address};
 ghost use Rattle.echo_run.specs.Tidy.{carries, lists};
 ghost use Rattle.echo_net.specs.declared.link.Link.{Link};
-ghost use Rattle.echo_net.specs.Faults.{AreSoundLinks, IsFirstFault};
+ghost use Rattle.echo_net.specs.Faults.{AreSoundLinks, IsFirstFault, IsSharedSystem};
 
-use crate::carriers::systems;
 use crate::first_links::{one_sided_link, self_link, unknown_link};
 use crate::link::Link;
-use crate::owners::shared_address;
 use crate::same_net_node::same_net_node;
 use crate::verdict::NetFault;
 use echo_addr::Address;
 use echo_links::LinkFile;
 use std::alloc::{AllocError, Global};
 
-/// The first fault of the files and the links, where there is one.
+/// The first fault of the files and the links, where there is one; two of the files have the address `shared`.
 pub fn link_fault(
     alloc: Global,
     files: &[LinkFile],
+    shared: Option<Address>,
     tag: &[u8],
     carriers: &[Address],
     links: &[Link],
 ) -> Result<Option<NetFault>, AllocError>
+    requires shared { IsSharedSystem files.now shared }
     requires carriers { IsStrictlySortedBy ⟦<Address as Ord>⟧.cmp carriers.now }
     requires links { IsStrictlySortedBy ⟦<Link as Ord>⟧.cmp links.now }
     requires members { (a : Address) → Contains carriers.now a ↔ IsTrue (carries files.now tag.now a) }
@@ -34,8 +34,6 @@ pub fn link_fault(
     if carriers.is_empty() {
         return Ok(Some(NetFault::NoSuchArea));
     }
-    let systems = systems(alloc, files)?;
-    let shared = shared_address(alloc, &systems)?;
     if let Some(system) = shared {
         return Ok(Some(NetFault::TwoFiles(system)));
     }

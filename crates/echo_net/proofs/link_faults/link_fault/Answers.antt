@@ -16,50 +16,38 @@ returns-then-is_empty c =
 pub returns-in-Some : goal.returns-in-Some
 returns-in-Some c =
     let some = is_carried c.args.files.now c.args.tag.now c.args.carriers.now c.args.links.now c.requires.members c.requires.listed c.is_empty.result c.is_empty.ensures c.if-is_empty.false in
-    let is = c.deref.ensures.value ∙ c.in_ok-systems.ensures in
-    let shared = subst (λ (all : List Address). MatchOption c.in_ok-shared.shared (Different all) (IsSmallest (StandsTwice all))) is c.in_ok-shared.ensures in
-    (some, MatchOption-at_some _ _ c.in-Some.system c.in-Some.is shared)
+    (some, MatchOption-at_some _ _ c.in-Some.system c.in-Some.is c.requires.shared)
 
 pub returns-in-Some-self_link : goal.returns-in-Some-self_link
 returns-in-Some-self_link c =
     let some = is_carried c.args.files.now c.args.tag.now c.args.carriers.now c.args.links.now c.requires.members c.requires.listed c.is_empty.result c.is_empty.ensures c.if-is_empty.false in
-    let is = c.deref.ensures.value ∙ c.in_ok-systems.ensures in
-    let shared = subst (λ (all : List Address). MatchOption c.in_ok-shared.shared (Different all) (IsSmallest (StandsTwice all))) is c.in_ok-shared.ensures in
-    let one_file = at_none (Different (net.systems c.args.files.now)) (IsSmallest (StandsTwice (net.systems c.args.files.now))) c.in_ok-shared.shared c.in_default.not-Some shared in
+    let one_file = at_none (Different (net.systems c.args.files.now)) (IsSmallest (StandsTwice (net.systems c.args.files.now))) c.args.shared c.in_default.not-Some c.requires.shared in
     (some, one_file, lists_itself c.args.files.now c.args.tag.now c.args.carriers.now c.args.links.now c.requires.members c.requires.listed c.in-Some-self_link.link c.in-Some-self_link.ensures)
 
 pub returns-in-Some-unknown_link : goal.returns-in-Some-unknown_link
 returns-in-Some-unknown_link c =
     let some = is_carried c.args.files.now c.args.tag.now c.args.carriers.now c.args.links.now c.requires.members c.requires.listed c.is_empty.result c.is_empty.ensures c.if-is_empty.false in
-    let is = c.deref.ensures.value ∙ c.in_ok-systems.ensures in
-    let shared = subst (λ (all : List Address). MatchOption c.in_ok-shared.shared (Different all) (IsSmallest (StandsTwice all))) is c.in_ok-shared.ensures in
-    let one_file = at_none (Different (net.systems c.args.files.now)) (IsSmallest (StandsTwice (net.systems c.args.files.now))) c.in_ok-shared.shared c.in_default.not-Some shared in
+    let one_file = at_none (Different (net.systems c.args.files.now)) (IsSmallest (StandsTwice (net.systems c.args.files.now))) c.args.shared c.in_default.not-Some c.requires.shared in
     (some, one_file, none_lists_itself c.args.files.now c.args.tag.now c.args.carriers.now c.args.links.now c.requires.members c.requires.listed c.in_default-self_link.ensures, unknown c.args.files.now c.args.tag.now c.args.carriers.now c.args.links.now c.requires.members c.requires.listed c.in-Some-unknown_link.link c.in-Some-unknown_link.ensures)
 
 pub returns-in-Some-one_sided_link : goal.returns-in-Some-one_sided_link
 returns-in-Some-one_sided_link c =
     let some = is_carried c.args.files.now c.args.tag.now c.args.carriers.now c.args.links.now c.requires.members c.requires.listed c.is_empty.result c.is_empty.ensures c.if-is_empty.false in
-    let is = c.deref.ensures.value ∙ c.in_ok-systems.ensures in
-    let shared = subst (λ (all : List Address). MatchOption c.in_ok-shared.shared (Different all) (IsSmallest (StandsTwice all))) is c.in_ok-shared.ensures in
-    let one_file = at_none (Different (net.systems c.args.files.now)) (IsSmallest (StandsTwice (net.systems c.args.files.now))) c.in_ok-shared.shared c.in_default.not-Some shared in
+    let one_file = at_none (Different (net.systems c.args.files.now)) (IsSmallest (StandsTwice (net.systems c.args.files.now))) c.args.shared c.in_default.not-Some c.requires.shared in
     (some, one_file, none_lists_itself c.args.files.now c.args.tag.now c.args.carriers.now c.args.links.now c.requires.members c.requires.listed c.in_default-self_link.ensures, all_known c.args.files.now c.args.tag.now c.args.carriers.now c.args.links.now c.requires.members c.requires.listed c.in_default-unknown_link.ensures, one_sided c.args.files.now c.args.tag.now c.args.carriers.now c.args.links.now c.requires.members c.requires.listed c.in-Some-one_sided_link.link c.in-Some-one_sided_link.ensures)
 
 pub returns-in-Some-twins : goal.returns-in-Some-twins
 returns-in-Some-twins c =
     let some = is_carried c.args.files.now c.args.tag.now c.args.carriers.now c.args.links.now c.requires.members c.requires.listed c.is_empty.result c.is_empty.ensures c.if-is_empty.false in
-    let is = c.deref.ensures.value ∙ c.in_ok-systems.ensures in
-    let shared = subst (λ (all : List Address). MatchOption c.in_ok-shared.shared (Different all) (IsSmallest (StandsTwice all))) is c.in_ok-shared.ensures in
-    let one_file = at_none (Different (net.systems c.args.files.now)) (IsSmallest (StandsTwice (net.systems c.args.files.now))) c.in_ok-shared.shared c.in_default.not-Some shared in
+    let one_file = at_none (Different (net.systems c.args.files.now)) (IsSmallest (StandsTwice (net.systems c.args.files.now))) c.args.shared c.in_default.not-Some c.requires.shared in
     let twins = MatchOption-at_some ((a b : Address) → ¬ HasTwin (Contains c.args.carriers.now) a b) (λ (pair : Link). IsSmallestPair (HasTwin (Contains c.args.carriers.now)) pair.from pair.to)
     c.in-Some-twins.pair c.in-Some-twins.is c.in_ok-twins.ensures in
     (some, one_file, none_lists_itself c.args.files.now c.args.tag.now c.args.carriers.now c.args.links.now c.requires.members c.requires.listed c.in_default-self_link.ensures, all_known c.args.files.now c.args.tag.now c.args.carriers.now c.args.links.now c.requires.members c.requires.listed c.in_default-unknown_link.ensures, all_answered c.args.files.now c.args.tag.now c.args.carriers.now c.args.links.now c.requires.members c.requires.listed c.in_default-one_sided_link.ensures, same_net_node c.args.files.now c.args.tag.now c.args.carriers.now c.args.links.now c.requires.members c.requires.listed c.in-Some-twins.pair.from c.in-Some-twins.pair.to twins)
 
-pub returns : goal.returns
-returns c =
+pub returns-in-None : goal.returns-in-None
+returns-in-None c =
     let some = is_carried c.args.files.now c.args.tag.now c.args.carriers.now c.args.links.now c.requires.members c.requires.listed c.is_empty.result c.is_empty.ensures c.if-is_empty.false in
-    let is = c.deref.ensures.value ∙ c.in_ok-systems.ensures in
-    let shared = subst (λ (all : List Address). MatchOption c.in_ok-shared.shared (Different all) (IsSmallest (StandsTwice all))) is c.in_ok-shared.ensures in
-    let one_file = at_none (Different (net.systems c.args.files.now)) (IsSmallest (StandsTwice (net.systems c.args.files.now))) c.in_ok-shared.shared c.in_default.not-Some shared in
+    let one_file = at_none (Different (net.systems c.args.files.now)) (IsSmallest (StandsTwice (net.systems c.args.files.now))) c.args.shared c.in_default.not-Some c.requires.shared in
     let none = subst (λ (found : Option Link). MatchOption found ((a b : Address) → ¬ HasTwin (Contains c.args.carriers.now) a b) (λ (pair : Link). IsSmallestPair (HasTwin (Contains c.args.carriers.now)) pair.from pair.to))
     c.in-None.is c.in_ok-twins.ensures in
     record {

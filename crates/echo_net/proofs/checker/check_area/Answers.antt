@@ -10,7 +10,7 @@ use Rattle.echo_net.specs.Rows.{AreRows}
 use Rattle.echo_net.proofs.Faulty.{all_carry, at_none, files_fit}
 use Rattle.echo_net.proofs.Graphs.{is_graph, not_tidy, same_links}
 use Rattle.echo_net.proofs.Numbers.{in_order_from_sorted}
-use Rattle.echo_net.proofs.checker.check.Goals as goal
+use Rattle.echo_net.proofs.checker.check_area.Goals as goal
 
 pub returns-in-Some-clause-tidy : goal.returns-in-Some-clause-tidy
 returns-in-Some-clause-tidy c = (
@@ -22,30 +22,30 @@ returns-in-Some-clause-tidy c = (
 pub rows-requires-clause-known : goal.rows-requires-clause-known
 rows-requires-clause-known c =
     let sound = at_none (AreSoundLinks c.args.files.now c.args.tag.now) (IsFirstFault c.args.files.now c.args.tag.now) c.in_ok-wrong_link.wrong_link c.in_default.not-Some c.in_ok-wrong_link.ensures in
-    let known = all_carry c.args.files.now c.args.tag.now c.in_ok-carriers.carriers.items c.in_ok-links.links.items c.in_ok-carriers.ensures.members c.in_ok-links.ensures.members sound in
+    let known = all_carry c.args.files.now c.args.tag.now c.in_ok-area.area.carriers.items c.in_ok-area.area.links.items c.in_ok-area.ensures.members c.in_ok-area.ensures.listed sound in
     subst (λ (ls : List Link). (l : Link) → Contains ls l → Contains c.deref-3.result.now l.to) (sym c.deref-4.ensures.value)
-    (subst (λ (as' : List Address). (l : Link) → Contains c.in_ok-links.links.items l → Contains as' l.to) (sym c.deref-3.ensures.value) known)
+    (subst (λ (as' : List Address). (l : Link) → Contains c.in_ok-area.area.links.items l → Contains as' l.to) (sym c.deref-3.ensures.value) known)
 
 pub new-graph-requires : goal.new-graph-requires
 new-graph-requires c =
     let sound = at_none (AreSoundLinks c.args.files.now c.args.tag.now) (IsFirstFault c.args.files.now c.args.tag.now) c.in_ok-wrong_link.wrong_link c.in_default.not-Some c.in_ok-wrong_link.ensures in
-    let order = in_order_from_sorted (Carries c.args.files.now c.args.tag.now) c.in_ok-carriers.carriers.items c.in_ok-carriers.ensures.ascending c.in_ok-carriers.ensures.members in
-    let are = subst (λ (ls : List Link). AreRows c.in_ok-carriers.carriers.items ls c.in_ok-rows.field-0.items) c.deref-4.ensures.value
+    let order = in_order_from_sorted (Carries c.args.files.now c.args.tag.now) c.in_ok-area.area.carriers.items c.in_ok-area.ensures.carriers c.in_ok-area.ensures.members in
+    let are = subst (λ (ls : List Link). AreRows c.in_ok-area.area.carriers.items ls c.in_ok-rows.field-0.items) c.deref-4.ensures.value
     (subst (λ (all : List Address). AreRows all c.deref-4.result.now c.in_ok-rows.field-0.items) c.deref-3.ensures.value c.in_ok-rows.ensures) in
-    is_graph c.args.files.now c.args.tag.now c.in_ok-carriers.carriers.items c.in_ok-links.links.items c.in_ok-rows.field-0.items c.in_ok-links.ensures.members order sound are
+    is_graph c.args.files.now c.args.tag.now c.in_ok-area.area.carriers.items c.in_ok-area.area.links.items c.in_ok-rows.field-0.items c.in_ok-area.ensures.listed order sound are
 
 pub graph_fault-requires-clause-in_order : goal.graph_fault-requires-clause-in_order
 graph_fault-requires-clause-in_order c =
-    let order = in_order_from_sorted (Carries c.args.files.now c.args.tag.now) c.in_ok-carriers.carriers.items c.in_ok-carriers.ensures.ascending c.in_ok-carriers.ensures.members in
+    let order = in_order_from_sorted (Carries c.args.files.now c.args.tag.now) c.in_ok-area.area.carriers.items c.in_ok-area.ensures.carriers c.in_ok-area.ensures.members in
     subst (AreInOrder (Carries c.args.files.now c.args.tag.now)) (sym c.deref-5.ensures.value) order
 
 pub graph_fault-requires-clause-links : goal.graph_fault-requires-clause-links
 graph_fault-requires-clause-links c =
     let sound = at_none (AreSoundLinks c.args.files.now c.args.tag.now) (IsFirstFault c.args.files.now c.args.tag.now) c.in_ok-wrong_link.wrong_link c.in_default.not-Some c.in_ok-wrong_link.ensures in
-    let order = in_order_from_sorted (Carries c.args.files.now c.args.tag.now) c.in_ok-carriers.carriers.items c.in_ok-carriers.ensures.ascending c.in_ok-carriers.ensures.members in
-    let are = subst (λ (ls : List Link). AreRows c.in_ok-carriers.carriers.items ls c.in_ok-rows.field-0.items) c.deref-4.ensures.value
+    let order = in_order_from_sorted (Carries c.args.files.now c.args.tag.now) c.in_ok-area.area.carriers.items c.in_ok-area.ensures.carriers c.in_ok-area.ensures.members in
+    let are = subst (λ (ls : List Link). AreRows c.in_ok-area.area.carriers.items ls c.in_ok-rows.field-0.items) c.deref-4.ensures.value
     (subst (λ (all : List Address). AreRows all c.deref-4.result.now c.in_ok-rows.field-0.items) c.deref-3.ensures.value c.in_ok-rows.ensures) in
-    let same = same_links c.args.files.now c.args.tag.now c.in_ok-carriers.carriers.items c.in_ok-links.links.items c.in_ok-rows.field-0.items c.in_ok-links.ensures.members order sound are in
+    let same = same_links c.args.files.now c.args.tag.now c.in_ok-area.area.carriers.items c.in_ok-area.area.links.items c.in_ok-rows.field-0.items c.in_ok-area.ensures.listed order sound are in
     ap (λ (rows : List (List ℕ)). linked rows) c.new-graph.ensures
     ∙ (same ∙ ap (λ (all : List Address). numbered all (lists c.args.files.now c.args.tag.now)) (sym c.deref-5.ensures.value))
 
@@ -59,4 +59,4 @@ returns-in-Some-wrong_graph-clause-tidy c = (
 pub returns-clause-orderly : goal.returns-clause-orderly
 returns-clause-orderly c = λ u.
     let tidy = at_none (Tidy c.args.files.now c.args.tag.now) (IsFirstFault c.args.files.now c.args.tag.now) c.in_ok-wrong_graph.wrong_graph (λ f is. let none = c.in-None.is in cc) c.in_ok-wrong_graph.ensures in
-    c.every_run_of_a_tidy_area_is_orderly.ensures c.args.files.now c.args.tag.now tidy (files_fit c.args.files.now c.in_ok-links.ensures.fit)
+    c.every_run_of_a_tidy_area_is_orderly.ensures c.args.files.now c.args.tag.now tidy (files_fit c.args.files.now c.in_ok-area.ensures.fit)

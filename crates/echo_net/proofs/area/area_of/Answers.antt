@@ -1,0 +1,38 @@
+use Rattle.std.proofs.Common.{◌≡◌, sym, subst, ap, ◌∙◌, List, length, vec_len}
+use Rattle.std.specs.Prelude.{Contains}
+use Rattle.std.specs.List.{count_by}
+use Rattle.echo_addr.specs.declared.address.Address.{Address}
+use Rattle.echo_filed.specs.Sets.{address_before}
+use Rattle.echo_net.specs.declared.link.Link.{Link}
+use Rattle.echo_net.proofs.Collected.{carries_listed, links_listed, pairs_counted, systems_counted}
+use Rattle.echo_net.proofs.area.area_of.Goals as goal
+
+pub returns-clause-members : goal.returns-clause-members
+returns-clause-members c = λ a.
+    let both = carries_listed c.args.files.now c.args.tag.now a in
+    let order = c.put_in_order.ensures.members a in
+    let is = c.in_ok-carriers.ensures.carriers in (
+      λ h. both.0 (subst (λ (all : List Address). Contains all a) is (order.0 h)),
+      λ h. order.1 (subst (λ (all : List Address). Contains all a) (sym is) (both.1 h)),
+    )
+
+pub returns-clause-listed : goal.returns-clause-listed
+returns-clause-listed c = λ l.
+    let both = links_listed c.args.files.now c.args.tag.now l in
+    let order = c.put_in_order-2.ensures.members l in
+    let is = c.in_ok-carriers.ensures.links in (
+      λ h. both.0 (subst (λ (all : List Link). Contains all l) is (order.0 h)),
+      λ h. order.1 (subst (λ (all : List Link). Contains all l) (sym is) (both.1 h)),
+    )
+
+pub returns-clause-systems : goal.returns-clause-systems
+returns-clause-systems c =
+    let v = c.in_ok-carriers.carriers in
+    let as_many : vec_len v ≡ length v.items = v.ok.0 in
+    c.len-systems.ensures ∙ (as_many ∙ (ap (λ (all : List Address). length all) c.in_ok-carriers.ensures.carriers ∙ systems_counted c.args.tag.now c.args.files.now))
+
+pub returns-clause-pairs : goal.returns-clause-pairs
+returns-clause-pairs c =
+    c.count_upward-pairs.ensures
+    ∙ (ap (λ (all : List Link). count_by (λ (l : Link). address_before l.from l.to) all) (c.deref.ensures.value ∙ c.in_ok-carriers.ensures.links)
+    ∙ pairs_counted c.args.tag.now c.args.files.now)
