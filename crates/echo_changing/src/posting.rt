@@ -93,7 +93,11 @@ pub(crate) fn leave_posted<'a, S: BuildHasher, W: Sink>(
 }
 
 /// The draft of the words and the body.
-pub(crate) fn draft_of(alloc: Global, words: NewMessage<'_>, body: &[u8]) -> Result<Draft, AllocError>
+pub(crate) fn draft_of(
+    alloc: Global,
+    words: NewMessage<'_>,
+    body: &[u8],
+) -> Result<Draft, AllocError>
     ensures { IfOk result (λ draft. draft ≡ draft_given words.entry body.now) }
 {
     Ok(Draft {
