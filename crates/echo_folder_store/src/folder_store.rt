@@ -46,6 +46,15 @@ impl<D: Disk, H: Digest> FolderStore<D, H> {
             alone: None,
         }
     }
+
+    /// The disk, the digest and the folder, taken out.
+    pub fn into_parts(self) -> (D, H, Folder)
+        ensures disk { result.0 ≡ self.disk }
+        ensures digest { result.1 ≡ self.digest }
+        ensures folder { result.2 ≡ self.folder }
+    {
+        (self.disk, self.digest, self.folder)
+    }
 }
 
 impl<D: Disk, H: Digest> Store for FolderStore<D, H> {

@@ -1,8 +1,8 @@
 //! A base folder, of which a command reads and writes only what it handles.
 //!
 //! Modules in reading order: `alone` (one message by itself, read and made), `sought` (what is looked for), `folder`
-//! (opened, a message read by its number), `finding` (looked up by digests), `adding` (added to and committed) and
-//! `laws` (what holds of the definitions).
+//! (opened, a message read by its number), `finding` (looked up by digests), `adding` (added to and committed),
+//! `folder_store` (all of this as a store) and `laws` (what holds of the definitions).
 #![tactic(auto)]
 
 mod adding;
