@@ -1,5 +1,5 @@
 //! A message as a stored one.
-ghost use Rattle.std.specs.Prelude.{◌≡◌, ◌≤◌, ◌%◌, ◌/◌, ◌++◌, [], ◌∷◌, IfOk, OnOk, length, option_copied};
+ghost use Rattle.std.specs.Prelude.{◌≡◌, ◌≤◌, ◌+◌, ◌%◌, ◌/◌, ◌++◌, IfOk, OnOk, drop, length};
 ghost use Rattle.echo_filed.specs.Written.{text_of};
 ghost use Rattle.echo_stored.specs.OriginAddress as origins;
 ghost use Rattle.echo_stored.specs.StoredMessage.{attribute_of, known_address, padded, stored_address, stored_bytes, stored_front, stored_numbers, text_behind};
@@ -135,7 +135,21 @@ fn push_text(alloc: Global, stored: &mut Vec<u8>, message: &Filed) -> Result<(),
     ensures { OnOk result (stored.new.items ≡ stored.old.items ++ text_behind message.now.echo) }
 {
     let text = written_text(alloc, message)?;
-    let front = message.echo.tag.len() + 6;
+    push_behind(stored, &text, area_len(message))
+}
+
+// How long the AREA line is.
+fn area_len(message: &Filed) -> usize
+    ensures { result ≡ length message.now.echo.tag + 6 }
+{
+    message.echo.tag.len() + 6
+}
+
+// Adds what stands behind so many bytes.
+fn push_behind(stored: &mut Vec<u8>, text: &[u8], front: usize) -> Result<(), AllocError>
+    requires { front ≤ length text.now }
+    ensures { OnOk result (stored.new.items ≡ stored.old.items ++ drop front text.now) }
+{
     push_bytes(stored, &text[front..])
 }
 
