@@ -18,11 +18,7 @@ const ZEROS: [u8; 72] = [0; 72];
 
 /// Adds the message as a stored one (FTS-0001): the names and the subject, each filled with 00, the DateTime, the
 /// numbers, and its text without the AREA line, ended by 00.
-pub fn push_stored(
-    alloc: Global,
-    stored: &mut Vec<u8>,
-    message: &Filed,
-) -> Result<(), AllocError>
+pub fn push_stored(alloc: Global, stored: &mut Vec<u8>, message: &Filed) -> Result<(), AllocError>
     ensures { OnOk result (stored.new.items ≡ stored.old.items ++ stored_bytes message.now) }
 {
     push_front(stored, message)?;
@@ -113,8 +109,8 @@ fn numbers(from: Address, attribute: u16) -> [u8; 26]
     let zone = [low(from.zone), high(from.zone)];
     let kind = [low(attribute), high(attribute)];
     [
-        0, 0, 0, 0, node[0], node[1], 0, 0, net[0], net[1], 0, 0, 0, 0, zone[0], zone[1], 0, 0, 0, 0, 0,
-        0, kind[0], kind[1], 0, 0,
+        0, 0, 0, 0, node[0], node[1], 0, 0, net[0], net[1], 0, 0, 0, 0, zone[0], zone[1], 0, 0, 0,
+        0, 0, 0, kind[0], kind[1], 0, 0,
     ]
 }
 
