@@ -1,0 +1,2 @@
+pub mod OriginAddress
+pub mod StoredMessage

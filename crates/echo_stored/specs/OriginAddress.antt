@@ -1,0 +1,33 @@
+-- The address in an origin line (FTS-0004).
+use Rattle.std.specs.Prelude.{ℕ, ◌-◌, ◌==◌, not, Bool, List, length, take, drop, Option, Some, None}
+use Rattle.std.specs.Result.{result_ok}
+use Rattle.std.specs.List.{prefix_len, suffix_len}
+use Rattle.std.specs.Int.{is_in_range}
+use Rattle.echo_addr.specs.declared.address.Address.{Address}
+use Rattle.echo_addr.specs.Address.{outcome}
+use Rattle.echo_text.specs.Echo.{EchoText, origin_of}
+
+-- digits, colons and slashes
+abbrev pub is_address_byte : ℕ → Bool
+is_address_byte b = is_in_range 47 58 b
+
+-- what stands behind the last `(`, or all where none is
+abbrev pub behind_bracket : List ℕ → List ℕ
+behind_bracket line = drop (length line - suffix_len (λ b. not (b == 40)) line) line
+
+-- the bytes of an address at the front, which end before a point, a domain or `)`
+abbrev pub address_word : List ℕ → List ℕ
+address_word bytes = take (prefix_len is_address_byte bytes) bytes
+
+-- the address of an origin line, none where that has no address of a system
+abbrev pub origin_address : List ℕ → Option Address
+origin_address line = result_ok (outcome (address_word (behind_bracket line)))
+
+-- the same of a line that may be absent
+abbrev pub address_found : Option (List ℕ) → Option Address
+address_found None = None
+address_found (Some line) = origin_address line
+
+-- the address in the last origin line of a text
+abbrev pub address_in_origin : EchoText → Option Address
+address_in_origin e = address_found (origin_of e.kept)
