@@ -1,0 +1,17 @@
+//! Mail messages (RFC 5322), read for posting what they say.
+//!
+//! The contract for the layers above: what `read_mail` and `body_text` answer is what the definitions in specs/
+//! give for the bytes, or the fault that applies.
+//!
+//! Modules in reading order: `fault` (why a mail is not read), `ends` (the ends of lines), `head` (the header
+//! fields) and `mail` (a mail taken apart).
+#![tactic(auto)]
+
+mod ends;
+mod fault;
+mod head;
+mod mail;
+
+pub use fault::MailFault;
+pub use head::Field;
+pub use mail::{Mail, read_mail};
