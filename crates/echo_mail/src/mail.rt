@@ -47,6 +47,7 @@ fn line_len(text: &[u8]) -> usize
 }
 
 // Takes a text apart.
+#[tactic(auto, unfolding(crate::specs::Mail::mail_of))]
 fn mail_of(alloc: Global, text: &[u8]) -> Result<Mail, MailFault>
     ensures { Gives result (mail_of text.now) }
 {
