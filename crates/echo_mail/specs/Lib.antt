@@ -1,3 +1,4 @@
 pub mod Ends
 pub mod Head
 pub mod Mail
+pub mod Quoted

@@ -11,6 +11,7 @@ mod ends;
 mod fault;
 mod head;
 mod mail;
+mod quoted;
 
 pub use fault::MailFault;
 pub use head::Field;
