@@ -11,6 +11,21 @@ pub enum MailFault {
     /// A line of the header is no field and continues none.
     #[error("bad header field")]
     BadField,
+    /// The body has several parts.
+    #[error("multipart")]
+    Multipart,
+    /// The body is of another type than text/plain.
+    #[error("not text/plain")]
+    NotText,
+    /// The charset of the body is none that the program knows.
+    #[error("unknown charset")]
+    UnknownCharset,
+    /// The encoding of the body is none that the standard has.
+    #[error("unknown encoding")]
+    UnknownEncoding,
+    /// The body is no base64.
+    #[error("bad base64")]
+    BadBase64,
     /// A growth was refused.
     #[error("memory")]
     Memory,

@@ -4,15 +4,20 @@
 //! give for the bytes, or the fault that applies.
 //!
 //! Modules in reading order: `fault` (why a mail is not read), `ends` (the ends of lines), `head` (the header
-//! fields) and `mail` (a mail taken apart).
+//! fields) and `mail` (a mail taken apart); `quoted`
+//! (quoted-printable), `transfer` (the encodings of bodies), `content` (what a body is) and `body` (its text).
 #![tactic(auto)]
 
+mod body;
+mod content;
 mod ends;
 mod fault;
 mod head;
 mod mail;
 mod quoted;
+mod transfer;
 
+pub use body::{body_text, value_in};
 pub use fault::MailFault;
 pub use head::Field;
 pub use mail::{Mail, read_mail};
