@@ -14,6 +14,10 @@ use Rattle.echo_mail.specs.Transfer.{transferred}
 unfoldable pub value_in : List Field → List ℕ → Option (List ℕ)
 value_in fields name = option_map (λ f. f.value) (find (λ f. is_called f.name name) fields)
 
+-- the charset of a body
+abbrev pub body_charset : Mail → Result Charset MailFault
+body_charset mail = charset_of (value_in mail.fields (codes "Content-Type"))
+
 -- the bytes that a body stands for
 abbrev pub body_bytes : Mail → Result (List ℕ) MailFault
 body_bytes mail = transferred (value_in mail.fields (codes "Content-Transfer-Encoding")) mail.body
@@ -33,4 +37,4 @@ text_by (Ok charset) bytes = text_or_fault charset bytes
 
 -- the text of a body, or its fault, that of its type before that of its bytes
 abbrev pub text_of : Mail → Result (List ℕ) MailFault
-text_of mail = text_by (charset_of (value_in mail.fields (codes "Content-Type"))) (body_bytes mail)
+text_of mail = text_by (body_charset mail) (body_bytes mail)

@@ -1,5 +1,5 @@
 -- A mail taken apart (RFC 5322).
-use Rattle.std.specs.Prelude.{ℕ, ◌≡◌, ◌+◌, ◌⊎◌, nat_eq, Bool, true, false, List, codes, drop, map, take, if◌then◌else◌, Result, Ok, Err}
+use Rattle.std.specs.Prelude.{ℕ, ◌≡◌, ◌+◌, ◌⊎◌, nat_eq, true, false, List, codes, drop, map, take, if◌then◌else◌, Result, Ok, Err}
 use Rattle.std.specs.List.{list_all, position_or_len, starts_with}
 use Rattle.echo_text.specs.Lines.{is_return, lines}
 use Rattle.echo_mail.specs.declared.fault.MailFault.{MailFault}

@@ -2,13 +2,13 @@
 ghost use Rattle.std.specs.Prelude.{◌≡◌, ◌⊎◌, option_copied, string_bytes, MatchResult};
 ghost use Rattle.echo_mail.specs.declared.fault.MailFault.TheVariants.{Memory};
 ghost use Rattle.echo_mail.specs.Mail.{Gives};
-ghost use Rattle.echo_mail.specs.Body.{body_bytes, text_of, text_with, value_in};
+ghost use Rattle.echo_mail.specs.Body.{body_bytes, body_charset, text_of, text_or_fault, text_with, value_in};
 
 use crate::content::charset_of;
 use crate::ends::returned;
 use crate::fault::MailFault;
-use crate::mail::Mail;
 use crate::head::Field;
+use crate::mail::Mail;
 use crate::transfer::{is_called, transferred};
 use echo_addr::Items;
 use echo_charset::Charset;
@@ -18,9 +18,27 @@ use std::alloc::Global;
 pub fn body_text(alloc: Global, mail: &Mail) -> Result<String, MailFault>
     ensures { MatchResult result (λ text. text_of mail.now ≡ Ok (string_bytes text)) (λ fault. (fault ≡ Memory) ⊎ (text_of mail.now ≡ Err fault)) }
 {
-    let charset = charset_of(value_in(mail.fields.as_slice(), b"Content-Type"))?;
-    let bytes = body_bytes(alloc, mail)?;
-    text_with(alloc, charset, bytes.as_slice())
+    match body_charset(mail) {
+        Ok(charset) => text_or_fault(alloc, charset, mail),
+        Err(fault) => Err(fault),
+    }
+}
+
+// The charset of the body.
+fn body_charset(mail: &Mail) -> Result<Charset, MailFault>
+    ensures { result ≡ body_charset mail.now }
+{
+    charset_of(value_in(mail.fields.as_slice(), b"Content-Type"))
+}
+
+// The text of the body in this charset.
+fn text_or_fault(alloc: Global, charset: Charset, mail: &Mail) -> Result<String, MailFault>
+    ensures { MatchResult result (λ text. text_or_fault charset (body_bytes mail.now) ≡ Ok (string_bytes text)) (λ fault. (fault ≡ Memory) ⊎ (text_or_fault charset (body_bytes mail.now) ≡ Err fault)) }
+{
+    match body_bytes(alloc, mail) {
+        Ok(bytes) => text_with(alloc, charset, bytes.as_slice()),
+        Err(fault) => Err(fault),
+    }
 }
 
 // The bytes that the body stands for.
@@ -44,7 +62,10 @@ fn text_with(alloc: Global, charset: Charset, bytes: &[u8]) -> Result<String, Ma
 pub fn value_in<'a>(fields: &'a [Field], name: &[u8]) -> Option<&'a [u8]>
     ensures { option_copied result ≡ value_in fields.now name.now }
 {
-    match fields.iter().find(|field| is_called(field.name.as_slice(), name)) {
+    match fields
+        .iter()
+        .find(|field| is_called(field.name.as_slice(), name))
+    {
         Some(field) => Some(field.value.as_slice()),
         None => None,
     }

@@ -82,12 +82,7 @@ pub(crate) fn push_unescaped(text: &mut Vec<u8>, bytes: &[u8]) -> Result<(), All
 }
 
 // Adds a byte, or the one that is said by it and the two behind it, unless it is a digit of one that was added.
-fn push_next(
-    text: &mut Vec<u8>,
-    skip: u8,
-    byte: u8,
-    said: Option<u8>,
-) -> Result<(), AllocError>
+fn push_next(text: &mut Vec<u8>, skip: u8, byte: u8, said: Option<u8>) -> Result<(), AllocError>
     ensures { OnOk result (text.new.items ≡ text.old.items ++ next_byte skip byte said) }
 {
     if skip > 0 {
@@ -120,7 +115,10 @@ fn escaped(bytes: &[u8]) -> Option<u8>
     if byte_at(bytes, 0) != b'=' {
         return None;
     }
-    byte_of(digit_value(byte_at(bytes, 1)), digit_value(byte_at(bytes, 2)))
+    byte_of(
+        digit_value(byte_at(bytes, 1)),
+        digit_value(byte_at(bytes, 2)),
+    )
 }
 
 // The byte of two digits.
