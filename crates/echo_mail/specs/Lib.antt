@@ -5,3 +5,4 @@ pub mod Quoted
 pub mod Transfer
 pub mod Content
 pub mod Body
+pub mod Encoded

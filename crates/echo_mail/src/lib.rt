@@ -5,11 +5,13 @@
 //!
 //! Modules in reading order: `fault` (why a mail is not read), `ends` (the ends of lines), `head` (the header
 //! fields) and `mail` (a mail taken apart); `quoted`
-//! (quoted-printable), `transfer` (the encodings of bodies), `content` (what a body is) and `body` (its text).
+//! (quoted-printable), `transfer` (the encodings of bodies), `content` (what a body is) and `body` (its text);
+//! `encoded` (encoded words).
 #![tactic(auto)]
 
 mod body;
 mod content;
+mod encoded;
 mod ends;
 mod fault;
 mod head;
@@ -18,6 +20,7 @@ mod quoted;
 mod transfer;
 
 pub use body::{body_text, value_in};
+pub use encoded::decoded_words;
 pub use fault::MailFault;
 pub use head::Field;
 pub use mail::{Mail, read_mail};

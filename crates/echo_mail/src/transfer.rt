@@ -72,10 +72,20 @@ fn base64_body(alloc: Global, body: &[u8]) -> Result<Items<u8>, MailFault>
     ensures { Gives result (base64_body body.now) }
 {
     let digits = base64_digits(alloc, body)?;
-    match STANDARD.decode(alloc, &digits) {
-        Ok(bytes) => Ok(Items::new(bytes)),
-        Err(DecodeAllocError::OutOfMemory) => Err(MailFault::Memory),
-        Err(DecodeAllocError::DecodeError(_)) => Err(MailFault::BadBase64),
+    match from_base64(alloc, &digits)? {
+        Some(bytes) => Ok(bytes),
+        None => Err(MailFault::BadBase64),
+    }
+}
+
+/// The bytes that these stand for in base64.
+pub(crate) fn from_base64(alloc: Global, digits: &[u8]) -> Result<Option<Items<u8>>, AllocError>
+    ensures { IfOk result (λ bytes. bytes ≡ decoded_of standard digits.now) }
+{
+    match STANDARD.decode(alloc, digits) {
+        Ok(bytes) => Ok(Some(Items::new(bytes))),
+        Err(DecodeAllocError::OutOfMemory) => Err(AllocError),
+        Err(DecodeAllocError::DecodeError(_)) => Ok(None),
     }
 }
 
