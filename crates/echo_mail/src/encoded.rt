@@ -131,7 +131,7 @@ fn inner_text(alloc: Global, inner: &[u8]) -> Result<Option<Items<u8>>, AllocErr
     let (charset, rest) = cut(b'?', inner);
     let (encoding, rest) = cut(b'?', rest);
     let (text, end) = cut(b'?', rest);
-    if end == b"=" {
+    if end == b"=".as_slice() {
         coded(alloc, charset, encoding, text)
     } else {
         Ok(None)
