@@ -6,3 +6,4 @@ pub mod Transfer
 pub mod Content
 pub mod Body
 pub mod Encoded
+pub mod Mailbox

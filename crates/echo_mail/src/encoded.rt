@@ -85,13 +85,7 @@ fn gap(before: Before, joins: bool) -> &'static [u8]
     match before {
         Before::Nothing => b"",
         Before::Word => b" ",
-        Before::Encoded => {
-            if joins {
-                b""
-            } else {
-                b" "
-            }
-        }
+        Before::Encoded => { if joins { b"" } else { b" " } }
     }
 }
 
@@ -186,11 +180,7 @@ fn encoded_text(
 
 // The bytes that a text stands for in an encoding.
 #[tactic(auto, unfolding(crate::specs::Encoded::word_bytes))]
-fn word_bytes(
-    alloc: Global,
-    encoding: &[u8],
-    text: &[u8],
-) -> Result<Option<Items<u8>>, AllocError>
+fn word_bytes(alloc: Global, encoding: &[u8], text: &[u8]) -> Result<Option<Items<u8>>, AllocError>
     ensures { IfOk result (λ bytes. bytes ≡ word_bytes encoding.now text.now) }
 {
     if is_called(encoding, b"Q") {

@@ -6,7 +6,8 @@
 //! Modules in reading order: `fault` (why a mail is not read), `ends` (the ends of lines), `head` (the header
 //! fields) and `mail` (a mail taken apart); `quoted`
 //! (quoted-printable), `transfer` (the encodings of bodies), `content` (what a body is) and `body` (its text);
-//! `encoded` (encoded words).
+//! `encoded` (encoded words) and
+//! `mailbox` (the name in a list of mailboxes).
 #![tactic(auto)]
 
 mod body;
@@ -16,6 +17,7 @@ mod ends;
 mod fault;
 mod head;
 mod mail;
+mod mailbox;
 mod quoted;
 mod transfer;
 
@@ -24,3 +26,4 @@ pub use encoded::decoded_words;
 pub use fault::MailFault;
 pub use head::Field;
 pub use mail::{Mail, read_mail};
+pub use mailbox::person_name;

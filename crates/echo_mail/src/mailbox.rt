@@ -1,6 +1,6 @@
 //! The name in a list of mailboxes (RFC 5322, 3.4).
 ghost use Rattle.std.specs.Prelude.{◌≡◌, ◌++◌, ◌+◌, ◌^◌, ◌<◌, ◌≤◌, ◌==◌, ◌||◌, [], ◌∷◌, if◌then◌else◌, length, not, string_bytes, take_while, IfOk, OnOk};
-ghost use Rattle.echo_mail.specs.Mailbox.{bare_name, ends_name, is_at, is_name_part, is_open, local_part, mailbox_name, name_len, next_depth, next_escaped, next_place, next_quoted, person_name, start};
+ghost use Rattle.echo_mail.specs.Mailbox.{bare_name, ends_name, is_at, is_name_part, is_open, local_part, mailbox_name, name_len, next_depth, next_place, next_quoted, person_name, start};
 
 use crate::encoded::decoded_words;
 use crate::ends::behind;
@@ -25,6 +25,7 @@ pub fn person_name(alloc: Global, value: &[u8]) -> Result<String, AllocError>
 }
 
 // The same, before encoded words are decoded.
+#[tactic(auto, unfolding(crate::specs::Mailbox::mailbox_name, crate::specs::Mailbox::phrase))]
 fn mailbox_name(alloc: Global, value: &[u8]) -> Result<Vec<u8>, AllocError>
     ensures { IfOk result (λ name. name.items ≡ mailbox_name value.now) }
 {
