@@ -7,3 +7,5 @@ pub mod Content
 pub mod Body
 pub mod Encoded
 pub mod Mailbox
+pub mod Exported
+pub mod Area
