@@ -15,8 +15,6 @@ mod graph;
 #[cfg(test)]
 mod links;
 #[cfg(test)]
-mod mail;
-#[cfg(test)]
 mod nodelist;
 #[cfg(test)]
 mod packet;
