@@ -1,0 +1,19 @@
+-- The area that a mail names.
+use Rattle.std.specs.Prelude.{ℕ, ◌==◌, List, codes, Option, Some, None}
+use Rattle.std.specs.List.{before_first}
+use Rattle.echo_text.specs.Lines.{trimmed}
+use Rattle.echo_mail.specs.declared.head.Field.{Field}
+use Rattle.echo_mail.specs.Body.{value_in}
+
+-- the first of some newsgroups, between commas (RFC 5536, 3.1.4)
+abbrev pub first_group : List ℕ → List ℕ
+first_group groups = trimmed (before_first (λ b. b == 44) groups)
+
+-- the first newsgroup, or else a value
+abbrev pub group_or : Option (List ℕ) → Option (List ℕ) → Option (List ℕ)
+group_or None other = other
+group_or (Some groups) other = Some (first_group groups)
+
+-- the area that the fields name
+abbrev pub area_in : List Field → Option (List ℕ)
+area_in fields = group_or (value_in fields (codes "Newsgroups")) (value_in fields (codes "X-FTN-Area"))

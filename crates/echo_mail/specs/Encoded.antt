@@ -1,0 +1,98 @@
+-- Encoded words of header fields (RFC 2047).
+use Rattle.std.specs.Prelude.{ℕ, ◌==◌, ◌||◌, nat_eq, Bool, List, [], ◌∷◌, ◌++◌, bytes_eq, codes, drop, is_some, length, map, unwrap_or, Option, Some, None, if◌then◌else◌}
+use Rattle.std.specs.List.{after_first, before_first, starts_with}
+use Rattle.base64.specs.GeneralPurpose.{decoded_of}
+use Rattle.base64.specs.Engines.{standard}
+use Rattle.echo_addr.specs.Entries.{is_blank}
+use Rattle.echo_charset.specs.declared.charset.Charset.{Charset}
+use Rattle.echo_charset.specs.declared.charset.Charset.TheVariants.{Utf8}
+use Rattle.echo_charset.specs.Charset.{decoded_text, is_called}
+use Rattle.echo_text.specs.Lines.{lines}
+use Rattle.echo_mail.specs.declared.encoded.Before.{Before}
+use Rattle.echo_mail.specs.declared.encoded.Before.TheVariants.{Encoded, Nothing, Word}
+use Rattle.echo_mail.specs.Content.{known_charset}
+use Rattle.echo_mail.specs.Quoted.{unescaped}
+
+-- `_` is a blank in the encoding Q
+abbrev pub space_for : ℕ → ℕ
+space_for b = if b == 95 then 32 else b
+
+-- the bytes that a text stands for in the encoding Q
+abbrev pub q_bytes : List ℕ → Option (List ℕ)
+q_bytes text = Some (unescaped 0 (map space_for text))
+
+-- the same in Q or B
+unfoldable pub word_bytes : List ℕ → List ℕ → Option (List ℕ)
+word_bytes encoding text =
+    if is_called encoding (codes "Q") then q_bytes text else if is_called encoding (codes "B") then decoded_of standard text else None
+
+-- bytes of a charset as text
+abbrev pub encoded_text : Charset → List ℕ → Option (List ℕ)
+encoded_text charset bytes = Some (decoded_text charset bytes)
+
+-- the same, where there are bytes and a charset
+abbrev pub text_in : Charset → Option (List ℕ) → Option (List ℕ)
+text_in charset None = None
+text_in charset (Some bytes) = encoded_text charset bytes
+
+abbrev pub text_by : Option Charset → Option (List ℕ) → Option (List ℕ)
+text_by None bytes = None
+text_by (Some charset) bytes = text_in charset bytes
+
+-- what stands before a byte, and behind it
+abbrev pub before_byte : ℕ → List ℕ → List ℕ
+before_byte byte text = before_first (λ b. b == byte) text
+
+abbrev pub after_byte : ℕ → List ℕ → List ℕ
+after_byte byte text = after_first (λ b. b == byte) text
+
+-- what a text stands for in a charset, of which a language may stand behind `*`, and an encoding
+abbrev pub coded : List ℕ → List ℕ → List ℕ → Option (List ℕ)
+coded charset encoding text = text_by (known_charset (before_byte 42 charset)) (word_bytes encoding text)
+
+-- what an encoded word stands for, by its charset, its encoding and what follows: a text, `?` and `=`
+abbrev pub ended_text : List ℕ → List ℕ → List ℕ → Option (List ℕ)
+ended_text charset encoding rest = if bytes_eq (after_byte 63 rest) (codes "=") then coded charset encoding (before_byte 63 rest) else None
+
+-- by its charset and what follows, and by all of it behind the first two bytes
+abbrev pub typed_text : List ℕ → List ℕ → Option (List ℕ)
+typed_text charset rest = ended_text charset (before_byte 63 rest) (after_byte 63 rest)
+
+unfoldable pub inner_text : List ℕ → Option (List ℕ)
+inner_text inner = typed_text (before_byte 63 inner) (after_byte 63 inner)
+
+-- what a word stands for, where it is an encoded one
+unfoldable pub word_text : List ℕ → Option (List ℕ)
+word_text word = if starts_with nat_eq word (codes "=?") then inner_text (drop 2 word) else None
+
+-- the blank before a word; there is none between encoded ones
+abbrev pub gap : Before → Bool → List ℕ
+gap Nothing joins = []
+gap Word joins = 32 ∷ []
+gap Encoded joins = if joins then [] else 32 ∷ []
+
+-- a word, or what it stands for, and the blank before it
+abbrev pub next_text : Before → List ℕ → Option (List ℕ) → List ℕ
+next_text before word found = gap before (is_some found || (length word == 0)) ++ unwrap_or found word
+
+-- what stands before the next word; one without bytes, between two blanks, counts for nothing
+abbrev pub next_before : Before → List ℕ → Option (List ℕ) → Before
+next_before before word None = if length word == 0 then before else Word
+next_before before word (Some said) = Encoded
+
+-- words with their blanks
+abbrev pub words_text : Before → List (List ℕ) → List ℕ
+words_text before [] = []
+words_text before (word ∷ later) =
+    next_text before word (word_text word) ++ words_text (next_before before word (word_text word)) later
+
+-- a 0D for each blank, so that words are lines
+abbrev pub return_for : ℕ → ℕ
+return_for b = if is_blank b then 13 else b
+
+abbrev pub cut_at_blanks : List ℕ → List ℕ
+cut_at_blanks value = map return_for value
+
+-- the value of a field as text, with what encoded words stand for in their place
+unfoldable pub decoded_words : List ℕ → List ℕ
+decoded_words value = decoded_text Utf8 (words_text Nothing (lines (cut_at_blanks value)))

@@ -1,0 +1,72 @@
+-- The name in a list of mailboxes (RFC 5322, 3.4).
+use Rattle.std.specs.Prelude.{ℕ, ◌+◌, ◌-◌, ◌==◌, ◌&&◌, ◌||◌, not, nat_lt, Bool, true, false, List, [], ◌∷◌, ◌++◌, drop, length, slice_index, take, if◌then◌else◌}
+use Rattle.std.specs.List.{before_first}
+use Rattle.echo_text.specs.Lines.{trimmed}
+use Rattle.echo_mail.specs.declared.mailbox.Place.{Place}
+use Rattle.echo_mail.specs.Encoded.{decoded_words}
+
+-- the first byte stands in no comment and no quoted string
+abbrev pub start : Place
+start = record { depth = 0; quoted = false; escaped = false }
+
+-- whether a byte stands in a quoted string or a comment
+abbrev pub is_open : Place → Bool
+is_open p = p.quoted || nat_lt 0 p.depth
+
+-- where the byte behind one stands. Comments nest, and a backslash makes the next byte one like any other
+abbrev pub next_depth : Place → ℕ → ℕ
+next_depth p b =
+    if p.escaped || p.quoted then p.depth else if b == 40 then p.depth + 1 else if b == 41 then p.depth - 1 else p.depth
+
+abbrev pub next_quoted : Place → ℕ → Bool
+next_quoted p b = if p.escaped || (nat_lt 0 p.depth || not (b == 34)) then p.quoted else not p.quoted
+
+abbrev pub next_escaped : Place → ℕ → Bool
+next_escaped p b = is_open p && (not p.escaped && (b == 92))
+
+abbrev pub next_place : Place → ℕ → Place
+next_place p b = record { depth = next_depth p b; quoted = next_quoted p b; escaped = next_escaped p b }
+
+-- whether a byte is `<`, which begins the address, or a comma, which ends the mailbox
+abbrev pub ends_name : Place → ℕ → Bool
+ends_name p b = not (is_open p) && ((b == 60) || (b == 44))
+
+-- how many bytes stand before the first of these
+abbrev pub name_len : Place → List ℕ → ℕ
+name_len p [] = 0
+name_len p (b ∷ rest) = if ends_name p b then 0 else 1 + name_len (next_place p b) rest
+
+-- whether a byte is one of the name: none of a comment, and no mark of a quoted string
+abbrev pub is_name_part : Place → ℕ → Bool
+is_name_part p b =
+    if nat_lt 0 p.depth then false
+    else if p.escaped then true
+    else if p.quoted then not (b == 34) && not (b == 92)
+    else not (b == 34) && not (b == 40)
+
+-- the bytes of the name
+abbrev pub bare_name : Place → List ℕ → List ℕ
+bare_name p [] = []
+bare_name p (b ∷ rest) = (if is_name_part p b then b ∷ [] else []) ++ bare_name (next_place p b) rest
+
+-- what stands before the `@` of an address, or before its end
+abbrev pub is_at : ℕ → Bool
+is_at b = (b == 64) || (b == 62)
+
+abbrev pub local_part : List ℕ → List ℕ
+local_part address = before_first is_at address
+
+-- the name before the address of the first mailbox
+unfoldable pub phrase : List ℕ → List ℕ
+phrase value = trimmed (bare_name start (take (name_len start value) value))
+
+-- the same, or the front of the address where there is no name
+unfoldable pub mailbox_name : List ℕ → List ℕ
+mailbox_name value =
+    if length (phrase value) == 0 then local_part (drop (name_len start value + 1) value)
+    else if slice_index value (name_len start value) == 60 then phrase value
+    else local_part (phrase value)
+
+-- the same as text, with what encoded words stand for in their place
+abbrev pub person_name : List ℕ → List ℕ
+person_name value = decoded_words (mailbox_name value)

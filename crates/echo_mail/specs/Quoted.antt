@@ -1,0 +1,48 @@
+-- The encoding quoted-printable (RFC 2045, 6.7).
+use Rattle.std.specs.Prelude.{ℕ, ◌+◌, ◌-◌, ◌*◌, ◌==◌, nat_lt, Bool, List, [], ◌∷◌, ◌++◌, length, slice_index, take, Option, Some, None, if◌then◌else◌}
+use Rattle.std.specs.List.{flat_map}
+use Rattle.hex.specs.Hex.{hex_digit_value}
+use Rattle.echo_text.specs.Lines.{lines, without_back_blanks}
+
+-- the byte of two digits
+abbrev pub byte_of : Option ℕ → Option ℕ → Option ℕ
+byte_of None low = None
+byte_of (Some high) None = None
+byte_of (Some high) (Some low) = Some (16 * high + low)
+
+-- the byte that `=` and two digits in front stand for
+abbrev pub escaped : List ℕ → Option ℕ
+escaped bytes =
+    if slice_index bytes 0 == 61 then byte_of (hex_digit_value (slice_index bytes 1)) (hex_digit_value (slice_index bytes 2)) else None
+
+-- what is added at a byte: the byte, or what it and two digits stand for; nothing at a digit of one that was added
+abbrev pub next_byte : ℕ → ℕ → Option ℕ → List ℕ
+next_byte skip b None = if nat_lt 0 skip then [] else b ∷ []
+next_byte skip b (Some said) = if nat_lt 0 skip then [] else said ∷ []
+
+-- how many of its digits are still to come
+abbrev pub next_skip : ℕ → Option ℕ → ℕ
+next_skip skip None = skip - 1
+next_skip skip (Some said) = if nat_lt 0 skip then skip - 1 else 2
+
+-- the bytes that these stand for, of which so many are digits of one before them. A `=` without digits is itself
+abbrev pub unescaped : ℕ → List ℕ → List ℕ
+unescaped skip [] = []
+unescaped skip (b ∷ rest) =
+    next_byte skip b (escaped (b ∷ rest)) ++ unescaped (next_skip skip (escaped (b ∷ rest))) rest
+
+-- whether `=` stands last
+abbrev pub is_soft : List ℕ → Bool
+is_soft line = slice_index line (length line - 1) == 61
+
+-- what a line without blanks at its end stands for: it does not end where `=` stands last
+unfoldable pub quoted_bare : List ℕ → List ℕ
+quoted_bare line = if is_soft line then unescaped 0 (take (length line - 1) line) else unescaped 0 line ++ 13 ∷ []
+
+-- what a line stands for
+abbrev pub quoted_line : List ℕ → List ℕ
+quoted_line line = quoted_bare (without_back_blanks line)
+
+-- what a body stands for
+abbrev pub quoted_printable : List ℕ → List ℕ
+quoted_printable body = flat_map quoted_line (lines body)

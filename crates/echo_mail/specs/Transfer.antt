@@ -1,0 +1,49 @@
+-- The encodings of bodies (RFC 2045, 6).
+use Rattle.std.specs.Prelude.{ℕ, ◌==◌, ◌||◌, Bool, List, codes, filter, Option, Some, None, Result, Ok, Err, if◌then◌else◌}
+use Rattle.std.specs.Int.{is_in_range}
+use Rattle.base64.specs.GeneralPurpose.{decoded_of}
+use Rattle.base64.specs.Engines.{standard}
+use Rattle.echo_charset.specs.Charset.{is_called}
+use Rattle.echo_mail.specs.declared.fault.MailFault.{MailFault}
+use Rattle.echo_mail.specs.declared.fault.MailFault.TheVariants.{BadBase64, UnknownEncoding}
+use Rattle.echo_mail.specs.declared.transfer.Encoding.{Encoding}
+use Rattle.echo_mail.specs.declared.transfer.Encoding.TheVariants.{Base64, Plain, QuotedPrintable}
+use Rattle.echo_mail.specs.Quoted.{quoted_printable}
+
+-- the encoding of a name, in letters of either case; 7bit where there is none
+unfoldable pub encoding_of : Option (List ℕ) → Option Encoding
+encoding_of None = Some Plain
+encoding_of (Some word) =
+    if is_called word (codes "7bit") || is_called word (codes "8bit") || is_called word (codes "binary") then Some Plain
+    else if is_called word (codes "quoted-printable") then Some QuotedPrintable
+    else if is_called word (codes "base64") then Some Base64
+    else None
+
+-- a letter, a digit, `+`, `/` or `=`; other bytes of a body in base64 count for nothing (6.8)
+abbrev pub is_base64_byte : ℕ → Bool
+is_base64_byte b =
+    (is_in_range 48 57 b || (is_in_range 65 90 b || is_in_range 97 122 b)) || ((b == 43) || ((b == 47) || (b == 61)))
+
+-- decoded bytes, or the fault where there are none
+abbrev pub bytes_or_fault : Option (List ℕ) → Result (List ℕ) MailFault
+bytes_or_fault None = Err BadBase64
+bytes_or_fault (Some bytes) = Ok bytes
+
+-- what a body in base64 stands for
+abbrev pub base64_body : List ℕ → Result (List ℕ) MailFault
+base64_body body = bytes_or_fault (decoded_of standard (filter is_base64_byte body))
+
+-- what a body of an encoding stands for
+abbrev pub encoded_body : Encoding → List ℕ → Result (List ℕ) MailFault
+encoded_body Plain body = Ok body
+encoded_body QuotedPrintable body = Ok (quoted_printable body)
+encoded_body Base64 body = base64_body body
+
+-- the same, where the encoding is known
+abbrev pub by_encoding : Option Encoding → List ℕ → Result (List ℕ) MailFault
+by_encoding None body = Err UnknownEncoding
+by_encoding (Some encoding) body = encoded_body encoding body
+
+-- the bytes that a body stands for, by the value of its Content-Transfer-Encoding
+abbrev pub transferred : Option (List ℕ) → List ℕ → Result (List ℕ) MailFault
+transferred word body = by_encoding (encoding_of word) body

@@ -1,0 +1,32 @@
+//! The area that a mail names.
+ghost use Rattle.std.specs.Prelude.{◌≡◌, ◌==◌, ◌≤◌, length, not, option_copied, take_while};
+ghost use Rattle.echo_mail.specs.Area.{area_in, first_group};
+
+use crate::body::value_in;
+use crate::head::Field;
+use echo_text::trimmed;
+
+/// The area that the header of a mail names: the first newsgroup, or where there is no such field the value of
+/// X-FTN-Area.
+pub fn area_in(fields: &[Field]) -> Option<&[u8]>
+    ensures { option_copied result ≡ area_in fields.now }
+{
+    match value_in(fields, b"Newsgroups") {
+        Some(groups) => Some(first_group(groups)),
+        None => value_in(fields, b"X-FTN-Area"),
+    }
+}
+
+// The first of some newsgroups, between commas.
+fn first_group(groups: &[u8]) -> &[u8]
+    ensures { result.now ≡ first_group groups.now }
+{
+    trimmed(&groups[..first_len(groups)])
+}
+
+fn first_len(groups: &[u8]) -> usize
+    ensures exact { result ≡ length (take_while (λ b. not (b == 44)) groups.now) }
+    ensures within { result ≤ length groups.now }
+{
+    groups.iter().take_while(|b| **b != b',').count()
+}
