@@ -1,5 +1,5 @@
 -- What `picture` answers.
-use Rattle.std.specs.Prelude.{◌≡◌, ℕ, ◌↔◌, List, Option, None, Result}
+use Rattle.std.specs.Prelude.{◌≡◌, ℕ, ◌↔◌, List, [], Option, None, Result}
 use Rattle.echo_status.specs.Devices.{Output}
 use Rattle.echo_links.specs.Links.{LinkFile, upper}
 use Rattle.echo_run.specs.Tidy.{Tidy}
@@ -22,7 +22,7 @@ pub record IsPictured (tag : List ℕ) (inputs : List (List ℕ)) (lines : List 
   pub is_verdict : IsCheckVerdict files (upper tag) verdict
   pub drawing : Drawing
   pub is_drawing : IsDrawing files (upper tag) verdict drawing
-  pub printed : lines ≡ picture_lines (upper tag) verdict drawing
+  pub printed : lines ≡ picture_lines (upper tag) verdict drawing []
   pub status_is : status ≡ verdict_status verdict
   pub tidy : (status ≡ Good) ↔ Tidy files (upper tag)
 

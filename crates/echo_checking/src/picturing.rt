@@ -30,7 +30,7 @@ pub fn picture<'a, W: Sink>(
     let verdict = echo_net::check(alloc, &links, &tag)?;
     let drawing = echo_net::draw(alloc, &links, &tag, &verdict)?;
     let mut lines = Vec::new(alloc);
-    push_picture(alloc, &mut lines, &tag, &verdict, &drawing)?;
+    push_picture(alloc, &mut lines, &tag, &verdict, &drawing, &[])?;
     print_rest(&mut lines, out)?;
     Ok(status_of(&verdict))
 }

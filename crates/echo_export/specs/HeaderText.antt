@@ -1,5 +1,5 @@
 -- Header lines of a mail (RFC 5322, RFC 2047).
-use Rattle.std.specs.Prelude.{ℕ, ◌-◌, ◌/◌, ◌%◌, ◌==◌, ◌&&◌, ◌||◌, not, nat_lt, Bool, List, [], ◌∷◌, ◌++◌, codes, slice_index, bytes_eq, if◌then◌else◌, Option, Some, None}
+use Rattle.std.specs.Prelude.{ℕ, ◌-◌, ◌/◌, ◌%◌, ◌==◌, ◌&&◌, ◌||◌, not, nat_le, Bool, false, List, [], ◌∷◌, ◌++◌, codes, slice_index, bytes_eq, if◌then◌else◌, Option, Some, None}
 use Rattle.std.specs.List.{list_all}
 use Rattle.std.specs.Int.{is_in_range}
 use Rattle.hex.specs.Hex.{encode_lower, upper_digits}
@@ -45,27 +45,40 @@ q_byte b = if is_alphanumeric b then b ∷ [] else if b == 32 then codes "_" els
 abbrev pub q_front : Option Charset → List ℕ
 q_front charset = codes "=?" ++ (mail_charset charset ++ codes "?Q?")
 
--- a byte that follows another one of its character
-abbrev pub is_following : ℕ → Bool
-is_following b = is_in_range 128 191 b
+-- whether a byte follows another one of its character: in UTF-8 alone, since else each is a character
+abbrev pub is_following : Option Charset → ℕ → Bool
+is_following None b = false
+is_following (Some charset) b = is_in_range 128 191 b
 
--- for how many characters more a word has room behind a byte
-abbrev pub next_room : ℕ → ℕ → ℕ
-next_room room b = if is_following b then room else if nat_lt 0 room then room - 1 else 4
+-- how many bytes a byte takes in an encoded word
+abbrev pub q_size : ℕ → ℕ
+q_size b = if is_alphanumeric b || b == 32 then 1 else 3
 
--- what a byte adds to a word that has room for so many characters: a character is in one word, five are in each
+-- between its marks a word has at most so many, and so a line of names at most 76 (RFC 2047)
+abbrev pub word_room : ℕ
+word_room = 30
+
+-- whether a byte stands in the word before it, which has room for so many: the whole of its character has to
+abbrev pub is_within_word : Option Charset → ℕ → ℕ → Bool
+is_within_word charset room b = is_following charset b || nat_le 12 room
+
+-- for how many a word has room behind a byte
+abbrev pub next_room : Option Charset → ℕ → ℕ → ℕ
+next_room charset room b = (if is_within_word charset room b then room else word_room) - q_size b
+
+-- what a byte adds to a word that has room for so many
 abbrev pub next_text : Option Charset → ℕ → ℕ → List ℕ
 next_text charset room b =
-    if is_following b || nat_lt 0 room then q_byte b else codes "?=\n " ++ (q_front charset ++ q_byte b)
+    if is_within_word charset room b then q_byte b else codes "?=\n " ++ (q_front charset ++ q_byte b)
 
--- bytes in words of which the first has room for so many characters
+-- bytes in words of which the first has room for so many
 abbrev pub q_text : Option Charset → ℕ → List ℕ → List ℕ
 q_text charset room [] = []
-q_text charset room (b ∷ rest) = next_text charset room b ++ q_text charset (next_room room b) rest
+q_text charset room (b ∷ rest) = next_text charset room b ++ q_text charset (next_room charset room b) rest
 
 -- bytes as encoded words
 abbrev pub encoded_words : Option Charset → List ℕ → List ℕ
-encoded_words charset bytes = q_front charset ++ (q_text charset 5 (mail_bytes charset bytes) ++ codes "?=")
+encoded_words charset bytes = q_front charset ++ (q_text charset word_room (mail_bytes charset bytes) ++ codes "?=")
 
 -- bytes of a message in a header line: as they stand where that may be, else as encoded words
 abbrev pub header_text : Option Charset → List ℕ → List ℕ

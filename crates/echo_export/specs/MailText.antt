@@ -1,5 +1,5 @@
 -- A message as one of a mailbox (RFC 4155).
-use Rattle.std.specs.Prelude.{ℕ, ◌+◌, ◌==◌, ◌&&◌, nat_eq, nat_le, Bool, true, List, [], ◌∷◌, ◌++◌, codes, decimal, length, slice_index, slice_range, take, if◌then◌else◌, Option, None}
+use Rattle.std.specs.Prelude.{ℕ, ◌+◌, ◌-◌, ◌*◌, ◌==◌, ◌&&◌, ◌||◌, nat_eq, nat_le, Bool, true, List, [], ◌∷◌, ◌++◌, bytes_eq, codes, decimal, length, slice_index, slice_range, take, if◌then◌else◌, Option, None}
 use Rattle.std.specs.List.{flat_map, starts_with}
 use Rattle.std.specs.Int.{is_in_range}
 use Rattle.echo_addr.specs.declared.address.NetNode.{NetNode}
@@ -24,15 +24,40 @@ are_digits_at date i = is_digit_at date i && is_digit_at date (i + 1)
 abbrev pub is_byte_at : List ℕ → ℕ → ℕ → Bool
 is_byte_at date i b = slice_index date i == b
 
--- whether a DateTime has its customary form, `03 Jul 26  12:34:56`: first the day, then the time
+-- the number of two digits
+abbrev pub pair_at : List ℕ → ℕ → ℕ
+pair_at date i = 10 * (slice_index date i - 48) + (slice_index date (i + 1) - 48)
+
+-- whether two digits stand at an index, of a number in this range
+abbrev pub is_pair_at : List ℕ → ℕ → ℕ → ℕ → Bool
+is_pair_at date i low high = are_digits_at date i && is_in_range low high (pair_at date i)
+
+-- whether this is the month
+abbrev pub is_month : List ℕ → List ℕ → Bool
+is_month date name = bytes_eq (slice_range date 3 6) name
+
+-- whether the month is one of the first half of a year, or of the second
+abbrev pub has_early_month : List ℕ → Bool
+has_early_month date =
+    is_month date (codes "Jan")
+    || (is_month date (codes "Feb")
+    || (is_month date (codes "Mar") || (is_month date (codes "Apr") || (is_month date (codes "May") || is_month date (codes "Jun")))))
+
+abbrev pub has_late_month : List ℕ → Bool
+has_late_month date =
+    is_month date (codes "Jul")
+    || (is_month date (codes "Aug")
+    || (is_month date (codes "Sep") || (is_month date (codes "Oct") || (is_month date (codes "Nov") || is_month date (codes "Dec")))))
+
+-- whether a DateTime has its customary form, `03 Jul 26  12:34:56`: the day, the month and the year, and the time
 abbrev pub has_day : List ℕ → Bool
-has_day date = are_digits_at date 0 && (is_byte_at date 2 32 && (is_byte_at date 6 32 && are_digits_at date 7))
+has_day date = is_pair_at date 0 1 31 && (is_byte_at date 2 32 && (is_byte_at date 6 32 && are_digits_at date 7))
 
 abbrev pub has_time : List ℕ → Bool
-has_time date = are_digits_at date 11 && (is_byte_at date 13 58 && (are_digits_at date 14 && (is_byte_at date 16 58 && are_digits_at date 17)))
+has_time date = is_pair_at date 11 0 23 && (is_byte_at date 13 58 && (is_pair_at date 14 0 59 && (is_byte_at date 16 58 && is_pair_at date 17 0 59)))
 
-abbrev pub is_customary : List ℕ → Bool
-is_customary date = has_day date && has_time date
+unfoldable pub is_customary : List ℕ → Bool
+is_customary date = has_day date && ((has_early_month date || has_late_month date) && has_time date)
 
 -- the century of a year of two digits
 abbrev pub century : List ℕ → List ℕ

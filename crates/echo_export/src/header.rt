@@ -1,8 +1,8 @@
 //! Header lines of a mail.
-ghost use Rattle.std.specs.Prelude.{◌≡◌, ◌++◌, bytes_eq, codes, option_copied, IfOk, OnOk};
+ghost use Rattle.std.specs.Prelude.{◌≡◌, ◌≤◌, ◌++◌, bytes_eq, codes, option_copied, IfOk, OnOk};
 ghost use Rattle.std.specs.List.{list_all};
 ghost use Rattle.echo_text.specs.Lines as text_lines;
-ghost use Rattle.echo_export.specs.HeaderText.{encoded_words, field_line, found_line, header_text, hex_byte, id_line, is_alphanumeric, is_field_byte, is_following, is_name_byte, is_plain_text, mail_bytes, mail_charset, name_line, name_text, next_room, next_text, q_byte, q_front, q_text};
+ghost use Rattle.echo_export.specs.HeaderText.{encoded_words, field_line, found_line, header_text, hex_byte, id_line, is_alphanumeric, is_field_byte, is_following, is_name_byte, is_plain_text, mail_bytes, mail_charset, name_line, name_text, next_room, next_text, is_within_word, q_byte, q_front, q_size, q_text, word_room};
 
 use echo_charset::Charset;
 use echo_text::trimmed;
@@ -11,8 +11,11 @@ use std::alloc::{AllocError, Global};
 /// The digits of a byte in an encoded word.
 const DIGITS: [u8; 16] = *b"0123456789ABCDEF";
 
-/// How many characters an encoded word has.
-const WORD: u8 = 5;
+/// How many bytes an encoded word has at most between its marks.
+const WORD: u8 = 30;
+
+/// How many a character takes there at most.
+const CHARACTER: u8 = 12;
 
 /// Adds bytes as they stand.
 pub(crate) fn push_bytes(mail: &mut Vec<u8>, bytes: &[u8]) -> Result<(), AllocError>
@@ -179,22 +182,22 @@ fn push_front(mail: &mut Vec<u8>, charset: Option<Charset>) -> Result<(), AllocE
     push_bytes(mail, b"?Q?")
 }
 
-// Adds the characters of a text, five in each word.
+// Adds the characters of a text, none of them in two words.
 fn push_words(mail: &mut Vec<u8>, charset: Option<Charset>, text: &[u8]) -> Result<(), AllocError>
-    ensures { OnOk result (mail.new.items ≡ mail.old.items ++ q_text charset 5 text.now) }
+    ensures { OnOk result (mail.new.items ≡ mail.old.items ++ q_text charset word_room text.now) }
 {
     let mut room = WORD;
     let mut rest = text;
     'text: while !rest.is_empty() {
         let byte = rest[0];
         push_next(mail, charset, room, byte)?;
-        room = next_room(room, byte);
+        room = next_room(charset, room, byte);
         rest = &rest[1..];
     }
     Ok(())
 }
 
-// Adds a byte of a text behind a word that has room for so many more characters.
+// Adds a byte of a text behind a word that has room for so many bytes more.
 fn push_next(
     mail: &mut Vec<u8>,
     charset: Option<Charset>,
@@ -203,7 +206,7 @@ fn push_next(
 ) -> Result<(), AllocError>
     ensures { OnOk result (mail.new.items ≡ mail.old.items ++ next_text charset room byte) }
 {
-    if is_following(byte) || room > 0 {
+    if is_within_word(charset, room, byte) {
         push_q(mail, byte)
     } else {
         push_bytes(mail, b"?=\n ")?;
@@ -212,16 +215,33 @@ fn push_next(
     }
 }
 
-// For how many characters more a word has room behind a byte.
-fn next_room(room: u8, byte: u8) -> u8
-    ensures { result ≡ next_room room byte }
+// Whether a byte stands in the word before it.
+fn is_within_word(charset: Option<Charset>, room: u8, byte: u8) -> bool
+    ensures { result ≡ is_within_word charset room byte }
 {
-    if is_following(byte) {
-        room
-    } else if room > 0 {
-        room - 1
+    is_following(charset, byte) || CHARACTER <= room
+}
+
+// For how many bytes more a word has room behind a byte.
+fn next_room(charset: Option<Charset>, room: u8, byte: u8) -> u8
+    ensures { result ≡ next_room charset room byte }
+{
+    if is_within_word(charset, room, byte) {
+        room.saturating_sub(q_size(byte))
     } else {
-        WORD - 1
+        WORD - q_size(byte)
+    }
+}
+
+// How many bytes a byte takes in an encoded word.
+fn q_size(byte: u8) -> u8
+    ensures size { result ≡ q_size byte }
+    ensures few { result ≤ 3 }
+{
+    if is_alphanumeric(byte) || byte == b' ' {
+        1
+    } else {
+        3
     }
 }
 
@@ -298,9 +318,12 @@ fn is_alphanumeric(byte: u8) -> bool
     byte.is_ascii_alphanumeric()
 }
 
-// A byte that follows another one of its character.
-fn is_following(byte: u8) -> bool
-    ensures { result ≡ is_following byte }
+// Whether a byte follows another one of its character.
+fn is_following(charset: Option<Charset>, byte: u8) -> bool
+    ensures { result ≡ is_following charset byte }
 {
-    128 <= byte && byte <= 191
+    match charset {
+        Some(_) => 128 <= byte && byte <= 191,
+        None => false,
+    }
 }

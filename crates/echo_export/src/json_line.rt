@@ -23,7 +23,7 @@ pub enum State {
 
 /// Adds the message of this number as a line of JSON (RFC 8259): one object, in UTF-8. The answer is how many
 /// U+FFFD stand in it, for what the message's charset does not have.
-pub fn push_json(
+pub(crate) fn push_json(
     alloc: Global,
     lines: &mut Vec<u8>,
     i: usize,

@@ -6,10 +6,11 @@
 //!
 //! Modules in reading order: `label` (the charset that a message names); `members` (members of an object of
 //! JSON), `lists` (lists in it) and `json_line` (a message as one object, on one line); and `header` (header
-//! lines of a mail), `body` (its body) and `mail` (a message as a mail; no command prints it yet).
+//! lines of a mail), `body` (its body) and `mail` (a message as a mail); and `form` (a message in one of these forms).
 #![tactic(auto)]
 
 mod body;
+mod form;
 mod header;
 mod json_line;
 mod label;
@@ -17,5 +18,5 @@ mod lists;
 mod mail;
 mod members;
 
-pub use json_line::{State, push_json};
-pub use mail::push_mail;
+pub use form::{Form, push_message};
+pub use json_line::State;

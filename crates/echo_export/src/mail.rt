@@ -1,7 +1,7 @@
 //! A message as one of a mailbox.
 ghost use Rattle.std.specs.Prelude.{◌≡◌, ◌++◌, ◌<◌, IfOk, OnOk, length, option_copied, slice_index};
 ghost use Rattle.echo_charset.specs.Losses as losses;
-ghost use Rattle.echo_export.specs.MailText.{are_digits_at, body_text, century, customary_line, date_line, echo_head, form_lines, found_lines, has_day, has_time, head_text, id_lines, is_byte_at, is_customary, is_digit_at, all_bytes, name_bytes, mail_lost, mail_text, name_lines, seen_line, way_lines, written_path};
+ghost use Rattle.echo_export.specs.MailText.{are_digits_at, body_text, century, customary_line, date_line, echo_head, form_lines, found_lines, has_day, has_time, head_text, id_lines, is_byte_at, is_customary, has_early_month, has_late_month, is_month, is_pair_at, pair_at, is_digit_at, all_bytes, name_bytes, mail_lost, mail_text, name_lines, seen_line, way_lines, written_path};
 
 use crate::body::push_body;
 use crate::header::{
@@ -18,7 +18,11 @@ use std::io::Write;
 
 /// Adds the message as one of a mailbox (RFC 4155). The answer is how many U+FFFD stand in its names, its
 /// subject and its body, for what its charset does not have.
-pub fn push_mail(alloc: Global, mail: &mut Vec<u8>, message: &Filed) -> Result<usize, AllocError>
+pub(crate) fn push_mail(
+    alloc: Global,
+    mail: &mut Vec<u8>,
+    message: &Filed,
+) -> Result<usize, AllocError>
     ensures mail { OnOk result (mail.new.items ≡ mail.old.items ++ mail_text message.now) }
     ensures lost { IfOk result (λ n. n ≡ mail_lost message.now) }
 {
@@ -95,29 +99,85 @@ fn push_customary(mail: &mut Vec<u8>, date: &[u8]) -> Result<(), AllocError>
 }
 
 // Whether a DateTime has its customary form.
+#[tactic(auto, unfolding(crate::specs::MailText::is_customary))]
 fn is_customary(date: &[u8]) -> bool
+    requires { length date.now ≡ 20 }
     ensures { result ≡ is_customary date.now }
 {
-    has_day(date) && has_time(date)
+    has_day(date) && (has_early_month(date) || has_late_month(date)) && has_time(date)
 }
 
 fn has_day(date: &[u8]) -> bool
     ensures { result ≡ has_day date.now }
 {
-    are_digits_at(date, 0)
+    is_pair_at(date, 0, 1, 31)
         && is_byte_at(date, 2, b' ')
         && is_byte_at(date, 6, b' ')
         && are_digits_at(date, 7)
 }
 
+fn has_early_month(date: &[u8]) -> bool
+    requires { length date.now ≡ 20 }
+    ensures { result ≡ has_early_month date.now }
+{
+    is_month(date, b"Jan")
+        || is_month(date, b"Feb")
+        || is_month(date, b"Mar")
+        || is_month(date, b"Apr")
+        || is_month(date, b"May")
+        || is_month(date, b"Jun")
+}
+
+fn has_late_month(date: &[u8]) -> bool
+    requires { length date.now ≡ 20 }
+    ensures { result ≡ has_late_month date.now }
+{
+    is_month(date, b"Jul")
+        || is_month(date, b"Aug")
+        || is_month(date, b"Sep")
+        || is_month(date, b"Oct")
+        || is_month(date, b"Nov")
+        || is_month(date, b"Dec")
+}
+
+// Whether this is the month.
+fn is_month(date: &[u8], name: &[u8]) -> bool
+    requires { length date.now ≡ 20 }
+    ensures { result ≡ is_month date.now name.now }
+{
+    &date[3..6] == name
+}
+
 fn has_time(date: &[u8]) -> bool
     ensures { result ≡ has_time date.now }
 {
-    are_digits_at(date, 11)
+    is_pair_at(date, 11, 0, 23)
         && is_byte_at(date, 13, b':')
-        && are_digits_at(date, 14)
+        && is_pair_at(date, 14, 0, 59)
         && is_byte_at(date, 16, b':')
-        && are_digits_at(date, 17)
+        && is_pair_at(date, 17, 0, 59)
+}
+
+// Whether two digits stand at an index, of a number in this range.
+fn is_pair_at(date: &[u8], i: usize, low: u16, high: u16) -> bool
+    requires { i < 100 }
+    ensures { result ≡ is_pair_at date.now i low high }
+{
+    if !are_digits_at(date, i) {
+        return false;
+    }
+    let pair = pair_at(date, i);
+    low <= pair && pair <= high
+}
+
+// The number of two digits.
+fn pair_at(date: &[u8], i: usize) -> u16
+    requires { i < 100 }
+    ensures { result ≡ pair_at date.now i }
+{
+    let tens = byte_at(date, i).saturating_sub(48);
+    let ones = byte_at(date, i + 1).saturating_sub(48);
+    10 * u16::from(tens) + u16::from(ones)
 }
 
 // Whether two digits stand at an index.

@@ -60,6 +60,14 @@ pub struct Drawing {
     pub links: Items<DrawnLink>,
 }
 
+/// A message that crosses a link: at which step, from whom, and to whom.
+#[derive(Clone, Copy, Debug, PartialEq, Eq)]
+pub struct Crossing {
+    pub step: usize,
+    pub from: Address,
+    pub to: Address,
+}
+
 /// The area as it is drawn, with what this verdict names marked. Any link files will do, tidy or not.
 /// Fails only when out of memory.
 pub fn draw(

@@ -5,11 +5,11 @@
 //! that of `listed`: just the carriers that a nodelist does not hold.
 //!
 //! Modules in reading order: `verdict` (the answer and the faults), `link`, `searching` (where a
-//! value stands among values that ascend), `carriers` (the systems of an area and their links), `area` (both
-//! at once, each file asked once), `owners`, `first_links` and `same_net_node` (what sorted addresses decide),
-//! `link_faults` (the first of those faults), `rows` (the net as a graph), `graph_faults` (systems apart, and
-//! loops), `checker` (the whole), `presence` (carriers beside a nodelist), and `drawing` (an area as it is
-//! drawn).
+//! value stands among values that ascend), `carriers` (the systems of an area and their links), `area` (both at once),
+//! `owners`, `first_links` and
+//! `same_net_node` (what sorted addresses decide), `link_faults` (the first of those faults), `rows` (the
+//! net as a graph), `graph_faults` (systems apart, and loops), `checker` (the whole), `presence` (carriers
+//! beside a nodelist), and `drawing` (an area as it is drawn).
 #![tactic(auto)]
 
 mod area;
@@ -28,6 +28,6 @@ mod searching;
 mod verdict;
 
 pub use checker::{check, check_area, shared_system};
-pub use drawing::{Drawing, DrawnLink, DrawnSystem, Mark, Sides, draw};
+pub use drawing::{Crossing, Drawing, DrawnLink, DrawnSystem, Mark, Sides, draw};
 pub use presence::{Absence, listed};
 pub use verdict::{NetFault, Verdict};

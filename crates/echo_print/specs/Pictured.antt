@@ -1,8 +1,10 @@
 -- What `picture` prints, in the language DOT of Graphviz.
-use Rattle.std.specs.Prelude.{ℕ, ◌==◌, ◌||◌, Bool, true, false, if◌then◌else◌, List, [], ◌∷◌, ◌++◌, codes}
+use Rattle.std.specs.Prelude.{ℕ, ◌==◌, ◌&&◌, ◌||◌, Bool, true, false, if◌then◌else◌, List, [], ◌∷◌, ◌++◌, codes, decimal, filter, map}
 use Rattle.std.specs.List.{flat_map}
 use Rattle.echo_addr.specs.Address.{address_text}
 use Rattle.echo_escape.specs.Words.{printed_word}
+use Rattle.echo_links.specs.Links.{same_address}
+use Rattle.echo_net.specs.declared.drawing.Crossing.{Crossing}
 use Rattle.echo_net.specs.declared.drawing.DrawnLink.{DrawnLink}
 use Rattle.echo_net.specs.declared.drawing.DrawnSystem.{DrawnSystem}
 use Rattle.echo_net.specs.declared.drawing.Drawing.{Drawing}
@@ -52,15 +54,33 @@ loop_marks false = []
 abbrev pub ends_text : DrawnLink → List ℕ
 ends_text l = codes "\"" ++ (address_text l.one ++ (codes "\" -- \"" ++ (address_text l.other ++ codes "\"")))
 
+-- whether a message crosses this link, either way
+abbrev pub is_at : DrawnLink → Crossing → Bool
+is_at l c = (same_address c.from l.one && same_address c.to l.other) || (same_address c.from l.other && same_address c.to l.one)
+
+-- the steps at which messages cross the link
+abbrev pub steps_at : DrawnLink → List Crossing → List ℕ
+steps_at l crossings = map (λ c. c.step) (filter (is_at l) crossings)
+
+-- a step after another
+abbrev pub later_step : ℕ → List ℕ
+later_step n = codes "," ++ decimal n
+
+-- the steps are the label
+abbrev pub steps_label : List ℕ → List ℕ
+steps_label [] = []
+steps_label (n ∷ later) = codes " [label=\"" ++ (decimal n ++ (flat_map later_step later ++ codes "\"]"))
+
 -- the line of a link
-abbrev pub link_line : DrawnLink → List ℕ
-link_line l = ends_text l ++ (side_marks l.sides ++ (loop_marks l.on_loop ++ codes ";\n"))
+abbrev pub link_line : List Crossing → DrawnLink → List ℕ
+link_line crossings l =
+    ends_text l ++ (side_marks l.sides ++ (loop_marks l.on_loop ++ (steps_label (steps_at l crossings) ++ codes ";\n")))
 
 -- the lines before the systems: the tag is the name of the graph, the verdict its label
 abbrev pub head_lines : List ℕ → Verdict → List ℕ
 head_lines tag verdict = codes "graph " ++ (quoted (printed_word tag) ++ (codes " {\nlabel=" ++ (quoted (verdict_text tag verdict) ++ codes ";\n")))
 
--- all lines
-abbrev pub picture_lines : List ℕ → Verdict → Drawing → List ℕ
-picture_lines tag verdict drawing =
-    head_lines tag verdict ++ (flat_map system_line drawing.systems ++ (flat_map link_line drawing.links ++ codes "}\n"))
+-- all lines, of a drawing whose links these messages cross
+abbrev pub picture_lines : List ℕ → Verdict → Drawing → List Crossing → List ℕ
+picture_lines tag verdict drawing crossings =
+    head_lines tag verdict ++ (flat_map system_line drawing.systems ++ (flat_map (link_line crossings) drawing.links ++ codes "}\n"))

@@ -1,27 +1,29 @@
 //! The lines of an area as a graph, in the language DOT of Graphviz.
-ghost use Rattle.std.specs.Prelude.{◌≡◌, ◌++◌, OnOk};
+ghost use Rattle.std.specs.Prelude.{◌≡◌, ◌++◌, IfOk, OnOk};
 ghost use Rattle.std.specs.List.{flat_map};
-ghost use Rattle.echo_print.specs.Pictured.{carrier_marks, ends_text, head_lines, link_line, loop_marks, picture_lines, quoted, quoted_byte, side_marks, system_line, system_marks};
+ghost use Rattle.echo_print.specs.Pictured.{carrier_marks, ends_text, head_lines, is_at, later_step, link_line, loop_marks, picture_lines, quoted, quoted_byte, side_marks, steps_at, steps_label, system_line, system_marks};
 
 use crate::verdict_text::push_verdict_text;
 use echo_escape::{push_word, written};
-use echo_net::{Drawing, DrawnLink, DrawnSystem, Mark, Sides, Verdict};
+use echo_net::{Crossing, Drawing, DrawnLink, DrawnSystem, Mark, Sides, Verdict};
 use std::alloc::{AllocError, Global};
 use std::io::Write;
 
-/// Adds all lines of a drawing in the language DOT, with the tag as its name and the verdict as its label.
+/// Adds all lines of a drawing in the language DOT, with the tag as its name and the verdict as its label. A
+/// link has the steps at which a message crosses it as its label.
 pub fn push_picture(
     alloc: Global,
     lines: &mut Vec<u8>,
     tag: &[u8],
     verdict: &Verdict,
     drawing: &Drawing,
+    crossings: &[Crossing],
 ) -> Result<(), AllocError>
-    ensures { OnOk result (lines.new.items ≡ lines.old.items ++ picture_lines tag.now verdict.now drawing.now) }
+    ensures { OnOk result (lines.new.items ≡ lines.old.items ++ picture_lines tag.now verdict.now drawing.now crossings.now) }
 {
     push_head(alloc, lines, tag, verdict)?;
     push_systems(lines, drawing.systems.as_slice())?;
-    push_links(lines, drawing.links.as_slice())?;
+    push_links(alloc, lines, drawing.links.as_slice(), crossings)?;
     lines.extend_from_slice(b"}\n")
 }
 
@@ -114,21 +116,33 @@ fn system_marks(mark: Mark) -> &'static [u8]
 }
 
 // Adds the line of each of these links.
-fn push_links(lines: &mut Vec<u8>, links: &[DrawnLink]) -> Result<(), AllocError>
-    ensures { OnOk result (lines.new.items ≡ lines.old.items ++ flat_map link_line links.now) }
+fn push_links(
+    alloc: Global,
+    lines: &mut Vec<u8>,
+    links: &[DrawnLink],
+    crossings: &[Crossing],
+) -> Result<(), AllocError>
+    ensures { OnOk result (lines.new.items ≡ lines.old.items ++ flat_map (link_line crossings.now) links.now) }
 {
     'links: for link in links {
-        push_link(lines, *link)?;
+        push_link(alloc, lines, *link, crossings)?;
     }
     Ok(())
 }
 
-fn push_link(lines: &mut Vec<u8>, link: DrawnLink) -> Result<(), AllocError>
-    ensures { OnOk result (lines.new.items ≡ lines.old.items ++ link_line link) }
+fn push_link(
+    alloc: Global,
+    lines: &mut Vec<u8>,
+    link: DrawnLink,
+    crossings: &[Crossing],
+) -> Result<(), AllocError>
+    ensures { OnOk result (lines.new.items ≡ lines.old.items ++ link_line crossings.now link) }
 {
+    let steps = steps_at(alloc, link, crossings)?;
     push_ends(lines, link)?;
     lines.extend_from_slice(side_marks(link.sides))?;
     lines.extend_from_slice(loop_marks(link.on_loop))?;
+    push_label(lines, &steps)?;
     lines.extend_from_slice(b";\n")
 }
 
@@ -161,4 +175,54 @@ fn loop_marks(on_loop: bool) -> &'static [u8]
     } else {
         b""
     }
+}
+
+// The steps at which a message crosses the link, either way.
+fn steps_at(
+    alloc: Global,
+    link: DrawnLink,
+    crossings: &[Crossing],
+) -> Result<Vec<usize>, AllocError>
+    ensures { IfOk result (λ steps. steps.items ≡ steps_at link crossings.now) }
+{
+    let mut steps = Vec::new(alloc);
+    'crossings: for crossing in crossings {
+        if is_at(link, *crossing) {
+            steps.push(crossing.step)?;
+        }
+    }
+    Ok(steps)
+}
+
+// Whether the message crosses this link, either way.
+fn is_at(link: DrawnLink, crossing: Crossing) -> bool
+    ensures { result ≡ is_at link crossing }
+{
+    let forth = crossing.from == link.one && crossing.to == link.other;
+    let back = crossing.from == link.other && crossing.to == link.one;
+    forth || back
+}
+
+// Adds these steps as a label, if there are any.
+fn push_label(lines: &mut Vec<u8>, steps: &[usize]) -> Result<(), AllocError>
+    ensures { OnOk result (lines.new.items ≡ lines.old.items ++ steps_label steps.now) }
+{
+    match steps.split_first() {
+        None => Ok(()),
+        Some((first, later)) => {
+            written(write!(lines, " [label=\"{first}"))?;
+            push_later(lines, later)?;
+            lines.extend_from_slice(b"\"]")
+        }
+    }
+}
+
+// Adds each of these steps after a comma.
+fn push_later(lines: &mut Vec<u8>, steps: &[usize]) -> Result<(), AllocError>
+    ensures { OnOk result (lines.new.items ≡ lines.old.items ++ flat_map later_step steps.now) }
+{
+    'steps: for step in steps {
+        written(write!(lines, ",{step}"))?;
+    }
+    Ok(())
 }

@@ -1,9 +1,9 @@
 -- What `export` prints of the messages of a base, and what it answers.
 use Rattle.std.specs.Prelude.{◌≡◌, ℕ, zero, suc, ◌+◌, ◌==◌, ◌&&◌, nat_le, Bool, true, false, List, [], ◌++◌, length, codes, decimal, if◌then◌else◌, slice_get, Option, Some, None, option_map, Result}
-use Rattle.echo_charset.specs.Losses.{lost}
 use Rattle.echo_export.specs.declared.json_line.State.{State}
 use Rattle.echo_export.specs.declared.json_line.State.TheVariants.{Purged, Scanned, Waiting}
-use Rattle.echo_export.specs.JsonLine.{json_line}
+use Rattle.echo_export.specs.declared.form.Form.{Form}
+use Rattle.echo_export.specs.Forms.{message_lost, message_text}
 use Rattle.echo_filed.specs.Filed.{Filed}
 use Rattle.echo_links.specs.Links.{upper}
 use Rattle.echo_print.specs.BaseListed.{is_asked, is_purged}
@@ -33,36 +33,42 @@ abbrev pub is_sought : Option (List ℕ) → ℕ → Bool → ℕ → ℕ → Fi
 is_sought area first purged cursor i m = is_asked area first i m && is_exported purged (state_of cursor i m)
 
 -- what is printed of the message of this number, if there is one
-abbrev pub sought_text : Option (List ℕ) → ℕ → Bool → ℕ → ℕ → Option Filed → List ℕ
-sought_text area first purged cursor i None = []
-sought_text area first purged cursor i (Some m) =
-    if is_sought area first purged cursor i m then json_line i (state_of cursor i m) m else []
+abbrev pub sought_text : Form → Option (List ℕ) → ℕ → Bool → ℕ → ℕ → Option Filed → List ℕ
+sought_text form area first purged cursor i None = []
+sought_text form area first purged cursor i (Some m) =
+    if is_sought area first purged cursor i m then message_text form i (state_of cursor i m) m else []
 
--- the lines of the first so many messages
-abbrev pub sought_texts : Option (List ℕ) → ℕ → Bool → ℕ → List Filed → ℕ → List ℕ
-sought_texts area first purged cursor base zero = []
-sought_texts area first purged cursor base (suc n) =
-    sought_texts area first purged cursor base n ++ sought_text area first purged cursor n (slice_get base n)
+-- how many U+FFFD are counted in it
+abbrev pub sought_count : Form → Option (List ℕ) → ℕ → Bool → ℕ → ℕ → Option Filed → ℕ
+sought_count form area first purged cursor i None = 0
+sought_count form area first purged cursor i (Some m) =
+    if is_sought area first purged cursor i m then message_lost form i (state_of cursor i m) m else 0
 
--- how many U+FFFD stand in them, line by line
-abbrev pub sought_lost : Option (List ℕ) → ℕ → Bool → ℕ → List Filed → ℕ → ℕ
-sought_lost area first purged cursor base zero = 0
-sought_lost area first purged cursor base (suc n) =
-    sought_lost area first purged cursor base n + lost (sought_text area first purged cursor n (slice_get base n))
+-- what is printed of the first so many messages
+abbrev pub sought_texts : Form → Option (List ℕ) → ℕ → Bool → ℕ → List Filed → ℕ → List ℕ
+sought_texts form area first purged cursor base zero = []
+sought_texts form area first purged cursor base (suc n) =
+    sought_texts form area first purged cursor base n ++ sought_text form area first purged cursor n (slice_get base n)
 
--- The base file has no fault, these are the lines of its messages, and so many U+FFFD stand in them. The area is
--- asked for in letters of either case.
-pub record IsBaseExported (area : Option (List ℕ)) (first : ℕ) (purged : Bool) (base : List ℕ) (lines : List ℕ) (count : ℕ) : Type 0 where
+-- how many U+FFFD are counted, message by message
+abbrev pub sought_lost : Form → Option (List ℕ) → ℕ → Bool → ℕ → List Filed → ℕ → ℕ
+sought_lost form area first purged cursor base zero = 0
+sought_lost form area first purged cursor base (suc n) =
+    sought_lost form area first purged cursor base n + sought_count form area first purged cursor n (slice_get base n)
+
+-- The base file has no fault, these are its messages in this form, and so many U+FFFD were counted in them. The
+-- area is asked for in letters of either case.
+pub record IsBaseExported (form : Form) (area : Option (List ℕ)) (first : ℕ) (purged : Bool) (base : List ℕ) (lines : List ℕ) (count : ℕ) : Type 0 where
   pub messages : List Filed
   pub cursor : ℕ
   pub given : IsBaseGiven (Some base) messages cursor
-  pub printed : lines ≡ sought_texts (option_map upper area) first purged cursor messages (length messages)
-  pub counted : count ≡ sought_lost (option_map upper area) first purged cursor messages (length messages)
+  pub printed : lines ≡ sought_texts form (option_map upper area) first purged cursor messages (length messages)
+  pub counted : count ≡ sought_lost form (option_map upper area) first purged cursor messages (length messages)
 
 -- what is answered where a base is to be exported
-abbrev pub ExportAnswers : Option (List ℕ) → ℕ → Bool → List ℕ → Output → Output → Result ℕ Fault → Type 0
-ExportAnswers area first purged base old new answer =
-    AnswersInPieces (IsBaseExported area first purged base) (IsBaseFault (Some base)) old new answer
+abbrev pub ExportAnswers : Form → Option (List ℕ) → ℕ → Bool → List ℕ → Output → Output → Result ℕ Fault → Type 0
+ExportAnswers form area first purged base old new answer =
+    AnswersInPieces (IsBaseExported form area first purged base) (IsBaseFault (Some base)) old new answer
 
 -- the line on standard error that tells how many U+FFFD were printed
 abbrev pub lost_line : ℕ → List ℕ

@@ -1,29 +1,29 @@
 //! The command `export`: the messages of a base for other programs.
 ghost use Rattle.std.specs.Prelude.{◌≡◌, ◌<◌, ◌^◌, ◌++◌, IfErr, IfOk, OnOk, OnErr, length, option_copied};
-ghost use Rattle.echo_charset.specs.Losses as losses;
 ghost use Rattle.echo_status.specs.Devices.{output_of};
 ghost use Rattle.echo_status.specs.Ended.{Stops};
 ghost use Rattle.echo_status.specs.Lines.{PassesOn, WritesFront};
-ghost use Rattle.echo_reading.specs.Exporting.{ExportAnswers, is_exported, is_sought, lost_line, sought_lost, sought_text, sought_texts, state_of};
+ghost use Rattle.echo_reading.specs.Exporting.{ExportAnswers, is_exported, is_sought, lost_line, sought_count, sought_lost, sought_text, sought_texts, state_of};
 
 use crate::listing::{base_read, is_of_area, raised};
 use echo_addr::Items;
 use echo_base::Base;
 use echo_device::Sink;
 use echo_escape::written;
-use echo_export::{State, push_json};
+use echo_export::{Form, State, push_message};
 use echo_filed::{Filed, is_stub};
 use echo_status::{Fault, pass_on, print_rest};
 use std::alloc::{AllocError, Global};
 use std::hash::BuildHasher;
 use std::io::Write;
 
-/// `export [--area TAG] [--from I] [--purged] --json BASE`: prints the messages of a base, a line of JSON each,
-/// those of the area where one is given, from the number `first` on. Of those that a purge left there is none
-/// unless they are asked for. The answer is how many U+FFFD were printed, for what the charsets of messages do
+/// `export [--area TAG] [--from I] [--purged] [--mbox | --json] BASE`: prints the messages of a base in a form, those
+/// of the area where one is given, from the number `first` on. Of those that a purge left there is none unless
+/// they are asked for. The answer is how many U+FFFD were printed, for what the charsets of messages do
 /// not have. Of a faulty base nothing is printed.
 pub fn export<'a, S: BuildHasher + Drop, W: Sink>(
     alloc: Global,
+    form: Form,
     area: Option<&[u8]>,
     first: u64,
     purged: bool,
@@ -31,12 +31,21 @@ pub fn export<'a, S: BuildHasher + Drop, W: Sink>(
     hasher: S,
     out: &mut W,
 ) -> Result<u128, Fault<'a>>
-    ensures { ExportAnswers (option_copied area.entry) first purged base.now (output_of W.contents W.failures W.holds out.old) (output_of W.contents W.failures W.holds out.new) result }
+    ensures { ExportAnswers form (option_copied area.entry) first purged base.now (output_of W.contents W.failures W.holds out.old) (output_of W.contents W.failures W.holds out.new) result }
 {
     let base = base_read(alloc, base, hasher)?;
     let area = raised(alloc, area)?;
     let mut lines = Vec::new(alloc);
-    let count = print_sought(alloc, area.as_ref(), first, purged, &base, &mut lines, out)?;
+    let count = print_sought(
+        alloc,
+        form,
+        area.as_ref(),
+        first,
+        purged,
+        &base,
+        &mut lines,
+        out,
+    )?;
     print_rest(&mut lines, out)?;
     Ok(count)
 }
@@ -61,10 +70,11 @@ fn push_lost(line: &mut Vec<u8>, count: u128) -> Result<(), AllocError>
     written(writeln!(line, "echonet: {count} characters replaced by U+FFFD"))
 }
 
-// Prints the lines of the messages that are asked for, and counts the U+FFFD in them; the last ones stay in
+// Prints the messages that are asked for, and counts the U+FFFD in them; the last ones stay in
 // `lines`.
 fn print_sought<'a, S: BuildHasher, W: Sink>(
     alloc: Global,
+    form: Form,
     area: Option<&Items<u8>>,
     first: u64,
     purged: bool,
@@ -72,9 +82,9 @@ fn print_sought<'a, S: BuildHasher, W: Sink>(
     lines: &mut Vec<u8>,
     out: &mut W,
 ) -> Result<u128, Fault<'a>>
-    ensures lines { OnOk result (PassesOn (lines.old.items ++ sought_texts (option_copied area.entry) first purged base.now.cursor base.now.messages (length base.now.messages)) lines.new.items (W.contents out.old) (W.contents out.new)) }
-    ensures count { IfOk result (λ n. n ≡ sought_lost (option_copied area.entry) first purged base.now.cursor base.now.messages (length base.now.messages)) }
-    ensures begun { OnErr result (WritesFront (lines.old.items ++ sought_texts (option_copied area.entry) first purged base.now.cursor base.now.messages (length base.now.messages)) (W.contents out.old) (W.contents out.new)) }
+    ensures lines { OnOk result (PassesOn (lines.old.items ++ sought_texts form (option_copied area.entry) first purged base.now.cursor base.now.messages (length base.now.messages)) lines.new.items (W.contents out.old) (W.contents out.new)) }
+    ensures count { IfOk result (λ n. n ≡ sought_lost form (option_copied area.entry) first purged base.now.cursor base.now.messages (length base.now.messages)) }
+    ensures begun { OnErr result (WritesFront (lines.old.items ++ sought_texts form (option_copied area.entry) first purged base.now.cursor base.now.messages (length base.now.messages)) (W.contents out.old) (W.contents out.new)) }
     ensures ok { OnOk result (W.failures out.new ≡ W.failures out.old) }
     ensures err { IfErr result (Stops (W.failures out.old) (W.failures out.new)) }
 {
@@ -82,15 +92,18 @@ fn print_sought<'a, S: BuildHasher, W: Sink>(
     let mut count: u128 = 0;
     'messages: for i in 0..base.len() {
         let message = base.message(i);
-        let more = print_one(alloc, area, first, purged, cursor, i, message, lines, out)?;
+        let more = print_one(
+            alloc, form, area, first, purged, cursor, i, message, lines, out,
+        )?;
         count += more as u128;
     }
     Ok(count)
 }
 
-// Prints the line of the message of this number, if it is asked for, and counts the U+FFFD in it.
+// Prints the message of this number, if it is asked for, and counts the U+FFFD in it.
 fn print_one<'a, W: Sink>(
     alloc: Global,
+    form: Form,
     area: Option<&Items<u8>>,
     first: u64,
     purged: bool,
@@ -100,10 +113,10 @@ fn print_one<'a, W: Sink>(
     lines: &mut Vec<u8>,
     out: &mut W,
 ) -> Result<usize, Fault<'a>>
-    ensures lines { OnOk result (PassesOn (lines.old.items ++ sought_text (option_copied area.entry) first purged cursor i (option_copied message.entry)) lines.new.items (W.contents out.old) (W.contents out.new)) }
-    ensures count { IfOk result (λ n. n ≡ losses.lost (sought_text (option_copied area.entry) first purged cursor i (option_copied message.entry))) }
+    ensures lines { OnOk result (PassesOn (lines.old.items ++ sought_text form (option_copied area.entry) first purged cursor i (option_copied message.entry)) lines.new.items (W.contents out.old) (W.contents out.new)) }
+    ensures count { IfOk result (λ n. n ≡ sought_count form (option_copied area.entry) first purged cursor i (option_copied message.entry)) }
     ensures few { IfOk result (λ n. n < 2 ^ 64) }
-    ensures begun { OnErr result (WritesFront (lines.old.items ++ sought_text (option_copied area.entry) first purged cursor i (option_copied message.entry)) (W.contents out.old) (W.contents out.new)) }
+    ensures begun { OnErr result (WritesFront (lines.old.items ++ sought_text form (option_copied area.entry) first purged cursor i (option_copied message.entry)) (W.contents out.old) (W.contents out.new)) }
     ensures ok { OnOk result (W.failures out.new ≡ W.failures out.old) }
     ensures err { IfErr result (Stops (W.failures out.old) (W.failures out.new)) }
 {
@@ -113,7 +126,7 @@ fn print_one<'a, W: Sink>(
     if !is_sought(area, first, purged, cursor, i, message) {
         return Ok(0);
     }
-    let count = push_json(alloc, lines, i, state_of(cursor, i, message), message)?;
+    let count = push_message(alloc, lines, form, i, state_of(cursor, i, message), message)?;
     pass_on(lines, out)?;
     Ok(count)
 }

@@ -3,3 +3,4 @@ pub mod Explained
 pub mod Reasoning
 pub mod Replayed
 pub mod Replaying
+pub mod PicturingWhy

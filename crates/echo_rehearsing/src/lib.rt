@@ -5,13 +5,16 @@
 //! where that has the fault; and standard output failed where the answer says so, and only there.
 //!
 //! Modules in reading order, each named for its command: `reasoning` and `why_text` (`why`: a run that goes
-//! wrong, and its lines), `replaying` and `replay_text` (`replay`: what becomes of a net, and its lines).
+//! wrong, and its lines), `picturing_why` (`picture --why`: the same, drawn), `replaying` and `replay_text`
+//! (`replay`: what becomes of a net, and its lines).
 #![tactic(auto)]
 
+mod picturing_why;
 mod reasoning;
 mod replay_text;
 mod replaying;
 mod why_text;
 
+pub use picturing_why::picture_why;
 pub use reasoning::why;
 pub use replaying::replay;

@@ -105,15 +105,19 @@ unfolding received
 has_key-received sender q tag id = has_key (received sender q) tag id
 
 -- a packet that is read from its bytes
-pub same_messages : (p : Packet) (bytes : List ℕ) (found : Found) → Fits p → bytes ≡ encoded p →
-    ((other : Answer) → Describes unlimited bytes other → AnswersAsDescribed (Ok found) other) → found.1 ≡ p.messages
-same_messages p bytes found fits is only =
+pub same_parts : (p : Packet) (bytes : List ℕ) (found : Found) → Fits p → bytes ≡ encoded p →
+    ((other : Answer) → Describes unlimited bytes other → AnswersAsDescribed (Ok found) other) → found ≡ (p.header, p.messages, length bytes)
+same_parts p bytes found fits is only =
     let Is : List ℕ → Type 0 = λ bs. PacketOf unlimited p.header p.messages bs in
     let whole = take_all (length bytes) bytes (omega arith) in
     elim (only (Ok (p.header, p.messages, length bytes)) (omega arith, subst Is (is-bytes whole) fits)) [
       | inl memory ↦ absurd (cc)
-      | inr same ↦ (let here : found ≡ (p.header, p.messages, length bytes) = cc in ap (λ (f : Found). f.1) here)
+      | inr same ↦ (let here : found ≡ (p.header, p.messages, length bytes) = cc in here)
     ]
   where
     is-bytes : take (length bytes) bytes ≡ bytes → encoded p ≡ take (length bytes) bytes
     is-bytes whole = sym is ∙ sym whole
+
+pub same_messages : (p : Packet) (bytes : List ℕ) (found : Found) → Fits p → bytes ≡ encoded p →
+    ((other : Answer) → Describes unlimited bytes other → AnswersAsDescribed (Ok found) other) → found.1 ≡ p.messages
+same_messages p bytes found fits is only = ap (λ (f : Found). f.1) (same_parts p bytes found fits is only)

@@ -8,3 +8,4 @@ pub mod Complete
 pub mod Guessing
 pub mod FirstScans
 pub mod OfBytes
+pub mod Bringing

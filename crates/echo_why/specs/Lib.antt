@@ -4,3 +4,4 @@ pub mod Found
 pub mod Resting
 pub mod Guesses
 pub mod Exact
+pub mod Carrying

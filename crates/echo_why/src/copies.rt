@@ -62,8 +62,8 @@ fn copies_to(
     }
 }
 
-// Whether the packet of this index is for the address.
-fn is_for(world: &World, k: usize, to: Address) -> bool
+/// Whether the packet of this index is for the address.
+pub(crate) fn is_for(world: &World, k: usize, to: Address) -> bool
     ensures { (run : Run) → IsWorldOf world.now run → (p : Packet) → nth k run.packets ≡ Some p → result ≡ same_address (destination p) to }
 {
     match world.packet_to(k) {
@@ -90,8 +90,8 @@ fn messages_in(alloc: Global, bytes: &[u8]) -> Result<Vec<Packed>, AllocError>
     }
 }
 
-// How many of these messages are copies of it, whoever sent them.
-fn count_copies(
+/// How many of these messages are copies of it, whoever sent them.
+pub(crate) fn count_copies(
     alloc: Global,
     messages: &[Packed],
     tag: &[u8],

@@ -8,10 +8,11 @@
 //! `guess`, `judging` (whether a guess is right of a net), `events` and `confirming` (a plan is tried);
 //! `sketch` (how a message would spread), `needed` (which moves a guess needs), `circle` (a short loop),
 //! `planning` (whose posting is tried) and `finding` (the plan, tried); `sources` (link files from bytes),
-//! `first_scans`, `rounds` and `trying` (systems post in turn) and `explaining` (the whole); `laws` (what
-//! holds of what is shown).
+//! `first_scans`, `rounds` and `trying` (systems post in turn) and `explaining` (the whole); `carrying` (which
+//! packets bring the message where it does harm); `laws` (what holds of what is shown).
 #![tactic(auto)]
 
+mod carrying;
 mod circle;
 mod confirming;
 mod copies;
@@ -30,6 +31,7 @@ mod sketch;
 mod sources;
 mod trying;
 
+pub use carrying::crossings;
 pub use explaining::explain;
 pub use finding::find_harm;
 pub use laws::shown_runs_break_the_promise;

@@ -17,6 +17,8 @@ macro_rules! ending {
 enum Form {
     /// `--NAME`
     Flag,
+    /// the same, where this option does not stand
+    FlagUnless(&'static str),
     /// `--NAME VALUE`, or nothing
     Option(&'static str),
     /// `--NAME VALUE`
@@ -144,7 +146,16 @@ const LOOKING: &[Entry] = &[
         "picture",
         "Prints an area as a graph that Graphviz draws, with what is wrong marked",
         ending!("echonet picture TEST links/* | dot -Tsvg > area.svg"),
-        &[LINKS_FROM, TAG, ALL_LINKS],
+        &[
+            Word(
+                "why",
+                Form::Flag,
+                "Labels links with the events of why that send what goes wrong over them",
+            ),
+            LINKS_FROM,
+            TAG,
+            ALL_LINKS,
+        ],
     ),
 ];
 
@@ -241,8 +252,8 @@ const READING: &[Entry] = &[
     ),
     Entry(
         "export",
-        "Prints the messages of a base for other programs, a line of JSON each",
-        ending!("echonet export --json --area TEST base | jq .subject"),
+        "Prints the messages of a base for other programs: mail programs, or those that read JSON",
+        ending!("echonet export --area TEST base > test.mbox"),
         &[
             Word(
                 "area",
@@ -254,7 +265,16 @@ const READING: &[Entry] = &[
                 Form::Option("I"),
                 "Prints from the message of this number on, counted from 0",
             ),
-            Word("json", Form::Flag, "Prints a line of JSON for each message"),
+            Word(
+                "mbox",
+                Form::FlagUnless("json"),
+                "Prints a mailbox, as it does without this word, too",
+            ),
+            Word(
+                "json",
+                Form::FlagUnless("mbox"),
+                "Prints a line of JSON for each message",
+            ),
             Word(
                 "purged",
                 Form::Flag,
@@ -285,6 +305,10 @@ fn argument<'a>(alloc: Global, word: Word) -> Result<Arg<'a>, AllocError> {
     let arg = Arg::new(alloc, name).help(help);
     Ok(match form {
         Form::Flag => arg.long(name).action(ArgAction::SetTrue),
+        Form::FlagUnless(other) => {
+            let flag = arg.long(name).action(ArgAction::SetTrue);
+            flag.conflicts_with(other)?
+        }
         Form::Option(value) => arg.long(name).value_name(value),
         Form::Needed(value) => arg.long(name).value_name(value).required(true),
         Form::One => arg.required(true),

@@ -22,6 +22,7 @@ pub enum Words<'a> {
     },
     Check(CheckWords<'a>),
     Picture {
+        why: bool,
         tag: &'a str,
         links: Paths<'a>,
     },
@@ -165,6 +166,7 @@ fn check_words<'a>(
 
 fn picture_words<'a>(matches: &ArgMatches<'a>, links: Paths<'a>) -> Option<Words<'a>> {
     Some(Words::Picture {
+        why: matches.get_flag("why"),
         tag: matches.get_str("TAG")?,
         links,
     })

@@ -13,8 +13,9 @@ mod station;
 use echo_base::BaseFault;
 use echo_checking::{check, check_all, picture};
 use echo_device::{Sink, Watched};
+use echo_export::Form;
 use echo_reading::{export, list, nodelist, show, tell_lost};
-use echo_rehearsing::{replay, why};
+use echo_rehearsing::{picture_why, replay, why};
 use echo_status::{Fault, Status, ended, number_of, wanted};
 use echo_words::{CheckWords, Ending, ExportWords, Words, explain, parse};
 use inputs::{MAX_INPUT, read_file, read_given, read_if_given, read_links, read_script};
@@ -22,7 +23,6 @@ use judging::run_links;
 use paths::{PathNames, names_of};
 use station::{run_post, run_purge, run_scan, run_toss};
 use std::collections::hash_map::RandomState;
-use std::io::Write;
 use std::process::ExitCode;
 use std::{env, io};
 
@@ -68,31 +68,43 @@ fn run_check<'a, W: Sink>(
     }
 }
 
-// `why TAG LINKS...`. A seed for the hasher that cannot be had is a failed read of the first link file.
+// The hasher. A seed for it that cannot be had is a failed read of the first link file.
+fn hasher_for<'a>(rt: &HostRuntime, links: &'a PathNames<'a>) -> Result<RandomState, Fault<'a>> {
+    let first = match links.names.first() {
+        Some(name) => name.shown(),
+        None => "-",
+    };
+    RandomState::new(rt).map_err(|_| Fault::CannotUse(first))
+}
+
+// `why TAG LINKS...`
 fn run_why<'a, W: Sink>(
     rt: &HostRuntime,
     tag: &'a str,
     links: &'a PathNames<'a>,
     out: &mut W,
 ) -> Result<Status, Fault<'a>> {
-    let first = match links.names.first() {
-        Some(name) => name.shown(),
-        None => "-",
-    };
-    let hasher = RandomState::new(rt).map_err(|_| Fault::CannotUse(first))?;
+    let hasher = hasher_for(rt, links)?;
     let (files, stopped) = read_links(rt, links);
     why(rt.alloc(), tag.as_bytes(), &files, stopped, hasher, out)
 }
 
-// `picture TAG LINKS...`
+// `picture [--why] TAG LINKS...`
 fn run_picture<'a, W: Sink>(
     rt: &HostRuntime,
+    with_why: bool,
     tag: &'a str,
     links: &'a PathNames<'a>,
     out: &mut W,
 ) -> Result<Status, Fault<'a>> {
-    let (files, stopped) = read_links(rt, links);
-    picture(rt.alloc(), tag.as_bytes(), &files, stopped, out)
+    if with_why {
+        let hasher = hasher_for(rt, links)?;
+        let (files, stopped) = read_links(rt, links);
+        picture_why(rt.alloc(), tag.as_bytes(), &files, stopped, hasher, out)
+    } else {
+        let (files, stopped) = read_links(rt, links);
+        picture(rt.alloc(), tag.as_bytes(), &files, stopped, out)
+    }
 }
 
 // `list [--area TAG] [--from I] BASE`: the number is judged first, then the base. A seed for the hasher that
@@ -114,7 +126,7 @@ fn run_list<'a, W: Sink>(
     list(rt.alloc(), area, first, &bytes, hasher, out)
 }
 
-// `export [--area TAG] [--from I] [--purged] --json BASE`, judged as `list` is.
+// `export [--area TAG] [--from I] [--purged] [--mbox | --json] BASE`, judged as `list` is.
 fn export_given<'a, W: Sink>(
     rt: &HostRuntime,
     words: &ExportWords<'a>,
@@ -126,8 +138,22 @@ fn export_given<'a, W: Sink>(
     };
     let hasher = RandomState::new(rt).map_err(|_| Fault::Base(BaseFault::Read))?;
     let bytes = read_file(rt, words.base, usize::MAX)?;
+    let form = if words.json {
+        Form::Json
+    } else {
+        Form::Mailbox
+    };
     let area = words.area.map(|tag| tag.as_bytes());
-    export(rt.alloc(), area, first, words.purged, &bytes, hasher, out)
+    export(
+        rt.alloc(),
+        form,
+        area,
+        first,
+        words.purged,
+        &bytes,
+        hasher,
+        out,
+    )
 }
 
 fn run_export<W: Sink, E: Sink>(
@@ -136,10 +162,6 @@ fn run_export<W: Sink, E: Sink>(
     out: &mut W,
     errors: &mut E,
 ) -> Status {
-    if !words.json {
-        let _ = writeln!(errors, "error: export has to be told --json");
-        return Status::CommandLine;
-    }
     match export_given(rt, words, out) {
         Ok(count) => {
             tell_lost(rt.alloc(), count, errors);
@@ -187,9 +209,10 @@ fn run_words<W: Sink, E: Sink>(
         ),
         Words::Links { areas, links } => run_links(rt, *areas, &names_of(rt, links), out, errors),
         Words::Why { tag, links } => ended(run_why(rt, *tag, &names_of(rt, links), out), errors),
-        Words::Picture { tag, links } => {
-            ended(run_picture(rt, *tag, &names_of(rt, links), out), errors)
-        }
+        Words::Picture { why, tag, links } => ended(
+            run_picture(rt, *why, *tag, &names_of(rt, links), out),
+            errors,
+        ),
         Words::Post(words) => run_post(rt, words, out, errors),
         Words::Toss(words) => run_toss(rt, words, out, errors),
         Words::Scan {

@@ -1,4 +1,4 @@
-use Rattle.std.proofs.Common.{◌≡◌, ◌++◌, ℕ, List, inl, refl, subst}
+use Rattle.std.proofs.Common.{◌≡◌, ◌++◌, ℕ, List, [], inl, refl, subst}
 use Rattle.std.proofs.lemmas.Result.{err_from_is_err_and}
 use Rattle.echo_links.specs.Links.{LinkFile}
 use Rattle.echo_net.specs.Drawn.{IsDrawing}
@@ -19,7 +19,7 @@ returns-in_err-print_rest g c =
     (record { tidy = found.tidy; counted = found.counted; first = found.first }) in
     let drawn = of_same (λ f t. IsDrawing f t verdict c.in_ok-drawing.drawing) c.deref-3.result.now files c.deref-4.result.now tag c.deref-3.ensures.value c.deref-4.ensures.value
     c.in_ok-drawing.ensures in
-    let lines = subst (λ (t : List ℕ). c.push_picture.new.lines.items ≡ c.new-lines.result.items ++ picture_lines t verdict c.in_ok-drawing.drawing) c.deref-5.ensures.value c.in_ok-push_picture.ensures in
+    let lines = subst (λ (t : List ℕ). c.push_picture.new.lines.items ≡ c.new-lines.result.items ++ picture_lines t verdict c.in_ok-drawing.drawing []) c.deref-5.ensures.value c.in_ok-push_picture.ensures in
     let right = was_pictured c.args.tag.now tag c.args.files.now files verdict c.in_ok-drawing.drawing _ _ (verdict_status verdict) c.in_ok-links.ensures.ok c.in_ok-tag.ensures.ok judged drawn
     c.new-lines.ensures.items lines refl in
     rw (p.1, p.2) (inl (
@@ -37,7 +37,7 @@ returns g c =
     (record { tidy = found.tidy; counted = found.counted; first = found.first }) in
     let drawn = of_same (λ f t. IsDrawing f t verdict c.in_ok-drawing.drawing) c.deref-3.result.now files c.deref-4.result.now tag c.deref-3.ensures.value c.deref-4.ensures.value
     c.in_ok-drawing.ensures in
-    let lines = subst (λ (t : List ℕ). c.push_picture.new.lines.items ≡ c.new-lines.result.items ++ picture_lines t verdict c.in_ok-drawing.drawing) c.deref-5.ensures.value c.in_ok-push_picture.ensures in
+    let lines = subst (λ (t : List ℕ). c.push_picture.new.lines.items ≡ c.new-lines.result.items ++ picture_lines t verdict c.in_ok-drawing.drawing []) c.deref-5.ensures.value c.in_ok-push_picture.ensures in
     let right = was_pictured c.args.tag.now tag c.args.files.now files verdict c.in_ok-drawing.drawing _ _ c.status_of.result c.in_ok-links.ensures.ok c.in_ok-tag.ensures.ok judged drawn
     c.new-lines.ensures.items lines c.status_of.ensures in
     record {

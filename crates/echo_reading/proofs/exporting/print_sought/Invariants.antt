@@ -6,8 +6,8 @@ use Rattle.echo_reading.proofs.exporting.print_sought.Given as goal
 
 abbrev pub invariant-messages : goal.invariant-messages
 invariant-messages g l = record {
-  printed : PassesOn (l.fn.lines.items ++ sought_texts (option_copied l.area) l.first l.purged l.base.cursor l.base.messages l.i) l.lines.items (g.W.Write.contents l.fn.out) (g.W.Write.contents l.out);
+  printed : PassesOn (l.fn.lines.items ++ sought_texts l.form (option_copied l.area) l.first l.purged l.base.cursor l.base.messages l.i) l.lines.items (g.W.Write.contents l.fn.out) (g.W.Write.contents l.out);
   failed : g.W.Sink.failures l.out ≡ g.W.Sink.failures l.fn.out;
-  counted : l.count ≡ sought_lost (option_copied l.area) l.first l.purged l.base.cursor l.base.messages l.i;
+  counted : l.count ≡ sought_lost l.form (option_copied l.area) l.first l.purged l.base.cursor l.base.messages l.i;
   bound : l.count ≤ l.i * 2 ^ 64;
 }

@@ -1,0 +1,19 @@
+-- The forms in which other programs are given messages.
+use Rattle.std.specs.Prelude.{ℕ, List}
+use Rattle.echo_charset.specs.Losses.{lost}
+use Rattle.echo_filed.specs.Filed.{Filed}
+use Rattle.echo_export.specs.declared.form.Form.{Form}
+use Rattle.echo_export.specs.declared.form.Form.TheVariants.{Json, Mailbox}
+use Rattle.echo_export.specs.declared.json_line.State.{State}
+use Rattle.echo_export.specs.JsonLine.{json_line}
+use Rattle.echo_export.specs.MailText.{mail_lost, mail_text}
+
+-- the message of this number in a form
+abbrev pub message_text : Form → ℕ → State → Filed → List ℕ
+message_text Mailbox i state m = mail_text m
+message_text Json i state m = json_line i state m
+
+-- how many U+FFFD stand in it
+abbrev pub message_lost : Form → ℕ → State → Filed → ℕ
+message_lost Mailbox i state m = mail_lost m
+message_lost Json i state m = lost (json_line i state m)

@@ -1,0 +1,34 @@
+//! The forms in which other programs are given messages.
+ghost use Rattle.std.specs.Prelude.{◌≡◌, ◌++◌, IfOk, OnOk};
+ghost use Rattle.echo_export.specs.Forms.{message_lost, message_text};
+
+use crate::json_line::{State, push_json};
+use crate::mail::push_mail;
+use echo_filed::Filed;
+use std::alloc::{AllocError, Global};
+
+/// A form of a message: a mail of a mailbox, or a line of JSON.
+#[derive(Clone, Copy, Debug, PartialEq, Eq)]
+pub enum Form {
+    Mailbox,
+    Json,
+}
+
+/// Adds the message of this number in this form. The answer is how many U+FFFD stand in it, for what the message's
+/// charset does not have.
+pub fn push_message(
+    alloc: Global,
+    lines: &mut Vec<u8>,
+    form: Form,
+    i: usize,
+    state: State,
+    message: &Filed,
+) -> Result<usize, AllocError>
+    ensures text { OnOk result (lines.new.items ≡ lines.old.items ++ message_text form i state message.now) }
+    ensures lost { IfOk result (λ n. n ≡ message_lost form i state message.now) }
+{
+    match form {
+        Form::Mailbox => push_mail(alloc, lines, message),
+        Form::Json => push_json(alloc, lines, i, state, message),
+    }
+}
