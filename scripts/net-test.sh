@@ -179,6 +179,20 @@ if [ -e one/outbound/$to_two.flo ]; then carry one $to_two two; fi
 toss two > /dev/null
 same "all has come, once" "7 42" "$(counts two)"
 
+# A serial that is looked for: those of the coming seconds are taken.
+mkdir four
+cp one/links four/
+second=$(date +%s)
+for number in $(seq 0 19); do
+  echo Taken | "$program" post --area TEST --to All --from Ann --subject "$number" \
+    --serial "$(printf '%08x' $((second + number)))" --at now four/links four/base > /dev/null
+done
+day() { LC_ALL=C date -u +'%d %b %y'; }
+today=$(day)
+same "the first serial that is free" "posted TEST 1:10/1 $(printf '%08x' $((second + 20)))" "$(post four Ann Free)"
+same "the moment of the clock" yes "$("$program" list --from 20 four/base \
+  | grep -q -e "^date $today" -e "^date $(day)" && echo yes)"
+
 # A reply and a refused posting.
 status=0
 post one Ann Refused "no id" 2> fault.txt || status=$?

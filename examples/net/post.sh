@@ -2,7 +2,7 @@
 # post.sh STATION AREA TO FROM SUBJECT [REPLY]: files a message, whose body is standard input. REPLY is the
 # MSGID of the message that is replied to.
 #
-# The moment is that of the clock. The serial is the clock's count of seconds, or the first after it that
+# The moment is that of the clock (UTC). The serial is the clock's count of seconds, or the first after it that
 # no message has, so that a station that lost its base does not give out old serials again. The program
 # is `echonet` of the PATH, or the one that ECHONET names.
 set -eu
@@ -12,25 +12,8 @@ if [ $# -lt 5 ] || [ $# -gt 6 ]; then
   exit 4
 fi
 station=$1 area=$2 to=$3 from=$4 subject=$5 reply=${6:-}
-program=${ECHONET:-echonet}
-body=$(mktemp)
-fault=$(mktemp)
-trap 'rm -f "$body" "$fault"' EXIT
-trap 'exit 3' HUP INT TERM
-cat > "$body"
 
 set -- "$station/links" "$station/base"
 if [ -n "$reply" ]; then set -- "--reply=$reply" "$@"; fi
-at=$(date +%Y-%m-%dT%H:%M:%S)
-number=$(date +%s)
-while true; do
-  status=0
-  "$program" post "--area=$area" "--to=$to" "--from=$from" "--subject=$subject" \
-    "--serial=$(printf '%08x' "$number")" "--at=$at" "$@" < "$body" 2> "$fault" || status=$?
-  if [ $status -eq 0 ]; then exit 0; fi
-  if ! grep -q '^echonet: B4 ' "$fault"; then
-    cat "$fault" >&2
-    exit $status
-  fi
-  number=$((number + 1))
-done
+exec "${ECHONET:-echonet}" post "--area=$area" "--to=$to" "--from=$from" "--subject=$subject" \
+  --serial auto --at now "$@"

@@ -133,8 +133,7 @@ hand_over() {
 
 drop_unfinished
 status=0
-at=$(date +%Y-%m-%dT%H:%M:%S)
-"$program" scan --at "$at" "$station/links" "$station/base" "$station/scanned" || status=$?
+"$program" scan --at now "$station/links" "$station/base" "$station/scanned" || status=$?
 if [ $status -ne 0 ]; then drop_unfinished; fi
 sync "$station"
 for packet in "$station"/scanned/*.pkt; do

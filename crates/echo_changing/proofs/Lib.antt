@@ -1,2 +1,3 @@
 pub mod Stationed
+pub mod FreeSerials
 pub mod Tossings

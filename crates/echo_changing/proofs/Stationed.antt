@@ -1,7 +1,6 @@
 -- What the commands that change a base answer, from what their parts do.
-use Rattle.std.proofs.Common.{◌≡◌, ℕ, ◌-◌, ◌≤◌, true, List, [], ◌∷◌, ◌++◌, map, length, Option, Some, None, Ok, Err, refl, ap, subst, ◌∙◌, arith, ◌⊎◌, inl, inr}
+use Rattle.std.proofs.Common.{◌≡◌, ℕ, ◌-◌, ◌≤◌, true, List, [], ◌∷◌, ◌++◌, map, length, Some, None, Result, Ok, Err, refl, ap, subst, ◌∙◌, arith, ◌⊎◌, inl, inr}
 use Rattle.std.specs.List.{flat_map}
-use Rattle.echo_addr.specs.declared.address.Address.{Address}
 use Rattle.echo_base.specs.Base.{IsBase}
 use Rattle.echo_base.specs.BaseFile.{is_countable, saved_bytes}
 use Rattle.echo_steps.specs.declared.draft.Draft.{Draft}
@@ -21,10 +20,10 @@ use Rattle.echo_steps.specs.declared.fault.ScanFault.TheVariants as scan
 use Rattle.echo_status.specs.declared.fault.Fault.{Fault}
 use Rattle.echo_status.specs.declared.fault.Fault.TheVariants.{Post, Scan}
 use Rattle.echo_status.specs.Devices.{Output}
-use Rattle.echo_status.specs.Ended.{IsOutOfMemory}
+use Rattle.echo_status.specs.Ended.{Answers, IsOutOfMemory}
 use Rattle.echo_changing.specs.Files.{only_base}
 use Rattle.echo_changing.specs.Handed.{Handed}
-use Rattle.echo_changing.specs.Posted.{IsPosted, PostAnswers, draft_given}
+use Rattle.echo_changing.specs.Posted.{IsLeft, IsPosted, PostAnswers, draft_given}
 use Rattle.echo_changing.specs.Purged.{IsPurged, PurgeAnswers}
 use Rattle.echo_changing.specs.Scanned.{IsScanned, ScanAnswers, file_sent, line_sent}
 use Rattle.echo_changing.specs.System.{IsSystemGiven, IsTooMany}
@@ -55,22 +54,20 @@ was_scanned stamp handed system left packets sent all waiting before bytes none 
     }
 
 -- the posting
-pub was_posted : (words : NewMessage) (handed : Handed) (body : List ℕ) (system left : SystemState) (draft : Draft) (own : Address) (bytes none lines : List ℕ) (files : Files)
+was_posted : (words : NewMessage) (handed : Handed) (body : List ℕ) (system left : SystemState) (draft : Draft) (lines : List ℕ) (files : Files)
     → IsSystemGiven handed.links handed.base system → draft ≡ draft_given words body
     → post_refusal system.file system.base words.tag.now draft words.serial words.stamp ≡ None
-    → left ≡ state_with system (Some (posted system.file words.tag.now draft words.serial words.stamp)) → own ≡ left.file.system → bytes ≡ saved_bytes left.base left.cursor
-    → is_countable left.base left.cursor ≡ true → none ≡ [] → lines ≡ none ++ posted_line words.tag.now (id_of own words.serial) → files ≡ only_base bytes
+    → left ≡ state_with system (Some (posted system.file words.tag.now draft words.serial words.stamp)) → IsLeft words.tag.now words.serial left lines files
     → IsPosted words handed body lines files
-was_posted words handed body system left draft own bytes none lines files given drafted allowed moved at saved few nothing whole are =
+was_posted words handed body system left draft lines files given drafted allowed moved is =
     let after = moved ∙ ap (λ (d : Draft). state_with system (Some (posted system.file words.tag.now d words.serial words.stamp))) drafted in
     record {
       system = system;
       given = given;
       allowed = subst (λ (d : Draft). post_refusal system.file system.base words.tag.now d words.serial words.stamp ≡ None) drafted allowed;
-      printed = alone none lines (posted_line words.tag.now (id_of own words.serial)) nothing whole
-          ∙ ap (λ (a : Address). posted_line words.tag.now (id_of a words.serial)) (at ∙ ap (λ (s : SystemState). s.file.system) after);
-      left = are ∙ ap only_base (saved ∙ ap (λ (s : SystemState). saved_bytes s.base s.cursor) after);
-      countable = subst (λ (s : SystemState). is_countable s.base s.cursor ≡ true) after few;
+      printed = is.printed ∙ ap (λ (s : SystemState). posted_line words.tag.now (id_of s.file.system words.serial)) after;
+      left = is.left ∙ ap (λ (s : SystemState). only_base (saved_bytes s.base s.cursor)) after;
+      countable = subst (λ (s : SystemState). is_countable s.base s.cursor ≡ true) after is.countable;
     }
 
 -- the purge
@@ -93,36 +90,52 @@ refused_draft : (words : NewMessage) (body : List ℕ) (system : SystemState) (d
 refused_draft words body system draft why drafted refused =
     subst (λ (d : Draft). post_refusal system.file system.base words.tag.now d words.serial words.stamp ≡ Some why) drafted refused
 
+-- a posting to which a refusal applies
+pub refusal_answered : (words : NewMessage) (handed : Handed) (body : List ℕ) (system : SystemState) (draft : Draft) (why : PostFault) (old : Output)
+    → IsSystemGiven handed.links handed.base system → handed.stopped ≡ None → draft ≡ draft_given words body
+    → post_refusal system.file system.base words.tag.now draft words.serial words.stamp ≡ Some why → PostAnswers words handed body old old (Err (Post why))
+refusal_answered words handed body system draft why old given went_on drafted refused =
+    inr (inr (inr (system, given, went_on, inl (why, refl, refused_draft words body system draft why drafted refused))), refl)
+
 -- a posting that is refused
 pub post_refused : (words : NewMessage) (handed : Handed) (body : List ℕ) (system left : SystemState) (draft : Draft)
     (why : PostFault) (old : Output) → IsSystemGiven handed.links handed.base system → handed.stopped ≡ None → draft ≡ draft_given words body
     → IsPostFault system.file system.base words.tag.now draft words.serial words.stamp why → PostAnswers words handed body old old (Err (Post why))
 post_refused words handed body system left draft post.Memory old given went_on drafted step = inr (inl tt, refl)
-post_refused words handed body system left draft post.NoArea old given went_on drafted step =
-    inr (inr (inr (system, given, went_on, inl (post.NoArea, refl, refused_draft words body system draft post.NoArea drafted step))), refl)
-post_refused words handed body system left draft post.ByteZero old given went_on drafted step =
-    inr (inr (inr (system, given, went_on, inl (post.ByteZero, refl, refused_draft words body system draft post.ByteZero drafted step))), refl)
-post_refused words handed body system left draft post.FieldTooLong old given went_on drafted step =
-    inr (inr (inr (system, given, went_on, inl (post.FieldTooLong, refl, refused_draft words body system draft post.FieldTooLong drafted step))), refl)
-post_refused words handed body system left draft post.BadStamp old given went_on drafted step =
-    inr (inr (inr (system, given, went_on, inl (post.BadStamp, refl, refused_draft words body system draft post.BadStamp drafted step))), refl)
-post_refused words handed body system left draft post.BadReply old given went_on drafted step =
-    inr (inr (inr (system, given, went_on, inl (post.BadReply, refl, refused_draft words body system draft post.BadReply drafted step))), refl)
-post_refused words handed body system left draft post.KnownSerial old given went_on drafted step =
-    inr (inr (inr (system, given, went_on, inl (post.KnownSerial, refl, refused_draft words body system draft post.KnownSerial drafted step))), refl)
+post_refused words handed body system left draft post.NoArea old given went_on drafted step = refusal_answered words handed body system draft post.NoArea old given went_on drafted step
+post_refused words handed body system left draft post.ByteZero old given went_on drafted step = refusal_answered words handed body system draft post.ByteZero old given went_on drafted step
+post_refused words handed body system left draft post.FieldTooLong old given went_on drafted step = refusal_answered words handed body system draft post.FieldTooLong old given went_on drafted step
+post_refused words handed body system left draft post.BadStamp old given went_on drafted step = refusal_answered words handed body system draft post.BadStamp old given went_on drafted step
+post_refused words handed body system left draft post.BadReply old given went_on drafted step = refusal_answered words handed body system draft post.BadReply old given went_on drafted step
+post_refused words handed body system left draft post.KnownSerial old given went_on drafted step = refusal_answered words handed body system draft post.KnownSerial old given went_on drafted step
 
--- a base that is not saved after the posting
-pub post_unsaved : (words : NewMessage) (handed : Handed) (body : List ℕ) (system left : SystemState) (draft : Draft)
-    (fault : Fault) (old : Output) → IsSystemGiven handed.links handed.base system → handed.stopped ≡ None → draft ≡ draft_given words body
+-- what is left and printed after the posting, or why not
+pub post_left : (words : NewMessage) (handed : Handed) (body : List ℕ) (system left : SystemState) (draft : Draft) (old new : Output) (answer : Result Files Fault)
+    → IsSystemGiven handed.links handed.base system → handed.stopped ≡ None → draft ≡ draft_given words body
     → post_refusal system.file system.base words.tag.now draft words.serial words.stamp ≡ None
-    → left ≡ state_with system (Some (posted system.file words.tag.now draft words.serial words.stamp)) → IsOutOfMemory fault ⊎ IsTooMany left.base left.cursor fault
-    → PostAnswers words handed body old old (Err fault)
-post_unsaved words handed body system left draft fault old given went_on drafted allowed_draft moved (inl none) = inr (inl none, refl)
-post_unsaved words handed body system left draft fault old given went_on drafted allowed_draft moved (inr many) =
-    let allowed = subst (λ (d : Draft). post_refusal system.file system.base words.tag.now d words.serial words.stamp ≡ None) drafted allowed_draft in
+    → left ≡ state_with system (Some (posted system.file words.tag.now draft words.serial words.stamp))
+    → Answers (IsLeft words.tag.now words.serial left) (IsTooMany left.base left.cursor) old new answer → PostAnswers words handed body old new answer
+post_left words handed body system left draft old new (Ok files) given went_on drafted allowed moved done = record {
+  lines = done.lines;
+  right = (was_posted words handed body system left draft done.lines files given drafted allowed moved done.right, went_on);
+  written = done.written;
+  flushed = done.flushed;
+}
+post_left words handed body system left draft old new (Err fault) given went_on drafted allowed moved (inl (broken, begun)) = inl (
+  broken,
+  record {
+    lines = begun.lines;
+    answer = begun.answer;
+    right = (was_posted words handed body system left draft begun.lines begun.answer given drafted allowed moved begun.right, went_on);
+    begun = begun.begun;
+  },
+)
+post_left words handed body system left draft old new (Err fault) given went_on drafted allowed moved (inr (inl none, same)) = inr (inl none, same)
+post_left words handed body system left draft old new (Err fault) given went_on drafted allowed moved (inr (inr many, same)) =
+    let right = subst (λ (d : Draft). post_refusal system.file system.base words.tag.now d words.serial words.stamp ≡ None) drafted allowed in
     let after = subst (λ (s : SystemState). IsTooMany s.base s.cursor fault) moved many in
     let great = subst (λ (d : Draft). IsTooMany (system.base ++ posted system.file words.tag.now d words.serial words.stamp ∷ []) system.cursor fault) drafted after in
-    inr (inr (inr (system, given, went_on, inr (allowed, great))), refl)
+    inr (inr (inr (system, given, went_on, inr (right, great))), same)
 
 -- a scan that is refused
 pub scan_refused : (stamp : Stamp) (handed : Handed) (system left : SystemState) (why : ScanFault) (old : Output)

@@ -5,6 +5,7 @@ pub mod System
 pub mod Scanned
 pub mod Purged
 pub mod Posted
+pub mod FreeSerial
 pub mod Coming
 pub mod TossedPacket
 pub mod Tossed

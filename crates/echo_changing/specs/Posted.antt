@@ -49,6 +49,12 @@ base_after system words body = system.base ++ posted system.file words.tag.now (
 abbrev pub refusal_given : SystemState → NewMessage → List ℕ → Option PostFault
 refusal_given system words body = post_refusal system.file system.base words.tag.now (draft_given words body) words.serial words.stamp
 
+-- a system at which a message was posted with this serial: the line of its tag and id, and its base, which four bytes count and which is to be written
+pub record IsLeft (tag : List ℕ) (serial : ℕ) (system : SystemState) (lines : List ℕ) (files : Files) : Type 0 where
+  pub printed : lines ≡ posted_line tag (id_of system.file.system serial)
+  pub left : files ≡ only_base (saved_bytes system.base system.cursor)
+  pub countable : is_countable system.base system.cursor ≡ true
+
 -- the posting at the system that the files make: the line of its tag and id, and the base with it, which four bytes count and which is to be written
 pub record IsPosted (words : NewMessage) (handed : Handed) (body : List ℕ) (lines : List ℕ) (files : Files) : Type 0 where
   pub system : SystemState

@@ -8,8 +8,8 @@
 //!
 //! Modules in reading order: `given` (the files of a system that a command is given), `leaving` (the files that
 //! a command leaves to be written), `system` (a link file and a base are read, and the base is written), `lines`
-//! (what is printed of what was done),
-//! `posting`, `scanning`, `purging`, `coming` (packet files) and `tossing` (they are tossed).
+//! (what is printed of what was done), `posting`, `serials` (a posting whose serial is looked for), `scanning`,
+//! `purging`, `coming` (packet files) and `tossing` (they are tossed).
 #![tactic(auto)]
 
 mod coming;
@@ -19,6 +19,7 @@ mod lines;
 mod posting;
 mod purging;
 mod scanning;
+mod serials;
 mod system;
 mod tossing;
 
@@ -28,4 +29,5 @@ pub use leaving::{Done, Files, PacketFile};
 pub use posting::{NewMessage, post};
 pub use purging::purge;
 pub use scanning::scan;
+pub use serials::post_free;
 pub use tossing::toss;

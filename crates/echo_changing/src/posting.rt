@@ -1,9 +1,10 @@
 ghost use Rattle.std.specs.Prelude.{◌≡◌, ◌++◌, None, IfOk, OnOk};
 ghost use Rattle.echo_status.specs.Devices.{output_of};
+ghost use Rattle.echo_status.specs.Ended.{Answers};
 ghost use Rattle.echo_changing.specs.Files.{Leaves};
 ghost use Rattle.echo_changing.specs.Handed.{Handed};
-ghost use Rattle.echo_changing.specs.Posted.{PostAnswers, draft_body, draft_byte, draft_given};
-ghost use Rattle.echo_changing.specs.System.{IsSystemGiven};
+ghost use Rattle.echo_changing.specs.Posted.{IsLeft, PostAnswers, draft_body, draft_byte, draft_given};
+ghost use Rattle.echo_changing.specs.System.{IsSystemGiven, IsTooMany};
 
 use crate::given::Given;
 use crate::leaving::{Done, Files, leave};
@@ -71,21 +72,32 @@ fn post_system<'a, S: BuildHasher, W: Sink>(
 {
     let draft = draft_of(alloc, words, body)?;
     system.post(words.tag, &draft, words.serial, words.stamp)?;
+    leave_posted(alloc, words.tag, words.serial, system, out)
+}
+
+/// Leaves the base of a system at which a message was posted with this serial, and prints its line.
+pub(crate) fn leave_posted<'a, S: BuildHasher, W: Sink>(
+    alloc: Global,
+    tag: &[u8],
+    serial: u32,
+    system: &Tosser<S>,
+    out: &mut W,
+) -> Result<Files, Fault<'a>>
+    ensures { Answers (IsLeft tag.now serial system.now) (IsTooMany system.now.base system.now.cursor) (output_of W.contents W.failures W.holds out.old) (output_of W.contents W.failures W.holds out.new) result }
+{
     let base = saved(alloc, system)?;
     let mut lines = Vec::new(alloc);
-    push_posted(
-        alloc,
-        &mut lines,
-        words.tag,
-        system.links().system(),
-        words.serial,
-    )?;
+    push_posted(alloc, &mut lines, tag, system.links().system(), serial)?;
     print_rest(&mut lines, out)?;
     Ok(Files::of_base(alloc, base))
 }
 
-// The draft of the words and the body.
-fn draft_of(alloc: Global, words: NewMessage<'_>, body: &[u8]) -> Result<Draft, AllocError>
+/// The draft of the words and the body.
+pub(crate) fn draft_of(
+    alloc: Global,
+    words: NewMessage<'_>,
+    body: &[u8],
+) -> Result<Draft, AllocError>
     ensures { IfOk result (λ draft. draft ≡ draft_given words.entry body.now) }
 {
     Ok(Draft {

@@ -3,6 +3,8 @@ mod Causes
 mod Looked
 mod Numbered
 mod OneMore
+mod Seen
 mod Single
 mod Staged
+mod Stated
 mod Whole

@@ -2,3 +2,4 @@ pub mod Added
 pub mod Answers
 pub mod Held
 pub mod Opened
+pub mod State

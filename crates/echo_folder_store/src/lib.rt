@@ -9,10 +9,12 @@ mod adding;
 mod alone;
 mod finding;
 mod folder;
+mod folder_store;
 mod laws;
 mod sought;
 
 pub use alone::{Alone, bytes_alone};
 pub use folder::Folder;
+pub use folder_store::FolderStore;
 pub use laws::one_message_more;
 pub use sought::{Id, Sought};

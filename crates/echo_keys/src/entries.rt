@@ -31,6 +31,14 @@ pub fn place_of(keys: &[u8], number: usize) -> u64
     number_at(keys, ENTRY * number)
 }
 
+/// The digest in the entry of the message of this number, counted from 0.
+pub fn digest_of(keys: &[u8], number: usize) -> u64
+    requires { number < length keys.now / 16 }
+    ensures { result ≡ digest_at keys.now number }
+{
+    number_at(keys, ENTRY * number + 8)
+}
+
 /// Where the message of this number ends: where the next one begins, or where all messages end.
 pub fn end_of(keys: &[u8], number: usize, all: u64) -> u64
     requires { number < length keys.now / 16 }

@@ -12,7 +12,7 @@ mod entries;
 mod laws;
 
 pub use digest::{Digest, bytes_of_key};
-pub use entries::{end_of, entry, next_with, place_of};
+pub use entries::{digest_of, end_of, entry, next_with, place_of};
 pub use laws::{
     each_message_has_its_entry, each_message_stands_where_told, equal_keys_have_one_digest,
 };

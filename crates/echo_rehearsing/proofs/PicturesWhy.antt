@@ -41,8 +41,8 @@ was_pictured_why tag t inputs files verdict drawing found crossings none lines s
       found = found;
       explained = was_explained tag t inputs files verdict found are raised judged_upper done.first;
       printed = alone none lines (picture_lines t verdict drawing crossings) nothing whole
-      ∙ ap (picture_lines t verdict drawing) crossed
-      ∙ (λ i. picture_lines (raised i) verdict drawing (found_crossings (given i) (raised i) found));
+          ∙ ap (picture_lines t verdict drawing) crossed
+          ∙ (λ i. picture_lines (raised i) verdict drawing (found_crossings (given i) (raised i) found));
       status_is = ended;
       tidy = (
         λ good. judged_upper.tidy.0 (good_is_yes verdict (sym ended ∙ good)),

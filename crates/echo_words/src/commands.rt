@@ -67,7 +67,7 @@ const BASE: Word = Word(
 const AT: Word = Word(
     "at",
     Form::Needed("STAMP"),
-    "The moment, as YYYY-MM-DDThh:mm:ss",
+    "The moment, as YYYY-MM-DDThh:mm:ss, or now",
 );
 
 // The commands that look at packets, lists and nets.
@@ -165,7 +165,7 @@ const CHANGING: &[Entry] = &[
         "post",
         "Files a message, whose body is standard input",
         ending!(
-            "echonet post --area TEST --to All --from Ann --subject Hi --serial 00000001 --at 2026-07-03T12:34:56 links base < body"
+            "echonet post --area TEST --to All --from Ann --subject Hi --serial auto --at now links base < body"
         ),
         &[
             Word("area", Form::Needed("TAG"), AREA),
@@ -175,7 +175,7 @@ const CHANGING: &[Entry] = &[
             Word(
                 "serial",
                 Form::Needed("HEX8"),
-                "The serial of its MSGID, new for each message",
+                "The serial of its MSGID, new for each message, or auto",
             ),
             AT,
             Word(
@@ -214,7 +214,7 @@ const CHANGING: &[Entry] = &[
     Entry(
         "scan",
         "Makes the packets of the messages that wait",
-        ending!("echonet scan --at 2026-07-03T12:34:56 links base outbound"),
+        ending!("echonet scan --at now links base outbound"),
         &[
             AT,
             LINKS,

@@ -1,8 +1,9 @@
 //! The program `echonet`: it reads the files that the command line names (`paths`, `inputs`), calls the
 //! commands (`judging`: `links`, which goes on where a file cannot be used), and puts what they leave in place
-//! (`station`, `packets`, `placing`).
+//! (`station`, `packets`, `placing`). `clock` gives the moment and the serial that words leave to it.
 #![tactic(auto)]
 
+mod clock;
 mod inputs;
 mod judging;
 mod packets;

@@ -1,18 +1,19 @@
 //! The commands that change the base of a system. They hold the lock of its link file from before it is
 //! read until their last file stands, and wait where another run holds it.
 
+use crate::clock::{moment_of, serial_from};
 use crate::inputs::{MAX_TEXT_FILE, input_fault, read_base, read_standard_input};
 use crate::packets::PacketPaths;
 use crate::paths::{PathNames, names_of};
 use crate::placing::{write_base, write_packets};
 use echo_addr::{Address, Items};
 use echo_base::BaseFault;
-use echo_changing::{Given, NewMessage, post, purge, scan, toss};
+use echo_changing::{Given, NewMessage, post, post_free, purge, scan, toss};
 use echo_device::{Sink, Watched};
 use echo_files::read_whole;
 use echo_links::{LinkFault, LinkFile};
 use echo_packet::Limits;
-use echo_status::{Fault, LIMITS, Status, limits_for, number_of, serial_of, stamp_of};
+use echo_status::{Fault, LIMITS, Status, limits_for, number_of};
 use echo_words::{PostWords, TossWords};
 use std::collections::hash_map::RandomState;
 use std::fs::File;
@@ -96,7 +97,7 @@ pub fn run_post<W: Sink, E: Sink>(
     out: &mut W,
     errors: &mut E,
 ) -> Status {
-    let posting = match posting_of(words) {
+    let (posting, free) = match posting_of(rt, words) {
         Ok(posting) => posting,
         Err(fault) => return fault.report(errors),
     };
@@ -106,7 +107,11 @@ pub fn run_post<W: Sink, E: Sink>(
         Err(fault) => return fault.report(errors),
     };
     let given = stopped_by(given, stopped);
-    let done = post(rt.alloc(), posting, given, &body, out);
+    let done = if free {
+        post_free(rt.alloc(), posting, given, &body, out)
+    } else {
+        post(rt.alloc(), posting, given, &body, out)
+    };
     let status = write_base(rt, own.as_str(), done, words.base, errors);
     let_go(locked, status)
 }
@@ -119,17 +124,23 @@ fn read_body<'a>(rt: &HostRuntime) -> (Vec<u8>, Option<Fault<'a>>) {
     }
 }
 
-// What is to be posted, but for the body.
-fn posting_of<'a>(words: &PostWords<'a>) -> Result<NewMessage<'a>, Fault<'a>> {
-    Ok(NewMessage {
+// What is to be posted, but for the body, and whether its serial is the first free one from that on.
+fn posting_of<'a>(
+    rt: &HostRuntime,
+    words: &PostWords<'a>,
+) -> Result<(NewMessage<'a>, bool), Fault<'a>> {
+    let (serial, free) = serial_from(rt, words.serial)?;
+    let stamp = moment_of(rt, words.at)?;
+    let posting = NewMessage {
         tag: words.area.as_bytes(),
         to_name: words.to.as_bytes(),
         from_name: words.from.as_bytes(),
         subject: words.subject.as_bytes(),
         reply: words.reply.unwrap_or("").as_bytes(),
-        serial: serial_of(words.serial)?,
-        stamp: stamp_of(words.at)?,
-    })
+        serial,
+        stamp,
+    };
+    Ok((posting, free))
 }
 
 /// `purge`.
@@ -159,7 +170,7 @@ pub fn run_scan<'a, W: Sink, E: Sink>(
     out: &mut W,
     errors: &mut E,
 ) -> Status {
-    let stamp = match stamp_of(at) {
+    let stamp = match moment_of(rt, at) {
         Ok(stamp) => stamp,
         Err(fault) => return fault.report(errors),
     };

@@ -1,0 +1,14 @@
+use Rattle.std.proofs.Common.{sym, subst}
+use Rattle.echo_store.specs.Store.{all_scanned}
+use Rattle.echo_folder_store.specs.Held.{HoldsBase}
+use Rattle.echo_folder_store.specs.Opened.{held_by}
+use Rattle.echo_folder_store.specs.declared.folder.Folder.{Folder}
+use Rattle.echo_folder_store.proofs.Seen.{end_holds}
+use Rattle.echo_folder_store.proofs.folder_store.FolderStoreStore.move_to_end.Goals as goal
+
+pub returns-clause-moved : goal.returns-clause-moved
+returns-clause-moved g c = λ base holds.
+    let s = c.args.self.now in
+    let d = g.D.Disk.state s.disk in
+    let digest = g.H.Digest.digest s.digest in
+    subst (λ (f : Folder). HoldsBase digest (held_by d f) (all_scanned base)) (sym c.move_to_end.ensures) (end_holds digest d s.folder base c.requires holds)
