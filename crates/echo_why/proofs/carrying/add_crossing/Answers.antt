@@ -1,4 +1,4 @@
-use Rattle.std.proofs.Common.{◌≡◌, ◌∙◌, sym, ap, List, [], ◌++◌, append-nil, Some, None}
+use Rattle.std.proofs.Common.{◌∙◌, sym, ap, List, ◌++◌, append-nil}
 use Rattle.echo_filed.specs.declared.key.Key.TheVariants.{ById}
 use Rattle.echo_net.specs.declared.drawing.Crossing.{Crossing}
 use Rattle.echo_why.proofs.Bringing.{crossing-none, crossing-there}
