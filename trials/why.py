@@ -1,6 +1,7 @@
 """Tries `why` on small nets, all of them, and on greater ones with one defect each. The events that it prints
 are done with `post`, `scan` and `toss` on real files, and what it says of the harm is compared with what
 trials/reading.py reads of the packets and bases that these left; `replay` takes the script and counts alike.
+`picture --why` is compared with `picture` and with who sent these packets by which event.
 
 Small: every connected net of up to 5 systems, every way in which 3 systems list each other and themselves, every
 net of 4 of which two have one net and node, every way in which 2 systems list each other and an address that
@@ -51,6 +52,8 @@ class Net:
             areas = [] if links is None else [("TEST", links)]
             self.files.append(self.put("%d.links" % i, making.link_file(address, areas)))
         self.packets = []
+        self.steps = []
+        self.step = 0
         self.delivered = set()
 
     def put(self, name, content):
@@ -72,6 +75,7 @@ class Net:
 
     def happen(self, line):
         """Does what a line of the script says."""
+        self.step += 1
         word, number, *rest = line.split()
         number = int(number)
         if word == b"POST":
@@ -96,6 +100,7 @@ class Net:
                 content = file.read()
             made.append((reading.read_header(content)[1], content))
         self.packets += sorted(made)
+        self.steps += [self.step] * len(made)
 
     def deliver(self, k):
         """A packet comes to the first system of its destination."""
@@ -114,6 +119,15 @@ class Net:
     def times(self, address, message):
         """How many copies of a message the packets to an address hold."""
         return sum(self.ids(content).count(message) for to, content in self.packets if to == address)
+
+    def sent_over(self, address, message):
+        """The steps at which each link carries a message to an address, by the link's two ends."""
+        steps = {}
+        for step, (to, content) in zip(self.steps, self.packets):
+            if to == address and message in self.ids(content):
+                ends = frozenset((reading.read_header(content)[0], to))
+                steps.setdefault(ends, []).append(step)
+        return steps
 
     def messages(self, i):
         """The cursor and the ids of a base."""
@@ -145,27 +159,42 @@ def address_in(words):
 
 
 def harm_is_so(net, words):
-    """Which harm a line says; it is to be so."""
+    """Which harm a line says, and what links carry then; it is to be so."""
     if words[2:] == b"never comes to rest".split():
         message = b" ".join(words[:2])
         need("a message that comes to rest", net.never_comes(message))
-        return "never rests"
+        return "never rests", {}
     address = address_in(words[0])
     need("no carrier", address in net.carriers)
     if words[1:3] == [b"never", b"gets"]:
         message = b" ".join(words[3:])
         need("not settled", net.has_settled())
         need("it has it", net.lacks(address, message))
-        return "never gets"
+        return "never gets", net.sent_over(address, message)
     if words[1:5] == b"is sent its own".split():
         message = b" ".join(words[5:])
         need("not its own", address_in(words[5]) == address)
         need("not sent", net.times(address, message) >= 1)
-        return "own"
+        return "own", net.sent_over(address, message)
     need("the harm %r" % words, words[1:3] == [b"is", b"sent"] and words[-1] == b"times")
     message, times = b" ".join(words[3:5]), int(words[5])
     need("sent %d times" % times, times == net.times(address, message) >= 2)
-    return "again"
+    return "again", net.sent_over(address, message)
+
+
+def picture_is_so(net, steps):
+    """With `--why` the picture has these steps as labels of its links, and is as without else."""
+    plain = net.runner.run("picture", "TEST", *net.files)
+    drawn = net.runner.run("picture", "--why", "TEST", *net.files)
+    need("the status of a picture", plain.is_orderly(1) and drawn.is_orderly(1) and plain.status == drawn.status)
+    expected = []
+    for line in plain.out.splitlines():
+        words = line.split(b'"')
+        ends = frozenset(map(address_in, words[1:4:2])) if line[:1] == b'"' and len(words) > 4 else None
+        if ends in steps:
+            line = line[:-1] + b' [label="%s"];' % b",".join(b"%d" % step for step in steps[ends])
+        expected.append(line)
+    need("the picture %r" % drawn.out, drawn.out.splitlines() == expected)
 
 
 def replays_alike(net, script):
@@ -185,16 +214,19 @@ def try_net(net, counts):
     counts["nets"] += 1
     if ended.status == 0:
         need("more after a yes", len(lines) == 1)
+        picture_is_so(net, {})
         counts["yes"] += 1
         return checked.out, "yes"
     if lines[1:] == [b"; no harm found"]:
+        picture_is_so(net, {})
         counts["no harm"] += 1
         return checked.out, "no harm"
     for line in lines[1:-1]:
         net.happen(line)
         counts["events"] += 1
     need("the last line", lines[-1].startswith(b"; "))
-    harm = harm_is_so(net, lines[-1][2:].split())
+    harm, steps = harm_is_so(net, lines[-1][2:].split())
+    picture_is_so(net, steps)
     counts[harm] += 1
     replays_alike(net, ended.out)
     return checked.out, harm
