@@ -73,7 +73,8 @@ cp two/links two.links
 sed -i 's, 1:10/1,,' two/links
 toss two > /dev/null
 same "a packet of no link lies apart" "filed 0 known 0 notecho 0 badtag 0 noarea 0 notlinked 1" \
-  "$(cat two/bad/*.why)"
+  "$(head -n 1 two/bad/*.why)"
+same "with its area" "message 1 at 58 notlinked area TEST" "$(sed '1d; s/ msgid .*//' two/bad/*.why)"
 cp two.links two/links
 mv two/bad/*.pkt two/inbound/
 rm two/bad/*
@@ -96,13 +97,13 @@ same "the packet stays again" "00000001.name 00000001.pkt" "$(ls two/tossing | x
 cp two.base two/base
 toss two > /dev/null
 
-# A scan that was stopped after its packet: it is made anew, with what has come since.
+# A scan that was stopped before its base was written: it is made anew, with what has come since.
 before=$(counts two)
 mkdir -p two/scanned
 "$program" scan --at 2026-07-03T12:34:56 two/links two/base two/scanned > /dev/null
+mv two/scanned/1.10.3.0.pkt two/scanned/1.10.3.0.pkt.~1.10.2~.new
 cp two.base two/base
-touch two/scanned/1.10.3.7.pkt.~1.10.2~.new
-same "the stopped scan left its packet" 1.10.3.0.pkt "$(ls two/scanned | grep 'pkt$')"
+same "the stopped scan left its packet" 1.10.3.0.pkt.~1.10.2~.new "$(ls two/scanned)"
 same "and its cursor stood" "$before" "$(counts two)"
 post two Bob Third > /dev/null
 # Third has a text of 10 + 24 + 14 + 12 + 25 + 18 + 12 = 115, First and Second grow to 118 and 119. Packets:
@@ -112,9 +113,10 @@ packet 1:10/3 3 messages 560 bytes" "$(scan two)"
 same "one packet for each link" 2 "$(ls two/packets | wc -l)"
 same "nothing of the stopped one is left" "" "$(ls two/scanned)"
 
-# A scan that came to its end, of which the mailer was not told.
+# A scan that was stopped before its packets had their names, and one of which the mailer was not told.
 post two Bob Fourth > /dev/null
 "$program" scan --at 2026-07-03T12:34:56 two/links two/base two/scanned > /dev/null
+for packet in two/scanned/1.10.3.*.pkt; do mv "$packet" "$packet.~1.10.2~.new"; done
 scan two
 same "its packets are handed over" "4 2 2" \
   "$(ls two/packets | wc -l) $(cat two/outbound/$to_three.flo | wc -l) $(cat two/outbound/000a0001.flo | wc -l)"

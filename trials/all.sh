@@ -27,6 +27,7 @@ each() {
 for name in kept package keys kills crowds beside mailer full_disk devices pieces refusals valgrind; do each trials/$name.sh & done
 each python3 trials/why.py &
 each python3 trials/export.py &
+each python3 trials/answers.py &
 wait
 each python3 trials/stations.py 300 "$cores"
 each python3 trials/hostile.py "$inputs" "$cores"

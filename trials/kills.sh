@@ -1,7 +1,7 @@
 #!/usr/bin/env bash
 # Kills `toss` and `scan` at many moments on a large base, and then at each of their calls of the system
 # on a small one (where strace is installed). After each the base is the old one or the new one, no
-# packet stands in part, and the story run to its end files everything once. All files are compared with
+# packet stands in part or before the cursor was moved, and the story run to its end files everything once. All files are compared with
 # those that trials/make.py works out. Words: how many moments, how many messages the base has.
 set -eu
 cd "$(dirname "$0")/.."
@@ -44,21 +44,20 @@ after_toss() {
   expect "nothing beside it" is_none base.*.new
 }
 
-# The same of a scan. What stands is taken by the mailer, and the scan run again where the cursor stayed.
+# The same of a scan. What has its name is whole and of a scan that moved the cursor; the next scan names the others
+# of that scan, or makes them anew.
 after_scan() {
   local link packet
   expect "base after a killed scan" is_one_of base tossed.base scanned.base
   for packet in out/*.pkt; do
     [ -e "$packet" ] || continue
     expect "a whole packet" cmp -s "$packet" "$(basename "$packet" .pkt).want"
-    mv "$packet" "$packet.sent"
+    expect "the cursor was moved before" cmp -s base scanned.base
   done
-  if cmp -s base scanned.base; then
-    expect "packets stand before the base" [ "$(ls out/*.sent | wc -l)" = 2 ]
-  fi
   expect "the scan again" eval "scan > said 2> fault"
   expect "the base at the end" cmp -s base scanned.base
   expect "nothing beside it" is_none base.*.new out/*.new
+  expect "each packet once" [ "$(ls out | wc -l)" = 2 ]
   for link in 3 4; do
     for packet in out/1.10.$link.*; do
       expect "delivery" eval "'$program' toss $link.links $link.base $packet > said 2> fault"

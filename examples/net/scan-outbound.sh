@@ -1,7 +1,8 @@
 #!/bin/sh
 # scan-outbound.sh STATION: makes the packets of the messages that wait, and hands them to the mailer.
 #
-# `scan` writes into STATION/scanned. Each packet then gets a new name of eight characters and `.pkt` in
+# `scan` writes into STATION/scanned; what stands there as `*.pkt` is of a scan that moved the cursor, and a scan that
+# was stopped is brought to its end by the next one. Each packet then gets a new name of eight characters and `.pkt` in
 # STATION/packets, and a line in the flow file of its link: STATION/outbound for links of the own zone,
 # STATION/outbound.00z for those of zone z. A link whose flow file is held by the mailer (NAME.bsy) is
 # left for the next run. Runs may start at the same moment: each waits for the one before it, and for the
@@ -21,27 +22,6 @@ mkdir -p "$station/scanned" "$station/packets" "$station/outbound"
 exec 9> "$station/scan.lock"
 flock 9
 trap 'exit 3' HUP INT TERM
-
-# How many messages of the base were scanned: its bytes 8 to 11, the low byte first.
-cursor() {
-  if [ ! -e "$station/base" ]; then
-    echo 0
-    return
-  fi
-  od -An -v -tu1 -j8 -N4 "$station/base" | awk '{ print $1 + 256 * ($2 + 256 * ($3 + 256 * $4)) }'
-}
-
-# Removes what a stopped scan left. The number in a packet's name tells how many messages were scanned
-# before it, so a scan that came to its end has moved the cursor past it.
-drop_unfinished() {
-  scanned=$(cursor)
-  for packet in "$station"/scanned/*.pkt; do
-    if [ ! -e "$packet" ]; then continue; fi
-    number=${packet%.pkt}
-    if [ "${number##*.}" -ge "$scanned" ]; then rm -f "$packet"; fi
-  done
-  rm -f "$station"/scanned/*.new
-}
 
 # The own address.
 own=$(awk '$1 == "SYSTEM" { sub(/\r$/, "", $2); print $2 }' "$station/links")
@@ -131,10 +111,8 @@ hand_over() {
   return $failed
 }
 
-drop_unfinished
 status=0
 "$program" scan --at now "$station/links" "$station/base" "$station/scanned" || status=$?
-if [ $status -ne 0 ]; then drop_unfinished; fi
 sync "$station"
 for packet in "$station"/scanned/*.pkt; do
   if [ -e "$packet" ]; then hand_over "$packet" || status=3; fi

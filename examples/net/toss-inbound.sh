@@ -5,7 +5,7 @@
 # gave it, and may bring another packet of that name. It is removed only after it was tossed whole. One
 # that is refused, has messages that are not for this system, cannot be read or wants more memory than
 # there is goes to STATION/bad, under the name that it came with, with the line that tells why beside it
-# in NAME.why; those behind it are tossed. Where a disk fails, or the link file or the base is refused,
+# in NAME.why, and a line for each message that was refused; those behind it are tossed. Where a disk fails, or the link file or the base is refused,
 # the packets stay for the next run, and the status is that of the program. Runs may start at the same
 # moment: each waits for the one before it. The program is `echonet` of the PATH, or the one that ECHONET
 # names.
@@ -25,7 +25,8 @@ exec 9> "$station/toss.lock"
 flock 9
 told=$(mktemp)
 list=$(mktemp)
-trap 'rm -f "$told" "$list"' EXIT
+notes=$(mktemp)
+trap 'rm -f "$told" "$list" "$notes"' EXIT
 trap 'exit 3' HUP INT TERM
 
 # Moves the packets of the mailer to numbers behind those that an earlier run left, each with the name
@@ -52,14 +53,20 @@ printed() { name_of "$1" | od -An -v -tu1 | awk -f "$here/printable.awk"; }
 
 # What `toss` prints, and its fault line, go to the file `told`. No text may be much longer than what `post`
 # takes: one that this system can just file would be too long for its links, with the lines that a scan adds.
-# Word: the file that lists the packets.
+# Words: the file that lists the packets, and further options.
 toss() {
-  "$program" toss --text-limit 1500000 --packets-from "$1" "$station/links" "$station/base" > "$told" 2>&1
+  from=$1
+  shift
+  "$program" toss "$@" --text-limit 1500000 --packets-from "$from" "$station/links" "$station/base" > "$told" 2>&1
 }
+
+# The lines of messages that were refused. One that was known is filed already.
+refused() { grep '^message [0-9]* at [0-9]* ' "$told" | grep -v '^message [0-9]* at [0-9]* known ' || true; }
 
 # Whether all messages of the packets that were tossed are filed or were known.
 all_filed() {
-  ! grep -qv '^filed [0-9]* known [0-9]* notecho 0 badtag 0 noarea 0 notlinked 0$' "$told"
+  ! grep -v '^message [0-9]* at [0-9]* ' "$told" |
+    grep -qv '^filed [0-9]* known [0-9]* notecho 0 badtag 0 noarea 0 notlinked 0$'
 }
 
 remove() { rm -f "$1" "${1%.pkt}.name"; }
@@ -74,7 +81,7 @@ put_aside() {
     number=$((number + 1))
     name=$came.$number
   done
-  printf '%s\n' "$2" > "$station/bad/$name.why"
+  { printf '%s\n' "$2"; cat "$notes"; } > "$station/bad/$name.why"
   printf 'put aside %s: %s\n' "$(printf '%s' "$name" | od -An -v -tu1 | awk -f "$here/printable.awk")" "$2"
   mv "$1" "$station/bad/$name"
   rm -f "${1%.pkt}.name"
@@ -95,8 +102,9 @@ is_packets_own() {
 toss_one() {
   status=0
   printf '%s\0' "$1" > "$list"
-  toss "$list" || status=$?
+  toss "$list" --each || status=$?
   why=$(tail -n 1 "$told")
+  refused > "$notes"
   if [ $status -eq 0 ] && all_filed; then
     printf '%s: %s\n' "$(printed "$1")" "$why"
     remove "$1"

@@ -1,11 +1,13 @@
 //! Changes of a base folder, and what is found in it.
 ghost use Rattle.std.specs.Prelude.{◌≡◌, IfOk};
+ghost use Rattle.echo_disk.specs.Disk.{Honestly};
 ghost use Rattle.echo_folder.specs.AtRest.{IsAtRest, IsStaged};
 ghost use Rattle.echo_folder.specs.Names.{AreNames, folder_of};
 
 use echo_disk::{Disk, read_file};
 use echo_folder::{
-    End, FolderError, Names, Told, commit, stage_anew, stage_keys, stage_messages, stage_nothing,
+    End, FolderError, Mark, Names, Told, commit, stage_anew, stage_keys, stage_messages,
+    stage_nothing,
 };
 use std::alloc::{AllocError, Global};
 
@@ -18,15 +20,17 @@ pub(crate) struct Base {
     pub(crate) messages: Vec<u8>,
     pub(crate) keys: Vec<u8>,
     pub(crate) cursor: u64,
+    pub(crate) mark: Mark,
 }
 
-/// What one commit adds. Where it begins anew, nothing of the base stays.
+/// What one commit adds. Where it begins anew, nothing of the base stays but its mark.
 #[derive(Drop)]
 pub(crate) struct Change {
     pub(crate) anew: bool,
     pub(crate) messages: Vec<u8>,
     pub(crate) keys: Vec<u8>,
     pub(crate) cursor: u64,
+    pub(crate) mark: Mark,
 }
 
 impl Base {
@@ -44,6 +48,7 @@ impl Base {
             messages,
             keys,
             cursor: change.cursor,
+            mark: if change.anew { self.mark } else { change.mark },
         })
     }
 
@@ -52,6 +57,7 @@ impl Base {
             messages: self.messages.as_slice().to_vec(alloc)?,
             keys: self.keys.as_slice().to_vec(alloc)?,
             cursor: self.cursor,
+            mark: self.mark,
         })
     }
 
@@ -59,6 +65,7 @@ impl Base {
         self.messages.as_slice() == other.messages.as_slice()
             && self.keys.as_slice() == other.keys.as_slice()
             && self.cursor == other.cursor
+            && self.mark == other.mark
     }
 }
 
@@ -72,8 +79,9 @@ fn stage<D: Disk>(
     keys: &[u8],
 ) -> Result<Told, FolderError>
     requires names { AreNames names.now told.number }
-    requires staged { IsStaged (D.state disk.old) (folder_of names.now) end told }
-    ensures staged { IfOk result (λ more. IsStaged (D.state disk.new) (folder_of names.now) end more) }
+    requires staged { Honestly (D.state disk.old) (IsStaged (D.state disk.old) (folder_of names.now) end told) }
+    ensures staged { Honestly (D.state disk.new) (IfOk result (λ more. IsStaged (D.state disk.new) (folder_of names.now) end more)) }
+    ensures honest { (D.state disk.new).is_honest → (D.state disk.old).is_honest }
     ensures number { IfOk result (λ more. more.number ≡ told.number) }
 {
     if told.messages > LIMIT || told.keys > LIMIT || messages.len() > LIMIT || keys.len() > LIMIT {
@@ -92,8 +100,8 @@ fn stage_and_commit<D: Disk>(
     change: &Change,
 ) -> Result<End, FolderError>
     requires names { AreNames names.now told.number }
-    requires staged { IsStaged (D.state disk.old) (folder_of names.now) end told }
-    ensures settled { IfOk result (λ after. IsAtRest (D.state disk.new) (folder_of names.now) after) }
+    requires staged { Honestly (D.state disk.old) (IsStaged (D.state disk.old) (folder_of names.now) end told) }
+    ensures settled { Honestly (D.state disk.new) (IfOk result (λ after. IsAtRest (D.state disk.new) (folder_of names.now) after)) }
 {
     let messages = change.messages.as_slice();
     let keys = change.keys.as_slice();
@@ -115,8 +123,8 @@ pub(crate) fn change_folder<D: Disk>(
     end: End,
     change: &Change,
 ) -> Result<End, FolderError>
-    requires { IsAtRest (D.state disk.old) folder.now end }
-    ensures settled { IfOk result (λ after. IsAtRest (D.state disk.new) folder.now after) }
+    requires { Honestly (D.state disk.old) (IsAtRest (D.state disk.old) folder.now end) }
+    ensures settled { Honestly (D.state disk.new) (IfOk result (λ after. IsAtRest (D.state disk.new) folder.now after)) }
 {
     if change.anew {
         renew(alloc, disk, folder, end, change)
@@ -132,11 +140,14 @@ fn append<D: Disk>(
     end: End,
     change: &Change,
 ) -> Result<End, FolderError>
-    requires { IsAtRest (D.state disk.old) folder.now end }
-    ensures settled { IfOk result (λ after. IsAtRest (D.state disk.new) folder.now after) }
+    requires { Honestly (D.state disk.old) (IsAtRest (D.state disk.old) folder.now end) }
+    ensures settled { Honestly (D.state disk.new) (IfOk result (λ after. IsAtRest (D.state disk.new) folder.now after)) }
 {
+    if end.told.number > 9 {
+        return Err(FolderError::Corrupt);
+    }
     let names = Names::new(alloc, folder, end.told.number)?;
-    let told = stage_nothing(disk, &names.folder, end, change.cursor);
+    let told = stage_nothing(disk, &names.folder, end, change.cursor, change.mark);
     stage_and_commit(disk, &names, end, told, change)
 }
 
@@ -147,8 +158,8 @@ fn renew<D: Disk>(
     end: End,
     change: &Change,
 ) -> Result<End, FolderError>
-    requires { IsAtRest (D.state disk.old) folder.now end }
-    ensures settled { IfOk result (λ after. IsAtRest (D.state disk.new) folder.now after) }
+    requires { Honestly (D.state disk.old) (IsAtRest (D.state disk.old) folder.now end) }
+    ensures settled { Honestly (D.state disk.new) (IfOk result (λ after. IsAtRest (D.state disk.new) folder.now after)) }
 {
     let number = if end.told.number < 9 {
         end.told.number + 1
@@ -190,5 +201,6 @@ pub(crate) fn read_base<D: Disk>(
         messages: read_front(alloc, disk, &names.messages, end.told.messages)?,
         keys: read_front(alloc, disk, &names.keys, end.told.keys)?,
         cursor: end.told.cursor,
+        mark: end.told.mark,
     })
 }

@@ -1,13 +1,14 @@
 //! Crashes before the calls of some commits, with what was not synced torn in several ways. After each the folder is
 //! opened, and commits go on, up to the next crash.
 ghost use Rattle.std.specs.Prelude.{◌≡◌};
+ghost use Rattle.echo_disk.specs.Disk.{Honestly};
 ghost use Rattle.echo_folder.specs.Opening.{AreAlone};
 ghost use Rattle.disk_tests.specs.declared.crashes.TheConstants.{FOLDER};
 
 use crate::bases::{Base, change_folder, read_base};
 use crate::random::Random;
 use echo_disk::Disk;
-use echo_folder::{FolderError, open};
+use echo_folder::{FolderError, Mark, open};
 use echo_memory_disk::{MemoryDisk, Tear};
 use std::alloc::{AllocError, Global};
 use std::test::Fail;
@@ -41,6 +42,11 @@ fn nothing(alloc: Global) -> Base {
         messages: Vec::new(alloc),
         keys: Vec::new(alloc),
         cursor: 0,
+        mark: Mark {
+            owner: 0,
+            first: 0,
+            second: 0,
+        },
     }
 }
 
@@ -89,7 +95,7 @@ fn tears(alloc: Global, way: u64) -> Result<Vec<Tear>, AllocError> {
         let bytes = match way {
             0 => 0,
             1 => usize::MAX,
-            _ => (random.next() % 28) as usize,
+            _ => (random.next() % 52) as usize,
         };
         let filler = if way < 2 || random.next() % 3 == 0 {
             None
@@ -108,7 +114,7 @@ fn run<D: Disk>(
     seed: u64,
     expected: &mut Expected,
 ) -> Result<(), FolderError>
-    requires { AreAlone FOLDER.now (D.state disk.old) }
+    requires { Honestly (D.state disk.old) (AreAlone FOLDER.now (D.state disk.old)) }
 {
     let mut random = Random::new(seed);
     let mut end = open(alloc, disk, FOLDER)?;

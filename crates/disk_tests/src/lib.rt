@@ -1,5 +1,5 @@
-//! Tests of the files of a base folder on a disk in memory: a crash before each call, with what was not synced torn
-//! in several ways, and what is found then.
+//! Tests of the files of a base folder: on a disk in memory a crash before each call, with what was not synced torn
+//! in several ways, and what is found then; and on files of the system.
 #![tactic(auto)]
 
 #[cfg(test)]
@@ -8,5 +8,7 @@ mod bases;
 mod crashes;
 #[cfg(test)]
 mod files;
+#[cfg(test)]
+mod on_real_files;
 #[cfg(test)]
 mod random;

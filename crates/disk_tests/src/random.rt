@@ -1,5 +1,6 @@
 //! Numbers from a seed, and changes of a base made of them.
 use crate::bases::Change;
+use echo_folder::Mark;
 use std::alloc::{AllocError, Global};
 
 /// Numbers that look random, the same for each seed.
@@ -31,13 +32,23 @@ impl Random {
         Ok(bytes)
     }
 
-    /// Some messages, keys and a cursor; one change in four begins new files.
+    // Numbers of up to 62 bits, which have eight bytes.
+    fn mark(&mut self) -> Mark {
+        Mark {
+            owner: self.next() << 31,
+            first: self.next() << 31,
+            second: self.next(),
+        }
+    }
+
+    /// Some messages, keys, a cursor and a mark; one change in four begins new files.
     pub(crate) fn change(&mut self, alloc: Global) -> Result<Change, AllocError> {
         Ok(Change {
             anew: self.next() % 4 == 0,
             messages: self.bytes(alloc)?,
             keys: self.bytes(alloc)?,
             cursor: self.next(),
+            mark: self.mark(),
         })
     }
 }

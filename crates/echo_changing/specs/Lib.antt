@@ -6,6 +6,7 @@ pub mod Scanned
 pub mod Purged
 pub mod Posted
 pub mod FreeSerial
+pub mod Replied
 pub mod Coming
 pub mod TossedPacket
 pub mod Tossed

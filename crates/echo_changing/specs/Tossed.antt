@@ -17,12 +17,12 @@ use Rattle.echo_changing.specs.Files.{done_of, only_base}
 use Rattle.echo_changing.specs.System.{IsFirstFaultOf, IsSystemGiven, IsTooMany}
 use Rattle.echo_changing.specs.TossedPacket.{TossRun, TossesPacket}
 
--- a file was opened, and the packet at its front is tossed
-pub record TossesOpened {R : Type 0} (device : R → Device) (file : Coming) (old : TossRun) (stopped : Option Fault) (new : TossRun) : Type 0 where
+-- a file was opened, and the packet at its front is tossed in this way
+pub record TossesOpened {R : Type 0} (Tosses : TossRun → Device → Device → Option Fault → TossRun → Type 0) (device : R → Device) (file : Coming) (old : TossRun) (stopped : Option Fault) (new : TossRun) : Type 0 where
   pub reader : R
   pub left : R
   pub opened : Opens (λ r. (device r).contents) file (Ok reader)
-  pub packet : TossesPacket old (device reader) (device left) stopped new
+  pub packet : Tosses old (device reader) (device left) stopped new
 
 -- a file cannot be used, and the run is as before
 pub record LeavesUnopened {R : Type 0} (device : R → Device) (file : Coming) (old : TossRun) (stopped : Option Fault) (new : TossRun) : Type 0 where
@@ -32,15 +32,22 @@ pub record LeavesUnopened {R : Type 0} (device : R → Device) (file : Coming) (
   pub same : new ≡ old
 
 -- one packet file is tossed, or stops the run
-abbrev pub TossesFile : {R : Type 0} → (R → Device) → Coming → TossRun → Option Fault → TossRun → Type 0
-TossesFile device file old stopped new = TossesOpened device file old stopped new ⊎ LeavesUnopened device file old stopped new
+abbrev pub TossesFileBy : {R : Type 0} → (TossRun → Device → Device → Option Fault → TossRun → Type 0) → (R → Device) → Coming → TossRun → Option Fault → TossRun → Type 0
+TossesFileBy Tosses device file old stopped new = TossesOpened Tosses device file old stopped new ⊎ LeavesUnopened device file old stopped new
 
 -- Packet files are tossed in order, each from where the one before ended, up to the first fault; those behind it are left unopened.
+abbrev pub TossesEachBy : {R : Type 0} → (TossRun → Device → Device → Option Fault → TossRun → Type 0) → (R → Device) → List Coming → TossRun → Option Fault → List Coming → TossRun → Type 0
+TossesEachBy Tosses device [] old stopped left new = (stopped ≡ None) × (left ≡ []) × (new ≡ old)
+TossesEachBy Tosses device (file ∷ later) old stopped left new =
+    ((run : TossRun) × TossesFileBy Tosses device file old None run × TossesEachBy Tosses device later run stopped left new)
+    ⊎ ((fault : Fault) × (stopped ≡ Some fault) × (left ≡ later) × TossesFileBy Tosses device file old stopped new)
+
+-- the same where no message is noted
+abbrev pub TossesFile : {R : Type 0} → (R → Device) → Coming → TossRun → Option Fault → TossRun → Type 0
+TossesFile device file old stopped new = TossesFileBy TossesPacket device file old stopped new
+
 abbrev pub TossesEach : {R : Type 0} → (R → Device) → List Coming → TossRun → Option Fault → List Coming → TossRun → Type 0
-TossesEach device [] old stopped left new = (stopped ≡ None) × (left ≡ []) × (new ≡ old)
-TossesEach device (file ∷ later) old stopped left new =
-    ((run : TossRun) × TossesFile device file old None run × TossesEach device later run stopped left new)
-    ⊎ ((fault : Fault) × (stopped ≡ Some fault) × (left ≡ later) × TossesFile device file old stopped new)
+TossesEach device files old stopped left new = TossesEachBy TossesPacket device files old stopped left new
 
 -- all lines are printed, or standard output failed after a beginning of them
 abbrev pub IsRunPrinted : TossRun → Output → Output → Type 0
@@ -75,12 +82,12 @@ abbrev pub run_begun : Limits → SystemState → TossRun
 run_begun limits system = record { limits = limits; system = system; lines = [] }
 
 -- The packet files, of which so much is taken, are tossed at the system that the link file and the base file make; the lines of the packets are printed, and the base is to be written.
-pub record IsTossed {R : Type 0} (limits : Limits) (device : R → Device) (handed : Handed) (files left : List Coming) (old new : Output) (done : Done) : Type 0 where
+pub record IsTossedBy {R : Type 0} (Tosses : TossRun → Device → Device → Option Fault → TossRun → Type 0) (limits : Limits) (device : R → Device) (handed : Handed) (files left : List Coming) (old new : Output) (done : Done) : Type 0 where
   pub system : SystemState
   pub given : IsSystemGiven handed.links handed.base system
   pub run : TossRun
   pub stopped : Option Fault
-  pub each : TossesEach device files (run_begun limits system) stopped left run
+  pub each : TossesEachBy Tosses device files (run_begun limits system) stopped left run
   pub ends : EndsRun run stopped old new done
 
 -- the link file or the base has a fault: no packet file is opened, and nothing is printed or left
@@ -92,6 +99,13 @@ pub record IsUntossed (handed : Handed) (files left : List Coming) (old new : Ou
   pub is : done ≡ done_of (Err fault)
 
 -- what `toss` does with these files, of which some are left, and how it ends
+abbrev pub TossAnswersBy : {R : Type 0} → (TossRun → Device → Device → Option Fault → TossRun → Type 0) → Limits → (R → Device) → Handed → List Coming → List Coming → Output → Output → Done → Type 0
+TossAnswersBy Tosses limits device handed files left old new done =
+    ((handed.stopped ≡ None) × IsTossedBy Tosses limits device handed files left old new done) ⊎ IsUntossed handed files left old new done
+
+-- the same where no message is noted
+abbrev pub IsTossed : {R : Type 0} → Limits → (R → Device) → Handed → List Coming → List Coming → Output → Output → Done → Type 0
+IsTossed limits device handed files left old new done = IsTossedBy TossesPacket limits device handed files left old new done
+
 abbrev pub TossAnswers : {R : Type 0} → Limits → (R → Device) → Handed → List Coming → List Coming → Output → Output → Done → Type 0
-TossAnswers limits device handed files left old new done =
-    ((handed.stopped ≡ None) × IsTossed limits device handed files left old new done) ⊎ IsUntossed handed files left old new done
+TossAnswers limits device handed files left old new done = TossAnswersBy TossesPacket limits device handed files left old new done

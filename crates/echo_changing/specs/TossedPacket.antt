@@ -1,5 +1,5 @@
 -- What `toss` does with one packet.
-use Rattle.std.specs.Prelude.{◌≡◌, ℕ, ◌⊎◌, List, ◌++◌, Option, Some, None, Result, Ok, Err}
+use Rattle.std.specs.Prelude.{◌≡◌, ℕ, ◌⊎◌, Bool, true, false, List, ◌++◌, Option, Some, None, Result, Ok, Err}
 use Rattle.echo_packet.specs.declared.limits.Limits.{Limits}
 use Rattle.echo_status.specs.Devices.{Device}
 use Rattle.echo_steps.specs.SystemState.{SystemState}
@@ -10,6 +10,7 @@ use Rattle.echo_toss.specs.declared.tally.Tally.{Tally}
 use Rattle.echo_toss.specs.PacketSteps.{CountsToss, PacketStep}
 use Rattle.echo_status.specs.declared.fault.Fault.{Fault}
 use Rattle.echo_status.specs.declared.fault.Fault.TheVariants.{NotForUs, OutOfMemory, Packet, TossMemory}
+use Rattle.echo_noting.specs.NotedPacket.{NotesPacket}
 use Rattle.echo_changing.specs.Lines.{tally_line}
 
 -- a run of `toss`: what is taken of packets, the system as it is now, and the lines so far
@@ -46,3 +47,23 @@ HasNoLine old reader left stopped new =
 abbrev pub TossesPacket : TossRun → Device → Device → Option Fault → TossRun → Type 0
 TossesPacket old reader left stopped new =
     HasNoLine old reader left stopped new ⊎ HasTossedPacket old reader left stopped new
+
+-- The packet at the front of a reader's bytes is tossed: before its line stand the notes on its messages that were not filed.
+pub record HasNotedPacket (old : TossRun) (reader left : Device) (stopped : Option Fault) (new : TossRun) : Type 0 where
+  pub answer : Result Tally TossFault
+  pub same : new.limits ≡ old.limits
+  pub step : PacketStep old.limits old.system reader.contents left.contents answer new.system
+  pub device : CountsToss answer reader.failures left.failures
+  pub noted : List ℕ
+  pub notes : NotesPacket old.limits old.system reader.contents answer new.system old.lines noted
+  pub line : ReportsPacket noted new.lines answer stopped
+
+-- what becomes of the packet where its messages are noted
+abbrev pub NotesPacketAt : TossRun → Device → Device → Option Fault → TossRun → Type 0
+NotesPacketAt old reader left stopped new =
+    HasNoLine old reader left stopped new ⊎ HasNotedPacket old reader left stopped new
+
+-- what becomes of the packet where its messages are noted, or are not
+abbrev pub TossesPacketBy : Bool → TossRun → Device → Device → Option Fault → TossRun → Type 0
+TossesPacketBy true old reader left stopped new = NotesPacketAt old reader left stopped new
+TossesPacketBy false old reader left stopped new = TossesPacket old reader left stopped new

@@ -8,8 +8,8 @@
 //!
 //! Modules in reading order: `given` (the files of a system that a command is given), `leaving` (the files that
 //! a command leaves to be written), `system` (a link file and a base are read, and the base is written), `lines`
-//! (what is printed of what was done), `posting`, `serials` (a posting whose serial is looked for), `scanning`,
-//! `purging`, `coming` (packet files) and `tossing` (they are tossed).
+//! (what is printed of what was done), `posting`, `serials` (a posting whose serial is looked for), `replying`,
+//! `scanning`, `purging`, `coming` (packet files) and `tossing` (they are tossed).
 #![tactic(auto)]
 
 mod coming;
@@ -18,6 +18,7 @@ mod leaving;
 mod lines;
 mod posting;
 mod purging;
+mod replying;
 mod scanning;
 mod serials;
 mod system;
@@ -26,8 +27,10 @@ mod tossing;
 pub use coming::PacketFiles;
 pub use given::Given;
 pub use leaving::{Done, Files, PacketFile};
-pub use posting::{NewMessage, post};
+pub use lines::{MOST_TALLY, push_posted, push_purged, push_tally};
+pub use posting::{NewMessage, draft_of, post};
 pub use purging::purge;
-pub use scanning::scan;
+pub use replying::{Answer, is_id, reply};
+pub use scanning::{packet_files, scan};
 pub use serials::post_free;
-pub use tossing::toss;
+pub use tossing::{fault_of, toss, toss_each};

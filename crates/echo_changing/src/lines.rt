@@ -12,7 +12,7 @@ use std::alloc::{AllocError, Global};
 use std::io::Write;
 
 /// Adds the line of a posting: the tag in upper case, and the id that this system and this serial make.
-pub(crate) fn push_posted(
+pub fn push_posted(
     alloc: Global,
     lines: &mut Vec<u8>,
     tag: &[u8],
@@ -44,17 +44,17 @@ pub(crate) fn push_sent(
 }
 
 /// Adds the line of how many messages a purge changed.
-pub(crate) fn push_purged(lines: &mut Vec<u8>, count: u64) -> Result<(), AllocError>
+pub fn push_purged(lines: &mut Vec<u8>, count: u64) -> Result<(), AllocError>
     ensures { OnOk result (lines.new.items ≡ lines.old.items ++ purged_line count) }
 {
     written(writeln!(lines, "purged {count}"))
 }
 
 /// How many bytes the line of what became of the messages of a packet has at most.
-pub(crate) const MOST_TALLY: usize = 170;
+pub const MOST_TALLY: usize = 170;
 
 /// Adds the line of what became of the messages of a packet. There is to be room for `MOST_TALLY` bytes.
-pub(crate) fn push_tally(lines: &mut Vec<u8>, tally: Tally)
+pub fn push_tally(lines: &mut Vec<u8>, tally: Tally)
     requires { vec_len lines.old + 170 ≤ vec_capacity lines.old }
     ensures { lines.new.items ≡ lines.old.items ++ tally_line tally }
 {

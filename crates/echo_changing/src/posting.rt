@@ -60,8 +60,8 @@ fn post_given<'a, S: BuildHasher + Drop, W: Sink>(
     post_system(alloc, words, &mut system, body, out)
 }
 
-// The same at the system that the files make.
-fn post_system<'a, S: BuildHasher, W: Sink>(
+/// The same at the system that the files make.
+pub(crate) fn post_system<'a, S: BuildHasher, W: Sink>(
     alloc: Global,
     words: NewMessage<'_>,
     system: &mut Tosser<S>,
@@ -93,11 +93,7 @@ pub(crate) fn leave_posted<'a, S: BuildHasher, W: Sink>(
 }
 
 /// The draft of the words and the body.
-pub(crate) fn draft_of(
-    alloc: Global,
-    words: NewMessage<'_>,
-    body: &[u8],
-) -> Result<Draft, AllocError>
+pub fn draft_of(alloc: Global, words: NewMessage<'_>, body: &[u8]) -> Result<Draft, AllocError>
     ensures { IfOk result (λ draft. draft ≡ draft_given words.entry body.now) }
 {
     Ok(Draft {

@@ -68,8 +68,8 @@ fn scan_system<'a, S: BuildHasher, W: Sink>(
     })
 }
 
-// The file of each packet. Adds a line for each.
-fn packet_files(
+/// The file of each packet. Adds a line for each.
+pub fn packet_files(
     alloc: Global,
     packets: &[Packet],
     before: usize,

@@ -45,8 +45,8 @@ fn post_free_given<'a, S: BuildHasher + Drop, W: Sink>(
     post_free_system(alloc, words, &mut system, body, out)
 }
 
-// The same at the system that the files make.
-fn post_free_system<'a, S: BuildHasher, W: Sink>(
+/// The same at the system that the files make.
+pub(crate) fn post_free_system<'a, S: BuildHasher, W: Sink>(
     alloc: Global,
     words: NewMessage<'_>,
     system: &mut Tosser<S>,

@@ -1,10 +1,10 @@
 //! The command `toss`: packet files one after the other, of which one is open at a time.
-ghost use Rattle.std.specs.Prelude.{◌≡◌, ◌⊎◌, [], None, IfErr, IfOk};
+ghost use Rattle.std.specs.Prelude.{◌≡◌, ◌+◌, ◌≤◌, ◌⊎◌, [], None, vec_capacity, vec_len, IfErr, IfOk};
 ghost use Rattle.echo_status.specs.Devices.{device_of, output_of};
 ghost use Rattle.echo_status.specs.Ended.{IsOutOfMemory};
 ghost use Rattle.echo_changing.specs.System.{IsFirstFaultOf, IsSystemGiven};
-ghost use Rattle.echo_changing.specs.Tossed.{EndsRun, RunEnds, TossAnswers, TossesEach};
-ghost use Rattle.echo_changing.specs.TossedPacket.{TossesPacket, fault_of};
+ghost use Rattle.echo_changing.specs.Tossed.{EndsRun, RunEnds, TossAnswers, TossAnswersBy, TossesEachBy};
+ghost use Rattle.echo_changing.specs.TossedPacket.{NotesPacketAt, ReportsPacket, TossesPacket, TossesPacketBy, fault_of};
 
 use crate::coming::PacketFiles;
 use crate::given::Given;
@@ -12,9 +12,10 @@ use crate::leaving::{Done, Files, leave};
 use crate::lines::{MOST_TALLY, push_tally};
 use crate::system::{saved, system_given};
 use echo_device::{Sink, Source};
+use echo_noting::toss_noting;
 use echo_packet::Limits;
 use echo_status::{Fault, print_rest};
-use echo_toss::{TossCause, Tosser};
+use echo_toss::{Tally, TossCause, TossFault, Tosser};
 use std::alloc::Global;
 use std::hash::BuildHasher;
 use std::marker::Model;
@@ -33,9 +34,36 @@ pub fn toss<'a, S: BuildHasher + Drop, P: PacketFiles<'a>, W: Sink>(
 ) -> Done<'a>
     ensures { TossAnswers limits (device_of P.Reader.remaining P.Reader.failures) given.entry (P.coming packets.old) (P.coming packets.new) (output_of W.contents W.failures W.holds out.old) (output_of W.contents W.failures W.holds out.new) result }
 {
+    toss_by(alloc, given, limits, false, packets, out)
+}
+
+/// `toss --each`: the same, and before the line of a packet stands one for each of its messages that was not filed.
+pub fn toss_each<'a, S: BuildHasher + Drop, P: PacketFiles<'a>, W: Sink>(
+    alloc: Global,
+    given: Given<'a, S>,
+    limits: Limits,
+    packets: &mut P,
+    out: &mut W,
+) -> Done<'a>
+    ensures { TossAnswersBy NotesPacketAt limits (device_of P.Reader.remaining P.Reader.failures) given.entry (P.coming packets.old) (P.coming packets.new) (output_of W.contents W.failures W.holds out.old) (output_of W.contents W.failures W.holds out.new) result }
+{
+    toss_by(alloc, given, limits, true, packets, out)
+}
+
+// Tosses the packets, with notes or without.
+fn toss_by<'a, S: BuildHasher + Drop, P: PacketFiles<'a>, W: Sink>(
+    alloc: Global,
+    given: Given<'a, S>,
+    limits: Limits,
+    noting: bool,
+    packets: &mut P,
+    out: &mut W,
+) -> Done<'a>
+    ensures { TossAnswersBy (TossesPacketBy noting) limits (device_of P.Reader.remaining P.Reader.failures) given.entry (P.coming packets.old) (P.coming packets.new) (output_of W.contents W.failures W.holds out.old) (output_of W.contents W.failures W.holds out.new) result }
+{
     match Run::begin(alloc, given, limits) {
         Ok(mut run) => {
-            let stopped = run.each(packets);
+            let stopped = run.each(packets, noting);
             run.end(stopped, out)
         }
         Err(fault) => leave(alloc, Err(fault)),
@@ -80,13 +108,13 @@ impl<S: BuildHasher> Run<S> {
     }
 
     // Tosses the packets of the files, up to the first fault, which is answered.
-    fn each<'a, P: PacketFiles<'a>>(&mut self, packets: &mut P) -> Option<Fault<'a>>
-        ensures { TossesEach (device_of P.Reader.remaining P.Reader.failures) (P.coming packets.old) self.old result (P.coming packets.new) self.new }
+    fn each<'a, P: PacketFiles<'a>>(&mut self, packets: &mut P, noting: bool) -> Option<Fault<'a>>
+        ensures { TossesEachBy (TossesPacketBy noting) (device_of P.Reader.remaining P.Reader.failures) (P.coming packets.old) self.old result (P.coming packets.new) self.new }
     {
         'files: while let Some(opened) = packets.open_next() {
             match opened {
                 Ok(mut reader) => {
-                    if let Some(fault) = self.packet(&mut reader) {
+                    if let Some(fault) = self.packet_by(&mut reader, noting) {
                         return Some(fault);
                     }
                 }
@@ -94,6 +122,35 @@ impl<S: BuildHasher> Run<S> {
             }
         }
         None
+    }
+
+    // Tosses the packet at the front of what the reader has, with notes or without.
+    fn packet_by<'a, R: Source>(&mut self, reader: &mut R, noting: bool) -> Option<Fault<'a>>
+        ensures { TossesPacketBy noting self.old (device_of R.remaining R.failures reader.old) (device_of R.remaining R.failures reader.new) result self.new }
+    {
+        if noting {
+            self.packet_noted(reader)
+        } else {
+            self.packet(reader)
+        }
+    }
+
+    // The same as `packet`, with the notes on its messages before its line.
+    fn packet_noted<'a, R: Source>(&mut self, reader: &mut R) -> Option<Fault<'a>>
+        ensures { NotesPacketAt self.old (device_of R.remaining R.failures reader.old) (device_of R.remaining R.failures reader.new) result self.new }
+    {
+        if self.lines.reserve(MOST_TALLY).is_err() {
+            return Some(Fault::OutOfMemory);
+        }
+        let answer = toss_noting(
+            self.alloc,
+            &mut self.system,
+            reader,
+            self.limits,
+            &mut self.lines,
+            MOST_TALLY,
+        );
+        push_answer(&mut self.lines, answer)
     }
 
     // Tosses the packet at the front of what the reader has, and answers why it was not tossed whole. A
@@ -161,8 +218,25 @@ impl<S: BuildHasher> Run<S> {
     }
 }
 
-// Why a packet was not tossed whole, as it is reported.
-fn fault_of<'a>(cause: TossCause) -> Fault<'a>
+// Adds the line of a packet, and answers why it was not tossed whole. There is to be room for the line.
+fn push_answer<'a>(lines: &mut Vec<u8>, answer: Result<Tally, TossFault>) -> Option<Fault<'a>>
+    requires { vec_len lines.old + 170 ≤ vec_capacity lines.old }
+    ensures { ReportsPacket lines.old.items lines.new.items answer result }
+{
+    match answer {
+        Ok(tally) => {
+            push_tally(lines, tally);
+            None
+        }
+        Err(fault) => {
+            push_tally(lines, fault.tally);
+            Some(fault_of(fault.cause))
+        }
+    }
+}
+
+/// Why a packet was not tossed whole, as it is reported.
+pub fn fault_of<'a>(cause: TossCause) -> Fault<'a>
     ensures { result ≡ fault_of cause }
 {
     match cause {

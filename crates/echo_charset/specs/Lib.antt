@@ -1,2 +1,3 @@
 pub mod Charset
+pub mod Encoding
 pub mod Losses

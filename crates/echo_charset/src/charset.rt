@@ -76,7 +76,7 @@ impl Charset {
         }
     }
 
-    fn is_utf8(self) -> bool
+    pub(crate) fn is_utf8(self) -> bool
         ensures { result ≡ is_utf8 self }
     {
         match self {
@@ -109,7 +109,7 @@ impl Charset {
 
     // The character of the byte that is so much above 80.
     #[tactic(auto, unfolding(crate::specs::Charset::upper_half))]
-    fn upper_half(self, above: u8) -> char
+    pub(crate) fn upper_half(self, above: u8) -> char
         requires { above < 128 }
         ensures { result ≡ upper_half self above }
     {

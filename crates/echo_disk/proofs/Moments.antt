@@ -72,4 +72,5 @@ nothing_twice old mid new first second =
       alone = λ m none is. second.alone m none (first.alone m none is);
       run = then_run old mid new old.may_leave mid.may_leave first.run second.run first.no_more;
       keeps = λ t c le was. second.keeps t c (omega arith) (first.keeps t c le was);
+      honest = λ is. first.honest (second.honest is);
     }

@@ -38,3 +38,9 @@ pub record DiskState : Type 1 where
   pub counts_now : (t : ℕ) (c : Files) → t ≤ moment → may_leave c → left_since t c
   -- and since this moment there is no other
   pub only_now : (c : Files) → left_since moment c → may_leave c
+  -- no answer so far was another than what was seen
+  pub is_honest : Type 0
+
+-- this is so where the disk was honest up to this state
+abbrev pub Honestly : DiskState → Type 0 → Type 0
+Honestly disk P = disk.is_honest → P

@@ -30,6 +30,7 @@ pub record Elapses (old new : DiskState) : Type 0 where
   pub later : old.moment ≤ new.moment
   pub nothing_else : (t : ℕ) (c : Files) → t ≤ old.moment → new.left_since t c → old.left_since t c ⊎ new.may_leave c
   pub keeps : (t : ℕ) (c : Files) → t ≤ old.moment → old.left_since t c → new.left_since t c
+  pub honest : new.is_honest → old.is_honest
 
 -- A crash at any moment of a run leaves files that have P.
 pub record LeavesOnly (old new : DiskState) (P : Files → Type 0) : Type 0 where
@@ -47,6 +48,7 @@ pub record ChangesNothing (old new : DiskState) : Type 0 where
   pub alone : KeepsAlone (λ m. ⊥) old new
   pub run : LeavesOnly old new old.may_leave
   pub keeps : (t : ℕ) (c : Files) → t ≤ old.moment → old.left_since t c → new.left_since t c
+  pub honest : new.is_honest → old.is_honest
 
 -- a failure of the device is answered only where its count of failures rose
 pub record HasCause {T : Type 0} (before now : ℕ) (result : Result T DiskError) : Type 0 where

@@ -15,3 +15,4 @@ pub record KeepsOthers (old new : DiskState) (path : List ℕ) : Type 0 where
   pub flushed : (m : List ℕ) → m ≢ path → old.is_flushed m → new.is_flushed m
   pub named : (m : List ℕ) → old.is_named m → new.is_named m
   pub alone : (m : List ℕ) → old.is_alone m → new.is_alone m
+  pub honest : new.is_honest → old.is_honest

@@ -1,6 +1,6 @@
 //! What a disk owes to those that keep files on it.
 ghost use Rattle.std.specs.Prelude.{◌≡◌, ◌≢◌, ◌≤◌, ◌<◌, ◌⊎◌, ◌↔◌, ℕ, List, [], length, take, drop, true, false, IsTrue, IfOk, OnOk, IsSome, Some, None};
-ghost use Rattle.echo_disk.specs.Disk.{DiskState, bytes_in, IsIn};
+ghost use Rattle.echo_disk.specs.Disk.{DiskState, Honestly, bytes_in, IsIn};
 ghost use Rattle.echo_disk.specs.Steps.{IsWrittenAt, TornWrite, TornCut, TornMaking, TornRemoval, TornNaming, SameBeside, ChangesFile, RenamesFile};
 ghost use Rattle.echo_disk.specs.Runs.{LeavesOneStepOn, KeepsNamed, KeepsFlushed, KeepsAlone, Elapses, ChangesNothing, HasCause};
 
@@ -10,6 +10,9 @@ use crate::disk_error::DiskError;
 ///
 /// A path has its folder's path before it, which ends in a slash or is empty. A fault of the device is answered
 /// only where `failures` rose. After a failed call nothing is known but what a crash may leave.
+///
+/// Files that others change too may answer anything. So what an answer says of the files is known only where the
+/// disk was honest up to then, and what a call asks of them is asked only of a disk that was.
 pub trait Disk {
     // What the disk shows, and what a crash may leave of it.
     ghost state: { Self → DiskState };
@@ -19,33 +22,33 @@ pub trait Disk {
 
     /// Whether there is such a file.
     fn exists(&mut self, path: &[u8]) -> Result<bool, DiskError>
-        ensures found { IfOk result (λ found. IsTrue found ↔ IsSome ((state self.old).seen path.now)) }
+        ensures found { Honestly (state self.new) (IfOk result (λ found. IsTrue found ↔ IsSome ((state self.old).seen path.now))) }
         ensures quiet { ChangesNothing (state self.old) (state self.new) }
         ensures cause { HasCause (failures self.old) (failures self.new) result };
 
     /// How many bytes the file has.
     fn len(&mut self, path: &[u8]) -> Result<usize, DiskError>
-        requires { IsSome ((state self.old).seen path.now) }
-        ensures len { IfOk result (λ len. len ≡ length (bytes_in ((state self.old).seen path.now))) }
+        requires { Honestly (state self.old) (IsSome ((state self.old).seen path.now)) }
+        ensures len { Honestly (state self.new) (IfOk result (λ len. len ≡ length (bytes_in ((state self.old).seen path.now)))) }
         ensures quiet { ChangesNothing (state self.old) (state self.new) }
         ensures cause { HasCause (failures self.old) (failures self.new) result };
 
     /// Reads some bytes of the file from `at` on: none only at its end, or where `buf` is empty.
     fn read_at(&mut self, path: &[u8], at: usize, buf: &mut [u8]) -> Result<usize, DiskError>
-        requires { IsSome ((state self.old).seen path.now) }
+        requires { Honestly (state self.old) (IsSome ((state self.old).seen path.now)) }
         ensures bound { IfOk result (λ count. count ≤ length buf.new) }
-        ensures bytes { IfOk result (λ count. take count buf.new ≡ take count (drop at (bytes_in ((state self.old).seen path.now)))) }
-        ensures within { IfOk result (λ count. count ≤ length (drop at (bytes_in ((state self.old).seen path.now)))) }
-        ensures some { 0 < length buf.new → IfOk result (λ count. count ≡ 0 → drop at (bytes_in ((state self.old).seen path.now)) ≡ []) }
+        ensures bytes { Honestly (state self.new) (IfOk result (λ count. take count buf.new ≡ take count (drop at (bytes_in ((state self.old).seen path.now))))) }
+        ensures within { Honestly (state self.new) (IfOk result (λ count. count ≤ length (drop at (bytes_in ((state self.old).seen path.now))))) }
+        ensures some { Honestly (state self.new) (0 < length buf.new → IfOk result (λ count. count ≡ 0 → drop at (bytes_in ((state self.old).seen path.now)) ≡ [])) }
         ensures quiet { ChangesNothing (state self.old) (state self.new) }
         ensures cause { HasCause (failures self.old) (failures self.new) result };
 
     /// Writes over what is there, and past the end. Until the file is synced, a crash may leave any bytes in the
     /// range that is written.
     fn write_at(&mut self, path: &[u8], at: usize, bytes: &[u8]) -> Result<(), DiskError>
-        requires there { IsSome ((state self.old).seen path.now) }
-        requires within { at ≤ length (bytes_in ((state self.old).seen path.now)) }
-        requires alone { (state self.old).is_alone path.now }
+        requires there { Honestly (state self.old) (IsSome ((state self.old).seen path.now)) }
+        requires within { Honestly (state self.old) (at ≤ length (bytes_in ((state self.old).seen path.now))) }
+        requires alone { Honestly (state self.old) ((state self.old).is_alone path.now) }
         ensures there { IsSome ((state self.new).seen path.now) }
         ensures written { OnOk result (IsWrittenAt (bytes_in ((state self.old).seen path.now)) at bytes.now (bytes_in ((state self.new).seen path.now))) }
         ensures beside { SameBeside path.now (state self.old).seen (state self.new).seen }
@@ -58,9 +61,9 @@ pub trait Disk {
 
     /// Cuts the file to a length.
     fn cut(&mut self, path: &[u8], len: usize) -> Result<(), DiskError>
-        requires there { IsSome ((state self.old).seen path.now) }
-        requires within { len ≤ length (bytes_in ((state self.old).seen path.now)) }
-        requires alone { (state self.old).is_alone path.now }
+        requires there { Honestly (state self.old) (IsSome ((state self.old).seen path.now)) }
+        requires within { Honestly (state self.old) (len ≤ length (bytes_in ((state self.old).seen path.now))) }
+        requires alone { Honestly (state self.old) ((state self.old).is_alone path.now) }
         ensures there { IsSome ((state self.new).seen path.now) }
         ensures short { OnOk result (bytes_in ((state self.new).seen path.now) ≡ take len (bytes_in ((state self.old).seen path.now))) }
         ensures beside { SameBeside path.now (state self.old).seen (state self.new).seen }
@@ -85,8 +88,8 @@ pub trait Disk {
 
     /// Gives a file another path, in the place of the file that had it. The file's bytes have to be on the disk.
     fn rename(&mut self, from: &[u8], to: &[u8]) -> Result<(), DiskError>
-        requires there { IsSome ((state self.old).seen from.now) }
-        requires durable { (state self.old).is_flushed from.now }
+        requires there { Honestly (state self.old) (IsSome ((state self.old).seen from.now)) }
+        requires durable { Honestly (state self.old) ((state self.old).is_flushed from.now) }
         requires other { from.now ≢ to.now }
         ensures moved { OnOk result ((state self.new).seen to.now ≡ (state self.old).seen from.now) }
         ensures gone { OnOk result ((state self.new).seen from.now ≡ None) }
@@ -102,10 +105,10 @@ pub trait Disk {
     /// Gives a file a second path, and answers `false` where that path has a file already. The file's bytes have to
     /// be on the disk. Neither path may be written to while both are there.
     fn link(&mut self, from: &[u8], to: &[u8]) -> Result<bool, DiskError>
-        requires there { IsSome ((state self.old).seen from.now) }
-        requires durable { (state self.old).is_flushed from.now }
+        requires there { Honestly (state self.old) (IsSome ((state self.old).seen from.now)) }
+        requires durable { Honestly (state self.old) ((state self.old).is_flushed from.now) }
         ensures linked { IfOk result (λ linked. linked ≡ true → (state self.new).seen to.now ≡ (state self.old).seen from.now) }
-        ensures free { IfOk result (λ linked. IsTrue linked ↔ ((state self.old).seen to.now ≡ None)) }
+        ensures free { Honestly (state self.new) (IfOk result (λ linked. IsTrue linked ↔ ((state self.old).seen to.now ≡ None))) }
         ensures taken { IfOk result (λ linked. linked ≡ false → (state self.new).seen to.now ≡ (state self.old).seen to.now) }
         ensures kept { IfOk result (λ linked. linked ≡ true → (state self.new).is_flushed to.now) }
         ensures beside { SameBeside to.now (state self.old).seen (state self.new).seen }
@@ -118,7 +121,7 @@ pub trait Disk {
 
     /// Removes a file.
     fn remove(&mut self, path: &[u8]) -> Result<(), DiskError>
-        requires { IsSome ((state self.old).seen path.now) }
+        requires { Honestly (state self.old) (IsSome ((state self.old).seen path.now)) }
         ensures gone { OnOk result ((state self.new).seen path.now ≡ None) }
         ensures beside { SameBeside path.now (state self.old).seen (state self.new).seen }
         ensures crash { LeavesOneStepOn (ChangesFile (state self.old) path.now TornRemoval) (state self.old) (state self.new) }
@@ -130,7 +133,7 @@ pub trait Disk {
 
     /// After it the bytes of the file are on the disk; its name may not be.
     fn sync(&mut self, path: &[u8]) -> Result<(), DiskError>
-        requires { IsSome ((state self.old).seen path.now) }
+        requires { Honestly (state self.old) (IsSome ((state self.old).seen path.now)) }
         ensures durable { OnOk result ((state self.new).is_flushed path.now) }
         ensures quiet { ChangesNothing (state self.old) (state self.new) }
         ensures cause { HasCause (failures self.old) (failures self.new) result };

@@ -6,18 +6,21 @@
 //! is tested, each call failing in turn.
 //!
 //! Modules in reading order: `input` (any reader), `reading` (files), `owned` (whose a file is), `beside`
-//! (the file that is written first), `writing` (files in place of others, and new ones).
+//! (the file that is written first), `writing` (files in place of others, and new ones), `staging` (files that
+//! get their names later).
 #![tactic(auto)]
 
 mod beside;
 mod input;
 mod owned;
 mod reading;
+mod staging;
 mod writing;
 
 pub use input::{InputFault, read_whole};
 pub use owned::Owned;
 pub use reading::{open_regular, read_file, read_file_if_there};
+pub use staging::{drop_staged, name_staged, stage_file};
 pub use writing::{NewFile, OutputFault, create_file, flush_folder, replace_file};
 
 #[cfg(test)]

@@ -258,3 +258,48 @@ fn permissions_come_first(rt: HostRuntime) -> Result<(), Fail> {
     assert_eq!(rt; state.allowed_at, Some(0));
     Ok(())
 }
+
+/// A staged packet gets its name where that is free; where a run was stopped in between, its name beside goes;
+/// what another has there stays, and then the packet stays too.
+#[test]
+fn staged_packets_are_named_once(rt: HostRuntime) -> Result<(), Fail> {
+    let alloc = rt.alloc();
+    for (there, staged, named) in [
+        (None, true, true),
+        (Some(NEW), false, true),
+        (Some(b"of another".as_slice()), false, false),
+    ] {
+        let state = state(alloc, (CALLS, CALLS), &[(BESIDE_PACKET, NEW)])?;
+        if let Some(bytes) = there {
+            let mut state = state.try_borrow_mut().map_err(|_| Fail::from("borrowed"))?;
+            state.put("a.pkt", bytes)?;
+        }
+        let disk = Disk::new(&state);
+        let answer = stage_file(alloc, &disk, new_at("a.pkt"));
+        assert_eq!(rt; answer.is_ok(), staged);
+        let answer = name_staged(alloc, &disk, "a.pkt", "1.10.2");
+        assert_eq!(rt; answer.is_ok(), named);
+        assert!(rt; holds(&state, BESIDE_PACKET, None)? == named);
+        assert!(rt; holds(&state, "a.pkt", Some(there.unwrap_or(NEW)))?);
+    }
+    Ok(())
+}
+
+/// Where the program stops at a call, a packet stands beside its name or has it, or is not wanted yet.
+#[test]
+fn staging_stops_at_a_call(rt: HostRuntime) -> Result<(), Fail> {
+    let alloc = rt.alloc();
+    for call in 0..CALLS {
+        let state = state(alloc, (call, u64::MAX), &[])?;
+        let disk = Disk::new(&state);
+        let staged = stage_file(alloc, &disk, new_at("a.pkt"));
+        let named = name_staged(alloc, &disk, "a.pkt", "1.10.2");
+        assert!(rt; staged.is_ok() == (call > 5), "call {call}");
+        assert!(rt; named.is_ok() == (call > 7), "call {call}");
+        assert!(rt;
+            holds(&state, "a.pkt", Some(NEW))? == (call > 6),
+            "call {call}"
+        );
+    }
+    Ok(())
+}

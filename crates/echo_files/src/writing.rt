@@ -113,7 +113,7 @@ pub fn flush_folder<R: Files>(files: &R, folder: &str) -> Result<(), OutputFault
 }
 
 // The bytes by which a file of its kind is known.
-fn start_of(bytes: &[u8], known_by: usize) -> &[u8]
+pub(crate) fn start_of(bytes: &[u8], known_by: usize) -> &[u8]
     ensures { result.now ≡ take known_by bytes.now }
 {
     &bytes[..known_by.min(bytes.len())]
@@ -142,7 +142,7 @@ fn give_new_name<R: Files>(files: &R, beside: &str, path: &str) -> Result<(), Ou
 }
 
 // Writes a file that was just made, and flushes it to the disk.
-fn write_flushed<F: Write + OpenFile + Owned + Drop>(
+pub(crate) fn write_flushed<F: Write + OpenFile + Owned + Drop>(
     file: F,
     access: Option<Access>,
     bytes: &[u8],
@@ -167,7 +167,7 @@ fn put_bytes<W: Sink>(device: &mut W, bytes: &[u8]) -> Result<(), OutputFault>
 }
 
 // Removes the file beside it where that was not given the name.
-fn tidied<R: Files>(
+pub(crate) fn tidied<R: Files>(
     files: &R,
     beside: &str,
     done: Result<(), OutputFault>,

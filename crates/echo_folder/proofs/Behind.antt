@@ -104,6 +104,7 @@ module _ (d0 d : DiskState) (path : List ℕ) (end : End) (told : Told) (staged 
             messages_long = by.1.messages_long;
             keys_long = by.1.keys_long;
             cursor = by.1.cursor;
+            mark = by.1.mark;
             digit = by.1.digit;
             messages = fronts.1;
             keys = subst (λ f. IsFrontOf now.keys (bytes_in f)) (sym k_same) by.1.keys;
@@ -130,7 +131,7 @@ module _ (d0 d : DiskState) (path : List ℕ) (end : End) (told : Told) (staged 
               (written_front (bytes_in (d0.seen (messages_of path told.number))) bytes (bytes_in (d.seen (messages_of path told.number))) told.messages end.told.messages (staged.messages_behind is) staged.messages_long written)
           | inr ne ↦ ap (λ f. take end.told.messages (bytes_in f)) (kept.seen (messages_of path end.told.number) (λ e. ne (sym (messages_of-injective path end.told.number told.number e))))
         ] in
-        λ i. record { messages = front_same i; keys = take end.told.keys (bytes_in (k_same i)); cursor = end.told.cursor }
+        λ i. record { messages = front_same i; keys = take end.told.keys (bytes_in (k_same i)); cursor = end.told.cursor; mark = end.told.mark }
 
     abbrev pub more_messages : Told
     more_messages = record told { messages = told.messages + length bytes }
@@ -139,7 +140,7 @@ module _ (d0 d : DiskState) (path : List ℕ) (end : End) (told : Told) (staged 
     messages_added =
         let k_same = kept.seen (keys_of path told.number) (keys_not_messages path told.number told.number) in
         let grown = written_grown (bytes_in (d0.seen (messages_of path told.number))) bytes (bytes_in (d.seen (messages_of path told.number))) told.messages staged.messages_long written in
-        λ i. record { messages = grown i; keys = take told.keys (bytes_in (k_same i)); cursor = told.cursor }
+        λ i. record { messages = grown i; keys = take told.keys (bytes_in (k_same i)); cursor = told.cursor; mark = told.mark }
 
     pub messages_staged : IsSome (d.seen (messages_of path told.number)) → LeavesOneStepOn (ChangesFile d0 (messages_of path told.number) (TornWrite told.messages (length bytes))) d0 d → IsStaged d path end more_messages
     messages_staged there crash =
@@ -193,6 +194,7 @@ module _ (d0 d : DiskState) (path : List ℕ) (end : End) (told : Told) (staged 
             keys_long = by.1.keys_long;
             messages_long = by.1.messages_long;
             cursor = by.1.cursor;
+            mark = by.1.mark;
             digit = by.1.digit;
             keys = fronts.1;
             messages = subst (λ f. IsFrontOf now.messages (bytes_in f)) (sym m_same) by.1.messages;
@@ -219,7 +221,7 @@ module _ (d0 d : DiskState) (path : List ℕ) (end : End) (told : Told) (staged 
               (written_front (bytes_in (d0.seen (keys_of path told.number))) bytes (bytes_in (d.seen (keys_of path told.number))) told.keys end.told.keys (staged.keys_behind is) staged.keys_long written)
           | inr ne ↦ ap (λ f. take end.told.keys (bytes_in f)) (kept.seen (keys_of path end.told.number) (λ e. ne (sym (keys_of-injective path end.told.number told.number e))))
         ] in
-        λ i. record { keys = front_same i; messages = take end.told.messages (bytes_in (m_same i)); cursor = end.told.cursor }
+        λ i. record { keys = front_same i; messages = take end.told.messages (bytes_in (m_same i)); cursor = end.told.cursor; mark = end.told.mark }
 
     abbrev pub more_keys : Told
     more_keys = record told { keys = told.keys + length bytes }
@@ -228,7 +230,7 @@ module _ (d0 d : DiskState) (path : List ℕ) (end : End) (told : Told) (staged 
     keys_added =
         let m_same = kept.seen (messages_of path told.number) (messages_not_keys path told.number told.number) in
         let grown = written_grown (bytes_in (d0.seen (keys_of path told.number))) bytes (bytes_in (d.seen (keys_of path told.number))) told.keys staged.keys_long written in
-        λ i. record { keys = grown i; messages = take told.messages (bytes_in (m_same i)); cursor = told.cursor }
+        λ i. record { keys = grown i; messages = take told.messages (bytes_in (m_same i)); cursor = told.cursor; mark = told.mark }
 
     pub keys_staged : IsSome (d.seen (keys_of path told.number)) → LeavesOneStepOn (ChangesFile d0 (keys_of path told.number) (TornWrite told.keys (length bytes))) d0 d → IsStaged d path end more_keys
     keys_staged there crash =

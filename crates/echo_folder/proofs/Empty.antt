@@ -54,6 +54,7 @@ no_record path base a c stands was now =
         messages_long = by.1.messages_long;
         keys_long = by.1.keys_long;
         cursor = by.1.cursor;
+        mark = by.1.mark;
         digit = omega arith;
         messages = front_none base.messages (bytes_in (c (messages_of path 0))) by.1.messages_long;
         keys = front_none base.keys (bytes_in (c (keys_of path 0))) by.1.keys_long;

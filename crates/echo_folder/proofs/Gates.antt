@@ -1,8 +1,7 @@
 -- What a crash leaves at each moment of a commit.
-use Rattle.std.proofs.Common.{◌≡◌, ◌≢◌, ◌≤◌, ◌<◌, ◌⊎◌, ◌^◌, inl, inr, ℕ, ◌+◌, List, [], ◌∷◌, ◌++◌, length, get_or, take, drop, sym, ◌∙◌, ap, subst, arith, append_assoc, length-append}
+use Rattle.std.proofs.Common.{◌≡◌, ◌≢◌, ◌≤◌, ◌⊎◌, inl, inr, ℕ, ◌+◌, List, [], ◌∷◌, ◌++◌, length, get_or, take, drop, sym, ◌∙◌, ap, subst, arith, length-append}
 use Rattle.std.proofs.lemmas.Bool.{cases_eq}
 use Rattle.std.proofs.lemmas.Nat.{from_le_bytes-to_le_bytes_8}
-use Rattle.std.specs.Int.{w64, to_le_bytes}
 use Rattle.std.specs.Prelude.{IsSome}
 use Rattle.echo_disk.specs.Disk.{DiskState, Files, bytes_in, IsIn}
 use Rattle.echo_disk.specs.Steps.{IsWrittenAt, TornWrite, ChangesFile}
@@ -10,7 +9,7 @@ use Rattle.echo_disk.specs.Runs.{OneStepOn, LeavesOnly, ChangesNothing}
 use Rattle.echo_disk.specs.Synced.{IsOnDisk, KeepsOthers}
 use Rattle.echo_disk.proofs.Moments.{no_call, then_run, then_nothing, left_now}
 use Rattle.echo_folder.specs.Names.{log_of, messages_of, keys_of}
-use Rattle.echo_folder.specs.Log.{opened, told_by, last_told}
+use Rattle.echo_folder.specs.Log.{opened, told_by, body_of, FitsRecord, last_told}
 use Rattle.echo_folder.specs.Standing.{BaseBytes, StandsFor, TellsBase, base_at}
 use Rattle.echo_folder.specs.AtRest.{IsAtRest, IsStaged}
 use Rattle.echo_folder.specs.Moments.{SameOutside, KeepsOutside, IsBeforeOrAfter}
@@ -20,20 +19,18 @@ use Rattle.echo_folder.proofs.Logs.{opened-snoc, AreBodies-snoc, last_told-snoc,
 use Rattle.echo_folder.proofs.Paths.{log_in, messages_in, keys_in, messages_not_log, keys_not_log}
 use Rattle.echo_folder.proofs.Same.{AreThere-both, TellsBase-seen, log_changed}
 
--- the bytes of a record behind its gate
-abbrev pub body_of : Told → List ℕ
-body_of told = to_le_bytes w64 told.messages ++ to_le_bytes w64 told.keys ++ to_le_bytes w64 told.cursor ++ told.number ∷ []
-
-pub told_by-body_of : (told : Told) → told.messages < 2 ^ 64 → told.keys < 2 ^ 64 → told.cursor < 2 ^ 64 → told_by (body_of told) ≡ told
-told_by-body_of told m k c = λ i. record {
-  messages = from_le_bytes-to_le_bytes_8 told.messages m i;
-  keys = from_le_bytes-to_le_bytes_8 told.keys k i;
-  cursor = from_le_bytes-to_le_bytes_8 told.cursor c i;
+pub told_by-body_of : (told : Told) → FitsRecord told → told_by (body_of told) ≡ told
+told_by-body_of told fits = λ i. record {
+  messages = from_le_bytes-to_le_bytes_8 told.messages fits.messages i;
+  keys = from_le_bytes-to_le_bytes_8 told.keys fits.keys i;
+  cursor = from_le_bytes-to_le_bytes_8 told.cursor fits.cursor i;
   number = told.number;
+  mark = record {
+    owner = from_le_bytes-to_le_bytes_8 told.mark.owner fits.owner i;
+    first = from_le_bytes-to_le_bytes_8 told.mark.first fits.first i;
+    second = from_le_bytes-to_le_bytes_8 told.mark.second fits.second i;
+  };
 }
-
-pub body_of-shut : (told : Told) → to_le_bytes w64 told.messages ++ to_le_bytes w64 told.keys ++ to_le_bytes w64 told.cursor ++ told.number ∷ 0 ∷ [] ≡ body_of told ++ 0 ∷ []
-body_of-shut told = sym (append_assoc (to_le_bytes w64 told.messages ++ to_le_bytes w64 told.keys ++ to_le_bytes w64 told.cursor) (told.number ∷ []) (0 ∷ []))
 
 -- a path outside the folder is none of its log
 pub outside_log : (path m : List ℕ) → (IsIn path m → ⊥) → m ≢ log_of path
@@ -48,6 +45,7 @@ outside_kept path file d e inside kept =
       named = λ m out. kept.named m;
       flushed = λ m out. kept.flushed m (other m out);
       alone = λ m out. kept.alone m;
+      honest = kept.honest;
     }
 
 pub outside_quiet : (path : List ℕ) (d e : DiskState) → ChangesNothing d e → KeepsOutside path d e
@@ -56,6 +54,7 @@ outside_quiet path d e quiet = record {
   named = λ m out. quiet.named m (λ h. h);
   flushed = λ m out. quiet.flushed m (λ h. h);
   alone = λ m out. quiet.alone m (λ h. h);
+  honest = quiet.honest;
 }
 
 pub outside_twice : (path : List ℕ) (d e f : DiskState) → KeepsOutside path d e → KeepsOutside path e f → KeepsOutside path d f
@@ -64,6 +63,7 @@ outside_twice path d e f one two = record {
   named = λ m out is. two.named m out (one.named m out is);
   flushed = λ m out is. two.flushed m out (one.flushed m out is);
   alone = λ m out is. two.alone m out (one.alone m out is);
+  honest = λ is. one.honest (two.honest is);
 }
 
 pub on_disk_quiet : (d e : DiskState) (file : List ℕ) → ChangesNothing d e → IsOnDisk d file → IsOnDisk e file
@@ -184,7 +184,7 @@ module _ (d0 : DiskState) (path : List ℕ) (end : End) (told : Told) (staged : 
         }
 
     -- while the gate is opened
-    gate_torn : (body : List ℕ) → length body ≡ 25 → told_by body ≡ told → Ready d (body ++ 0 ∷ []) → (c : Files) → OneStepOn (ChangesFile d (log_of path) (TornWrite end.gate 1)) d c
+    gate_torn : (body : List ℕ) → length body ≡ 49 → told_by body ≡ told → Ready d (body ++ 0 ∷ []) → (c : Files) → OneStepOn (ChangesFile d (log_of path) (TornWrite end.gate 1)) d c
         → (StandsFor path first c ⊎ StandsFor path next c) × SameOutside path d0 c
     gate_torn body size says r c from =
         let a = from.0 in
@@ -224,7 +224,7 @@ module _ (d0 : DiskState) (path : List ℕ) (end : End) (told : Told) (staged : 
           )
         ]
 
-    pub run_gate : (body : List ℕ) → length body ≡ 25 → told_by body ≡ told → Ready d (body ++ 0 ∷ []) → LeavesOnly d e (OneStepOn (ChangesFile d (log_of path) (TornWrite end.gate 1)) d) → LeavesOnly d0 e P
+    pub run_gate : (body : List ℕ) → length body ≡ 49 → told_by body ≡ told → Ready d (body ++ 0 ∷ []) → LeavesOnly d e (OneStepOn (ChangesFile d (log_of path) (TornWrite end.gate 1)) d) → LeavesOnly d0 e P
     run_gate body size says r more =
         then_run d0 d e P (OneStepOn (ChangesFile d (log_of path) (TornWrite end.gate 1)) d) r.run more
         (λ c from. let both = gate_torn body size says r c from in record { outside = both.1; stands = both.0 })
@@ -233,8 +233,8 @@ module _ (d0 : DiskState) (path : List ℕ) (end : End) (told : Told) (staged : 
     kept_gate body r kept = outside_twice path d0 d e r.kept (outside_kept path (log_of path) d e (log_in path) kept)
 
     -- at last the record counts
-    pub done_gate : (body : List ℕ) → length body ≡ 25 → told_by body ≡ told → Ready d (body ++ 0 ∷ []) → KeepsOthers d e (log_of path) → IsOnDisk e (log_of path)
-        → IsWrittenAt (bytes_in (d.seen (log_of path))) end.gate (1 ∷ []) (bytes_in (e.seen (log_of path))) → IsAtRest e path (record { gate = end.gate + 26; told = told })
+    pub done_gate : (body : List ℕ) → length body ≡ 49 → told_by body ≡ told → Ready d (body ++ 0 ∷ []) → KeepsOthers d e (log_of path) → IsOnDisk e (log_of path)
+        → IsWrittenAt (bytes_in (d.seen (log_of path))) end.gate (1 ∷ []) (bytes_in (e.seen (log_of path))) → IsAtRest e path (record { gate = end.gate + 50; told = told })
     done_gate body size says r kept on written =
         let front = opened bodies in
         let tail = body ++ 0 ∷ [] in
@@ -264,4 +264,4 @@ module _ (d0 : DiskState) (path : List ℕ) (end : End) (told : Told) (staged : 
     same_gate body r kept =
         let m_same = kept.seen (messages_of path told.number) (messages_not_log path told.number) ∙ r.messages_same in
         let k_same = kept.seen (keys_of path told.number) (keys_not_log path told.number) ∙ r.keys_same in
-        λ i. record { messages = take told.messages (bytes_in (m_same i)); keys = take told.keys (bytes_in (k_same i)); cursor = told.cursor }
+        λ i. record { messages = take told.messages (bytes_in (m_same i)); keys = take told.keys (bytes_in (k_same i)); cursor = told.cursor; mark = told.mark }

@@ -13,7 +13,7 @@ opened-snoc (b ∷ bodies) body rest =
     let tail : opened (bodies ++ body ∷ []) ++ rest ≡ opened bodies ++ (1 ∷ body ++ rest) = opened-snoc bodies body rest in
     ap (λ (l : List ℕ). 1 ∷ l) (append_assoc b (opened (bodies ++ body ∷ [])) rest ∙ ap (λ (l : List ℕ). b ++ l) tail ∙ sym (append_assoc b (opened bodies) (1 ∷ body ++ rest)))
 
-pub AreBodies-snoc : (bodies : List (List ℕ)) (body : List ℕ) → AreBodies bodies → length body ≡ 25 → AreBodies (bodies ++ body ∷ [])
+pub AreBodies-snoc : (bodies : List (List ℕ)) (body : List ℕ) → AreBodies bodies → length body ≡ 49 → AreBodies (bodies ++ body ∷ [])
 AreBodies-snoc [] body all size = (size, tt)
 AreBodies-snoc (b ∷ bodies) body all size = (all.0, AreBodies-snoc bodies body all.1 size)
 
@@ -25,13 +25,13 @@ last_told-snoc (b ∷ c ∷ bodies) body = last_told-snoc (c ∷ bodies) body
 pub shut_log : (bodies : List (List ℕ)) (gate : ℕ) (rest bytes : List ℕ) → AreBodies bodies → gate ≢ 1 → bytes ≡ opened bodies ++ gate ∷ rest → IsLog bodies bytes
 shut_log bodies gate rest bytes sizes shut is = record { rest = gate ∷ rest; parts = is; sizes = sizes; ends = inr shut }
 
-pub open_log : (bodies : List (List ℕ)) (body bytes : List ℕ) → AreBodies bodies → length body ≡ 25 → bytes ≡ opened bodies ++ (1 ∷ body ++ 0 ∷ []) → IsLog (bodies ++ body ∷ []) bytes
+pub open_log : (bodies : List (List ℕ)) (body bytes : List ℕ) → AreBodies bodies → length body ≡ 49 → bytes ≡ opened bodies ++ (1 ∷ body ++ 0 ∷ []) → IsLog (bodies ++ body ∷ []) bytes
 open_log bodies body bytes sizes size is =
     shut_log (bodies ++ body ∷ []) 0 [] bytes (AreBodies-snoc bodies body sizes size) (omega arith) (is ∙ sym (opened-snoc bodies body (0 ∷ [])))
 
 -- ---- a log has one list of records
 
-not_ended : (e body rest : List ℕ) → length body ≡ 25 → EndsHere e → e ≡ 1 ∷ body ++ rest → ⊥
+not_ended : (e body rest : List ℕ) → length body ≡ 49 → EndsHere e → e ≡ 1 ∷ body ++ rest → ⊥
 not_ended e body rest size (inl short) is = omega (arith, ap length is, length-append body rest)
 not_ended e body rest size (inr shut) is = shut (ap (λ (l : List ℕ). get_or l 0 0) is)
 
@@ -41,8 +41,8 @@ same_bodies [] (y ∷ ys) e f a b p q is = absurd (not_ended e y (opened ys ++ f
 same_bodies (x ∷ xs) [] e f a b p q is = absurd (not_ended f x (opened xs ++ e) a.0 q (sym is ∙ append_assoc (1 ∷ x) (opened xs) e))
 same_bodies (x ∷ xs) (y ∷ ys) e f a b p q is =
     let behind : x ++ (opened xs ++ e) ≡ y ++ (opened ys ++ f) = sym (append_assoc x (opened xs) e) ∙ ap (λ (l : List ℕ). drop 1 l) is ∙ append_assoc y (opened ys) f in
-    let first : x ≡ y = sym (take_at x (opened xs ++ e) 25 a.0) ∙ ap (λ (l : List ℕ). take 25 l) behind ∙ take_at y (opened ys ++ f) 25 b.0 in
-    let others : xs ≡ ys = same_bodies xs ys e f a.1 b.1 p q (sym (drop_at x (opened xs ++ e) 25 a.0) ∙ ap (λ (l : List ℕ). drop 25 l) behind ∙ drop_at y (opened ys ++ f) 25 b.0) in
+    let first : x ≡ y = sym (take_at x (opened xs ++ e) 49 a.0) ∙ ap (λ (l : List ℕ). take 49 l) behind ∙ take_at y (opened ys ++ f) 49 b.0 in
+    let others : xs ≡ ys = same_bodies xs ys e f a.1 b.1 p q (sym (drop_at x (opened xs ++ e) 49 a.0) ∙ ap (λ (l : List ℕ). drop 49 l) behind ∙ drop_at y (opened ys ++ f) 49 b.0) in
     λ i. first i ∷ others i
 
 pub one_log : (xs ys : List (List ℕ)) (bytes : List ℕ) → IsLog xs bytes → IsLog ys bytes → xs ≡ ys

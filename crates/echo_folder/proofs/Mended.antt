@@ -39,7 +39,7 @@ torn_cut front rest old new torn is =
     sym torn.front ∙ ap (λ (l : List ℕ). take (length c) l) is ∙ take_behind front rest (length c) (length c - length front) (omega (arith, long))
 
 torn_end : (front : List ℕ) (old new : Option (List ℕ)) → TornWrite (length front) 1 old new → bytes_in old ≡ front
-    → (bytes_in new ≡ front ++ drop (length front) (bytes_in new)) × (length (drop (length front) (bytes_in new)) < 26)
+    → (bytes_in new ≡ front ++ drop (length front) (bytes_in new)) × (length (drop (length front) (bytes_in new)) < 50)
 torn_end front old new torn is =
     let n = length front in
     let c = bytes_in new in

@@ -62,7 +62,7 @@ module _ (path : List ℕ) (base : BaseBytes) (files : Files) (stands : StandsFo
       ap (λ (l : List ℕ). take end.told.messages l) m ∙ ap (λ (n : ℕ). take n (bytes_in (files (messages_of path end.told.number)))) end_tells.messages_long ∙ end_tells.messages in
       let k_is : take end.told.keys (bytes_in (d.seen (keys_of path end.told.number))) ≡ base.keys =
       ap (λ (l : List ℕ). take end.told.keys l) k ∙ ap (λ (n : ℕ). take n (bytes_in (files (keys_of path end.told.number)))) end_tells.keys_long ∙ end_tells.keys in
-      λ i. record { messages = m_is i; keys = k_is i; cursor = end_tells.cursor i }
+      λ i. record { messages = m_is i; keys = k_is i; cursor = end_tells.cursor i; mark = end_tells.mark i }
 
 -- files that are on the disk stand for what they are seen to stand for
 pub settled_stands : (d : DiskState) (path bytes : List ℕ) (base : BaseBytes) (end : End) → StandsFor path base d.seen → (reads : ReadsAll bytes end) → bytes ≡ bytes_in (d.seen (log_of path)) → IsOnDisk d (log_of path)
@@ -102,4 +102,5 @@ outside_but_log path log d e is kept =
       named = λ m out. kept.named m (other m out);
       flushed = λ m out. kept.flushed m (other m out);
       alone = λ m out. kept.alone m (other m out);
+      honest = kept.honest;
     }

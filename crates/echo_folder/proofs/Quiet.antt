@@ -1,7 +1,7 @@
 -- A base folder on a disk that has not changed.
 use Rattle.std.proofs.Common.{◌≡◌, ◌≤◌, ℕ, List, length, take, sym, ◌∙◌, ap, subst}
 use Rattle.std.specs.Prelude.{IsSome}
-use Rattle.echo_disk.specs.Disk.{DiskState, Files, bytes_in}
+use Rattle.echo_disk.specs.Disk.{DiskState, bytes_in}
 use Rattle.echo_disk.specs.Runs.{ChangesNothing}
 use Rattle.echo_folder.specs.Names.{log_of, messages_of, keys_of}
 use Rattle.echo_folder.specs.Standing.{BaseBytes, StandsFor, base_at}
@@ -16,6 +16,7 @@ base_quiet d e path told quiet = λ i. record {
   messages = take told.messages (bytes_in (quiet.seen (messages_of path told.number) i));
   keys = take told.keys (bytes_in (quiet.seen (keys_of path told.number) i));
   cursor = told.cursor;
+  mark = told.mark;
 }
 
 -- what is staged is so still

@@ -53,4 +53,4 @@ module _ (d0 : DiskState) (path : List ℕ) (end : End) (rest : IsAtRest d0 path
 
 pub same_base : (d e : DiskState) (path : List ℕ) (end : End) → e.seen (messages_of path end.told.number) ≡ d.seen (messages_of path end.told.number)
     → e.seen (keys_of path end.told.number) ≡ d.seen (keys_of path end.told.number) → base_at e path end.told ≡ base_at d path end.told
-same_base d e path end m k = λ i. record { messages = take end.told.messages (bytes_in (m i)); keys = take end.told.keys (bytes_in (k i)); cursor = end.told.cursor }
+same_base d e path end m k = λ i. record { messages = take end.told.messages (bytes_in (m i)); keys = take end.told.keys (bytes_in (k i)); cursor = end.told.cursor; mark = end.told.mark }

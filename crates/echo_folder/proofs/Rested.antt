@@ -5,6 +5,7 @@ use Rattle.echo_disk.specs.Disk.{DiskState, Files, bytes_in}
 use Rattle.echo_folder.specs.Names.{log_of, messages_of, keys_of}
 use Rattle.echo_folder.specs.Standing.{TellsBase, StandsFor, base_at}
 use Rattle.echo_folder.specs.AtRest.{IsAtRest, IsStaged}
+use Rattle.echo_folder.specs.declared.log.Mark.{Mark}
 use Rattle.echo_folder.specs.declared.log.Told.{Told}
 use Rattle.echo_folder.specs.declared.log.End.{End}
 use Rattle.echo_folder.proofs.Logs.{shut_log}
@@ -32,8 +33,8 @@ rest_stands d path end rest c left =
     (d.on_disk (messages_of path end.told.number) rest.messages_on.named rest.messages_on.flushed c left)
     (d.on_disk (keys_of path end.told.number) rest.keys_on.named rest.keys_on.flushed c left)
 
-pub rest_staged : (d : DiskState) (path : List ℕ) (end : End) (cursor : ℕ) → IsAtRest d path end → IsStaged d path end (record end.told { cursor = cursor })
-rest_staged d path end cursor rest = record {
+pub rest_staged : (d : DiskState) (path : List ℕ) (end : End) (cursor : ℕ) (mark : Mark) → IsAtRest d path end → IsStaged d path end (record end.told { cursor = cursor; mark = mark })
+rest_staged d path end cursor mark rest = record {
   log = rest.log;
   stands = rest_stands d path end rest;
   digit = rest.digit;

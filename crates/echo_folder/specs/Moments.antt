@@ -13,6 +13,7 @@ pub record KeepsOutside (path : List ℕ) (old new : DiskState) : Type 0 where
   pub named : (m : List ℕ) → (IsIn path m → ⊥) → old.is_named m → new.is_named m
   pub flushed : (m : List ℕ) → (IsIn path m → ⊥) → old.is_flushed m → new.is_flushed m
   pub alone : (m : List ℕ) → (IsIn path m → ⊥) → old.is_alone m → new.is_alone m
+  pub honest : new.is_honest → old.is_honest
 
 -- this base, and nothing outside it has changed
 pub record StandsAlone (path : List ℕ) (old : DiskState) (base : BaseBytes) (c : Files) : Type 0 where

@@ -38,6 +38,7 @@ pub record KeepsButOne (old new : DiskState) (file : List ℕ) : Type 0 where
   pub named : (m : List ℕ) → m ≢ file → old.is_named m → new.is_named m
   pub flushed : (m : List ℕ) → m ≢ file → old.is_flushed m → new.is_flushed m
   pub alone : (m : List ℕ) → m ≢ file → old.is_alone m → new.is_alone m
+  pub honest : new.is_honest → old.is_honest
 
 -- the two files of the number are there, each with one path
 pub record HasBothFiles (disk : DiskState) (path : List ℕ) (number : ℕ) : Type 0 where

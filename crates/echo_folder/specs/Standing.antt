@@ -3,21 +3,23 @@ use Rattle.std.specs.Prelude.{◌≡◌, ◌<◌, ℕ, List, [], ◌∷◌, ◌+
 use Rattle.echo_disk.specs.Disk.{DiskState, Files, bytes_in}
 use Rattle.echo_folder.specs.Names.{log_of, messages_of, keys_of}
 use Rattle.echo_folder.specs.Log.{IsLog, last_told}
+use Rattle.echo_folder.specs.declared.log.Mark.{Mark}
 use Rattle.echo_folder.specs.declared.log.Told.{Told}
 
--- the bytes of the messages, those of their keys, and the cursor
+-- the bytes of the messages, those of their keys, the cursor, and the mark
 pub record BaseBytes : Type 0 where
   pub messages : List ℕ
   pub keys : List ℕ
   pub cursor : ℕ
+  pub mark : Mark
 
 -- with more messages behind them
 abbrev pub and_messages : BaseBytes → List ℕ → BaseBytes
-and_messages base bytes = record { messages = base.messages ++ bytes; keys = base.keys; cursor = base.cursor }
+and_messages base bytes = record { messages = base.messages ++ bytes; keys = base.keys; cursor = base.cursor; mark = base.mark }
 
 -- with more keys behind them
 abbrev pub and_keys : BaseBytes → List ℕ → BaseBytes
-and_keys base bytes = record { messages = base.messages; keys = base.keys ++ bytes; cursor = base.cursor }
+and_keys base bytes = record { messages = base.messages; keys = base.keys ++ bytes; cursor = base.cursor; mark = base.mark }
 
 abbrev pub IsFrontOf : List ℕ → List ℕ → Type 0
 IsFrontOf front bytes = take (length front) bytes ≡ front
@@ -33,6 +35,7 @@ pub record TellsBase (told : Told) (path : List ℕ) (base : BaseBytes) (files :
   pub messages_long : told.messages ≡ length base.messages
   pub keys_long : told.keys ≡ length base.keys
   pub cursor : told.cursor ≡ base.cursor
+  pub mark : told.mark ≡ base.mark
   pub digit : told.number < 10
   pub messages : IsFrontOf base.messages (bytes_in (files (messages_of path told.number)))
   pub keys : IsFrontOf base.keys (bytes_in (files (keys_of path told.number)))
@@ -51,4 +54,5 @@ base_at disk path told = record {
   messages = take told.messages (bytes_in (disk.seen (messages_of path told.number)));
   keys = take told.keys (bytes_in (disk.seen (keys_of path told.number)));
   cursor = told.cursor;
+  mark = told.mark;
 }

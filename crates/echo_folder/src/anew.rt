@@ -1,5 +1,6 @@
 //! Files of another number, for a purge.
 ghost use Rattle.std.specs.Prelude.{◌≡◌, ◌≢◌, ◌<◌, ℕ, List, IfOk};
+ghost use Rattle.echo_disk.specs.Disk.{Honestly};
 ghost use Rattle.echo_disk.specs.Runs.{LeavesOnly, HasCause};
 ghost use Rattle.echo_folder.specs.Names.{AreNames, folder_of, keys_of, messages_of};
 ghost use Rattle.echo_folder.specs.Standing.{base_at};
@@ -10,7 +11,7 @@ use crate::log::{End, Told};
 use crate::names::Names;
 use echo_disk::{Disk, DiskError};
 
-/// Makes files of another number with nothing in them. What is staged there is the base once it is committed;
+/// Makes files of another number with nothing in them, of the same mark. What is staged there is the base once it is committed;
 /// until then a crash leaves the base as it was.
 pub fn stage_anew<D: Disk>(
     disk: &mut D,
@@ -22,15 +23,15 @@ pub fn stage_anew<D: Disk>(
     requires names { AreNames names.now number }
     requires digit { number < 10 }
     requires other { number ≢ end.told.number }
-    requires settled { IsAtRest (D.state disk.old) (folder_of names.now) end }
-    ensures staged { IfOk result (λ told. IsStaged (D.state disk.new) (folder_of names.now) end told) }
-    ensures told { IfOk result (λ told. told ≡ record { messages = 0; keys = 0; cursor = cursor; number = number }) }
-    ensures same { base_at (D.state disk.new) (folder_of names.now) end.told
-        ≡ base_at (D.state disk.old) (folder_of names.now) end.told }
+    requires settled { Honestly (D.state disk.old) (IsAtRest (D.state disk.old) (folder_of names.now) end) }
+    ensures staged { Honestly (D.state disk.new) (IfOk result (λ told. IsStaged (D.state disk.new) (folder_of names.now) end told)) }
+    ensures told { IfOk result (λ told. told ≡ record { messages = 0; keys = 0; cursor = cursor; number = number; mark = end.told.mark }) }
+    ensures same { Honestly (D.state disk.new) (base_at (D.state disk.new) (folder_of names.now) end.told
+        ≡ base_at (D.state disk.old) (folder_of names.now) end.told) }
     ensures beside { (m : List ℕ) → m ≢ messages_of (folder_of names.now) number → m ≢ keys_of (folder_of names.now) number
         → (D.state disk.new).seen m ≡ (D.state disk.old).seen m }
-    ensures any_moment { LeavesOnly (D.state disk.old) (D.state disk.new)
-        (StandsAlone (folder_of names.now) (D.state disk.old) (base_at (D.state disk.old) (folder_of names.now) end.told)) }
+    ensures any_moment { Honestly (D.state disk.new) (LeavesOnly (D.state disk.old) (D.state disk.new)
+        (StandsAlone (folder_of names.now) (D.state disk.old) (base_at (D.state disk.old) (folder_of names.now) end.told))) }
     ensures outside { KeepsOutside (folder_of names.now) (D.state disk.old) (D.state disk.new) }
     ensures cause { HasCause (D.failures disk.old) (D.failures disk.new) result }
 {
@@ -42,5 +43,6 @@ pub fn stage_anew<D: Disk>(
         keys: 0,
         cursor,
         number,
+        mark: end.told.mark,
     })
 }

@@ -24,7 +24,7 @@ mod staging;
 pub use anew::stage_anew;
 pub use committing::commit;
 pub use folder_error::FolderError;
-pub use log::{End, Told, last_record};
+pub use log::{End, Mark, Told, last_record};
 pub use names::Names;
 pub use opening::open;
 pub use parts::read_part;

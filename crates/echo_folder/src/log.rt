@@ -1,17 +1,27 @@
 //! The log of commits: its records, and the last of them.
 ghost use Rattle.std.specs.Prelude.{◌≡◌, ◌≤◌, ◌+◌, length, take, drop, slice_index, MatchBool};
 ghost use Rattle.std.specs.Int.{w64, from_le_bytes};
-ghost use Rattle.echo_folder.specs.Log.{EndsHere, told_by};
+ghost use Rattle.echo_folder.specs.Log.{EndsHere, mark_by, told_by};
 ghost use Rattle.echo_folder.specs.Reading.{ReadsAll};
 
-/// What a record tells: how many bytes of the messages and of their keys count, the cursor, and the number of
-/// the files that hold them.
+/// Whose a base folder is, and the two halves of the key of its digests: numbers that the folder keeps and does not
+/// judge. All are 0 before the first commit.
+#[derive(Clone, Copy, Debug, PartialEq, Eq)]
+pub struct Mark {
+    pub owner: u64,
+    pub first: u64,
+    pub second: u64,
+}
+
+/// What a record tells: how many bytes of the messages and of their keys count, the cursor, the number of the files
+/// that hold them, and the mark.
 #[derive(Clone, Copy, Debug, PartialEq, Eq)]
 pub struct Told {
     pub messages: usize,
     pub keys: usize,
     pub cursor: u64,
     pub number: u8,
+    pub mark: Mark,
 }
 
 /// Where the log's records end, and what the last of them tells.
@@ -24,9 +34,9 @@ pub struct End {
 // Whether a record with an open gate stands here.
 fn has_record(bytes: &[u8], at: usize) -> bool
     requires { at ≤ length bytes.now }
-    ensures { MatchBool result ((26 ≤ length (drop at bytes.now)) × (slice_index bytes.now at ≡ 1)) (EndsHere (drop at bytes.now)) }
+    ensures { MatchBool result ((50 ≤ length (drop at bytes.now)) × (slice_index bytes.now at ≡ 1)) (EndsHere (drop at bytes.now)) }
 {
-    bytes.len() - at >= 26 && bytes[at] == 1
+    bytes.len() - at >= 50 && bytes[at] == 1
 }
 
 // Eight bytes from there on, low byte first.
@@ -46,16 +56,29 @@ fn number_at(bytes: &[u8], at: usize) -> u64
     ])
 }
 
+// The mark that begins there.
+fn mark_at(bytes: &[u8], at: usize) -> Mark
+    requires { at + 24 ≤ length bytes.now }
+    ensures { result ≡ mark_by (take 24 (drop at bytes.now)) }
+{
+    Mark {
+        owner: number_at(bytes, at),
+        first: number_at(bytes, at + 8),
+        second: number_at(bytes, at + 16),
+    }
+}
+
 // What the record tells that begins there.
 fn told_at(bytes: &[u8], at: usize) -> Told
-    requires { at + 25 ≤ length bytes.now }
-    ensures { result ≡ told_by (take 25 (drop at bytes.now)) }
+    requires { at + 49 ≤ length bytes.now }
+    ensures { result ≡ told_by (take 49 (drop at bytes.now)) }
 {
     Told {
         messages: number_at(bytes, at) as usize,
         keys: number_at(bytes, at + 8) as usize,
         cursor: number_at(bytes, at + 16),
         number: bytes[at + 24],
+        mark: mark_at(bytes, at + 25),
     }
 }
 
@@ -71,11 +94,16 @@ pub fn last_record(bytes: &[u8]) -> End
             keys: 0,
             cursor: 0,
             number: 0,
+            mark: Mark {
+                owner: 0,
+                first: 0,
+                second: 0,
+            },
         },
     };
     'records: while has_record(bytes, end.gate) {
         end = End {
-            gate: end.gate + 26,
+            gate: end.gate + 50,
             told: told_at(bytes, end.gate + 1),
         };
     }

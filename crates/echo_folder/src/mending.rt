@@ -1,7 +1,7 @@
 //! The end of a log that a crash may have cut short.
 ghost use Rattle.std.specs.Prelude.{◌≡◌, ◌≤◌, ◌∷◌, [], ◌++◌, length, take, drop, OnOk};
 ghost use Rattle.std.specs.Bool.{OnTrue};
-ghost use Rattle.echo_disk.specs.Disk.{Files, bytes_in};
+ghost use Rattle.echo_disk.specs.Disk.{Honestly, Files, bytes_in};
 ghost use Rattle.echo_disk.specs.Runs.{LeavesOnly, HasCause};
 ghost use Rattle.echo_disk.specs.Synced.{IsOnDisk, KeepsOthers};
 ghost use Rattle.echo_folder.specs.Names.{log_of};
@@ -30,15 +30,15 @@ pub(crate) fn mend<D: Disk>(
     end: End,
 ) -> Result<(), DiskError>
     requires log { log.now ≡ log_of folder.now }
-    requires on_disk { IsOnDisk (D.state disk.old) log.now }
-    requires bytes { bytes.now ≡ bytes_in ((D.state disk.old).seen log.now) }
+    requires on_disk { Honestly (D.state disk.old) (IsOnDisk (D.state disk.old) log.now) }
+    requires bytes { Honestly (D.state disk.old) (bytes.now ≡ bytes_in ((D.state disk.old).seen log.now)) }
     requires read { ReadsAll bytes.now end }
     requires within { end.gate ≤ length bytes.now }
-    ensures mended { OnOk result (bytes_in ((D.state disk.new).seen log.now) ≡ take end.gate bytes.now ++ 0 ∷ []) }
-    ensures on_disk { OnOk result (IsOnDisk (D.state disk.new) log.now) }
+    ensures mended { Honestly (D.state disk.new) (OnOk result (bytes_in ((D.state disk.new).seen log.now) ≡ take end.gate bytes.now ++ 0 ∷ [])) }
+    ensures on_disk { Honestly (D.state disk.new) (OnOk result (IsOnDisk (D.state disk.new) log.now)) }
     ensures others { KeepsOthers (D.state disk.old) (D.state disk.new) log.now }
-    ensures any_moment { (base : BaseBytes) → ((c : Files) → (D.state disk.old).may_leave c → StandsFor folder.now base c)
-        → LeavesOnly (D.state disk.old) (D.state disk.new) (StandsAlone folder.now (D.state disk.old) base) }
+    ensures any_moment { Honestly (D.state disk.new) ((base : BaseBytes) → ((c : Files) → (D.state disk.old).may_leave c → StandsFor folder.now base c)
+        → LeavesOnly (D.state disk.old) (D.state disk.new) (StandsAlone folder.now (D.state disk.old) base)) }
     ensures cause { HasCause (D.failures disk.old) (D.failures disk.new) result }
 {
     if has_closed_gate(bytes, end.gate) {

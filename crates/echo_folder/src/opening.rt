@@ -1,6 +1,6 @@
 //! Opens a base folder that a crash, or a program that was stopped, may have left.
-ghost use Rattle.std.specs.Prelude.{◌≡◌, ◌≤◌, ◌↔◌, length, true, false, IfOk, OnOk, IsErrOf, IsTrue, IsSome};
-ghost use Rattle.echo_disk.specs.Disk.{bytes_in};
+ghost use Rattle.std.specs.Prelude.{◌≡◌, ◌≤◌, ◌<◌, ◌↔◌, length, true, false, IfOk, OnOk, IsErrOf, IsTrue, IsSome};
+ghost use Rattle.echo_disk.specs.Disk.{Honestly, bytes_in};
 ghost use Rattle.echo_disk.specs.Runs.{LeavesOnly, ChangesNothing, HasCause};
 ghost use Rattle.echo_disk.specs.Synced.{IsOnDisk};
 ghost use Rattle.echo_folder.specs.Names.{AreNames, folder_of, log_of, messages_of, keys_of};
@@ -26,14 +26,14 @@ pub(crate) fn settle_log<D: Disk>(
     log: &[u8],
 ) -> Result<Vec<u8>, DiskError>
     requires log { log.now ≡ log_of folder.now }
-    requires alone { AreAlone folder.now (D.state disk.old) }
-    ensures bytes { IfOk result (λ bytes. bytes.items ≡ bytes_in ((D.state disk.new).seen log.now)) }
-    ensures on_disk { OnOk result (IsOnDisk (D.state disk.new) log.now) }
-    ensures named { OnOk result (AreNamed folder.now (D.state disk.new)) }
-    ensures same { OnOk result (bytes_in ((D.state disk.new).seen log.now) ≡ bytes_in ((D.state disk.old).seen log.now)) }
+    requires alone { Honestly (D.state disk.old) (AreAlone folder.now (D.state disk.old)) }
+    ensures bytes { Honestly (D.state disk.new) (IfOk result (λ bytes. bytes.items ≡ bytes_in ((D.state disk.new).seen log.now))) }
+    ensures on_disk { Honestly (D.state disk.new) (OnOk result (IsOnDisk (D.state disk.new) log.now)) }
+    ensures named { Honestly (D.state disk.new) (OnOk result (AreNamed folder.now (D.state disk.new))) }
+    ensures same { Honestly (D.state disk.new) (OnOk result (bytes_in ((D.state disk.new).seen log.now) ≡ bytes_in ((D.state disk.old).seen log.now))) }
     ensures others { KeepsButOne (D.state disk.old) (D.state disk.new) log.now }
-    ensures any_moment { (base : BaseBytes) → StandsFor folder.now base (D.state disk.old).seen
-        → LeavesOnly (D.state disk.old) (D.state disk.new) (StandsOrWasLeft folder.now (D.state disk.old) base) }
+    ensures any_moment { Honestly (D.state disk.new) ((base : BaseBytes) → StandsFor folder.now base (D.state disk.old).seen
+        → LeavesOnly (D.state disk.old) (D.state disk.new) (StandsOrWasLeft folder.now (D.state disk.old) base)) }
     ensures cause { HasCause (D.failures disk.old) (D.failures disk.new) result }
 {
     disk.sync_folder(folder)?;
@@ -44,8 +44,8 @@ pub(crate) fn settle_log<D: Disk>(
 
 // Whether the two files are there.
 pub(crate) fn are_there<D: Disk>(disk: &mut D, names: &Names) -> Result<bool, DiskError>
-    ensures there { IfOk result (λ there. IsTrue there
-        ↔ (IsSome ((D.state disk.old).seen names.now.messages.items) × IsSome ((D.state disk.old).seen names.now.keys.items))) }
+    ensures there { Honestly (D.state disk.new) (IfOk result (λ there. IsTrue there
+        ↔ (IsSome ((D.state disk.old).seen names.now.messages.items) × IsSome ((D.state disk.old).seen names.now.keys.items)))) }
     ensures quiet { ChangesNothing (D.state disk.old) (D.state disk.new) }
     ensures cause { HasCause (D.failures disk.old) (D.failures disk.new) result }
 {
@@ -60,13 +60,13 @@ pub(crate) fn settle_files<D: Disk>(
     names: &Names,
     told: Told,
 ) -> Result<bool, DiskError>
-    requires messages { IsSome ((D.state disk.old).seen names.now.messages.items) }
-    requires keys { IsSome ((D.state disk.old).seen names.now.keys.items) }
+    requires messages { Honestly (D.state disk.old) (IsSome ((D.state disk.old).seen names.now.messages.items)) }
+    requires keys { Honestly (D.state disk.old) (IsSome ((D.state disk.old).seen names.now.keys.items)) }
     ensures messages { OnOk result ((D.state disk.new).is_flushed names.now.messages.items) }
     ensures keys { OnOk result ((D.state disk.new).is_flushed names.now.keys.items) }
-    ensures long { IfOk result (λ long. IsTrue long
+    ensures long { Honestly (D.state disk.new) (IfOk result (λ long. IsTrue long
         ↔ ((told.messages ≤ length (bytes_in ((D.state disk.old).seen names.now.messages.items)))
-        × (told.keys ≤ length (bytes_in ((D.state disk.old).seen names.now.keys.items))))) }
+        × (told.keys ≤ length (bytes_in ((D.state disk.old).seen names.now.keys.items)))))) }
     ensures quiet { ChangesNothing (D.state disk.old) (D.state disk.new) }
     ensures cause { HasCause (D.failures disk.old) (D.failures disk.new) result }
 {
@@ -85,22 +85,23 @@ pub(crate) fn prepare_files<D: Disk>(
     end: End,
 ) -> Result<bool, DiskError>
     requires names { AreNames names.now end.told.number }
-    requires named { AreNamed (folder_of names.now) (D.state disk.old) }
-    requires alone { (D.state disk.old).is_alone (messages_of (folder_of names.now) end.told.number)
-        × (D.state disk.old).is_alone (keys_of (folder_of names.now) end.told.number) }
-    requires log { IsOnDisk (D.state disk.old) (log_of (folder_of names.now)) }
-    requires read { ReadsAll (bytes_in ((D.state disk.old).seen (log_of (folder_of names.now)))) end }
-    ensures ready { IfOk result (λ there. there ≡ true → HasBothFiles (D.state disk.new) (folder_of names.now) end.told.number) }
-    ensures named { OnOk result (AreNamed (folder_of names.now) (D.state disk.new)) }
-    ensures log { IsOnDisk (D.state disk.new) (log_of (folder_of names.now)) }
+    requires first { end.gate ≡ 0 → end.told.number ≡ 0 }
+    requires named { Honestly (D.state disk.old) (AreNamed (folder_of names.now) (D.state disk.old)) }
+    requires alone { Honestly (D.state disk.old) ((D.state disk.old).is_alone (messages_of (folder_of names.now) end.told.number)
+        × (D.state disk.old).is_alone (keys_of (folder_of names.now) end.told.number)) }
+    requires log { Honestly (D.state disk.old) (IsOnDisk (D.state disk.old) (log_of (folder_of names.now))) }
+    requires read { Honestly (D.state disk.old) (ReadsAll (bytes_in ((D.state disk.old).seen (log_of (folder_of names.now)))) end) }
+    ensures ready { Honestly (D.state disk.new) (IfOk result (λ there. there ≡ true → HasBothFiles (D.state disk.new) (folder_of names.now) end.told.number)) }
+    ensures named { Honestly (D.state disk.new) (OnOk result (AreNamed (folder_of names.now) (D.state disk.new))) }
+    ensures log { Honestly (D.state disk.new) (IsOnDisk (D.state disk.new) (log_of (folder_of names.now))) }
     ensures same { (D.state disk.new).seen (log_of (folder_of names.now)) ≡ (D.state disk.old).seen (log_of (folder_of names.now)) }
     ensures outside { KeepsOutside (folder_of names.now) (D.state disk.old) (D.state disk.new) }
-    ensures stands { (base : BaseBytes) → StandsFor (folder_of names.now) base (D.state disk.old).seen
-        → OnOk result (StandsFor (folder_of names.now) base (D.state disk.new).seen) }
-    ensures any_moment { (base : BaseBytes) → StandsFor (folder_of names.now) base (D.state disk.old).seen
-        → LeavesOnly (D.state disk.old) (D.state disk.new) (StandsOrWasLeft (folder_of names.now) (D.state disk.old) base) }
-    ensures missing { IfOk result (λ there. there ≡ false
-        → (base : BaseBytes) → StandsFor (folder_of names.now) base (D.state disk.old).seen → ⊥) }
+    ensures stands { Honestly (D.state disk.new) ((base : BaseBytes) → StandsFor (folder_of names.now) base (D.state disk.old).seen
+        → OnOk result (StandsFor (folder_of names.now) base (D.state disk.new).seen)) }
+    ensures any_moment { Honestly (D.state disk.new) ((base : BaseBytes) → StandsFor (folder_of names.now) base (D.state disk.old).seen
+        → LeavesOnly (D.state disk.old) (D.state disk.new) (StandsOrWasLeft (folder_of names.now) (D.state disk.old) base)) }
+    ensures missing { Honestly (D.state disk.new) (IfOk result (λ there. there ≡ false
+        → (base : BaseBytes) → StandsFor (folder_of names.now) base (D.state disk.old).seen → ⊥)) }
     ensures cause { HasCause (D.failures disk.old) (D.failures disk.new) result }
 {
     if end.gate == 0 {
@@ -113,20 +114,21 @@ pub(crate) fn prepare_files<D: Disk>(
 /// Opens the base folder: finds what its files stand for, and mends the end of its log. The files are made where
 /// there are none. It may crash too, at any moment.
 pub fn open<D: Disk>(alloc: Global, disk: &mut D, folder: &[u8]) -> Result<End, FolderError>
-    requires { AreAlone folder.now (D.state disk.old) }
+    requires { Honestly (D.state disk.old) (AreAlone folder.now (D.state disk.old)) }
 
-    ensures settled { IfOk result (λ end. IsAtRest (D.state disk.new) folder.now end) }
-    ensures same { (base : BaseBytes) → StandsFor folder.now base (D.state disk.old).seen
-        → IfOk result (λ end. base_at (D.state disk.new) folder.now end.told ≡ base) }
+    ensures settled { Honestly (D.state disk.new) (IfOk result (λ end. IsAtRest (D.state disk.new) folder.now end)) }
+    ensures same { Honestly (D.state disk.new) ((base : BaseBytes) → StandsFor folder.now base (D.state disk.old).seen
+        → IfOk result (λ end. base_at (D.state disk.new) folder.now end.told ≡ base)) }
+    ensures digit { IfOk result (λ end. end.told.number < 10) }
 
     // A crash at any moment leaves the same base and all else as it was, or what a crash might have left before.
-    ensures any_moment { (base : BaseBytes) → StandsFor folder.now base (D.state disk.old).seen
-        → LeavesOnly (D.state disk.old) (D.state disk.new) (StandsOrWasLeft folder.now (D.state disk.old) base) }
+    ensures any_moment { Honestly (D.state disk.new) ((base : BaseBytes) → StandsFor folder.now base (D.state disk.old).seen
+        → LeavesOnly (D.state disk.old) (D.state disk.new) (StandsOrWasLeft folder.now (D.state disk.old) base)) }
     ensures outside { KeepsOutside folder.now (D.state disk.old) (D.state disk.new) }
 
     // It is corrupt only where the files stand for nothing.
-    ensures corrupt { IsErrOf result FolderError.Corrupt
-        → (base : BaseBytes) → StandsFor folder.now base (D.state disk.old).seen → ⊥ }
+    ensures corrupt { Honestly (D.state disk.new) (IsErrOf result FolderError.Corrupt
+        → (base : BaseBytes) → StandsFor folder.now base (D.state disk.old).seen → ⊥) }
     ensures cause { HasFolderCause (D.failures disk.old) (D.failures disk.new) result }
 {
     let log = log_path(alloc, folder)?;

@@ -1,6 +1,6 @@
 //! A part of a file, read by itself.
 ghost use Rattle.std.specs.Prelude.{◌≡◌, ◌≤◌, ◌<◌, ◌+◌, ◌^◌, length, take, drop, IfOk, OnOk, IsSome};
-ghost use Rattle.echo_disk.specs.Disk.{bytes_in};
+ghost use Rattle.echo_disk.specs.Disk.{Honestly, bytes_in};
 ghost use Rattle.echo_disk.specs.Runs.{ChangesNothing, HasCause};
 
 use echo_disk::{Disk, DiskError};
@@ -14,13 +14,14 @@ fn read_more<D: Disk>(
     part: &mut [u8],
     done: usize,
 ) -> Result<usize, DiskError>
-    requires there { IsSome ((D.state disk.old).seen path.now) }
-    requires within { from + length part.old ≤ length (bytes_in ((D.state disk.old).seen path.now)) }
+    requires there { Honestly (D.state disk.old) (IsSome ((D.state disk.old).seen path.now)) }
+    requires within { Honestly (D.state disk.old) (from + length part.old ≤ length (bytes_in ((D.state disk.old).seen path.now))) }
     requires fits { from + length part.old < 2 ^ 64 }
     requires open { done < length part.old }
-    requires front { take done part.old ≡ take done (drop from (bytes_in ((D.state disk.old).seen path.now))) }
-    ensures further { IfOk result (λ now. (done < now) × (now ≤ length part.new)) }
-    ensures front { IfOk result (λ now. take now part.new ≡ take now (drop from (bytes_in ((D.state disk.old).seen path.now)))) }
+    requires front { Honestly (D.state disk.old) (take done part.old ≡ take done (drop from (bytes_in ((D.state disk.old).seen path.now)))) }
+    ensures within { IfOk result (λ now. (done ≤ now) × (now ≤ length part.new)) }
+    ensures further { Honestly (D.state disk.new) (IfOk result (λ now. done < now)) }
+    ensures front { Honestly (D.state disk.new) (IfOk result (λ now. take now part.new ≡ take now (drop from (bytes_in ((D.state disk.old).seen path.now))))) }
     ensures quiet { ChangesNothing (D.state disk.old) (D.state disk.new) }
     ensures cause { HasCause (D.failures disk.old) (D.failures disk.new) result }
 {
@@ -35,16 +36,21 @@ fn fill_part<D: Disk>(
     from: usize,
     part: &mut [u8],
 ) -> Result<(), DiskError>
-    requires there { IsSome ((D.state disk.old).seen path.now) }
-    requires within { from + length part.old ≤ length (bytes_in ((D.state disk.old).seen path.now)) }
+    requires there { Honestly (D.state disk.old) (IsSome ((D.state disk.old).seen path.now)) }
+    requires within { Honestly (D.state disk.old) (from + length part.old ≤ length (bytes_in ((D.state disk.old).seen path.now))) }
     requires fits { from + length part.old < 2 ^ 64 }
-    ensures filled { OnOk result (part.new ≡ take (length part.new) (drop from (bytes_in ((D.state disk.old).seen path.now)))) }
+    ensures filled { Honestly (D.state disk.new) (OnOk result (part.new ≡ take (length part.new) (drop from (bytes_in ((D.state disk.old).seen path.now))))) }
     ensures quiet { ChangesNothing (D.state disk.old) (D.state disk.new) }
     ensures cause { HasCause (D.failures disk.old) (D.failures disk.new) result }
 {
     let mut done = 0;
     'reads: while done < part.len() {
-        done = read_more(disk, path, from, part, done)?;
+        let now = read_more(disk, path, from, part, done)?;
+        // Only a file that others cut ends here.
+        if now == done {
+            break;
+        }
+        done = now;
     }
     Ok(())
 }
@@ -57,10 +63,10 @@ pub fn read_part<D: Disk>(
     from: usize,
     to: usize,
 ) -> Result<Vec<u8>, DiskError>
-    requires there { IsSome ((D.state disk.old).seen path.now) }
+    requires there { Honestly (D.state disk.old) (IsSome ((D.state disk.old).seen path.now)) }
     requires order { from ≤ to }
-    requires within { to ≤ length (bytes_in ((D.state disk.old).seen path.now)) }
-    ensures bytes { IfOk result (λ part. part.items ≡ drop from (take to (bytes_in ((D.state disk.old).seen path.now)))) }
+    requires within { Honestly (D.state disk.old) (to ≤ length (bytes_in ((D.state disk.old).seen path.now))) }
+    ensures bytes { Honestly (D.state disk.new) (IfOk result (λ part. part.items ≡ drop from (take to (bytes_in ((D.state disk.old).seen path.now))))) }
     ensures quiet { ChangesNothing (D.state disk.old) (D.state disk.new) }
     ensures cause { HasCause (D.failures disk.old) (D.failures disk.new) result }
 {

@@ -16,32 +16,32 @@ use Rattle.echo_filed.specs.Filed.{Filed}
 use Rattle.echo_base.specs.Base.{Base}
 use Rattle.echo_keys.specs.Keys.{StandWhereTold}
 use Rattle.echo_keys.proofs.Placed.{stand_where_told}
-use Rattle.echo_folder_store.specs.Held.{HoldsBase, StandsForBase, StandsForBaseOrWasLeft}
+use Rattle.echo_folder_store.specs.Held.{HoldsBase, digest_by, StandsForBase, StandsForBaseOrWasLeft}
 use Rattle.echo_folder_store.specs.Opened.{IsOpen, held_by, path_of}
 use Rattle.echo_folder_store.specs.declared.folder.Folder.{Folder}
 
 -- each message has its entry, and the cursor is within them
-pub told_where : (digest : List ℕ → ℕ) (bytes : BaseBytes) (base : Base) → HoldsBase digest bytes base → StandWhereTold base.messages bytes.messages bytes.keys
-told_where digest bytes base holds = stand_where_told digest base.messages base.cursor bytes.messages bytes.keys holds.files
+pub told_where : (keyed : ℕ → ℕ → List ℕ → ℕ) (bytes : BaseBytes) (base : Base) → HoldsBase keyed bytes base → StandWhereTold base.messages bytes.messages bytes.keys
+told_where keyed bytes base holds = stand_where_told (digest_by keyed bytes.mark) base.messages base.cursor bytes.messages bytes.keys holds.files
 
-pub cursor_within : (digest : List ℕ → ℕ) (bytes : BaseBytes) (base : Base) → HoldsBase digest bytes base → bytes.cursor ≤ length base.messages
-cursor_within digest bytes base holds = let within = holds.files.holds.within in omega (arith, holds.cursor)
+pub cursor_within : (keyed : ℕ → ℕ → List ℕ → ℕ) (bytes : BaseBytes) (base : Base) → HoldsBase keyed bytes base → bytes.cursor ≤ length base.messages
+cursor_within keyed bytes base holds = let within = holds.files.holds.within in omega (arith, holds.cursor)
 
 -- of a base the keys are whole and the cursor is within them
-pub not_cut : (digest : List ℕ → ℕ) (d : DiskState) (path : List ℕ) (told : Told) (keys : List ℕ) (bytes : BaseBytes) (base : Base) → HoldsBase digest bytes base → base_at d path told ≡ bytes
+pub not_cut : (keyed : ℕ → ℕ → List ℕ → ℕ) (d : DiskState) (path : List ℕ) (told : Told) (keys : List ℕ) (bytes : BaseBytes) (base : Base) → HoldsBase keyed bytes base → base_at d path told ≡ bytes
     → keys ≡ (base_at d path told).keys → (length keys % 16 ≢ 0) ⊎ (length keys / 16 < told.cursor) → ⊥
-not_cut digest d path told keys bytes base holds same is wrong =
-    let many : length bytes.keys ≡ 16 * length base.messages = (told_where digest bytes base holds).many in
+not_cut keyed d path told keys bytes base holds same is wrong =
+    let many : length bytes.keys ≡ 16 * length base.messages = (told_where keyed bytes base holds).many in
     let long : length keys ≡ 16 * length base.messages = ap (λ (l : List ℕ). length l) is ∙ ap (λ (b : BaseBytes). length b.keys) same ∙ many in
     let at : told.cursor ≡ bytes.cursor = ap (λ (b : BaseBytes). b.cursor) same in
-    let within : bytes.cursor ≤ length base.messages = cursor_within digest bytes base holds in
+    let within : bytes.cursor ≤ length base.messages = cursor_within keyed bytes base holds in
     ⊎_elim (λ (odd : length keys % 16 ≢ 0). odd (omega arith)) (λ (past : length keys / 16 < told.cursor). omega arith) wrong
 
 -- a crash at any moment of opening
-pub opened_run : (digest : List ℕ → ℕ) (path : List ℕ) (d e : DiskState) (base : Base) (stands : StandsForBase digest path base d.seen)
-    → LeavesOnly d e (StandsOrWasLeft path d stands.bytes) → LeavesOnly d e (StandsForBaseOrWasLeft digest path d base)
-opened_run digest path d e base stands run =
-    weaker_run d e (StandsOrWasLeft path d stands.bytes) (StandsForBaseOrWasLeft digest path d base) run
+pub opened_run : (keyed : ℕ → ℕ → List ℕ → ℕ) (path : List ℕ) (d e : DiskState) (base : Base) (stands : StandsForBase keyed path base d.seen)
+    → LeavesOnly d e (StandsOrWasLeft path d stands.bytes) → LeavesOnly d e (StandsForBaseOrWasLeft keyed path d base)
+opened_run keyed path d e base stands run =
+    weaker_run d e (StandsOrWasLeft path d stands.bytes) (StandsForBaseOrWasLeft keyed path d base) run
     (λ c left. ⊎_elim (λ alone. inl (record { outside = alone.outside; stands = record { bytes = stands.bytes; stands = alone.stands; holds = stands.holds } })) (λ was. inr was) left)
 
 -- a look at the disk leaves the folder open
@@ -60,7 +60,7 @@ told_quiet d e folder base keys quiet told = subst (λ (b : BaseBytes). StandWhe
 pub opened_is : (d e : DiskState) (path : List ℕ) (end : End) (folder : Folder) → ChangesNothing d e → IsAtRest d path end → path_of folder ≡ path → AreNames folder.names end.told.number → folder.end ≡ end → folder.told ≡ end.told
     → folder.keys.items ≡ (base_at d path end.told).keys → IsOpen e folder
 opened_is d e path end folder quiet rest at names same_end same_told keys =
-    let here : IsStaged e path end end.told = staged_quiet d e path end end.told quiet (rest_staged d path end end.told.cursor rest) in
+    let here : IsStaged e path end end.told = staged_quiet d e path end end.told quiet (rest_staged d path end end.told.cursor end.told.mark rest) in
     let at_path : IsStaged e (path_of folder) end end.told = subst (λ (p : List ℕ). IsStaged e p end end.told) (sym at) here in
     let at_end : IsStaged e (path_of folder) folder.end end.told = subst (λ (x : End). IsStaged e (path_of folder) x end.told) (sym same_end) at_path in
     record {
@@ -69,12 +69,15 @@ opened_is d e path end folder quiet rest at names same_end same_told keys =
       keys = keys ∙ sym (ap (λ (b : BaseBytes). b.keys) (base_quiet d e path end.told quiet)) ∙ (λ i. (base_at e (sym at i) (sym same_told i)).keys);
     }
 
--- it holds the base for which the files stood
-pub opened_holds : (digest : List ℕ → ℕ) (d e : DiskState) (path : List ℕ) (folder : Folder) (told : Told) (bytes : BaseBytes) (base : Base) → ChangesNothing d e → path_of folder ≡ path → folder.told ≡ told
-    → base_at d path told ≡ bytes → HoldsBase digest bytes base → HoldsBase digest (held_by e folder) base
-opened_holds digest d e path folder told bytes base quiet at same_told same holds =
-    let there : held_by e folder ≡ bytes = (λ i. base_at e (at i) (same_told i)) ∙ base_quiet d e path told quiet ∙ same in
-    subst (λ (b : BaseBytes). HoldsBase digest b base) (sym there) holds
+-- it holds the bytes and the mark for which the files stood
+pub opened_bytes : (d e : DiskState) (path : List ℕ) (folder : Folder) (told : Told) (bytes : BaseBytes) → ChangesNothing d e → path_of folder ≡ path → folder.told ≡ told → base_at d path told ≡ bytes → held_by e folder ≡ bytes
+opened_bytes d e path folder told bytes quiet at same_told same = (λ i. base_at e (at i) (same_told i)) ∙ base_quiet d e path told quiet ∙ same
+
+-- and so the base
+pub opened_holds : (keyed : ℕ → ℕ → List ℕ → ℕ) (d e : DiskState) (path : List ℕ) (folder : Folder) (told : Told) (bytes : BaseBytes) (base : Base) → ChangesNothing d e → path_of folder ≡ path → folder.told ≡ told
+    → base_at d path told ≡ bytes → HoldsBase keyed bytes base → HoldsBase keyed (held_by e folder) base
+opened_holds keyed d e path folder told bytes base quiet at same_told same holds =
+    subst (λ (b : BaseBytes). HoldsBase keyed b base) (sym (opened_bytes d e path folder told bytes quiet at same_told same)) holds
 
 -- the keys that were read are those of the file of this number
 pub keys_there : (d : DiskState) (path : List ℕ) (told : Told) (names : Names) (keys : List ℕ) → folder_of names ≡ path → AreNames names told.number → keys ≡ take told.keys (bytes_in (d.seen names.keys.items)) → keys ≡ (base_at d path told).keys

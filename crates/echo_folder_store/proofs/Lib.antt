@@ -1,5 +1,6 @@
 mod Bases
 mod Causes
+mod Claimed
 mod Looked
 mod Numbered
 mod OneMore

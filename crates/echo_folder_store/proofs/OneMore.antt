@@ -13,7 +13,7 @@ use Rattle.echo_keys.specs.Keys.{FolderStandsFor, MayStandAlone, digested, entry
 use Rattle.echo_keys.proofs.Placed.{bytes_of, keys_append}
 use Rattle.echo_store.specs.Store.{with_message}
 use Rattle.echo_folder_store.specs.Added.{IsStoredAlone, with_stored}
-use Rattle.echo_folder_store.specs.Held.{HoldsBase}
+use Rattle.echo_folder_store.specs.Held.{HoldsBase, digest_by}
 
 pub files_more : (digest : List ℕ → ℕ) (base : List Filed) (cursor : ℕ) (messages keys : List ℕ) (m : Filed) (bytes : List ℕ) (number : ℕ) → FolderStandsFor digest base cursor messages keys → IsStoredAlone m bytes → IsFiled m
     → is_known base (key_of m) ≡ false → number ≡ digest (digested m) → length (messages ++ bytes) < 2 ^ 64 → FolderStandsFor digest (base ++ m ∷ []) cursor (messages ++ bytes) (keys ++ entry (length messages) number)
@@ -36,9 +36,9 @@ files_more digest base cursor messages keys m bytes number was is filed new told
       holds = one_more base cursor m was.holds filed new;
     }
 
-pub holds_more : (digest : List ℕ → ℕ) (held : BaseBytes) (base : Base) (m : Filed) (bytes : List ℕ) (number : ℕ) → HoldsBase digest held base → IsStoredAlone m bytes → IsFiled m
-    → is_known base.messages (key_of m) ≡ false → number ≡ digest (digested m) → length (held.messages ++ bytes) < 2 ^ 64 → HoldsBase digest (with_stored held bytes number) (with_message base m)
-holds_more digest held base m bytes number was is filed new told fits = record {
-  files = files_more digest base.messages base.cursor held.messages held.keys m bytes number was.files is filed new told fits;
+pub holds_more : (keyed : ℕ → ℕ → List ℕ → ℕ) (held : BaseBytes) (base : Base) (m : Filed) (bytes : List ℕ) (number : ℕ) → HoldsBase keyed held base → IsStoredAlone m bytes → IsFiled m
+    → is_known base.messages (key_of m) ≡ false → number ≡ digest_by keyed held.mark (digested m) → length (held.messages ++ bytes) < 2 ^ 64 → HoldsBase keyed (with_stored held bytes number) (with_message base m)
+holds_more keyed held base m bytes number was is filed new told fits = record {
+  files = files_more (digest_by keyed held.mark) base.messages base.cursor held.messages held.keys m bytes number was.files is filed new told fits;
   cursor = was.cursor;
 }

@@ -16,7 +16,7 @@ use Rattle.echo_keys.proofs.Told.{tells_each}
 use Rattle.echo_store.specs.Store.{all_scanned, with_message}
 use Rattle.echo_folder_store.specs.Added.{IsStoredAlone, with_stored}
 use Rattle.echo_folder_store.specs.Answers.{HaveDigest, IsAloneOf}
-use Rattle.echo_folder_store.specs.Held.{HoldsBase}
+use Rattle.echo_folder_store.specs.Held.{HoldsBase, digest_by}
 use Rattle.echo_folder_store.specs.Opened.{IsOpen, held_by}
 use Rattle.echo_folder_store.specs.State.{only_message}
 use Rattle.echo_folder_store.specs.declared.folder.Folder.{Folder}
@@ -25,13 +25,13 @@ use Rattle.echo_folder_store.proofs.Looked.{some_message}
 use Rattle.echo_folder_store.proofs.OneMore.{holds_more}
 
 -- messages with this key have its digest
-pub key_digest : (digest : List ℕ → ℕ) (bytes : BaseBytes) (base : Base) (key : Key) (keys : List ℕ) (number : ℕ) → HoldsBase digest bytes base → keys ≡ bytes.keys → number ≡ digest (digested_key key)
+pub key_digest : (keyed : ℕ → ℕ → List ℕ → ℕ) (bytes : BaseBytes) (base : Base) (key : Key) (keys : List ℕ) (number : ℕ) → HoldsBase keyed bytes base → keys ≡ bytes.keys → number ≡ digest_by keyed bytes.mark (digested_key key)
     → HaveDigest (λ m. same_key (key_of m) key) number base.messages keys
-key_digest digest bytes base key keys number holds same is i d within passes =
+key_digest keyed bytes base key keys number holds same is i d within passes =
     let m : Filed = get_or base.messages i d in
     ap (λ (l : List ℕ). digest_at l i) same
-    ∙ tells_each digest base.messages base.cursor bytes.messages bytes.keys holds.files i d within
-    ∙ ap digest (of_key m ∙ ap digested_key ((same_key_decides (key_of m) key).0 passes))
+    ∙ tells_each (digest_by keyed bytes.mark) base.messages base.cursor bytes.messages bytes.keys holds.files i d within
+    ∙ ap (digest_by keyed bytes.mark) (of_key m ∙ ap digested_key ((same_key_decides (key_of m) key).0 passes))
     ∙ sym is
 
 -- what a digest is taken of where a message has an id
@@ -40,19 +40,19 @@ id_digested m id None h = absurd (cc)
 id_digested m id (Some x) h = sym ((bytes_decides id x).0 h)
 
 -- and those with this id have the id's
-pub id_digest : (digest : List ℕ → ℕ) (bytes : BaseBytes) (base : Base) (id keys : List ℕ) (number : ℕ) → HoldsBase digest bytes base → keys ≡ bytes.keys → number ≡ digest id
+pub id_digest : (keyed : ℕ → ℕ → List ℕ → ℕ) (bytes : BaseBytes) (base : Base) (id keys : List ℕ) (number : ℕ) → HoldsBase keyed bytes base → keys ≡ bytes.keys → number ≡ digest_by keyed bytes.mark id
     → HaveDigest (has_id id) number base.messages keys
-id_digest digest bytes base id keys number holds same is i d within passes =
+id_digest keyed bytes base id keys number holds same is i d within passes =
     let m : Filed = get_or base.messages i d in
     ap (λ (l : List ℕ). digest_at l i) same
-    ∙ tells_each digest base.messages base.cursor bytes.messages bytes.keys holds.files i d within
-    ∙ ap digest (id_digested m id (msgid_of m.echo.kept) passes)
+    ∙ tells_each (digest_by keyed bytes.mark) base.messages base.cursor bytes.messages bytes.keys holds.files i d within
+    ∙ ap (digest_by keyed bytes.mark) (id_digested m id (msgid_of m.echo.kept) passes)
     ∙ sym is
 
 -- there are as many messages as entries
-pub many_messages : (digest : List ℕ → ℕ) (d : DiskState) (f : Folder) (base : Base) → IsOpen d f → HoldsBase digest (held_by d f) base → length f.keys.items / 16 ≡ length base.messages
-many_messages digest d f base opened holds =
-    let many = (told_where digest (held_by d f) base holds).many in
+pub many_messages : (keyed : ℕ → ℕ → List ℕ → ℕ) (d : DiskState) (f : Folder) (base : Base) → IsOpen d f → HoldsBase keyed (held_by d f) base → length f.keys.items / 16 ≡ length base.messages
+many_messages keyed d f base opened holds =
+    let many = (told_where keyed (held_by d f) base holds).many in
     let long : length f.keys.items ≡ length (held_by d f).keys = ap (λ (l : List ℕ). length l) opened.keys in
     omega (arith, many, long)
 
@@ -85,8 +85,8 @@ end_open d f was = record {
   keys = was.keys;
 }
 
-pub end_holds : (digest : List ℕ → ℕ) (d : DiskState) (f : Folder) (base : Base) → IsOpen d f → HoldsBase digest (held_by d f) base → HoldsBase digest (held_by d (at_end f)) (all_scanned base)
-end_holds digest d f base opened holds =
+pub end_holds : (keyed : ℕ → ℕ → List ℕ → ℕ) (d : DiskState) (f : Folder) (base : Base) → IsOpen d f → HoldsBase keyed (held_by d f) base → HoldsBase keyed (held_by d (at_end f)) (all_scanned base)
+end_holds keyed d f base opened holds =
     let files = holds.files in
     let each : IsBase base.messages (length base.messages) = record { each = files.holds.each; new = files.holds.new; within = omega arith } in
     record {
@@ -101,19 +101,19 @@ end_holds digest d f base opened holds =
         digests = files.digests;
         holds = each;
       };
-      cursor = many_messages digest d f base opened holds;
+      cursor = many_messages keyed d f base opened holds;
     }
 
 -- a message that was filed, with its digest
-pub filed_more : (digest : List ℕ → ℕ) (now held : BaseBytes) (base : Base) (m : Filed) (key : Key) (bytes taken : List ℕ) (number : ℕ) → now ≡ with_stored held bytes number → length now.messages < 2 ^ 64
-    → HoldsBase digest held base → IsStoredAlone m bytes → IsFiled m → key ≡ key_of m → is_known base.messages key ≡ false → taken ≡ digested_key key → number ≡ digest taken → HoldsBase digest now (with_message base m)
-filed_more digest now held base m key bytes taken number staged fits holds stored filed own new is told =
-    let number_is : number ≡ digest (digested m) = told ∙ ap digest (is ∙ ap digested_key own ∙ sym (of_key m)) in
+pub filed_more : (keyed : ℕ → ℕ → List ℕ → ℕ) (now held : BaseBytes) (base : Base) (m : Filed) (key : Key) (bytes taken : List ℕ) (number : ℕ) → now ≡ with_stored held bytes number → length now.messages < 2 ^ 64
+    → HoldsBase keyed held base → IsStoredAlone m bytes → IsFiled m → key ≡ key_of m → is_known base.messages key ≡ false → taken ≡ digested_key key → number ≡ digest_by keyed held.mark taken → HoldsBase keyed now (with_message base m)
+filed_more keyed now held base m key bytes taken number staged fits holds stored filed own new is told =
+    let number_is : number ≡ digest_by keyed held.mark (digested m) = told ∙ ap (digest_by keyed held.mark) (is ∙ ap digested_key own ∙ sym (of_key m)) in
     let unknown : is_known base.messages (key_of m) ≡ false = subst (λ (k : Key). is_known base.messages k ≡ false) own new in
     let room : length (held.messages ++ bytes) < 2 ^ 64 = subst (λ (b : BaseBytes). length b.messages < 2 ^ 64) staged fits in
-    subst (λ (b : BaseBytes). HoldsBase digest b (with_message base m)) (sym staged) (holds_more digest held base m bytes number holds stored filed unknown number_is room)
+    subst (λ (b : BaseBytes). HoldsBase keyed b (with_message base m)) (sym staged) (holds_more keyed held base m bytes number holds stored filed unknown number_is room)
 
 -- each message stands where the keys that were read tell
-pub told_here : (digest : List ℕ → ℕ) (d : DiskState) (f : Folder) (base : Base) → IsOpen d f → HoldsBase digest (held_by d f) base → StandWhereTold base.messages (held_by d f).messages f.keys.items
-told_here digest d f base opened holds =
-    subst (λ (l : List ℕ). StandWhereTold base.messages (held_by d f).messages l) (sym opened.keys) (told_where digest (held_by d f) base holds)
+pub told_here : (keyed : ℕ → ℕ → List ℕ → ℕ) (d : DiskState) (f : Folder) (base : Base) → IsOpen d f → HoldsBase keyed (held_by d f) base → StandWhereTold base.messages (held_by d f).messages f.keys.items
+told_here keyed d f base opened holds =
+    subst (λ (l : List ℕ). StandWhereTold base.messages (held_by d f).messages l) (sym opened.keys) (told_where keyed (held_by d f) base holds)

@@ -24,6 +24,7 @@ outside_same path d = record {
   named = λ m out is. is;
   flushed = λ m out is. is;
   alone = λ m out is. is;
+  honest = λ is. is;
 }
 
 -- what is so of the disk behind a call that kept what is outside is so of the one before it
@@ -47,7 +48,7 @@ keys_count d path end told staged = length-take-le told.keys (bytes_in (d.seen (
 
 -- what was committed is staged
 pub committed_staged : (d : DiskState) (path : List ℕ) (after : End) (told : Told) → IsAtRest d path after → after.told ≡ told → IsStaged d path after told
-committed_staged d path after told rest is = subst (λ (t : Told). IsStaged d path after t) is (rest_staged d path after after.told.cursor rest)
+committed_staged d path after told rest is = subst (λ (t : Told). IsStaged d path after t) is (rest_staged d path after after.told.cursor after.told.mark rest)
 
 -- what was staged of an open folder leaves it open
 pub opened_more : (d e : DiskState) (f g : Folder) (bytes one : List ℕ) → IsOpen d f → g.names ≡ f.names → g.end ≡ f.end → g.told.number ≡ f.told.number → IsStaged e (path_of f) f.end g.told

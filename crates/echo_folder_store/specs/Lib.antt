@@ -2,4 +2,5 @@ pub mod Added
 pub mod Answers
 pub mod Held
 pub mod Opened
+pub mod Owned
 pub mod State

@@ -14,9 +14,13 @@ path_of folder = folder_of folder.names
 abbrev pub held_by : DiskState → Folder → BaseBytes
 held_by disk folder = base_at disk (path_of folder) folder.told
 
+-- it has the paths of its files
+abbrev pub IsNamed : Folder → Type 0
+IsNamed folder = AreNames folder.names folder.told.number
+
 -- the files are as it knows them
 pub record IsOpen (disk : DiskState) (folder : Folder) : Type 0 where
-  pub names : AreNames folder.names folder.told.number
+  pub names : IsNamed folder
   pub staged : IsStaged disk (path_of folder) folder.end folder.told
   pub keys : folder.keys.items ≡ (held_by disk folder).keys
 

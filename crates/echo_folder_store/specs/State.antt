@@ -1,11 +1,11 @@
 -- A base folder as a store of messages.
 use Rattle.std.specs.Prelude.{ℕ, List, Option, Some, None, slice_get}
-use Rattle.echo_disk.specs.Disk.{DiskState, IsIn}
+use Rattle.echo_disk.specs.Disk.{DiskState, Honestly, IsIn}
 use Rattle.echo_base.specs.Base.{Base}
 use Rattle.echo_filed.specs.Filed.{Filed}
 use Rattle.echo_store.specs.Store.{StoreState}
 use Rattle.echo_folder_store.specs.Held.{HoldsBase, StandsForBase}
-use Rattle.echo_folder_store.specs.Opened.{IsOpen, committed_by, held_by, path_of}
+use Rattle.echo_folder_store.specs.Opened.{IsNamed, IsOpen, committed_by, held_by, path_of}
 use Rattle.echo_folder_store.specs.declared.folder.Folder.{Folder}
 
 -- the message of a base that has it alone
@@ -13,16 +13,21 @@ abbrev pub only_message : Option Base → Option Filed
 only_message None = None
 only_message (Some alone) = slice_get alone.messages 0
 
+-- it has the paths of its files, and where the disk was honest these are as it knows them
+pub record IsUsable (disk : DiskState) (folder : Folder) : Type 0 where
+  pub named : IsNamed folder
+  pub opened : Honestly disk (IsOpen disk folder)
+
 -- What an open base folder is as a store: a call that fails in the middle of a change is not taken back.
-abbrev pub state_of : DiskState → (List ℕ → ℕ) → Folder → Option Base → StoreState
-state_of disk digest folder alone = record {
+abbrev pub state_of : DiskState → (ℕ → ℕ → List ℕ → ℕ) → Folder → Option Base → StoreState
+state_of disk keyed folder alone = record {
   disk = disk;
-  is_ready = IsOpen disk folder;
-  keeps = λ base. HoldsBase digest (held_by disk folder) base;
-  committed = λ base. HoldsBase digest (committed_by disk folder) base;
+  is_ready = IsUsable disk folder;
+  keeps = λ base. HoldsBase keyed (held_by disk folder) base;
+  committed = λ base. HoldsBase keyed (committed_by disk folder) base;
   at_hand = only_message alone;
-  stands = λ base c. StandsForBase digest (path_of folder) base c;
+  stands = λ base c. StandsForBase keyed (path_of folder) base c;
   is_own = λ m. IsIn (path_of folder) m;
   undoes = ⊥;
-  stays = λ opened base is c left. record { bytes = committed_by disk folder; stands = opened.staged.stands c left; holds = is };
+  stays = λ honest usable base is c left. record { bytes = committed_by disk folder; stands = (usable.opened honest).staged.stands c left; holds = is };
 }

@@ -1,5 +1,6 @@
 //! What is added to a base folder, and committed.
 ghost use Rattle.std.specs.Prelude.{◌≡◌, ◌<◌, ◌+◌, ◌^◌, ◌/◌, length, IfOk, OnOk, IsErrOf};
+ghost use Rattle.echo_disk.specs.Disk.{Honestly};
 ghost use Rattle.echo_disk.specs.Runs.{HasCause, LeavesOnly};
 ghost use Rattle.echo_folder.specs.AtRest.{IsStaged};
 ghost use Rattle.echo_folder.specs.Moments.{IsBeforeOrAfter, KeepsOutside, StandsAlone};
@@ -7,16 +8,16 @@ ghost use Rattle.echo_folder.specs.Names.{AreNames, folder_of};
 ghost use Rattle.echo_folder.specs.Standing.{and_keys, and_messages, base_at};
 ghost use Rattle.echo_folder_store.specs.Added.{with_stored};
 ghost use Rattle.echo_folder_store.specs.Answers.{HasReadCause};
-ghost use Rattle.echo_folder_store.specs.Opened.{IsOpen, committed_by, held_by, path_of};
+ghost use Rattle.echo_folder_store.specs.Opened.{IsNamed, IsOpen, committed_by, held_by, path_of};
 
-use crate::folder::Folder;
+use crate::folder::{ENTRY, Folder};
 use echo_disk::{Disk, DiskError};
 use echo_folder::{End, Names, Told, commit, stage_keys, stage_messages};
 use echo_keys::entry;
 use echo_store::StoreError;
 
 /// How many bytes a commit adds to the log.
-const RECORD: usize = 26;
+const RECORD: usize = 50;
 
 // Writes messages and their keys behind those that are staged.
 fn stage_both<D: Disk>(
@@ -28,17 +29,18 @@ fn stage_both<D: Disk>(
     keys: &[u8],
 ) -> Result<Told, DiskError>
     requires names { AreNames names.now told.number }
-    requires staged { IsStaged (D.state disk.old) (folder_of names.now) end told }
+    requires staged { Honestly (D.state disk.old) (IsStaged (D.state disk.old) (folder_of names.now) end told) }
     requires messages_room { told.messages + length bytes.now < 2 ^ 64 }
     requires keys_room { told.keys + length keys.now < 2 ^ 64 }
-    ensures staged { IfOk result (λ more. IsStaged (D.state disk.new) (folder_of names.now) end more) }
+    ensures staged { Honestly (D.state disk.new) (IfOk result (λ more. IsStaged (D.state disk.new) (folder_of names.now) end more)) }
     ensures number { IfOk result (λ more. more.number ≡ told.number) }
-    ensures added { IfOk result (λ more. base_at (D.state disk.new) (folder_of names.now) more
-        ≡ and_keys (and_messages (base_at (D.state disk.old) (folder_of names.now) told) bytes.now) keys.now) }
-    ensures same { OnOk result (base_at (D.state disk.new) (folder_of names.now) end.told
-        ≡ base_at (D.state disk.old) (folder_of names.now) end.told) }
-    ensures any_moment { LeavesOnly (D.state disk.old) (D.state disk.new)
-        (StandsAlone (folder_of names.now) (D.state disk.old) (base_at (D.state disk.old) (folder_of names.now) end.told)) }
+    ensures mark { IfOk result (λ more. more.mark ≡ told.mark) }
+    ensures added { Honestly (D.state disk.new) (IfOk result (λ more. base_at (D.state disk.new) (folder_of names.now) more
+        ≡ and_keys (and_messages (base_at (D.state disk.old) (folder_of names.now) told) bytes.now) keys.now)) }
+    ensures same { Honestly (D.state disk.new) (OnOk result (base_at (D.state disk.new) (folder_of names.now) end.told
+        ≡ base_at (D.state disk.old) (folder_of names.now) end.told)) }
+    ensures any_moment { Honestly (D.state disk.new) (LeavesOnly (D.state disk.old) (D.state disk.new)
+        (StandsAlone (folder_of names.now) (D.state disk.old) (base_at (D.state disk.old) (folder_of names.now) end.told))) }
     ensures outside { KeepsOutside (folder_of names.now) (D.state disk.old) (D.state disk.new) }
     ensures cause { HasCause (D.failures disk.old) (D.failures disk.new) result }
 {
@@ -55,21 +57,24 @@ impl Folder {
         bytes: &[u8],
         digest: u64,
     ) -> Result<(), StoreError>
-        requires { IsOpen (D.state disk.old) self.old }
-        ensures opened { OnOk result (IsOpen (D.state disk.new) self.new) }
+        requires named { IsNamed self.old }
+        requires opened { Honestly (D.state disk.old) (IsOpen (D.state disk.old) self.old) }
+        ensures named { IsNamed self.new }
+        ensures opened { Honestly (D.state disk.new) (OnOk result (IsOpen (D.state disk.new) self.new)) }
         ensures path { path_of self.new ≡ path_of self.old }
-        ensures staged { OnOk result (held_by (D.state disk.new) self.new ≡ with_stored (held_by (D.state disk.old) self.old) bytes.now digest) }
-        ensures fits { OnOk result (length (held_by (D.state disk.new) self.new).messages < 2 ^ 64) }
-        ensures same { OnOk result (committed_by (D.state disk.new) self.new ≡ committed_by (D.state disk.old) self.old) }
+        ensures mark { self.new.told.mark ≡ self.old.told.mark }
+        ensures staged { Honestly (D.state disk.new) (OnOk result (held_by (D.state disk.new) self.new ≡ with_stored (held_by (D.state disk.old) self.old) bytes.now digest)) }
+        ensures fits { Honestly (D.state disk.new) (OnOk result (length (held_by (D.state disk.new) self.new).messages < 2 ^ 64)) }
+        ensures same { Honestly (D.state disk.new) (OnOk result (committed_by (D.state disk.new) self.new ≡ committed_by (D.state disk.old) self.old)) }
 
         // A crash at any moment leaves what was committed, and nothing outside the folder has changed.
-        ensures any_moment { LeavesOnly (D.state disk.old) (D.state disk.new)
-            (StandsAlone (path_of self.old) (D.state disk.old) (committed_by (D.state disk.old) self.old)) }
+        ensures any_moment { Honestly (D.state disk.new) (LeavesOnly (D.state disk.old) (D.state disk.new)
+            (StandsAlone (path_of self.old) (D.state disk.old) (committed_by (D.state disk.old) self.old))) }
         ensures outside { KeepsOutside (path_of self.old) (D.state disk.old) (D.state disk.new) }
         ensures whole { IsErrOf result StoreError.Damaged → ⊥ }
         ensures cause { HasReadCause (D.failures disk.old) (D.failures disk.new) result }
     {
-        if bytes.len() > usize::MAX - self.told.messages {
+        if bytes.len() > usize::MAX - self.told.messages || self.told.keys > usize::MAX - ENTRY {
             return Err(StoreError::TooMany);
         }
         let entry = entry(self.told.messages as u64, digest);
@@ -88,15 +93,18 @@ impl Folder {
 
     /// Commits what it holds. At `Ok` each crash leaves it; at an error open the folder again.
     pub fn commit<D: Disk>(&mut self, disk: &mut D) -> Result<(), StoreError>
-        requires { IsOpen (D.state disk.old) self.old }
-        ensures opened { OnOk result (IsOpen (D.state disk.new) self.new) }
+        requires named { IsNamed self.old }
+        requires opened { Honestly (D.state disk.old) (IsOpen (D.state disk.old) self.old) }
+        ensures named { IsNamed self.new }
+        ensures opened { Honestly (D.state disk.new) (OnOk result (IsOpen (D.state disk.new) self.new)) }
         ensures path { path_of self.new ≡ path_of self.old }
-        ensures same { OnOk result (held_by (D.state disk.new) self.new ≡ held_by (D.state disk.old) self.old) }
-        ensures committed { OnOk result (committed_by (D.state disk.new) self.new ≡ held_by (D.state disk.old) self.old) }
+        ensures mark { self.new.told.mark ≡ self.old.told.mark }
+        ensures same { Honestly (D.state disk.new) (OnOk result (held_by (D.state disk.new) self.new ≡ held_by (D.state disk.old) self.old)) }
+        ensures committed { Honestly (D.state disk.new) (OnOk result (committed_by (D.state disk.new) self.new ≡ held_by (D.state disk.old) self.old)) }
 
         // A crash at any moment leaves what was committed before, or what was held.
-        ensures any_moment { LeavesOnly (D.state disk.old) (D.state disk.new)
-            (IsBeforeOrAfter (path_of self.old) (D.state disk.old) (committed_by (D.state disk.old) self.old) (held_by (D.state disk.old) self.old)) }
+        ensures any_moment { Honestly (D.state disk.new) (LeavesOnly (D.state disk.old) (D.state disk.new)
+            (IsBeforeOrAfter (path_of self.old) (D.state disk.old) (committed_by (D.state disk.old) self.old) (held_by (D.state disk.old) self.old))) }
         ensures outside { KeepsOutside (path_of self.old) (D.state disk.old) (D.state disk.new) }
         ensures whole { IsErrOf result StoreError.Damaged → ⊥ }
         ensures cause { HasReadCause (D.failures disk.old) (D.failures disk.new) result }

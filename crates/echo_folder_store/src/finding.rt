@@ -1,6 +1,7 @@
 //! A message looked up by its digest: only those that have it are read, and the whole key is compared.
 ghost use Rattle.std.specs.Prelude.{◌≡◌, List};
 ghost use Rattle.std.specs.List.{list_any};
+ghost use Rattle.echo_disk.specs.Disk.{Honestly};
 ghost use Rattle.echo_disk.specs.Runs.{ChangesNothing};
 ghost use Rattle.echo_filed.specs.Filed.{Filed};
 ghost use Rattle.echo_keys.specs.Keys.{StandWhereTold};
@@ -23,10 +24,10 @@ impl Folder {
         sought: &W,
         digest: u64,
     ) -> Result<bool, StoreError>
-        requires { IsOpen (D.state disk.old) self.now }
-        ensures found { (base : List Filed) → StandWhereTold base (held_by (D.state disk.old) self.now).messages self.now.keys.items
+        requires { Honestly (D.state disk.old) (IsOpen (D.state disk.old) self.now) }
+        ensures found { Honestly (D.state disk.new) ((base : List Filed) → StandWhereTold base (held_by (D.state disk.old) self.now).messages self.now.keys.items
             → HaveDigest (W.test sought.now) digest base self.now.keys.items
-            → Answers (λ found. found ≡ list_any (W.test sought.now) base) result }
+            → Answers (λ found. found ≡ list_any (W.test sought.now) base) result) }
         ensures quiet { ChangesNothing (D.state disk.old) (D.state disk.new) }
         ensures cause { HasReadCause (D.failures disk.old) (D.failures disk.new) result }
     {

@@ -1,15 +1,16 @@
 //! A base folder that is open: what is known of its files, and a message read by its number.
 ghost use Rattle.std.specs.Prelude.{◌≡◌, ◌≤◌, ◌<◌, ◌/◌, ℕ, List, length, IfOk, IsErrOf, IsSome, take};
-ghost use Rattle.echo_disk.specs.Disk.{bytes_in};
+ghost use Rattle.echo_disk.specs.Disk.{Honestly, bytes_in};
 ghost use Rattle.echo_disk.specs.Runs.{ChangesNothing, LeavesOnly};
 ghost use Rattle.echo_folder.specs.Moments.{KeepsOutside};
 ghost use Rattle.echo_folder.specs.Opening.{AreAlone, HasFolderCause};
+ghost use Rattle.echo_folder.specs.Standing.{BaseBytes, StandsFor};
 ghost use Rattle.echo_base.specs.Base.{Base};
 ghost use Rattle.echo_filed.specs.Filed.{Filed};
 ghost use Rattle.echo_keys.specs.Keys.{StandWhereTold};
 ghost use Rattle.echo_folder_store.specs.Answers.{Answers, HasReadCause, IsAloneOf};
 ghost use Rattle.echo_folder_store.specs.Held.{HoldsBase, StandsForBase, StandsForBaseOrWasLeft};
-ghost use Rattle.echo_folder_store.specs.Opened.{IsOpen, held_by, path_of};
+ghost use Rattle.echo_folder_store.specs.Opened.{IsNamed, IsOpen, held_by, path_of};
 
 use crate::alone::{Alone, read_alone};
 use echo_disk::Disk;
@@ -19,7 +20,7 @@ use echo_store::StoreError;
 use std::alloc::Global;
 
 /// How many bytes of the keys tell of a message.
-const ENTRY: usize = 16;
+pub(crate) const ENTRY: usize = 16;
 
 /// What is known of the files of a base folder: where its log ends, what a commit would tell now, and the keys.
 #[derive(Drop)]
@@ -39,11 +40,11 @@ pub(crate) fn message_at<D: Disk>(
     keys: &[u8],
     place: usize,
 ) -> Result<Alone, StoreError>
-    requires there { IsSome ((D.state disk.old).seen messages.now) }
-    requires long { all ≤ length (bytes_in ((D.state disk.old).seen messages.now)) }
+    requires there { Honestly (D.state disk.old) (IsSome ((D.state disk.old).seen messages.now)) }
+    requires long { Honestly (D.state disk.old) (all ≤ length (bytes_in ((D.state disk.old).seen messages.now))) }
     requires within { place < length keys.now / 16 }
-    ensures read { (base : List Filed) → StandWhereTold base (take all (bytes_in ((D.state disk.old).seen messages.now))) keys.now
-        → place < length base → Answers (IsAloneOf base place) result }
+    ensures read { Honestly (D.state disk.new) ((base : List Filed) → StandWhereTold base (take all (bytes_in ((D.state disk.old).seen messages.now))) keys.now
+        → place < length base → Answers (IsAloneOf base place) result) }
     ensures quiet { ChangesNothing (D.state disk.old) (D.state disk.new) }
     ensures cause { HasReadCause (D.failures disk.old) (D.failures disk.new) result }
 {
@@ -62,19 +63,22 @@ impl Folder {
     ///
     /// It is `Corrupt` where its files stand for no base. What is wrong with a message is told where it is read.
     pub fn open<D: Disk>(alloc: Global, disk: &mut D, path: &[u8]) -> Result<Folder, FolderError>
-        requires { AreAlone path.now (D.state disk.old) }
-        ensures opened { IfOk result (IsOpen (D.state disk.new)) }
+        requires { Honestly (D.state disk.old) (AreAlone path.now (D.state disk.old)) }
+        ensures opened { Honestly (D.state disk.new) (IfOk result (IsOpen (D.state disk.new))) }
+        ensures named { IfOk result IsNamed }
         ensures path { IfOk result (λ folder. path_of folder ≡ path.now) }
         ensures settled { IfOk result (λ folder. folder.told ≡ folder.end.told) }
-        ensures same { (digest : List ℕ → ℕ) (base : Base) → StandsForBase digest path.now base (D.state disk.old).seen
-            → IfOk result (λ folder. HoldsBase digest (held_by (D.state disk.new) folder) base) }
+        ensures found { Honestly (D.state disk.new) ((bytes : BaseBytes) → StandsFor path.now bytes (D.state disk.old).seen
+            → IfOk result (λ folder. held_by (D.state disk.new) folder ≡ bytes)) }
+        ensures same { Honestly (D.state disk.new) ((keyed : ℕ → ℕ → List ℕ → ℕ) (base : Base) → StandsForBase keyed path.now base (D.state disk.old).seen
+            → IfOk result (λ folder. HoldsBase keyed (held_by (D.state disk.new) folder) base)) }
 
         // A crash at any moment leaves the same base and all else as it was, or what a crash might have left before.
-        ensures any_moment { (digest : List ℕ → ℕ) (base : Base) → StandsForBase digest path.now base (D.state disk.old).seen
-            → LeavesOnly (D.state disk.old) (D.state disk.new) (StandsForBaseOrWasLeft digest path.now (D.state disk.old) base) }
+        ensures any_moment { Honestly (D.state disk.new) ((keyed : ℕ → ℕ → List ℕ → ℕ) (base : Base) → StandsForBase keyed path.now base (D.state disk.old).seen
+            → LeavesOnly (D.state disk.old) (D.state disk.new) (StandsForBaseOrWasLeft keyed path.now (D.state disk.old) base)) }
         ensures outside { KeepsOutside path.now (D.state disk.old) (D.state disk.new) }
-        ensures corrupt { IsErrOf result FolderError.Corrupt
-            → (digest : List ℕ → ℕ) (base : Base) → StandsForBase digest path.now base (D.state disk.old).seen → ⊥ }
+        ensures corrupt { Honestly (D.state disk.new) (IsErrOf result FolderError.Corrupt
+            → (keyed : ℕ → ℕ → List ℕ → ℕ) (base : Base) → StandsForBase keyed path.now base (D.state disk.old).seen → ⊥) }
         ensures cause { HasFolderCause (D.failures disk.old) (D.failures disk.new) result }
     {
         let end = open(alloc, disk, path)?;
@@ -113,10 +117,10 @@ impl Folder {
         disk: &mut D,
         place: usize,
     ) -> Result<Alone, StoreError>
-        requires opened { IsOpen (D.state disk.old) self.now }
+        requires opened { Honestly (D.state disk.old) (IsOpen (D.state disk.old) self.now) }
         requires within { place < length self.now.keys.items / 16 }
-        ensures read { (base : List Filed) → StandWhereTold base (held_by (D.state disk.old) self.now).messages self.now.keys.items
-            → place < length base → Answers (IsAloneOf base place) result }
+        ensures read { Honestly (D.state disk.new) ((base : List Filed) → StandWhereTold base (held_by (D.state disk.old) self.now).messages self.now.keys.items
+            → place < length base → Answers (IsAloneOf base place) result) }
         ensures quiet { ChangesNothing (D.state disk.old) (D.state disk.new) }
         ensures cause { HasReadCause (D.failures disk.old) (D.failures disk.new) result }
     {

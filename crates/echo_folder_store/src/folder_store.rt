@@ -1,64 +1,89 @@
 //! A base folder, as a store.
-ghost use Rattle.std.specs.Prelude.{◌≡◌};
+ghost use Rattle.std.specs.Prelude.{◌≡◌, true, false};
+ghost use Rattle.echo_disk.specs.Disk.{Honestly};
 ghost use Rattle.echo_base.specs.Base.{Base};
 ghost use Rattle.echo_folder_store.specs.Held.{HoldsBase};
-ghost use Rattle.echo_folder_store.specs.Opened.{IsOpen, committed_by, held_by};
+ghost use Rattle.echo_folder_store.specs.Opened.{IsNamed, IsOpen, committed_by, held_by};
+ghost use Rattle.echo_folder_store.specs.Owned.{IsUnclaimed, owner_of, with_mark};
 ghost use Rattle.echo_folder_store.specs.State.{state_of};
+ghost use Rattle.echo_store.specs.Store.{CommitsNothing, GoesOn};
 
 use crate::alone::{Alone, bytes_alone};
 use crate::folder::Folder;
 use crate::sought::Id;
 use echo_disk::Disk;
 use echo_filed::{Filed, Key};
+use echo_folder::Mark;
 use echo_keys::{Digest, bytes_of_key};
 use echo_store::{Store, StoreError};
 use std::alloc::Global;
+use std::marker::PhantomData;
 
 /// A base folder on a disk. After a call that failed in the middle of a change it is to be opened again.
 #[derive(Drop)]
 pub struct FolderStore<D: Disk, H: Digest> {
     alloc: Global,
     disk: D,
-    digest: H,
     folder: Folder,
     // The message at hand.
     alone: Option<Alone>,
+    digests: PhantomData<H>,
 }
 
 impl<D: Disk, H: Digest> FolderStore<D, H> {
-    /// A folder that is open on the disk, as a store. Its entries have this digest.
-    pub fn new(alloc: Global, disk: D, digest: H, folder: Folder) -> FolderStore<D, H>
-        requires { IsOpen (D.state disk) folder }
+    /// A folder that is open on the disk, as a store. Its entries have digests by the key that it keeps.
+    pub fn new(alloc: Global, disk: D, folder: Folder) -> FolderStore<D, H>
+        requires named { IsNamed folder }
+        requires opened { Honestly (D.state disk) (IsOpen (D.state disk) folder) }
         ensures ready { (⟦<FolderStore<D, H> as Store>⟧.state result).is_ready }
-        ensures keeps { (base : Base) → HoldsBase (H.digest digest) (held_by (D.state disk) folder) base
+        ensures keeps { (base : Base) → HoldsBase H.keyed (held_by (D.state disk) folder) base
             → (⟦<FolderStore<D, H> as Store>⟧.state result).keeps base }
-        ensures committed { (base : Base) → HoldsBase (H.digest digest) (committed_by (D.state disk) folder) base
+        ensures committed { (base : Base) → HoldsBase H.keyed (committed_by (D.state disk) folder) base
             → (⟦<FolderStore<D, H> as Store>⟧.state result).committed base }
         ensures disk { result.disk ≡ disk }
-        ensures digest { result.digest ≡ digest }
         ensures folder { result.folder ≡ folder }
     {
         FolderStore {
             alloc,
             disk,
-            digest,
             folder,
             alone: None,
+            digests: PhantomData,
         }
     }
 
-    /// The disk, the digest and the folder, taken out.
-    pub fn into_parts(self) -> (D, H, Folder)
+    /// The disk and the folder, taken out.
+    pub fn into_parts(self) -> (D, Folder)
         ensures disk { result.0 ≡ self.disk }
-        ensures digest { result.1 ≡ self.digest }
-        ensures folder { result.2 ≡ self.folder }
+        ensures folder { result.1 ≡ self.folder }
     {
-        (self.disk, self.digest, self.folder)
+        (self.disk, self.folder)
+    }
+
+    /// Whose the folder is, none where nobody has claimed it.
+    pub fn owner(&self) -> Option<u64>
+        ensures { result ≡ owner_of self.now.folder.told.mark }
+    {
+        self.folder.owner()
+    }
+
+    /// Gives the folder an owner and a key, where it has no owner and no message, and answers whether it did. It keeps
+    /// them from the next commit on.
+    pub fn claim(&mut self, mark: Mark) -> bool
+        requires { (⟦<FolderStore<D, H> as Store>⟧.state self.old).is_ready }
+        ensures claimed { result ≡ true → IsUnclaimed self.old.folder × (self.new ≡ record self.old { folder = with_mark self.old.folder mark }) }
+        ensures refused { result ≡ false → (IsUnclaimed self.old.folder → ⊥) × (self.new ≡ self.old) }
+        ensures keeps { Honestly (D.state self.new.disk) ((base : Base) → (⟦<FolderStore<D, H> as Store>⟧.state self.old).keeps base
+            → (⟦<FolderStore<D, H> as Store>⟧.state self.new).keeps base) }
+        ensures goes_on { GoesOn (⟦<FolderStore<D, H> as Store>⟧.state self.old) (⟦<FolderStore<D, H> as Store>⟧.state self.new) }
+        ensures commits { CommitsNothing (⟦<FolderStore<D, H> as Store>⟧.state self.old) (⟦<FolderStore<D, H> as Store>⟧.state self.new) }
+    {
+        self.folder.claim(mark)
     }
 }
 
 impl<D: Disk, H: Digest> Store for FolderStore<D, H> {
-    ghost state = { λ store. state_of (D.state store.disk) (H.digest store.digest) store.folder store.alone };
+    ghost state = { λ store. state_of (D.state store.disk) H.keyed store.folder store.alone };
 
     ghost failures = { λ store. D.failures store.disk };
 
@@ -72,12 +97,12 @@ impl<D: Disk, H: Digest> Store for FolderStore<D, H> {
 
     fn knows(&mut self, key: &Key) -> Result<bool, StoreError> {
         let bytes = bytes_of_key(self.alloc, key)?;
-        let digest = self.digest.of(&bytes);
+        let digest = self.folder.digest::<H>(&bytes);
         self.folder.find(self.alloc, &mut self.disk, key, digest)
     }
 
     fn has_id(&mut self, msgid: &[u8]) -> Result<bool, StoreError> {
-        let digest = self.digest.of(msgid);
+        let digest = self.folder.digest::<H>(msgid);
         self.folder
             .find(self.alloc, &mut self.disk, &Id { msgid }, digest)
     }
@@ -99,7 +124,7 @@ impl<D: Disk, H: Digest> Store for FolderStore<D, H> {
     fn file(&mut self, key: Key, message: Filed) -> Result<(), StoreError> {
         let bytes = bytes_alone(self.alloc, &message)?;
         let digested = bytes_of_key(self.alloc, &key)?;
-        let digest = self.digest.of(&digested);
+        let digest = self.folder.digest::<H>(&digested);
         self.folder.stage(&mut self.disk, &bytes, digest)
     }
 

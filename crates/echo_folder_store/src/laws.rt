@@ -6,11 +6,11 @@ ghost use Rattle.echo_folder.specs.Standing.{BaseBytes};
 ghost use Rattle.echo_keys.specs.Keys.{digested};
 ghost use Rattle.echo_store.specs.Store.{with_message};
 ghost use Rattle.echo_folder_store.specs.Added.{IsStoredAlone, with_stored};
-ghost use Rattle.echo_folder_store.specs.Held.{HoldsBase};
+ghost use Rattle.echo_folder_store.specs.Held.{HoldsBase, digest_by};
 
 /// With the bytes of a new message, and its entry, a folder holds the base with that message at its end.
 pub fn one_message_more()
-    ensures { (digest : List ℕ → ℕ) (held : BaseBytes) (base : Base) (m : Filed) (bytes : List ℕ) → HoldsBase digest held base
+    ensures { (keyed : ℕ → ℕ → List ℕ → ℕ) (held : BaseBytes) (base : Base) (m : Filed) (bytes : List ℕ) → HoldsBase keyed held base
         → IsStoredAlone m bytes → IsFiled m → is_known base.messages (key_of m) ≡ false → length (held.messages ++ bytes) < 2 ^ 64
-        → HoldsBase digest (with_stored held bytes (digest (digested m))) (with_message base m) }
+        → HoldsBase keyed (with_stored held bytes (digest_by keyed held.mark (digested m))) (with_message base m) }
 {}

@@ -1,8 +1,8 @@
 //! A base folder, of which a command reads and writes only what it handles.
 //!
 //! Modules in reading order: `alone` (one message by itself, read and made), `sought` (what is looked for), `folder`
-//! (opened, a message read by its number), `finding` (looked up by digests), `adding` (added to and committed),
-//! `folder_store` (all of this as a store) and `laws` (what holds of the definitions).
+//! (opened, a message read by its number), `finding` (looked up by digests), `owning` (whose it is), `adding` (added
+//! to and committed), `folder_store` (all of this as a store) and `laws` (what holds of the definitions).
 #![tactic(auto)]
 
 mod adding;
@@ -11,6 +11,7 @@ mod finding;
 mod folder;
 mod folder_store;
 mod laws;
+mod owning;
 mod sought;
 
 pub use alone::{Alone, bytes_alone};

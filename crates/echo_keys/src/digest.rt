@@ -5,16 +5,23 @@ ghost use Rattle.echo_keys.specs.Keys.{digested_key};
 use echo_filed::Key;
 use std::alloc::{AllocError, Global};
 
-/// A digest of eight bytes, the same for the same bytes. Two lists of bytes may have one digest.
-pub trait Digest {
+/// A digest of eight bytes by a key, the same for the same bytes. Two lists of bytes may have one digest.
+pub trait Digest: Drop {
     ghost digest: { Self → List ℕ → ℕ };
+
+    // The digest by the key of these two halves.
+    ghost keyed: { ℕ → ℕ → List ℕ → ℕ };
+
+    /// The digest by the key of these two halves.
+    fn keyed(first: u64, second: u64) -> Self
+        ensures { digest result ≡ keyed first second };
 
     /// The digest of the bytes.
     fn of(&self, bytes: &[u8]) -> u64
         ensures { result ≡ digest self.now bytes.now };
 
     // Eight bytes have room for it.
-    ghost fits: { (d : Self) (bytes : List ℕ) → digest d bytes < 2 ^ 64 };
+    ghost fits: { (first second : ℕ) (bytes : List ℕ) → keyed first second bytes < 2 ^ 64 };
 }
 
 /// What the digest of a message with this key is taken of: the id, whatever the area, or else all that the key has.

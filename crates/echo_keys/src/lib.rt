@@ -3,16 +3,18 @@
 //! A look-up goes once over the digests and reads only messages whose digest is the one that is sought, so that a
 //! digest of two messages costs time and never an answer.
 //!
-//! Modules in reading order: `entries` (what stands for a message, and a digest found), `digest` (what it is taken of)
-//! and `laws`.
+//! Modules in reading order: `entries` (what stands for a message, and a digest found), `digest` (what it is taken of),
+//! `sip` (SipHash as a digest) and `laws`.
 #![tactic(auto)]
 
 mod digest;
 mod entries;
 mod laws;
+mod sip;
 
 pub use digest::{Digest, bytes_of_key};
 pub use entries::{digest_of, end_of, entry, next_with, place_of};
 pub use laws::{
     each_message_has_its_entry, each_message_stands_where_told, equal_keys_have_one_digest,
 };
+pub use sip::SipDigest;

@@ -120,6 +120,7 @@ nothing_done s = record {
     before = λ t c le left. inl left;
   };
   keeps = λ t c le was. was;
+  honest = λ is. is;
 }
 
 pub nothing_by : (s : List Step) (x : Step) → ((m : List ℕ) → (shown (x ∷ s) m).seen ≡ (shown s m).seen) → ((c : Files) → MayLeave (x ∷ s) c → MayLeave s c)
@@ -137,6 +138,7 @@ nothing_by s x seen fewer named flushed alone = record {
     before = λ t c le left. ⊎_elim (λ now. inr (fewer c now)) (λ was. inl was.1) left;
   };
   keeps = λ t c le was. inr (le, was);
+  honest = λ is. is;
 }
 
 -- ---- a call that added something, or failed

@@ -35,6 +35,7 @@ one_elapses steps x = record {
   later = omega arith;
   nothing_else = λ t c le left. ⊎_elim (λ now. inr now) (λ was. inl was.1) left;
   keeps = λ t c le was. inr (le, was);
+  honest = λ is. is;
 }
 
 pub same_elapses : (d : DiskState) → Elapses d d
@@ -42,4 +43,5 @@ same_elapses d = record {
   later = omega arith;
   nothing_else = λ t c le left. inl left;
   keeps = λ t c le was. was;
+  honest = λ is. is;
 }

@@ -76,6 +76,7 @@ disk_after steps = record {
   on_disk = kept_is_seen steps;
   counts_now = now_counts steps;
   only_now = now_alone steps;
+  is_honest = Unit {0};
 }
 
 -- a disk keeps its steps with the newest last

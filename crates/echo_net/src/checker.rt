@@ -30,8 +30,7 @@ use std::alloc::{AllocError, Global};
 /// nothing waits for a scan and every packet came, has filed every message exactly once, unchanged.
 /// A `No` says the first thing that is wrong, in the order of `NetFault`, with the smallest addresses.
 ///
-/// Takes about the time of sorting the links, but for a net whose only fault is a loop: to name it
-/// takes up to one search of the net for each link of each system.
+/// Takes about the time of sorting the links, and where the only fault is a loop that of a few searches of the net.
 pub fn check(alloc: Global, files: &[LinkFile], tag: &[u8]) -> Result<Verdict, AllocError>
     ensures tidy { IfOk result (λ verdict. IsYes verdict ↔ Tidy files.now tag.now) }
     ensures counted { IfOk result (λ verdict. IfYes verdict (λ systems links.

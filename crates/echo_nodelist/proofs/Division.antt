@@ -224,3 +224,38 @@ fold_byte h z bits whole same =
     ∙ ap (λ r. fold shifted r (added (added h bits) h)) (sym (added_zeros 16 (h ++ z)))
     ∙ fold_sum (zeros 16) (h ++ z) (added h bits) h refl whole (length-added h bits ∙ sym same)
     ∙ ap (added (fold shifted (zeros 16) (added h bits))) (fold_same h z)
+
+-- ---- the register added to the bits that come
+
+added_front : (xs ys zs : List Bool) → length xs ≤ length ys → added xs (ys ++ zs) ≡ added xs ys ++ zs
+added_front [] ys zs h = refl
+added_front (x ∷ xs) [] zs h = absurd (omega arith)
+added_front (x ∷ xs) (y ∷ ys) zs h = ap (λ l. sum_of x y ∷ l) (added_front xs ys zs (omega arith))
+
+pub added_both : (xs us ys vs : List Bool) → length xs ≡ length ys → added (xs ++ us) (ys ++ vs) ≡ added xs ys ++ added us vs
+added_both [] us [] vs h = refl
+added_both [] us (y ∷ ys) vs h = absurd (omega arith)
+added_both (x ∷ xs) us [] vs h = absurd (omega arith)
+added_both (x ∷ xs) us (y ∷ ys) vs h = ap (λ l. sum_of x y ∷ l) (added_both xs us ys vs (omega arith))
+
+-- a register may be added to the first bits of a message of sixteen bits and more
+fold_added : (r message : List Bool) → length r ≡ 16 → 16 ≤ length message → fold shifted r message ≡ fold shifted (zeros 16) (added r message)
+fold_added r message h long =
+    let same : length (added r message) ≡ length message = length-added r message in
+    let left = sym (steps_added r message (zeros 16) h ∙ added_to_zeros 16 (fold shifted r message) (length-fold r message ∙ h)) in
+    let right =
+    steps_added (zeros 16) (added r message) (zeros 16) refl
+    ∙ added_to_zeros 16 (fold shifted (zeros 16) (added r message)) (length-fold (zeros 16) (added r message))
+    in
+    left
+    ∙ ap (steps (length message)) (added_front r message (zeros 16) (omega arith))
+    ∙ ap (λ n. steps n (added r message ++ zeros 16)) (sym same)
+    ∙ ap (steps (length (added r message))) (sym (added_zeros 16 (added r message ++ zeros 16)))
+    ∙ right
+
+-- the same for a register in two halves and a message that begins with two bytes
+pub fold_two : (h z first second rest : List Bool) → length h ≡ 8 → length z ≡ 8 → length first ≡ 8 → length second ≡ 8
+    → fold shifted (h ++ z) (first ++ (second ++ rest)) ≡ fold shifted (zeros 16) (added h first ++ (added z second ++ rest))
+fold_two h z first second rest hh hz hf hs =
+    fold_added (h ++ z) (first ++ (second ++ rest)) (omega (arith, length-append h z)) (omega (arith, length-append first (second ++ rest), length-append second rest))
+    ∙ ap (fold shifted (zeros 16)) (added_both h z first (second ++ rest) (omega arith) ∙ ap (λ l. added h first ++ l) (added_front z second rest (omega arith)))

@@ -1,5 +1,6 @@
 pub mod Division
 pub mod Registers
+pub mod EightBytes
 pub mod Pieces
 pub mod LookingBack
 pub mod Hubs

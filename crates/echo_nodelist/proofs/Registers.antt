@@ -16,7 +16,7 @@ use Rattle.echo_nodelist.proofs.Division.{divided_register, fold_byte, length-fo
 
 -- ---- numbers and their bits
 
-same_bits : (k m n : ℕ) → ((i : ℕ) → i < k → bit_at m i ≡ bit_at n i) → bits_of k m ≡ bits_of k n
+pub same_bits : (k m n : ℕ) → ((i : ℕ) → i < k → bit_at m i ≡ bit_at n i) → bits_of k m ≡ bits_of k n
 same_bits zero m n h = refl
 same_bits (suc k) m n h =
     ap (λ t. (t == 1) ∷ bits_of k m) (h k (omega arith)) ∙ ap (λ l. (bit_at n k == 1) ∷ l) (same_bits k m n (λ i below. h i (omega arith)))
@@ -65,7 +65,7 @@ bit_value zero k h = omega arith
 bit_value (suc zero) k h = omega arith
 bit_value (suc (suc d)) k h = absurd (omega arith)
 
-number_of_bits : (k n : ℕ) → bits_value (bits_of k n) ≡ n % 2 ^ k
+pub number_of_bits : (k n : ℕ) → bits_value (bits_of k n) ≡ n % 2 ^ k
 number_of_bits zero n = omega arith
 number_of_bits (suc k) n =
     let more : suc k ≡ 1 + k = omega arith in
@@ -83,31 +83,31 @@ bit_sum (suc zero) (suc zero) hd he = refl
 bit_sum (suc zero) (suc (suc e)) hd he = absurd (omega arith)
 bit_sum (suc (suc d)) e hd he = absurd (omega arith)
 
-bits_of-xor : (k a b : ℕ) → bits_of k (bit_xor a b) ≡ added (bits_of k a) (bits_of k b)
+pub bits_of-xor : (k a b : ℕ) → bits_of k (bit_xor a b) ≡ added (bits_of k a) (bits_of k b)
 bits_of-xor zero a b = refl
 bits_of-xor (suc k) a b =
     ap (λ t. (t == 1) ∷ bits_of k (bit_xor a b)) (bit_at_xor a b k)
     ∙ ap (λ t. t ∷ bits_of k (bit_xor a b)) (bit_sum (bit_at a k) (bit_at b k) (bit_at-lt a k) (bit_at-lt b k))
     ∙ ap (λ l. sum_of (bit_at a k == 1) (bit_at b k == 1) ∷ l) (bits_of-xor k a b)
 
-bits_of-zero : (k : ℕ) → bits_of k 0 ≡ zeros k
+pub bits_of-zero : (k : ℕ) → bits_of k 0 ≡ zeros k
 bits_of-zero zero = refl
 bits_of-zero (suc k) = ap (λ t. (t == 1) ∷ bits_of k 0) (bit_at_above 0 0 k (omega arith) (omega arith)) ∙ ap (λ l. false ∷ l) (bits_of-zero k)
 
 -- ---- the register as a number
 
-register : List ℕ → List Bool
+unfoldable pub register : List ℕ → List Bool
 register bytes = fold shifted (zeros 16) (flat_map (bits_of 8) bytes)
 
-length-register : (bytes : List ℕ) → length (register bytes) ≡ 16
+pub length-register : (bytes : List ℕ) → length (register bytes) ≡ 16
 unfolding register
 length-register bytes = length-fold (zeros 16) (flat_map (bits_of 8) bytes)
 
-crc_register : (bytes : List ℕ) → crc bytes ≡ bits_value (register bytes)
+pub crc_register : (bytes : List ℕ) → crc bytes ≡ bits_value (register bytes)
 unfolding crc register
 crc_register bytes = ap bits_value (divided_register (flat_map (bits_of 8) bytes))
 
-register_bits : (bytes : List ℕ) → register bytes ≡ bits_of 16 (crc bytes)
+pub register_bits : (bytes : List ℕ) → register bytes ≡ bits_of 16 (crc bytes)
 register_bits bytes =
     sym (ap (bits_of 16) (crc_register bytes) ∙ ap (λ k. bits_of k (bits_value (register bytes))) (sym (length-register bytes)) ∙ bits_of_number (register bytes))
 
@@ -130,7 +130,7 @@ unfolding register
 register_single byte = ap (fold shifted (zeros 16)) (append-nil (bits_of 8 byte))
 
 -- the bits of a register, cut in two; those of the lower half moved up
-cut_bits : (n : ℕ) → bits_of 16 n ≡ bits_of 8 (n / 2 ^ 8) ++ bits_of 8 n
+pub cut_bits : (n : ℕ) → bits_of 16 n ≡ bits_of 8 (n / 2 ^ 8) ++ bits_of 8 n
 cut_bits n =
     let low : n % 2 ^ 8 < 2 ^ 8 = omega arith in
     let rest : bits_of 8 (n % 2 ^ 8) ≡ bits_of 8 n = same_bits 8 (n % 2 ^ 8) n (λ i below. sym (ap (λ m. bit_at m i) (sym (shr_split n 8)) ∙ bit_at_cat_low (n / 2 ^ 8) 8 (n % 2 ^ 8) i below)) in

@@ -1,4 +1,5 @@
 pub mod Crc
+pub mod Tables
 pub mod Raw
 pub mod CrcLine
 pub mod Line

@@ -1,10 +1,10 @@
 -- Calls of a store, one after another.
-use Rattle.std.proofs.Common.{◌≡◌, ◌≤◌, ℕ, List, inl, inr, ⊎_elim, ◌∙◌, refl}
+use Rattle.std.proofs.Common.{ℕ, List, ◌∙◌, refl}
 use Rattle.echo_disk.specs.Disk.{DiskState, Files}
-use Rattle.echo_disk.specs.Runs.{LeavesOnly, ChangesNothing}
+use Rattle.echo_disk.specs.Runs.{ChangesNothing}
 use Rattle.echo_disk.proofs.Moments.{no_call, nothing_twice, then_run, weaker_run}
 use Rattle.echo_base.specs.Base.{Base}
-use Rattle.echo_store.specs.Store.{StoreState, CommitsNothing, GoesOn, IsSameStore, KeepsBeside, LooksOn, SameBesideStore, StandsBeside, Undoes}
+use Rattle.echo_store.specs.Store.{StoreState, CommitsNothing, GoesOn, IsSameStore, KeepsBeside, LooksOn, StandsBeside, Undoes}
 
 pub same_store : (s : StoreState) → IsSameStore s s
 same_store s = record { stands = λ base c. (λ h. h, λ h. h); own = λ m. (λ h. h, λ h. h); undoes = (λ h. h, λ h. h) }
@@ -26,6 +26,7 @@ quiet_disk d = record {
   alone = λ m none is. is;
   run = no_call d d.may_leave (λ c left. left);
   keeps = λ t c le left. left;
+  honest = λ is. is;
 }
 
 pub no_look : (s : StoreState) → s.is_ready → LooksOn s s
@@ -42,23 +43,28 @@ looks_twice old mid new first second = record {
 }
 
 pub looks_go_on : (old new : StoreState) → LooksOn old new → GoesOn old new
-looks_go_on old new looks = record { ready = looks.ready; committed = looks.committed }
+looks_go_on old new looks = record { ready = looks.ready; committed = λ honest. looks.committed; honest = looks.quiet.honest }
 
 pub goes_on_twice : (old mid new : StoreState) → GoesOn old mid → GoesOn mid new → GoesOn old new
 goes_on_twice old mid new first second =
-    record { ready = second.ready; committed = λ base h. second.committed base (first.committed base h) }
+    record {
+      ready = second.ready;
+      committed = λ honest base h. second.committed honest base (first.committed (second.honest honest) base h);
+      honest = λ is. first.honest (second.honest is);
+    }
 
 -- a look commits nothing
 pub looks_commit : (old new : StoreState) → old.is_ready → LooksOn old new → CommitsNothing old new
 looks_commit old new ready looks = record {
-  any_moment = λ base is.
+  any_moment = λ honest base is.
       weaker_run old.disk new.disk old.disk.may_leave (StandsBeside old base) looks.quiet.run
-      (λ c left. record { beside = λ m other named flushed. old.disk.on_disk m named flushed c left; stands = old.stays ready base is c left });
+      (λ c left. record { beside = λ m other named flushed. old.disk.on_disk m named flushed c left; stands = old.stays (looks.quiet.honest honest) ready base is c left });
   beside = record {
     seen = λ m other. looks.quiet.seen m;
     named = λ m other is. looks.quiet.named m (λ h. h) is;
     flushed = λ m other is. looks.quiet.flushed m (λ h. h) is;
     alone = λ m other is. looks.quiet.alone m (λ h. h) is;
+    honest = looks.quiet.honest;
   };
   same = looks.same;
 }
@@ -71,6 +77,7 @@ beside_twice old mid new same first second =
       named = λ m other is. second.named m (out m other) (first.named m other is);
       flushed = λ m other is. second.flushed m (out m other) (first.flushed m other is);
       alone = λ m other is. second.alone m (out m other) (first.alone m other is);
+      honest = λ is. first.honest (second.honest is);
     }
 
 -- what a crash leaves of the later calls, as it stood before the first one
@@ -84,9 +91,10 @@ stood_before old mid base c same kept stood = record {
 -- calls that commit nothing, after such that went on
 pub commits_none : (old mid new : StoreState) → CommitsNothing old mid → GoesOn old mid → CommitsNothing mid new → CommitsNothing old new
 commits_none old mid new first on second = record {
-  any_moment = λ base is.
-      then_run old.disk mid.disk new.disk (StandsBeside old base) (StandsBeside mid base) (first.any_moment base is)
-      (second.any_moment base (on.committed base is)) (λ c. stood_before old mid base c first.same first.beside);
+  any_moment = λ honest base is.
+      let before = second.beside.honest honest in
+      then_run old.disk mid.disk new.disk (StandsBeside old base) (StandsBeside mid base) (first.any_moment before base is)
+      (second.any_moment honest base (on.committed before base is)) (λ c. stood_before old mid base c first.same first.beside);
   beside = beside_twice old mid new first.same first.beside second.beside;
   same = same_twice old mid new first.same second.same;
 }
@@ -97,8 +105,8 @@ looks_then_commits old mid new ready looks second =
 
 -- a look leaves what is held
 pub looks_undo : (old new : StoreState) → LooksOn old new → Undoes old new
-looks_undo old new looks = λ undoes base h. looks.keeps base h
+looks_undo old new looks = λ honest undoes base h. looks.keeps base h
 
 -- what failed after a look was taken back
 pub undone_after : (old mid new : StoreState) → LooksOn old mid → Undoes mid new → Undoes old new
-undone_after old mid new looks undone = λ undoes base h. undone (looks.same.undoes.1 undoes) base (looks.keeps base h)
+undone_after old mid new looks undone = λ honest undoes base h. undone honest (looks.same.undoes.1 undoes) base (looks.keeps base h)

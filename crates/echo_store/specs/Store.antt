@@ -1,7 +1,7 @@
 -- What a store of messages shows, and what its calls leave of it.
 use Rattle.std.specs.Prelude.{◌≡◌, ◌≤◌, ◌⊎◌, ◌↔◌, ℕ, List, [], ◌∷◌, ◌++◌, length, map, take, drop, Option, None, Result, IsErrOf}
 use Rattle.echo_device.specs.Device.{Failed}
-use Rattle.echo_disk.specs.Disk.{DiskState, Files}
+use Rattle.echo_disk.specs.Disk.{DiskState, Files, Honestly}
 use Rattle.echo_disk.specs.Runs.{LeavesOnly, ChangesNothing}
 use Rattle.echo_base.specs.Base.{Base}
 use Rattle.echo_filed.specs.Filed.{Filed}
@@ -35,7 +35,7 @@ pub record StoreState : Type 1 where
   -- a call that fails in the middle of a change takes it back
   pub undoes : Type 0
   -- a crash now leaves the base that was committed last
-  pub stays : is_ready → (base : Base) → committed base → (c : Files) → disk.may_leave c → stands base c
+  pub stays : Honestly disk (is_ready → (base : Base) → committed base → (c : Files) → disk.may_leave c → stands base c)
 
 -- one message more at the end
 abbrev pub with_message : Base → Filed → Base
@@ -84,39 +84,43 @@ pub record KeepsBeside (old new : StoreState) : Type 0 where
   pub named : (m : List ℕ) → (old.is_own m → ⊥) → old.disk.is_named m → new.disk.is_named m
   pub flushed : (m : List ℕ) → (old.is_own m → ⊥) → old.disk.is_flushed m → new.disk.is_flushed m
   pub alone : (m : List ℕ) → (old.is_own m → ⊥) → old.disk.is_alone m → new.disk.is_alone m
+  pub honest : new.disk.is_honest → old.disk.is_honest
 
 -- until the next commit a crash at any moment leaves what was committed before
 pub record CommitsNothing (old new : StoreState) : Type 0 where
-  pub any_moment : (base : Base) → old.committed base → LeavesOnly old.disk new.disk (StandsBeside old base)
+  pub any_moment : Honestly new.disk ((base : Base) → old.committed base → LeavesOnly old.disk new.disk (StandsBeside old base))
   pub beside : KeepsBeside old new
   pub same : IsSameStore old new
 
 -- a crash at any moment leaves the base that was committed before, or the one that the store holds
 pub record MayCommit (old new : StoreState) : Type 0 where
-  pub any_moment : (first next : Base) → old.committed first → old.keeps next → LeavesOnly old.disk new.disk (StandsForEither old first next)
+  pub any_moment : Honestly new.disk ((first next : Base) → old.committed first → old.keeps next → LeavesOnly old.disk new.disk (StandsForEither old first next))
   pub beside : KeepsBeside old new
   pub same : IsSameStore old new
 
 -- the store goes on, and what was committed before is so still
 pub record GoesOn (old new : StoreState) : Type 0 where
   pub ready : new.is_ready
-  pub committed : (base : Base) → old.committed base → new.committed base
+  pub committed : Honestly new.disk ((base : Base) → old.committed base → new.committed base)
+  pub honest : new.disk.is_honest → old.disk.is_honest
 
 -- what it holds is committed
 pub record Commits (old new : StoreState) : Type 0 where
   pub ready : new.is_ready
-  pub keeps : (base : Base) → old.keeps base → new.keeps base
-  pub committed : (base : Base) → old.keeps base → new.committed base
+  pub keeps : Honestly new.disk ((base : Base) → old.keeps base → new.keeps base)
+  pub committed : Honestly new.disk ((base : Base) → old.keeps base → new.committed base)
+  pub honest : new.disk.is_honest → old.disk.is_honest
 
 -- what a store that takes back what failed has held, it holds
 abbrev pub Undoes : StoreState → StoreState → Type 0
-Undoes old new = old.undoes → (base : Base) → old.keeps base → new.keeps base
+Undoes old new = Honestly new.disk (old.undoes → (base : Base) → old.keeps base → new.keeps base)
 
--- A failure of the device is answered only where its count of failures rose, and damage only of a store that holds no base.
-pub record HasStoreCause {T : Type 0} (old : StoreState) (before now : ℕ) (result : Result T StoreError) : Type 0 where
+-- A failure of the device is answered only where its count of failures rose, and damage, on an honest disk, only of a store
+-- that holds no base.
+pub record HasStoreCause {T : Type 0} (old new : StoreState) (before now : ℕ) (result : Result T StoreError) : Type 0 where
   pub later : before ≤ now
   pub failed : IsErrOf result error.Device → Failed before now
-  pub damaged : IsErrOf result error.Damaged → (base : Base) → old.keeps base → ⊥
+  pub damaged : Honestly new.disk (IsErrOf result error.Damaged → (base : Base) → old.keeps base → ⊥)
 
 -- of a store that is on no disk
 abbrev pub no_disk : DiskState
@@ -131,4 +135,5 @@ no_disk = record {
   on_disk = λ path named flushed c left. absurd left;
   counts_now = λ t c le left. left;
   only_now = λ c left. left;
+  is_honest = Unit {0};
 }

@@ -49,7 +49,7 @@ impl<S: BuildHasher> Store for MemoryStore<S> {
       stands = λ base c. ⊥;
       is_own = λ m. ⊥;
       undoes = Unit {0};
-      stays = λ ready base is c left. left;
+      stays = λ honest ready base is c left. left;
     } };
 
     ghost failures = { λ _. 0 };

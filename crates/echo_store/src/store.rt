@@ -1,6 +1,7 @@
 //! Messages and a cursor, wherever they are kept.
 ghost use Rattle.std.specs.Prelude.{◌≡◌, ◌<◌, ℕ, not, false, length, take, count_by, slice_get, option_copied, IfOk, OnOk, OnErr};
 ghost use Rattle.std.specs.List.{list_any};
+ghost use Rattle.echo_disk.specs.Disk.{Honestly};
 ghost use Rattle.echo_base.specs.Base.{Base, IsBase, is_known};
 ghost use Rattle.echo_filed.specs.Filed.{has_id, key_of};
 ghost use Rattle.echo_filed.specs.Stubs.{is_stub};
@@ -14,6 +15,9 @@ use echo_filed::{Filed, Key};
 /// What is filed and moved stays once it is committed; until then a crash leaves what was committed before. After a
 /// call that failed in the middle of a change nothing is known but what a crash may leave: the store is opened again,
 /// but for one that takes back what failed.
+///
+/// Files that others change too may answer anything. So what an answer says of the messages is known only where the
+/// disk was honest up to then, and what a call asks of them is asked only on a disk that was.
 pub trait Store {
     // What it holds, and what a crash may leave.
     ghost state: { Self → StoreState };
@@ -24,35 +28,35 @@ pub trait Store {
     /// How many messages there are.
     fn len(&self) -> usize
         requires { (state self.now).is_ready }
-        ensures count { (base : Base) → (state self.now).keeps base → result ≡ length base.messages }
-        ensures base { (base : Base) → (state self.now).keeps base → IsBase base.messages base.cursor };
+        ensures count { Honestly (state self.now).disk ((base : Base) → (state self.now).keeps base → result ≡ length base.messages) }
+        ensures base { Honestly (state self.now).disk ((base : Base) → (state self.now).keeps base → IsBase base.messages base.cursor) };
 
     /// How many of them, from the front, were scanned.
     fn cursor(&self) -> usize
         requires { (state self.now).is_ready }
-        ensures { (base : Base) → (state self.now).keeps base → result ≡ base.cursor };
+        ensures { Honestly (state self.now).disk ((base : Base) → (state self.now).keeps base → result ≡ base.cursor) };
 
     /// Whether a message has the key.
     fn knows(&mut self, key: &Key) -> Result<bool, StoreError>
         requires { (state self.old).is_ready }
-        ensures found { (base : Base) → (state self.old).keeps base → IfOk result (λ found. found ≡ is_known base.messages key.now) }
+        ensures found { Honestly (state self.new).disk ((base : Base) → (state self.old).keeps base → IfOk result (λ found. found ≡ is_known base.messages key.now)) }
         ensures looks { LooksOn (state self.old) (state self.new) }
-        ensures cause { HasStoreCause (state self.old) (failures self.old) (failures self.new) result };
+        ensures cause { HasStoreCause (state self.old) (state self.new) (failures self.old) (failures self.new) result };
 
     /// Whether a message has the id, in any area.
     fn has_id(&mut self, msgid: &[u8]) -> Result<bool, StoreError>
         requires { (state self.old).is_ready }
-        ensures found { (base : Base) → (state self.old).keeps base → IfOk result (λ found. found ≡ list_any (has_id msgid.now) base.messages) }
+        ensures found { Honestly (state self.new).disk ((base : Base) → (state self.old).keeps base → IfOk result (λ found. found ≡ list_any (has_id msgid.now) base.messages)) }
         ensures looks { LooksOn (state self.old) (state self.new) }
-        ensures cause { HasStoreCause (state self.old) (failures self.old) (failures self.new) result };
+        ensures cause { HasStoreCause (state self.old) (state self.new) (failures self.old) (failures self.new) result };
 
     /// Takes the message of this number at hand, counted from 0 in order of filing.
     fn fetch(&mut self, place: usize) -> Result<(), StoreError>
         requires ready { (state self.old).is_ready }
-        requires within { (base : Base) → (state self.old).keeps base → place < length base.messages }
-        ensures fetched { (base : Base) → (state self.old).keeps base → OnOk result ((state self.new).at_hand ≡ slice_get base.messages place) }
+        requires within { Honestly (state self.old).disk ((base : Base) → (state self.old).keeps base → place < length base.messages) }
+        ensures fetched { Honestly (state self.new).disk ((base : Base) → (state self.old).keeps base → OnOk result ((state self.new).at_hand ≡ slice_get base.messages place)) }
         ensures looks { LooksOn (state self.old) (state self.new) }
-        ensures cause { HasStoreCause (state self.old) (failures self.old) (failures self.new) result };
+        ensures cause { HasStoreCause (state self.old) (state self.new) (failures self.old) (failures self.new) result };
 
     /// The message at hand, none before one was fetched.
     fn at_hand(&self) -> Option<&Filed>
@@ -62,28 +66,28 @@ pub trait Store {
     fn file(&mut self, key: Key, message: Filed) -> Result<(), StoreError>
         requires ready { (state self.old).is_ready }
         requires own { key ≡ key_of message }
-        requires new { (base : Base) → (state self.old).keeps base → is_known base.messages key ≡ false }
-        ensures filed { (base : Base) → (state self.old).keeps base → OnOk result ((state self.new).keeps (with_message base message)) }
+        requires new { Honestly (state self.old).disk ((base : Base) → (state self.old).keeps base → is_known base.messages key ≡ false) }
+        ensures filed { Honestly (state self.new).disk ((base : Base) → (state self.old).keeps base → OnOk result ((state self.new).keeps (with_message base message))) }
         ensures goes_on { OnOk result (GoesOn (state self.old) (state self.new)) }
         ensures undone { OnErr result (Undoes (state self.old) (state self.new)) }
         ensures commits { CommitsNothing (state self.old) (state self.new) }
-        ensures cause { HasStoreCause (state self.old) (failures self.old) (failures self.new) result };
+        ensures cause { HasStoreCause (state self.old) (state self.new) (failures self.old) (failures self.new) result };
 
     /// Moves the cursor to the end: all messages are scanned.
     fn move_to_end(&mut self) -> Result<(), StoreError>
         requires { (state self.old).is_ready }
-        ensures moved { (base : Base) → (state self.old).keeps base → OnOk result ((state self.new).keeps (all_scanned base)) }
+        ensures moved { Honestly (state self.new).disk ((base : Base) → (state self.old).keeps base → OnOk result ((state self.new).keeps (all_scanned base))) }
         ensures goes_on { OnOk result (GoesOn (state self.old) (state self.new)) }
         ensures undone { OnErr result (Undoes (state self.old) (state self.new)) }
         ensures commits { CommitsNothing (state self.old) (state self.new) }
-        ensures cause { HasStoreCause (state self.old) (failures self.old) (failures self.new) result };
+        ensures cause { HasStoreCause (state self.old) (state self.new) (failures self.old) (failures self.new) result };
 
     /// Commits what the store holds. At `Ok` each crash leaves it; until then, it or what was committed before.
     fn commit(&mut self) -> Result<(), StoreError>
         requires { (state self.old).is_ready }
         ensures committed { OnOk result (Commits (state self.old) (state self.new)) }
         ensures either { MayCommit (state self.old) (state self.new) }
-        ensures cause { HasStoreCause (state self.old) (failures self.old) (failures self.new) result };
+        ensures cause { HasStoreCause (state self.old) (state self.new) (failures self.old) (failures self.new) result };
 }
 
 /// A store whose scanned messages can be purged.
@@ -92,12 +96,12 @@ pub trait PurgedStore: Store {
     /// changed. What was filed before may be committed by it; the purge itself stays once it is committed.
     fn purge(&mut self) -> Result<u64, StoreError>
         requires { (Self.state self.old).is_ready }
-        ensures count { (base : Base) → (Self.state self.old).keeps base
-            → IfOk result (λ count. count ≡ count_by (λ m. not (is_stub m)) (take base.cursor base.messages)) }
-        ensures purged { (base : Base) → (Self.state self.old).keeps base → OnOk result ((Self.state self.new).keeps (purged base)) }
-        ensures committed { (base : Base) → (Self.state self.old).keeps base → OnOk result ((Self.state self.new).committed base) }
+        ensures count { Honestly (Self.state self.new).disk ((base : Base) → (Self.state self.old).keeps base
+            → IfOk result (λ count. count ≡ count_by (λ m. not (is_stub m)) (take base.cursor base.messages))) }
+        ensures purged { Honestly (Self.state self.new).disk ((base : Base) → (Self.state self.old).keeps base → OnOk result ((Self.state self.new).keeps (purged base))) }
+        ensures committed { Honestly (Self.state self.new).disk ((base : Base) → (Self.state self.old).keeps base → OnOk result ((Self.state self.new).committed base)) }
         ensures ready { OnOk result (Self.state self.new).is_ready }
         ensures undone { OnErr result (Undoes (Self.state self.old) (Self.state self.new)) }
         ensures either { MayCommit (Self.state self.old) (Self.state self.new) }
-        ensures cause { HasStoreCause (Self.state self.old) (Self.failures self.old) (Self.failures self.new) result };
+        ensures cause { HasStoreCause (Self.state self.old) (Self.state self.new) (Self.failures self.old) (Self.failures self.new) result };
 }

@@ -1,3 +1,4 @@
 pub mod Joins
 pub mod Parsed
 pub mod Behind
+pub mod ReadBack

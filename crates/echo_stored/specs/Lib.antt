@@ -1,2 +1,3 @@
 pub mod OriginAddress
 pub mod StoredMessage
+pub mod StoredReading

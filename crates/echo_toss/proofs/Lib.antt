@@ -12,3 +12,4 @@ pub mod PacketTosses
 pub mod Stops
 pub mod Parsed
 pub mod WholePackets
+pub mod PacketsIn

@@ -22,7 +22,7 @@ use Rattle.echo_toss.specs.PacketSteps.{BeginsWith, HasTossed, TossesPart, Tosse
 use Rattle.echo_toss.specs.Messages.{HasTaken, IsOpened, TakesSome}
 
 -- known bytes begin with the header and the messages that were lost
-begins_with : (limits : Limits) (header : Header) (ms : List Message) (before left : Option (List ℕ)) → IsHeader header → AreMessages limits ms
+pub begins_with : (limits : Limits) (header : Header) (ms : List Message) (before left : Option (List ℕ)) → IsHeader header → AreMessages limits ms
     → Consumes before left (header_bytes header ++ messages_bytes ms) → IfSome before (BeginsWith limits header ms)
 begins_with limits header ms None left is are lost = tt
 begins_with limits header ms (Some bs) None is are lost = absurd lost
@@ -67,7 +67,7 @@ cut limits header sender old new before mid left after ms given at place tally i
     )
 
 -- the messages before the stop
-abbrev some_tossed : (limits : Limits) (sender : Address) (old new : SystemState) (before mid left : Option (List ℕ)) (ms : List Message) (given at : ℕ) (tally : Tally)
+abbrev pub some_tossed : (limits : Limits) (sender : Address) (old new : SystemState) (before mid left : Option (List ℕ)) (ms : List Message) (given at : ℕ) (tally : Tally)
     → (o : IsOpened old.file before mid sender) → HasTaken limits sender old mid left ms given at tally new → TossesSome limits old before tally new
 some_tossed limits sender old new before mid left ms given at tally o h = record {
   header = o.header;

@@ -6,3 +6,4 @@ pub mod PacketSteps
 pub mod Messages
 pub mod Stored
 pub mod Stores
+pub mod PacketsIn

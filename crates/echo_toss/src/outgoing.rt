@@ -6,6 +6,7 @@ ghost use Rattle.echo_packet.specs.Message.{HasNoZero};
 ghost use Rattle.echo_links.specs.Links.{links_of, same_address};
 ghost use Rattle.echo_filed.specs.Sets.{entry_set, same_entry};
 ghost use Rattle.echo_filed.specs.Written.{text_of};
+ghost use Rattle.echo_disk.specs.Disk.{Honestly};
 ghost use Rattle.echo_base.specs.Base.{Base};
 ghost use Rattle.echo_store.specs.Store.{HasStoreCause, LooksOn};
 ghost use Rattle.echo_steps.specs.Scanning.{exported, message_out, targets};
@@ -43,10 +44,10 @@ pub(crate) fn waiting<T: Store>(
     store: &mut T,
 ) -> Result<Vec<Outgoing>, StoreError>
     requires { (T.state store.old).is_ready }
-    ensures outgoing { (base : Base) → (T.state store.old).keeps base
-        → IfOk result (λ all. all.items ≡ map (outgoing_of links.now) (drop base.cursor base.messages)) }
+    ensures outgoing { Honestly (T.state store.new).disk ((base : Base) → (T.state store.old).keeps base
+        → IfOk result (λ all. all.items ≡ map (outgoing_of links.now) (drop base.cursor base.messages))) }
     ensures looks { LooksOn (T.state store.old) (T.state store.new) }
-    ensures cause { HasStoreCause (T.state store.old) (T.failures store.old) (T.failures store.new) result }
+    ensures cause { HasStoreCause (T.state store.old) (T.state store.new) (T.failures store.old) (T.failures store.new) result }
 {
     let mut all = Vec::new(alloc);
     let count = store.len();
@@ -66,10 +67,10 @@ fn outgoing_at<T: Store>(
     place: usize,
 ) -> Result<Outgoing, StoreError>
     requires ready { (T.state store.old).is_ready }
-    requires within { (base : Base) → (T.state store.old).keeps base → place < length base.messages }
-    ensures outgoing { (base : Base) → (T.state store.old).keeps base → IfOk result (IsOutgoingAt links.now base.messages place) }
+    requires within { Honestly (T.state store.old).disk ((base : Base) → (T.state store.old).keeps base → place < length base.messages) }
+    ensures outgoing { Honestly (T.state store.new).disk ((base : Base) → (T.state store.old).keeps base → IfOk result (IsOutgoingAt links.now base.messages place)) }
     ensures looks { LooksOn (T.state store.old) (T.state store.new) }
-    ensures cause { HasStoreCause (T.state store.old) (T.failures store.old) (T.failures store.new) result }
+    ensures cause { HasStoreCause (T.state store.old) (T.state store.new) (T.failures store.old) (T.failures store.new) result }
 {
     store.fetch(place)?;
     match store.at_hand() {

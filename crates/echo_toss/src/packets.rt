@@ -1,18 +1,63 @@
 //! Whole packets: the header, then message by message.
 ghost use Rattle.std.specs.Prelude.{◌≡◌, [], MatchResult};
+ghost use Rattle.echo_disk.specs.Disk.{Honestly};
+ghost use Rattle.echo_base.specs.Base.{Base};
+ghost use Rattle.echo_store.specs.Store.{CommitsNothing, HasStoreCause};
 ghost use Rattle.echo_steps.specs.Tossing.{destination_of, sender_of, zone_of};
-ghost use Rattle.echo_toss.specs.Tallies.{tally_of};
+ghost use Rattle.echo_toss.specs.Tallies.{all_counted, tally_of};
 ghost use Rattle.echo_toss.specs.PacketSteps.{CountsToss, PacketStep};
-ghost use Rattle.echo_toss.specs.Messages.{CountsStop, IsOpened, IsUnopened, TossesMessages};
+ghost use Rattle.echo_toss.specs.Messages.{CountsStop, IsOpened, IsUnopened};
+ghost use Rattle.echo_toss.specs.PacketsIn.{GoesOnUnlessFailed, ReadsMessages, ReadsPacket, TossesMessagesIn, TossesPacketIn, cause_in, messages_answer, packet_answer, stop_in, toss_answer};
 
 use crate::fault::{TossCause, TossFault};
+use crate::stop::{StoppedToss, TossStop};
 use crate::tally::Tally;
 use crate::tosser::Tosser;
+use crate::tossing::toss_in;
 use echo_addr::Address;
 use echo_device::Source;
 use echo_links::LinkFile;
 use echo_packet::{HEADER_BYTES, Header, Limits, read_header, read_next};
+use echo_store::Store;
+use std::alloc::Global;
 use std::hash::BuildHasher;
+
+/// Tosses the messages of the packet at the front of what the reader has into the store, each as it was read, with the
+/// origin of its header as sender. No byte after the packet is taken. A zone 0 of the header is the own zone. Nothing is
+/// committed.
+///
+/// It is `NotForUs` exactly where the header's destination is not the own address. A message before a fault stays tossed
+/// and is counted; one at which the store failed is neither filed nor counted.
+pub fn toss_packet_in<T: Store, R: Source>(
+    alloc: Global,
+    links: &LinkFile,
+    store: &mut T,
+    reader: &mut R,
+    limits: Limits,
+) -> Result<Tally, StoppedToss>
+    requires { (T.state store.old).is_ready }
+    ensures tossed { Honestly (T.state store.new).disk ((base : Base) → (T.state store.old).keeps base
+        → TossesPacketIn limits links.now base (R.remaining reader.old) (R.remaining reader.new) (T.state store.old) result (T.state store.new)) }
+    // What it answers of the bytes is so whatever the store holds.
+    ensures read { (base : Base) → ReadsPacket limits links.now base (R.remaining reader.old) (R.remaining reader.new) (packet_answer result) }
+    ensures device { CountsToss (packet_answer result) (R.failures reader.old) (R.failures reader.new) }
+    ensures goes_on { GoesOnUnlessFailed (T.state store.old) (stop_in result) (T.state store.new) }
+    ensures commits { CommitsNothing (T.state store.old) (T.state store.new) }
+    ensures cause { HasStoreCause (T.state store.old) (T.state store.new) (T.failures store.old) (T.failures store.new) (toss_answer (stop_in result)) }
+{
+    let mut tally = Tally::NONE;
+    let sender = match opened(links, reader) {
+        Ok(sender) => sender,
+        Err(cause) => {
+            let stop = TossStop::Packet(cause);
+            return Err(StoppedToss { tally, stop });
+        }
+    };
+    match toss_messages(alloc, links, store, sender, reader, limits, &mut tally) {
+        Ok(()) => Ok(tally),
+        Err(stop) => Err(StoppedToss { tally, stop }),
+    }
+}
 
 impl<S: BuildHasher> Tosser<S> {
     /// Tosses the messages of the packet at the front of what the reader has, each as it was read, with
@@ -25,46 +70,63 @@ impl<S: BuildHasher> Tosser<S> {
         ensures tossed { PacketStep limits self.old (R.remaining reader.old) (R.remaining reader.new) result self.new }
         ensures device { CountsToss result (R.failures reader.old) (R.failures reader.new) }
     {
-        let mut tally = Tally::NONE;
-        let sender = match opened(&self.links, reader) {
-            Ok(sender) => sender,
-            Err(cause) => return Err(TossFault { tally, cause }),
-        };
-        match self.toss_messages(sender, reader, limits, &mut tally) {
-            Ok(()) => Ok(tally),
-            Err(cause) => Err(TossFault { tally, cause }),
-        }
-    }
-
-    // Tosses the messages up to the terminator.
-    fn toss_messages<R: Source>(
-        &mut self,
-        sender: Address,
-        reader: &mut R,
-        limits: Limits,
-        tally: &mut Tally,
-    ) -> Result<(), TossCause>
-        requires { tally.old ≡ tally_of [] }
-        ensures tossed { TossesMessages limits sender self.old (R.remaining reader.old) (R.remaining reader.new) tally.new result self.new }
-        ensures device { CountsStop result (R.failures reader.old) (R.failures reader.new) }
-    {
-        let mut given = 0;
-        let mut place = HEADER_BYTES as u64;
-        'messages: loop {
-            match read_next(self.alloc, reader, limits, given, &mut place)? {
-                Some(message) => {
-                    let outcome = self.toss_message(sender, &message)?;
-                    tally.count(outcome);
-                    given += 1;
-                }
-                None => return Ok(()),
-            }
+        match toss_packet_in(self.alloc, &self.links, &mut self.store, reader, limits) {
+            Ok(tally) => Ok(tally),
+            Err(stopped) => Err(fault_in(stopped)),
         }
     }
 }
 
-// Reads the header. Answers who sent the packet, if it is for this system.
-fn opened<R: Source>(links: &LinkFile, reader: &mut R) -> Result<Address, TossCause>
+// What stopped a toss over a base in memory, which fails only where a growth is refused.
+fn fault_in(stopped: StoppedToss) -> TossFault
+    ensures { result ≡ record { tally = stopped.tally; cause = cause_in stopped.stop } }
+{
+    let cause = match stopped.stop {
+        TossStop::Packet(cause) => cause,
+        TossStop::Store(_) => TossCause::Memory,
+    };
+    TossFault {
+        tally: stopped.tally,
+        cause,
+    }
+}
+
+// Tosses the messages up to the terminator.
+fn toss_messages<T: Store, R: Source>(
+    alloc: Global,
+    links: &LinkFile,
+    store: &mut T,
+    sender: Address,
+    reader: &mut R,
+    limits: Limits,
+    tally: &mut Tally,
+) -> Result<(), TossStop>
+    requires ready { (T.state store.old).is_ready }
+    requires none { tally.old ≡ tally_of [] }
+    ensures tossed { Honestly (T.state store.new).disk ((base : Base) → (T.state store.old).keeps base
+        → TossesMessagesIn limits sender links.now base (R.remaining reader.old) (R.remaining reader.new) tally.new (T.state store.old) result (T.state store.new)) }
+    ensures read { (base : Base) → ReadsMessages limits sender links.now base (R.remaining reader.old) (R.remaining reader.new) (all_counted tally.new) (messages_answer result) }
+    ensures device { CountsStop (messages_answer result) (R.failures reader.old) (R.failures reader.new) }
+    ensures goes_on { GoesOnUnlessFailed (T.state store.old) result (T.state store.new) }
+    ensures commits { CommitsNothing (T.state store.old) (T.state store.new) }
+    ensures cause { HasStoreCause (T.state store.old) (T.state store.new) (T.failures store.old) (T.failures store.new) (toss_answer result) }
+{
+    let mut given = 0;
+    let mut place = HEADER_BYTES as u64;
+    'messages: loop {
+        match read_next(alloc, reader, limits, given, &mut place)? {
+            Some(message) => {
+                let outcome = toss_in(alloc, links, store, sender, &message)?;
+                tally.count(outcome);
+                given += 1;
+            }
+            None => return Ok(()),
+        }
+    }
+}
+
+/// Reads the header of a packet. Answers who sent it, if it is for this system.
+pub fn opened<R: Source>(links: &LinkFile, reader: &mut R) -> Result<Address, TossCause>
     ensures front { MatchResult result
         (IsOpened links.now (R.remaining reader.old) (R.remaining reader.new))
         (IsUnopened links.now (R.remaining reader.old) (R.remaining reader.new)) }

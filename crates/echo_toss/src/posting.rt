@@ -2,6 +2,7 @@ ghost use Rattle.std.specs.Prelude.{◌≡◌, None, IfErr, IfOk, MatchResult, O
 ghost use Rattle.std.specs.List.{list_any};
 ghost use Rattle.echo_text.specs.Ids.{id_of};
 ghost use Rattle.echo_filed.specs.Filed.{has_id, key_of};
+ghost use Rattle.echo_disk.specs.Disk.{Honestly};
 ghost use Rattle.echo_base.specs.Base.{Base};
 ghost use Rattle.echo_store.specs.Store.{CommitsNothing, GoesOn, HasStoreCause, LooksOn, Undoes, with_message};
 ghost use Rattle.echo_steps.specs.Posting.{PostStep, post_refusal, posted};
@@ -33,17 +34,17 @@ pub fn post_in<T: Store>(
     stamp: Stamp,
 ) -> Result<(), PostStop>
     requires { (T.state store.old).is_ready }
-    ensures allowed { (base : Base) → (T.state store.old).keeps base
-        → OnOk result (post_refusal links.now base.messages tag.now draft.now serial stamp ≡ None) }
-    ensures filed { (base : Base) → (T.state store.old).keeps base
-        → OnOk result ((T.state store.new).keeps (with_message base (posted links.now tag.now draft.now serial stamp))) }
-    ensures stop { (base : Base) → (T.state store.old).keeps base
-        → IfErr result (IsPostStop links.now base.messages tag.now draft.now serial stamp) }
+    ensures allowed { Honestly (T.state store.new).disk ((base : Base) → (T.state store.old).keeps base
+        → OnOk result (post_refusal links.now base.messages tag.now draft.now serial stamp ≡ None)) }
+    ensures filed { Honestly (T.state store.new).disk ((base : Base) → (T.state store.old).keeps base
+        → OnOk result ((T.state store.new).keeps (with_message base (posted links.now tag.now draft.now serial stamp)))) }
+    ensures stop { Honestly (T.state store.new).disk ((base : Base) → (T.state store.old).keeps base
+        → IfErr result (IsPostStop links.now base.messages tag.now draft.now serial stamp)) }
     ensures looks { IfErr result (LooksWhereRefused (T.state store.old) (T.state store.new)) }
     ensures goes_on { OnOk result (GoesOn (T.state store.old) (T.state store.new)) }
     ensures undone { OnErr result (Undoes (T.state store.old) (T.state store.new)) }
     ensures commits { CommitsNothing (T.state store.old) (T.state store.new) }
-    ensures cause { HasStoreCause (T.state store.old) (T.failures store.old) (T.failures store.new) (post_answer result) }
+    ensures cause { HasStoreCause (T.state store.old) (T.state store.new) (T.failures store.old) (T.failures store.new) (post_answer result) }
 {
     let new = prepared(alloc, links, store, tag, draft, serial, stamp)?;
     let (key, message) = new;
@@ -91,11 +92,11 @@ fn prepared<T: Store>(
     stamp: Stamp,
 ) -> Result<(Key, Filed), PostStop>
     requires { (T.state store.old).is_ready }
-    ensures prepared { (base : Base) → (T.state store.old).keeps base
-        → MatchResult result (λ new. IsPrepared links.now base.messages tag.now draft.now serial stamp new.0 new.1) (IsPostStop links.now base.messages tag.now draft.now serial stamp) }
+    ensures prepared { Honestly (T.state store.new).disk ((base : Base) → (T.state store.old).keeps base
+        → MatchResult result (λ new. IsPrepared links.now base.messages tag.now draft.now serial stamp new.0 new.1) (IsPostStop links.now base.messages tag.now draft.now serial stamp)) }
     ensures key { IfOk result (λ new. new.0 ≡ key_of new.1) }
     ensures looks { LooksOn (T.state store.old) (T.state store.new) }
-    ensures cause { HasStoreCause (T.state store.old) (T.failures store.old) (T.failures store.new) (post_answer result) }
+    ensures cause { HasStoreCause (T.state store.old) (T.state store.new) (T.failures store.old) (T.failures store.new) (post_answer result) }
 {
     judge(links, tag, draft, stamp)?;
     if is_known(alloc, store, links.system(), serial)? {
@@ -112,10 +113,10 @@ fn is_known<T: Store>(
     serial: u32,
 ) -> Result<bool, StoreError>
     requires { (T.state store.old).is_ready }
-    ensures known { (base : Base) → (T.state store.old).keeps base
-        → IfOk result (λ known. known ≡ list_any (has_id (id_of system serial)) base.messages) }
+    ensures known { Honestly (T.state store.new).disk ((base : Base) → (T.state store.old).keeps base
+        → IfOk result (λ known. known ≡ list_any (has_id (id_of system serial)) base.messages)) }
     ensures looks { LooksOn (T.state store.old) (T.state store.new) }
-    ensures cause { HasStoreCause (T.state store.old) (T.failures store.old) (T.failures store.new) result }
+    ensures cause { HasStoreCause (T.state store.old) (T.state store.new) (T.failures store.old) (T.failures store.new) result }
 {
     let id = MsgId::write(alloc, system, serial)?;
     store.has_id(&id)

@@ -1,4 +1,5 @@
 ghost use Rattle.std.specs.Prelude.{◌≡◌, true, false, IfErr, IfOk, OnErr, OnOk};
+ghost use Rattle.echo_disk.specs.Disk.{Honestly};
 ghost use Rattle.echo_base.specs.Base.{Base};
 ghost use Rattle.echo_store.specs.Store.{CommitsNothing, GoesOn, HasStoreCause, LooksOn, Undoes, all_scanned};
 ghost use Rattle.echo_steps.specs.Scanning.{ScanStep, scanned};
@@ -27,14 +28,14 @@ pub fn scan_in<T: Store>(
 ) -> Result<Vec<Packet>, ScanStop>
     requires { (T.state store.old).is_ready }
     ensures stamp { OnOk result (is_stamp stamp ≡ true) }
-    ensures packets { (base : Base) → (T.state store.old).keeps base
-        → IfOk result (λ all. all.items ≡ scanned links.now base.messages base.cursor stamp) }
-    ensures moved { (base : Base) → (T.state store.old).keeps base → OnOk result ((T.state store.new).keeps (all_scanned base)) }
+    ensures packets { Honestly (T.state store.new).disk ((base : Base) → (T.state store.old).keeps base
+        → IfOk result (λ all. all.items ≡ scanned links.now base.messages base.cursor stamp)) }
+    ensures moved { Honestly (T.state store.new).disk ((base : Base) → (T.state store.old).keeps base → OnOk result ((T.state store.new).keeps (all_scanned base))) }
     ensures stop { IfErr result (IsScanStop stamp (T.state store.old) (T.state store.new)) }
     ensures goes_on { OnOk result (GoesOn (T.state store.old) (T.state store.new)) }
     ensures undone { OnErr result (Undoes (T.state store.old) (T.state store.new)) }
     ensures commits { CommitsNothing (T.state store.old) (T.state store.new) }
-    ensures cause { HasStoreCause (T.state store.old) (T.failures store.old) (T.failures store.new) (scan_answer result) }
+    ensures cause { HasStoreCause (T.state store.old) (T.state store.new) (T.failures store.old) (T.failures store.new) (scan_answer result) }
 {
     if !is_stamp(stamp) {
         return Err(ScanStop::BadStamp);
@@ -68,10 +69,10 @@ fn scanned<T: Store>(
 ) -> Result<Vec<Packet>, StoreError>
     requires ready { (T.state store.old).is_ready }
     requires stamp { is_stamp stamp ≡ true }
-    ensures packets { (base : Base) → (T.state store.old).keeps base
-        → IfOk result (λ all. all.items ≡ scanned links.now base.messages base.cursor stamp) }
+    ensures packets { Honestly (T.state store.new).disk ((base : Base) → (T.state store.old).keeps base
+        → IfOk result (λ all. all.items ≡ scanned links.now base.messages base.cursor stamp)) }
     ensures looks { LooksOn (T.state store.old) (T.state store.new) }
-    ensures cause { HasStoreCause (T.state store.old) (T.failures store.old) (T.failures store.new) result }
+    ensures cause { HasStoreCause (T.state store.old) (T.state store.new) (T.failures store.old) (T.failures store.new) result }
 {
     let outgoing = waiting(alloc, links, store)?;
     Ok(packets(alloc, links, stamp, outgoing)?)

@@ -2,6 +2,9 @@
 ghost use Rattle.std.specs.Prelude.{◌≡◌};
 ghost use Rattle.echo_store.specs.declared.store_error.StoreError.TheVariants as error;
 
+use crate::fault::TossCause;
+use crate::tally::Tally;
+use echo_packet::PacketFault;
 use echo_steps::PostFault;
 use echo_store::StoreError;
 use std::alloc::AllocError;
@@ -67,4 +70,44 @@ impl From<StoreError> for ScanStop {
     fn from(cause: StoreError) -> ScanStop {
         ScanStop::Store(cause)
     }
+}
+
+/// Why the toss of a packet into a store stopped.
+#[derive(Clone, Copy, Debug, PartialEq, Eq, Error)]
+pub enum TossStop {
+    /// The packet stopped it: it is for another system, it is faulty, or memory to read it was refused.
+    #[error("{0}")]
+    Packet(TossCause),
+    /// The store failed, or memory for the message at hand was refused.
+    #[error("{0}")]
+    Store(StoreError),
+}
+
+impl From<PacketFault> for TossStop {
+    ghost use Rattle.echo_toss.specs.PacketSteps.{cause_of};
+    ghost use Rattle.echo_toss.specs.declared.stop.TossStop.TheVariants as toss;
+
+    ghost from_gives = { λ fault stop. stop ≡ toss.Packet (cause_of fault) };
+
+    fn from(fault: PacketFault) -> TossStop {
+        TossStop::Packet(TossCause::from(fault))
+    }
+}
+
+impl From<StoreError> for TossStop {
+    ghost use Rattle.echo_toss.specs.declared.stop.TossStop.TheVariants as toss;
+
+    ghost from_gives = { λ cause stop. stop ≡ toss.Store cause };
+
+    fn from(cause: StoreError) -> TossStop {
+        TossStop::Store(cause)
+    }
+}
+
+/// A toss of a packet into a store that stopped, and what became of the messages before.
+#[derive(Clone, Copy, Debug, PartialEq, Eq, Error)]
+#[error("{stop}")]
+pub struct StoppedToss {
+    pub tally: Tally,
+    pub stop: TossStop,
 }

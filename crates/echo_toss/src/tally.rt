@@ -26,7 +26,7 @@ impl Tally {
     };
 
     /// One more message.
-    pub(crate) fn count(&mut self, outcome: Outcome)
+    pub fn count(&mut self, outcome: Outcome)
         requires { all_counted self.old + 1 < 2 ^ 64 }
         ensures { self.new ≡ tally_with self.old outcome }
     {

@@ -1,4 +1,5 @@
 ghost use Rattle.std.specs.Prelude.{◌≡◌, IfOk, OnErr, OnOk};
+ghost use Rattle.echo_disk.specs.Disk.{Honestly};
 ghost use Rattle.echo_base.specs.Base.{Base};
 ghost use Rattle.echo_store.specs.Store.{CommitsNothing, GoesOn, HasStoreCause, LooksOn, Undoes};
 ghost use Rattle.echo_steps.specs.Tossing.{TossStep, toss_outcome, tossing};
@@ -26,15 +27,15 @@ pub fn toss_in<T: Store>(
     packed: &Packed,
 ) -> Result<Outcome, StoreError>
     requires { (T.state store.old).is_ready }
-    ensures outcome { (base : Base) → (T.state store.old).keeps base
-        → IfOk result (λ outcome. outcome ≡ toss_outcome links.now base.messages sender packed.now) }
-    ensures filed { (base : Base) → (T.state store.old).keeps base
-        → OnOk result ((T.state store.new).keeps (and_filed base (tossing links.now base.messages sender packed.now))) }
+    ensures outcome { Honestly (T.state store.new).disk ((base : Base) → (T.state store.old).keeps base
+        → IfOk result (λ outcome. outcome ≡ toss_outcome links.now base.messages sender packed.now)) }
+    ensures filed { Honestly (T.state store.new).disk ((base : Base) → (T.state store.old).keeps base
+        → OnOk result ((T.state store.new).keeps (and_filed base (tossing links.now base.messages sender packed.now)))) }
     ensures looks { IfOk result (LooksUnlessFiled (T.state store.old) (T.state store.new)) }
     ensures goes_on { OnOk result (GoesOn (T.state store.old) (T.state store.new)) }
     ensures undone { OnErr result (Undoes (T.state store.old) (T.state store.new)) }
     ensures commits { CommitsNothing (T.state store.old) (T.state store.new) }
-    ensures cause { HasStoreCause (T.state store.old) (T.failures store.old) (T.failures store.new) result }
+    ensures cause { HasStoreCause (T.state store.old) (T.state store.new) (T.failures store.old) (T.failures store.new) result }
 {
     let verdict = judged(alloc, links, store, sender, packed)?;
     match verdict {
@@ -77,11 +78,11 @@ fn judged<T: Store>(
     packed: &Packed,
 ) -> Result<Verdict, StoreError>
     requires { (T.state store.old).is_ready }
-    ensures verdict { (base : Base) → (T.state store.old).keeps base
-        → IfOk result (IsVerdict links.now base.messages sender packed.now) }
+    ensures verdict { Honestly (T.state store.new).disk ((base : Base) → (T.state store.old).keeps base
+        → IfOk result (IsVerdict links.now base.messages sender packed.now)) }
     ensures key { IfOk result HasOwnKey }
     ensures looks { LooksOn (T.state store.old) (T.state store.new) }
-    ensures cause { HasStoreCause (T.state store.old) (T.failures store.old) (T.failures store.new) result }
+    ensures cause { HasStoreCause (T.state store.old) (T.state store.new) (T.failures store.old) (T.failures store.new) result }
 {
     let reading = read(alloc, links, sender, packed)?;
     match reading {

@@ -21,8 +21,12 @@ enum Form {
     FlagUnless(&'static str),
     /// `--NAME VALUE`, or nothing
     Option(&'static str),
+    /// the same, which wants the first of these options and takes the place of the others
+    OptionWith(&'static str, &'static str, &'static [&'static str]),
     /// `--NAME VALUE`
     Needed(&'static str),
+    /// the same, or nothing where one of these options stands
+    NeededUnless(&'static str, &'static [&'static str]),
     /// `NAME`
     One,
     /// `NAME`, or nothing where both options stand
@@ -62,6 +66,12 @@ const BASE: Word = Word(
     "BASE",
     Form::One,
     "The base of the system, which need not exist yet",
+);
+
+const SERIAL: Word = Word(
+    "serial",
+    Form::Needed("HEX8"),
+    "The serial of its MSGID, new for each message, or auto",
 );
 
 const AT: Word = Word(
@@ -168,20 +178,60 @@ const CHANGING: &[Entry] = &[
             "echonet post --area TEST --to All --from Ann --subject Hi --serial auto --at now links base < body"
         ),
         &[
-            Word("area", Form::Needed("TAG"), AREA),
-            Word("to", Form::Needed("T"), "To whom the message is"),
-            Word("from", Form::Needed("F"), "From whom the message is"),
-            Word("subject", Form::Needed("S"), "The subject"),
             Word(
-                "serial",
-                Form::Needed("HEX8"),
-                "The serial of its MSGID, new for each message, or auto",
+                "mail",
+                Form::Flag,
+                "Standard input is a mail message, and the words stand for what it lacks",
             ),
+            Word(
+                "charset",
+                Form::OptionWith("C", "mail", &[]),
+                "The charset in which the mail is posted, CP437 without this word",
+            ),
+            Word("area", Form::NeededUnless("TAG", &["mail"]), AREA),
+            Word(
+                "to",
+                Form::NeededUnless("T", &["mail", "msg"]),
+                "To whom the message is",
+            ),
+            Word(
+                "from",
+                Form::NeededUnless("F", &["mail", "msg"]),
+                "From whom the message is",
+            ),
+            Word(
+                "subject",
+                Form::NeededUnless("S", &["mail", "msg"]),
+                "The subject",
+            ),
+            SERIAL,
             AT,
             Word(
                 "reply",
                 Form::Option("ID"),
                 "The MSGID of the message that is replied to",
+            ),
+            Word(
+                "msg",
+                Form::OptionWith("FILE", "area", &["mail", "to", "from", "subject", "reply"]),
+                "Takes names, subject, reply and body from this stored message, Local and not Sent",
+            ),
+            LINKS,
+            BASE,
+        ],
+    ),
+    Entry(
+        "reply",
+        "Files an answer to a message of the base, whose body is standard input",
+        ending!("echonet reply --from Cid --serial auto --at now 0 links base < body"),
+        &[
+            Word("from", Form::Needed("F"), "From whom the answer is"),
+            SERIAL,
+            AT,
+            Word(
+                "I",
+                Form::One,
+                "The number of the message that is answered, counted from 0",
             ),
             LINKS,
             BASE,
@@ -192,6 +242,11 @@ const CHANGING: &[Entry] = &[
         "Files the messages of packets",
         ending!("echonet toss links base inbound/*.pkt"),
         &[
+            Word(
+                "each",
+                Form::Flag,
+                "Prints a line for each message that is not filed, before the line of its packet",
+            ),
             Word(
                 "packets-from",
                 Form::Option("FILE"),
@@ -280,6 +335,11 @@ const READING: &[Entry] = &[
                 Form::Flag,
                 "Prints what is left of purged messages, too",
             ),
+            Word(
+                "msg",
+                Form::OptionWith("DIR", "area", &["mbox", "json", "purged"]),
+                "Adds each message to this folder as a stored message, N.msg, for the readers of the field",
+            ),
             Word("BASE", Form::One, "The base of the system"),
         ],
     ),
@@ -310,7 +370,15 @@ fn argument<'a>(alloc: Global, word: Word) -> Result<Arg<'a>, AllocError> {
             flag.conflicts_with(other)?
         }
         Form::Option(value) => arg.long(name).value_name(value),
+        Form::OptionWith(value, needed, others) => {
+            let option = arg.long(name).value_name(value).requires_arg(needed)?;
+            option.conflicts_with_all(others)?
+        }
         Form::Needed(value) => arg.long(name).value_name(value).required(true),
+        Form::NeededUnless(value, others) => {
+            let option = arg.long(name).value_name(value);
+            option.required_unless_present_any(others)?
+        }
         Form::One => arg.required(true),
         Form::OneUnless(one, other) => arg.required_unless_present_all(&[one, other])?,
         Form::ManyUnless(option) => {

@@ -7,4 +7,7 @@ mod refusing;
 mod words;
 
 pub use refusing::{Ending, explain};
-pub use words::{CheckWords, ExportWords, Paths, PostWords, TossWords, Words, parse};
+pub use words::{
+    CheckWords, ExportWords, Paths, PostMailWords, PostStoredWords, PostWords, ReplyWords,
+    TossWords, Words, parse,
+};

@@ -41,6 +41,9 @@ pub enum Words<'a> {
     },
     Export(ExportWords<'a>),
     Post(PostWords<'a>),
+    PostMail(PostMailWords<'a>),
+    PostStored(PostStoredWords<'a>),
+    Reply(ReplyWords<'a>),
     Toss(TossWords<'a>),
     Scan {
         at: &'a str,
@@ -83,19 +86,58 @@ pub struct PostWords<'a> {
     pub base: &'a str,
 }
 
+/// The words of `post --mail`.
+#[derive(Drop)]
+pub struct PostMailWords<'a> {
+    pub charset: Option<&'a str>,
+    pub area: Option<&'a str>,
+    pub to: Option<&'a str>,
+    pub from: Option<&'a str>,
+    pub subject: Option<&'a str>,
+    pub serial: &'a str,
+    pub at: &'a str,
+    pub reply: Option<&'a str>,
+    pub links: &'a str,
+    pub base: &'a str,
+}
+
+/// The words of `post --msg`.
+#[derive(Drop)]
+pub struct PostStoredWords<'a> {
+    pub area: &'a str,
+    pub serial: &'a str,
+    pub at: &'a str,
+    pub message: &'a str,
+    pub links: &'a str,
+    pub base: &'a str,
+}
+
+/// The words of `reply`.
+#[derive(Drop)]
+pub struct ReplyWords<'a> {
+    pub from: &'a str,
+    pub serial: &'a str,
+    pub at: &'a str,
+    pub index: &'a str,
+    pub links: &'a str,
+    pub base: &'a str,
+}
+
 /// The words of `export`.
 #[derive(Drop)]
 pub struct ExportWords<'a> {
     pub json: bool,
     pub purged: bool,
+    pub msg: Option<&'a str>,
     pub area: Option<&'a str>,
     pub from: Option<&'a str>,
     pub base: &'a str,
 }
 
-/// The words of `toss`: how many bytes a text may have, and the files.
+/// The words of `toss`: whether each message that is not filed has a line, how many bytes a text may have, and the files.
 #[derive(Drop)]
 pub struct TossWords<'a> {
+    pub each: bool,
     pub text_limit: Option<&'a str>,
     pub links: &'a str,
     pub base: &'a str,
@@ -193,8 +235,46 @@ fn post_words<'a>(matches: &ArgMatches<'a>) -> Option<Words<'a>> {
     }))
 }
 
+fn post_mail_words<'a>(matches: &ArgMatches<'a>) -> Option<Words<'a>> {
+    Some(Words::PostMail(PostMailWords {
+        charset: matches.get_str("charset"),
+        area: matches.get_str("area"),
+        to: matches.get_str("to"),
+        from: matches.get_str("from"),
+        subject: matches.get_str("subject"),
+        serial: matches.get_str("serial")?,
+        at: matches.get_str("at")?,
+        reply: matches.get_str("reply"),
+        links: matches.get_str("LINKS")?,
+        base: matches.get_str("BASE")?,
+    }))
+}
+
+fn post_stored_words<'a>(matches: &ArgMatches<'a>) -> Option<Words<'a>> {
+    Some(Words::PostStored(PostStoredWords {
+        area: matches.get_str("area")?,
+        serial: matches.get_str("serial")?,
+        at: matches.get_str("at")?,
+        message: matches.get_str("msg")?,
+        links: matches.get_str("LINKS")?,
+        base: matches.get_str("BASE")?,
+    }))
+}
+
+fn reply_words<'a>(matches: &ArgMatches<'a>) -> Option<Words<'a>> {
+    Some(Words::Reply(ReplyWords {
+        from: matches.get_str("from")?,
+        serial: matches.get_str("serial")?,
+        at: matches.get_str("at")?,
+        index: matches.get_str("I")?,
+        links: matches.get_str("LINKS")?,
+        base: matches.get_str("BASE")?,
+    }))
+}
+
 fn toss_words<'a>(matches: &ArgMatches<'a>, packets: Paths<'a>) -> Option<Words<'a>> {
     Some(Words::Toss(TossWords {
+        each: matches.get_flag("each"),
         text_limit: matches.get_str("text-limit"),
         links: matches.get_str("LINKS")?,
         base: matches.get_str("BASE")?,
@@ -230,6 +310,7 @@ fn export_words<'a>(matches: &ArgMatches<'a>) -> Option<Words<'a>> {
     Some(Words::Export(ExportWords {
         json: matches.get_flag("json"),
         purged: matches.get_flag("purged"),
+        msg: matches.get_str("msg"),
         area: matches.get_str("area"),
         from: matches.get_str("from"),
         base: matches.get_str("BASE")?,
@@ -268,7 +349,10 @@ fn words_of<'a>(alloc: Global, matches: &ArgMatches<'a>) -> Result<Option<Words<
         Some(("check", given)) => check_words(alloc, given)?,
         Some(("why", given)) => why_words(given, links(alloc, given)?),
         Some(("picture", given)) => picture_words(given, links(alloc, given)?),
+        Some(("post", given)) if given.get_flag("mail") => post_mail_words(given),
+        Some(("post", given)) if given.get_str("msg").is_some() => post_stored_words(given),
         Some(("post", given)) => post_words(given),
+        Some(("reply", given)) => reply_words(given),
         Some(("toss", given)) => toss_words(
             given,
             paths_in(alloc, given, "PACKET", "packets-from")?,

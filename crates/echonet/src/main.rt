@@ -1,6 +1,7 @@
 //! The program `echonet`: it reads the files that the command line names (`paths`, `inputs`), calls the
 //! commands (`judging`: `links`, which goes on where a file cannot be used), and puts what they leave in place
-//! (`station`, `packets`, `placing`). `clock` gives the moment and the serial that words leave to it.
+//! (`station`, `packets`, `placing`, `stopped`, and `stored` for files of one message each). `clock` gives the moment
+//! and the serial that words leave to it.
 #![tactic(auto)]
 
 mod clock;
@@ -10,6 +11,8 @@ mod packets;
 mod paths;
 mod placing;
 mod station;
+mod stopped;
+mod stored;
 
 use echo_base::BaseFault;
 use echo_checking::{check, check_all, picture};
@@ -22,10 +25,11 @@ use echo_words::{CheckWords, Ending, ExportWords, Words, explain, parse};
 use inputs::{MAX_INPUT, read_file, read_given, read_if_given, read_links, read_script};
 use judging::run_links;
 use paths::{PathNames, names_of};
-use station::{run_post, run_purge, run_scan, run_toss};
+use station::{run_post, run_post_mail, run_post_stored, run_purge, run_reply, run_scan, run_toss};
 use std::collections::hash_map::RandomState;
 use std::process::ExitCode;
 use std::{env, io};
+use stored::run_export_stored;
 
 // `show [--hex] PACKET`
 fn run_show<'a, W: Sink>(
@@ -215,6 +219,9 @@ fn run_words<W: Sink, E: Sink>(
             errors,
         ),
         Words::Post(words) => run_post(rt, words, out, errors),
+        Words::PostMail(words) => run_post_mail(rt, words, out, errors),
+        Words::Reply(words) => run_reply(rt, words, out, errors),
+        Words::PostStored(words) => run_post_stored(rt, words, out, errors),
         Words::Toss(words) => run_toss(rt, words, out, errors),
         Words::Scan {
             at,
@@ -224,7 +231,10 @@ fn run_words<W: Sink, E: Sink>(
         } => run_scan(rt, *at, *links, *base, *folder, out, errors),
         Words::Purge { links, base } => run_purge(rt, *links, *base, out, errors),
         Words::List { area, from, base } => ended(run_list(rt, *area, *from, *base, out), errors),
-        Words::Export(words) => run_export(rt, words, out, errors),
+        Words::Export(words) => match words.msg {
+            Some(folder) => run_export_stored(rt, words, folder, out, errors),
+            None => run_export(rt, words, out, errors),
+        },
         Words::Replay { script, links } => {
             ended(run_replay(rt, *script, &names_of(rt, links), out), errors)
         }

@@ -1,10 +1,11 @@
-//! What a command leaves, put in place: packets first, then the base.
+//! What a command leaves, put in place.
 
 use crate::inputs::output_fault;
+use crate::stopped::{cursor_of, finish_stopped, folder_path};
 use echo_changing::{Done, PacketFile};
 use echo_device::Sink;
-use echo_files::{NewFile, OutputFault, create_file, flush_folder, replace_file};
-use echo_status::Status;
+use echo_files::{NewFile, drop_staged, flush_folder, name_staged, replace_file, stage_file};
+use echo_status::{Fault, Status};
 use std::alloc::AllocError;
 use std::str;
 
@@ -14,66 +15,130 @@ const BASE_KNOWN_BY: usize = 7;
 /// How many bytes show that a file is a packet of these two systems: their nodes.
 const PACKET_KNOWN_BY: usize = 4;
 
-/// Writes each packet to a new file in the folder, up to the first that cannot be written, and flushes
-/// the folder after the last. `own` is the own address, as names of files have it.
-pub fn write_packets<E: Sink>(
+/// What a scan writes beside its base: the folder of its packets, and how many messages were scanned before it.
+#[derive(Clone, Copy)]
+pub struct Outbound<'a> {
+    pub folder: &'a str,
+    pub before: u32,
+}
+
+/// Puts a scan in place: its packets beside their names, then the base, then each packet gets its name. Wherever it
+/// is stopped, the next scan into the folder brings it to its end. `own` is the own address, as names of files
+/// have it.
+pub fn write_scan<E: Sink>(
+    rt: &HostRuntime,
+    own: &str,
+    to: Outbound<'_>,
+    done: Done<'_>,
+    base: &str,
+    errors: &mut E,
+) -> Status {
+    if done.fault.is_some() {
+        return write_base(rt, own, done, base, errors);
+    }
+    match finish_stopped(rt, own, to.folder, to.before, errors) {
+        Status::Good => {}
+        failed => return failed,
+    }
+    let paths = match packet_paths(rt, to.folder, done.files.packets.as_slice()) {
+        Ok(paths) => paths,
+        Err(_) => return Fault::OutOfMemory.report(errors),
+    };
+    let packets = done.files.packets.as_slice();
+    match stage_packets(rt, own, to.folder, packets, &paths, errors) {
+        Status::Good => {}
+        failed => return failed,
+    }
+    match write_base(rt, own, done, base, errors) {
+        Status::Good => name_packets(rt, own, to.folder, &paths, errors),
+        failed => {
+            drop_packets(rt, own, to, base, &paths);
+            failed
+        }
+    }
+}
+
+// Removes the packets beside their names, where the base is the old one. Else they are named by the next scan.
+fn drop_packets(rt: &HostRuntime, own: &str, to: Outbound<'_>, base: &str, paths: &[String]) {
+    if cursor_of(rt, base) == Some(to.before) {
+        for path in paths {
+            let _ = drop_staged(rt.alloc(), rt, path.as_str(), own);
+        }
+    }
+}
+
+// The paths of the packets: the folder, and their names, which are ASCII.
+fn packet_paths(
+    rt: &HostRuntime,
+    folder: &str,
+    packets: &[PacketFile],
+) -> Result<Vec<String>, AllocError> {
+    let mut paths = Vec::new(rt.alloc());
+    for packet in packets {
+        let mut path = folder_path(rt, folder)?;
+        path.push_str(str::from_utf8(packet.name.as_slice()).unwrap_or(""))?;
+        paths.push(path)?;
+    }
+    Ok(paths)
+}
+
+// Writes each packet beside its name, and flushes the folder. Where one cannot be written, those before it are removed.
+fn stage_packets<E: Sink>(
     rt: &HostRuntime,
     own: &str,
     folder: &str,
     packets: &[PacketFile],
+    paths: &[String],
     errors: &mut E,
 ) -> Status {
-    for (i, packet) in packets.iter().enumerate() {
-        let is_last = i.saturating_add(1) == packets.len();
-        match write_packet(rt, own, folder, packet, is_last, errors) {
-            Status::Good => {}
-            failed => return failed,
+    for (i, (packet, path)) in packets.iter().zip(paths).enumerate() {
+        let new = NewFile {
+            path: path.as_str(),
+            own,
+            bytes: packet.bytes.as_slice(),
+            known_by: PACKET_KNOWN_BY,
+        };
+        if let Err(fault) = stage_file(rt.alloc(), rt, new) {
+            for staged in paths.iter().take(i) {
+                let _ = drop_staged(rt.alloc(), rt, staged.as_str(), own);
+            }
+            return output_fault(fault, path.as_str()).report(errors);
         }
     }
-    Status::Good
+    flushed(rt, folder, paths, errors)
 }
 
-// Writes one packet, and where it is the last flushes the folder.
-fn write_packet<E: Sink>(
+// Gives each packet its name, and flushes the folder. One whose name was taken meanwhile stays beside it for the next
+// scan, and is reported once the others have theirs.
+fn name_packets<E: Sink>(
     rt: &HostRuntime,
     own: &str,
     folder: &str,
-    packet: &PacketFile,
-    is_last: bool,
+    paths: &[String],
     errors: &mut E,
 ) -> Status {
-    let path = match packet_path(rt, folder, packet.name.as_slice()) {
-        Ok(path) => path,
-        Err(_) => return output_fault(OutputFault::Memory, "").report(errors),
-    };
-    let new = NewFile {
-        path: path.as_str(),
-        own,
-        bytes: packet.bytes.as_slice(),
-        known_by: PACKET_KNOWN_BY,
-    };
-    match put_packet(rt, new, is_last) {
+    let mut stopped = None;
+    for path in paths {
+        if let Err(fault) = name_staged(rt.alloc(), rt, path.as_str(), own) {
+            stopped = stopped.or(Some(output_fault(fault, path.as_str())));
+        }
+    }
+    let status = flushed(rt, folder, paths, errors);
+    match stopped {
+        Some(fault) => fault.report(errors),
+        None => status,
+    }
+}
+
+// Flushes the folder, where there are packets.
+fn flushed<E: Sink>(rt: &HostRuntime, folder: &str, paths: &[String], errors: &mut E) -> Status {
+    if paths.is_empty() {
+        return Status::Good;
+    }
+    match flush_folder(rt, folder) {
         Ok(()) => Status::Good,
-        Err(fault) => output_fault(fault, path.as_str()).report(errors),
+        Err(fault) => output_fault(fault, folder).report(errors),
     }
-}
-
-fn put_packet(rt: &HostRuntime, new: NewFile<'_>, is_last: bool) -> Result<(), OutputFault> {
-    create_file(rt.alloc(), rt, new)?;
-    if is_last {
-        flush_folder(rt, new.path)?;
-    }
-    Ok(())
-}
-
-// The folder, a `/` where it ends in none, and the name, which is ASCII.
-fn packet_path(rt: &HostRuntime, folder: &str, name: &[u8]) -> Result<String, AllocError> {
-    let mut path = String::from_str(rt.alloc(), folder)?;
-    if !folder.ends_with('/') {
-        path.push('/')?;
-    }
-    path.push_str(str::from_utf8(name).unwrap_or(""))?;
-    Ok(path)
 }
 
 /// Puts the base in place, where there is one to write, and answers the status. A base that cannot be put in

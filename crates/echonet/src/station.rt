@@ -2,19 +2,27 @@
 //! read until their last file stands, and wait where another run holds it.
 
 use crate::clock::{moment_of, serial_from};
-use crate::inputs::{MAX_TEXT_FILE, input_fault, read_base, read_standard_input};
+use crate::inputs::{MAX_TEXT_FILE, input_fault, read_base, read_file, read_standard_input};
 use crate::packets::PacketPaths;
 use crate::paths::{PathNames, names_of};
-use crate::placing::{write_base, write_packets};
+use crate::placing::{Outbound, write_base, write_scan};
+use crate::stopped::cursor_in;
 use echo_addr::{Address, Items};
 use echo_base::BaseFault;
-use echo_changing::{Given, NewMessage, post, post_free, purge, scan, toss};
+use echo_changing::{
+    Answer, Given, NewMessage, post, post_free, purge, reply, scan, toss, toss_each,
+};
+use echo_charset::Charset;
 use echo_device::{Sink, Watched};
 use echo_files::read_whole;
 use echo_links::{LinkFault, LinkFile};
+use echo_mailing::{LetterFault, MailWords, Spare, post_mail};
+use echo_numbered::refuse_message;
 use echo_packet::Limits;
 use echo_status::{Fault, LIMITS, Status, limits_for, number_of};
-use echo_words::{PostWords, TossWords};
+use echo_steps::Stamp;
+use echo_stored::{StoredFault, read_stored};
+use echo_words::{PostMailWords, PostStoredWords, PostWords, ReplyWords, TossWords};
 use std::collections::hash_map::RandomState;
 use std::fs::File;
 use std::{fs, io};
@@ -143,6 +151,143 @@ fn posting_of<'a>(
     Ok((posting, free))
 }
 
+/// `post --mail`: the charset, the serial and the stamp are judged first, then that the files can be read, then the
+/// mail, and what the files hold last.
+pub fn run_post_mail<W: Sink, E: Sink>(
+    rt: &HostRuntime,
+    words: &PostMailWords<'_>,
+    out: &mut W,
+    errors: &mut E,
+) -> Status {
+    let Some(charset) = Charset::named(words.charset.unwrap_or("CP437").as_bytes()) else {
+        return LetterFault::BadCharset.report(errors);
+    };
+    let (asked, mail) = match mail_asked(rt, words, charset) {
+        Ok(asked) => asked,
+        Err(fault) => return fault.report(errors),
+    };
+    let Station { locked, own, given } = match read_station(rt, words.links, words.base) {
+        Ok(station) => station,
+        Err(fault) => return fault.report(errors),
+    };
+    let status = match post_mail(rt.alloc(), &mail, asked, given, out) {
+        Ok(done) => write_base(rt, own.as_str(), done, words.base, errors),
+        Err(fault) => fault.report(errors),
+    };
+    let_go(locked, status)
+}
+
+// What is asked of a mail, and its bytes.
+fn mail_asked<'a>(
+    rt: &HostRuntime,
+    words: &PostMailWords<'a>,
+    charset: Charset,
+) -> Result<(MailWords<'a>, Vec<u8>), Fault<'a>> {
+    let (serial, free) = serial_from(rt, words.serial)?;
+    let stamp = moment_of(rt, words.at)?;
+    let spare = Spare {
+        area: words.area,
+        to: words.to,
+        from: words.from,
+        subject: words.subject,
+        reply: words.reply,
+    };
+    let asked = MailWords {
+        spare,
+        charset,
+        serial,
+        free,
+        stamp,
+    };
+    Ok((asked, read_standard_input(rt, MAX_TEXT_FILE)?))
+}
+
+/// `reply`: the serial, the stamp and the number are judged first, then as for `post`.
+pub fn run_reply<W: Sink, E: Sink>(
+    rt: &HostRuntime,
+    words: &ReplyWords<'_>,
+    out: &mut W,
+    errors: &mut E,
+) -> Status {
+    let (answer, index) = match answer_of(rt, words) {
+        Ok(asked) => asked,
+        Err(fault) => return fault.report(errors),
+    };
+    let (body, stopped) = read_body(rt);
+    let Station { locked, own, given } = match read_station(rt, words.links, words.base) {
+        Ok(station) => station,
+        Err(fault) => return fault.report(errors),
+    };
+    let given = stopped_by(given, stopped);
+    let done = reply(rt.alloc(), index, answer, given, &body, out);
+    let status = write_base(rt, own.as_str(), done, words.base, errors);
+    let_go(locked, status)
+}
+
+// What an answer says that its message does not, and the number of that.
+fn answer_of<'a>(rt: &HostRuntime, words: &ReplyWords<'a>) -> Result<(Answer<'a>, u64), Fault<'a>> {
+    let (serial, free) = serial_from(rt, words.serial)?;
+    let stamp = moment_of(rt, words.at)?;
+    let index = number_of(words.index)?;
+    let answer = Answer {
+        from_name: words.from.as_bytes(),
+        serial,
+        free,
+        stamp,
+    };
+    Ok((answer, index))
+}
+
+/// `post --msg`: the serial and the stamp are judged first, then the stored message, then the files.
+pub fn run_post_stored<W: Sink, E: Sink>(
+    rt: &HostRuntime,
+    words: &PostStoredWords<'_>,
+    out: &mut W,
+    errors: &mut E,
+) -> Status {
+    let (serial, free, stamp, message) = match stored_given(rt, words) {
+        Ok(given) => given,
+        Err(fault) => return fault.report(errors),
+    };
+    let draft = match read_stored(rt.alloc(), &message) {
+        Ok(draft) => draft,
+        Err(StoredFault::BadMessage) => return refuse_message(rt.alloc(), errors),
+        Err(StoredFault::Memory) => return Fault::OutOfMemory.report(errors),
+    };
+    let Station { locked, own, given } = match read_station(rt, words.links, words.base) {
+        Ok(station) => station,
+        Err(fault) => return fault.report(errors),
+    };
+    let posting = NewMessage {
+        tag: words.area.as_bytes(),
+        to_name: draft.to_name,
+        from_name: draft.from_name,
+        subject: draft.subject,
+        reply: draft.reply,
+        serial,
+        stamp,
+    };
+    let body = draft.body.as_slice();
+    let done = if free {
+        post_free(rt.alloc(), posting, given, body, out)
+    } else {
+        post(rt.alloc(), posting, given, body, out)
+    };
+    let status = write_base(rt, own.as_str(), done, words.base, errors);
+    let_go(locked, status)
+}
+
+// The serial, whether it is the first free one from that on, the stamp, and the bytes of the stored message.
+fn stored_given<'a>(
+    rt: &HostRuntime,
+    words: &PostStoredWords<'a>,
+) -> Result<(u32, bool, Stamp, Vec<u8>), Fault<'a>> {
+    let (serial, free) = serial_from(rt, words.serial)?;
+    let stamp = moment_of(rt, words.at)?;
+    let message = read_file(rt, words.message, MAX_TEXT_FILE)?;
+    Ok((serial, free, stamp, message))
+}
+
 /// `purge`.
 pub fn run_purge<W: Sink, E: Sink>(
     rt: &HostRuntime,
@@ -160,7 +305,7 @@ pub fn run_purge<W: Sink, E: Sink>(
     let_go(locked, status)
 }
 
-/// `scan`: the stamp is judged first. The packets are written before the base.
+/// `scan`: the stamp is judged first. The packets get their names once the base is written.
 pub fn run_scan<'a, W: Sink, E: Sink>(
     rt: &HostRuntime,
     at: &'a str,
@@ -178,17 +323,10 @@ pub fn run_scan<'a, W: Sink, E: Sink>(
         Ok(station) => station,
         Err(fault) => return fault.report(errors),
     };
+    let before = cursor_in(given.base.as_ref().map(|bytes| bytes.as_slice()));
     let done = scan(rt.alloc(), stamp, given, out);
-    let status = match write_packets(
-        rt,
-        own.as_str(),
-        folder,
-        done.files.packets.as_slice(),
-        errors,
-    ) {
-        Status::Good => write_base(rt, own.as_str(), done, base_path, errors),
-        failed => failed,
-    };
+    let to = Outbound { folder, before };
+    let status = write_scan(rt, own.as_str(), to, done, base_path, errors);
     let_go(locked, status)
 }
 
@@ -214,7 +352,11 @@ pub fn run_toss<W: Sink, E: Sink>(
         rt,
         names: names.as_slice(),
     };
-    let done = toss(rt.alloc(), given, limits, &mut packets, out);
+    let done = if words.each {
+        toss_each(rt.alloc(), given, limits, &mut packets, out)
+    } else {
+        toss(rt.alloc(), given, limits, &mut packets, out)
+    };
     let status = write_base(rt, own.as_str(), done, words.base, errors);
     let_go(locked, status)
 }

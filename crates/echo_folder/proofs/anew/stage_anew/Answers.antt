@@ -11,12 +11,14 @@ use Rattle.echo_folder.proofs.Renewed.{IsBeside, FilesAlone, alone_first, alone_
 use Rattle.echo_folder.proofs.anew.stage_anew.Goals as goal
 
 pub returns-in_err-create-clause-any_moment : goal.returns-in_err-create-clause-any_moment
-returns-in_err-create-clause-any_moment g c =
+returns-in_err-create-clause-any_moment g c honest =
+    let h1 = honest in
+    let h0 = c.create.ensures.time.honest h1 in
     let path = folder_of c.args.names.now in
     let end = c.args.end in
     let n = end.told.number in
     let number = c.args.number in
-    let rest = c.requires.settled in
+    let rest = (c.requires.settled h0) in
     let d0 = g.D.Disk.state c.args.disk.now in
     let d1 = g.D.Disk.state c.create.new.self in
     let messages : c.deref.result.now ≡ messages_of path number = c.deref.ensures.value ∙ c.requires.names.messages in
@@ -27,12 +29,14 @@ returns-in_err-create-clause-any_moment g c =
     alone_run d0 path end rest d1 run_1
 
 pub returns-in_err-create-clause-same : goal.returns-in_err-create-clause-same
-returns-in_err-create-clause-same g c =
+returns-in_err-create-clause-same g c honest =
+    let h1 = honest in
+    let h0 = c.create.ensures.time.honest h1 in
     let path = folder_of c.args.names.now in
     let end = c.args.end in
     let n = end.told.number in
     let number = c.args.number in
-    let rest = c.requires.settled in
+    let rest = (c.requires.settled h0) in
     let d0 = g.D.Disk.state c.args.disk.now in
     let d1 = g.D.Disk.state c.create.new.self in
     let messages : c.deref.result.now ≡ messages_of path number = c.deref.ensures.value ∙ c.requires.names.messages in
@@ -44,12 +48,15 @@ returns-in_err-create-clause-same g c =
     same_base d0 d1 path end (seen_1 (messages_of path n) other_m) (seen_1 (keys_of path n) (keys_not_messages path n number))
 
 pub returns-in_err-create-2-clause-any_moment : goal.returns-in_err-create-2-clause-any_moment
-returns-in_err-create-2-clause-any_moment g c =
+returns-in_err-create-2-clause-any_moment g c honest =
+    let h2 = honest in
+    let h1 = c.create-2.ensures.time.honest h2 in
+    let h0 = c.create.ensures.time.honest h1 in
     let path = folder_of c.args.names.now in
     let end = c.args.end in
     let n = end.told.number in
     let number = c.args.number in
-    let rest = c.requires.settled in
+    let rest = (c.requires.settled h0) in
     let d0 = g.D.Disk.state c.args.disk.now in
     let d1 = g.D.Disk.state c.create.new.self in
     let messages : c.deref.result.now ≡ messages_of path number = c.deref.ensures.value ∙ c.requires.names.messages in
@@ -67,12 +74,15 @@ returns-in_err-create-2-clause-any_moment g c =
     alone_run d0 path end rest d2 run_2
 
 pub returns-in_err-create-2-clause-same : goal.returns-in_err-create-2-clause-same
-returns-in_err-create-2-clause-same g c =
+returns-in_err-create-2-clause-same g c honest =
+    let h2 = honest in
+    let h1 = c.create-2.ensures.time.honest h2 in
+    let h0 = c.create.ensures.time.honest h1 in
     let path = folder_of c.args.names.now in
     let end = c.args.end in
     let n = end.told.number in
     let number = c.args.number in
-    let rest = c.requires.settled in
+    let rest = (c.requires.settled h0) in
     let d0 = g.D.Disk.state c.args.disk.now in
     let d1 = g.D.Disk.state c.create.new.self in
     let messages : c.deref.result.now ≡ messages_of path number = c.deref.ensures.value ∙ c.requires.names.messages in
@@ -92,12 +102,16 @@ returns-in_err-create-2-clause-same g c =
     same_base d0 d2 path end (seen_2 (messages_of path n) (messages_not_keys path n number) ∙ seen_1 (messages_of path n) other_m) (seen_2 (keys_of path n) other_k ∙ seen_1 (keys_of path n) (keys_not_messages path n number))
 
 pub returns-in_err-sync_folder-clause-any_moment : goal.returns-in_err-sync_folder-clause-any_moment
-returns-in_err-sync_folder-clause-any_moment g c =
+returns-in_err-sync_folder-clause-any_moment g c honest =
+    let h3 = honest in
+    let h2 = c.sync_folder.ensures.quiet.honest h3 in
+    let h1 = c.create-2.ensures.time.honest h2 in
+    let h0 = c.create.ensures.time.honest h1 in
     let path = folder_of c.args.names.now in
     let end = c.args.end in
     let n = end.told.number in
     let number = c.args.number in
-    let rest = c.requires.settled in
+    let rest = (c.requires.settled h0) in
     let d0 = g.D.Disk.state c.args.disk.now in
     let d1 = g.D.Disk.state c.create.new.self in
     let messages : c.deref.result.now ≡ messages_of path number = c.deref.ensures.value ∙ c.requires.names.messages in
@@ -118,12 +132,16 @@ returns-in_err-sync_folder-clause-any_moment g c =
     alone_run d0 path end rest d3 run_3
 
 pub returns-in_err-sync_folder-clause-same : goal.returns-in_err-sync_folder-clause-same
-returns-in_err-sync_folder-clause-same g c =
+returns-in_err-sync_folder-clause-same g c honest =
+    let h3 = honest in
+    let h2 = c.sync_folder.ensures.quiet.honest h3 in
+    let h1 = c.create-2.ensures.time.honest h2 in
+    let h0 = c.create.ensures.time.honest h1 in
     let path = folder_of c.args.names.now in
     let end = c.args.end in
     let n = end.told.number in
     let number = c.args.number in
-    let rest = c.requires.settled in
+    let rest = (c.requires.settled h0) in
     let d0 = g.D.Disk.state c.args.disk.now in
     let d1 = g.D.Disk.state c.create.new.self in
     let messages : c.deref.result.now ≡ messages_of path number = c.deref.ensures.value ∙ c.requires.names.messages in
@@ -146,12 +164,16 @@ returns-in_err-sync_folder-clause-same g c =
     same_base d0 d3 path end (quiet.seen (messages_of path n) ∙ seen_2 (messages_of path n) (messages_not_keys path n number) ∙ seen_1 (messages_of path n) other_m) (quiet.seen (keys_of path n) ∙ seen_2 (keys_of path n) other_k ∙ seen_1 (keys_of path n) (keys_not_messages path n number))
 
 pub returns-clause-any_moment : goal.returns-clause-any_moment
-returns-clause-any_moment g c =
+returns-clause-any_moment g c honest =
+    let h3 = honest in
+    let h2 = c.sync_folder.ensures.quiet.honest h3 in
+    let h1 = c.create-2.ensures.time.honest h2 in
+    let h0 = c.create.ensures.time.honest h1 in
     let path = folder_of c.args.names.now in
     let end = c.args.end in
     let n = end.told.number in
     let number = c.args.number in
-    let rest = c.requires.settled in
+    let rest = (c.requires.settled h0) in
     let d0 = g.D.Disk.state c.args.disk.now in
     let d1 = g.D.Disk.state c.create.new.self in
     let messages : c.deref.result.now ≡ messages_of path number = c.deref.ensures.value ∙ c.requires.names.messages in
@@ -172,12 +194,16 @@ returns-clause-any_moment g c =
     alone_run d0 path end rest d3 run_3
 
 pub returns-clause-same : goal.returns-clause-same
-returns-clause-same g c =
+returns-clause-same g c honest =
+    let h3 = honest in
+    let h2 = c.sync_folder.ensures.quiet.honest h3 in
+    let h1 = c.create-2.ensures.time.honest h2 in
+    let h0 = c.create.ensures.time.honest h1 in
     let path = folder_of c.args.names.now in
     let end = c.args.end in
     let n = end.told.number in
     let number = c.args.number in
-    let rest = c.requires.settled in
+    let rest = (c.requires.settled h0) in
     let d0 = g.D.Disk.state c.args.disk.now in
     let d1 = g.D.Disk.state c.create.new.self in
     let messages : c.deref.result.now ≡ messages_of path number = c.deref.ensures.value ∙ c.requires.names.messages in
@@ -200,12 +226,16 @@ returns-clause-same g c =
     same_base d0 d3 path end (quiet.seen (messages_of path n) ∙ seen_2 (messages_of path n) (messages_not_keys path n number) ∙ seen_1 (messages_of path n) other_m) (quiet.seen (keys_of path n) ∙ seen_2 (keys_of path n) other_k ∙ seen_1 (keys_of path n) (keys_not_messages path n number))
 
 pub returns-clause-staged : goal.returns-clause-staged
-returns-clause-staged g c =
+returns-clause-staged g c honest =
+    let h3 = honest in
+    let h2 = c.sync_folder.ensures.quiet.honest h3 in
+    let h1 = c.create-2.ensures.time.honest h2 in
+    let h0 = c.create.ensures.time.honest h1 in
     let path = folder_of c.args.names.now in
     let end = c.args.end in
     let n = end.told.number in
     let number = c.args.number in
-    let rest = c.requires.settled in
+    let rest = (c.requires.settled h0) in
     let d0 = g.D.Disk.state c.args.disk.now in
     let d1 = g.D.Disk.state c.create.new.self in
     let messages : c.deref.result.now ≡ messages_of path number = c.deref.ensures.value ∙ c.requires.names.messages in

@@ -4,15 +4,21 @@ use Rattle.echo_disk.specs.Steps.{IsWrittenAt, TornWrite, ChangesFile}
 use Rattle.echo_disk.specs.Runs.{OneStepOn, LeavesOnly}
 use Rattle.echo_disk.specs.Synced.{IsOnDisk, KeepsOthers}
 use Rattle.echo_folder.specs.Names.{folder_of, log_of}
-use Rattle.echo_folder.proofs.Gates.{body_of, told_by-body_of, body_of-shut, Ready, ready, run_record, done_record, run_gate, kept_gate, done_gate, same_gate}
+use Rattle.echo_folder.specs.Log.{body_of}
+use Rattle.echo_folder.proofs.Gates.{told_by-body_of, Ready, ready, run_record, done_record, run_gate, done_gate, same_gate, outside_kept, outside_quiet, outside_twice}
+use Rattle.echo_folder.proofs.Paths.{log_in}
 use Rattle.echo_folder.proofs.committing.commit.Goals as goal
 
 pub returns-in_err-write_synced-clause-any_moment : goal.returns-in_err-write_synced-clause-any_moment
-returns-in_err-write_synced-clause-any_moment g c =
+returns-in_err-write_synced-clause-any_moment g c honest =
+    let h3 = honest in
+    let h2 = c.write_synced.ensures.others.honest h3 in
+    let h1 = c.sync-2.ensures.quiet.honest h2 in
+    let h0 = c.sync.ensures.quiet.honest h1 in
     let path = folder_of c.args.names.now in
     let told = c.args.told in
     let end = c.args.end in
-    let staged = c.requires.staged in
+    let staged = (c.requires.staged h0) in
     let d0 = g.D.Disk.state c.args.disk.now in
     let d1 = g.D.Disk.state c.sync.new.self in
     let d2 = g.D.Disk.state c.sync-2.new.self in
@@ -26,11 +32,16 @@ returns-in_err-write_synced-clause-any_moment g c =
     run_record d0 path end told staged d2 d3 (length bytes) at_record more_1
 
 pub returns-in_err-write_synced-2-clause-any_moment : goal.returns-in_err-write_synced-2-clause-any_moment
-returns-in_err-write_synced-2-clause-any_moment g c =
+returns-in_err-write_synced-2-clause-any_moment g c honest =
+    let h4 = honest in
+    let h3 = c.write_synced-2.ensures.others.honest h4 in
+    let h2 = c.write_synced.ensures.others.honest h3 in
+    let h1 = c.sync-2.ensures.quiet.honest h2 in
+    let h0 = c.sync.ensures.quiet.honest h1 in
     let path = folder_of c.args.names.now in
     let told = c.args.told in
     let end = c.args.end in
-    let staged = c.requires.staged in
+    let staged = (c.requires.staged h0) in
     let d0 = g.D.Disk.state c.args.disk.now in
     let d1 = g.D.Disk.state c.sync.new.self in
     let d2 = g.D.Disk.state c.sync-2.new.self in
@@ -43,11 +54,10 @@ returns-in_err-write_synced-2-clause-any_moment g c =
     let more_1 = subst (λ (l : List ℕ). LeavesOnly d2 d3 (OneStepOn (ChangesFile d2 l (TornWrite (end.gate + 1) (length bytes))) d2)) log_1 c.write_synced.ensures.any_moment in
     let d4 = g.D.Disk.state c.write_synced-2.new.disk in
     let kept_1 = subst (λ (l : List ℕ). KeepsOthers d2 d3 l) log_1 c.write_synced.ensures.others in
-    let on_1 = subst (λ (l : List ℕ). IsOnDisk d3 l) log_1 c.in_ok-write_synced.ensures.durable in
+    let on_1 = subst (λ (l : List ℕ). IsOnDisk d3 l) log_1 (c.in_ok-write_synced.ensures.durable h3) in
     let written_1 = subst (λ (l : List ℕ). IsWrittenAt (bytes_in (d2.seen l)) (end.gate + 1) bytes (bytes_in (d3.seen l))) log_1 c.in_ok-write_synced.ensures.written in
-    let fits = c.record_of.ensures.fits in
-    let says = told_by-body_of told fits.0 fits.1 fits.2 in
-    let at_gate = subst (λ (l : List ℕ). Ready d0 path end told staged d3 l) (c.record_of.ensures.bytes ∙ body_of-shut told) (done_record d0 path end told staged d2 d3 bytes at_record more_1 kept_1 on_1 written_1) in
+    let says = told_by-body_of told c.record_of.ensures.fits in
+    let at_gate = subst (λ (l : List ℕ). Ready d0 path end told staged d3 l) c.record_of.ensures.bytes (done_record d0 path end told staged d2 d3 bytes at_record more_1 kept_1 on_1 written_1) in
     let log_2 : c.deref-4.result.now ≡ log_of path = c.deref-4.ensures.value ∙ c.requires.names.log in
     let more_2 = subst (λ (l : List ℕ). LeavesOnly d3 d4 (OneStepOn (ChangesFile d3 l (TornWrite end.gate 1)) d3)) log_2 c.write_synced-2.ensures.any_moment in
     run_gate d0 path end told staged d3 d4 (body_of told) refl says at_gate more_2
@@ -55,36 +65,30 @@ returns-in_err-write_synced-2-clause-any_moment g c =
 pub returns-in_err-write_synced-2-clause-outside : goal.returns-in_err-write_synced-2-clause-outside
 returns-in_err-write_synced-2-clause-outside g c =
     let path = folder_of c.args.names.now in
-    let told = c.args.told in
-    let end = c.args.end in
-    let staged = c.requires.staged in
     let d0 = g.D.Disk.state c.args.disk.now in
     let d1 = g.D.Disk.state c.sync.new.self in
     let d2 = g.D.Disk.state c.sync-2.new.self in
     let d3 = g.D.Disk.state c.write_synced.new.disk in
-    let m_flushed = subst (λ (l : List ℕ). d1.is_flushed l) (c.deref.ensures.value ∙ c.requires.names.messages) c.in_ok-sync.ensures.durable in
-    let k_flushed = subst (λ (l : List ℕ). d2.is_flushed l) (c.deref-2.ensures.value ∙ c.requires.names.keys) c.in_ok-sync-2.ensures.durable in
-    let at_record = ready d0 path end told staged d1 d2 c.sync.ensures.quiet c.sync-2.ensures.quiet m_flushed k_flushed in
-    let bytes = c.record_of.result in
-    let log_1 : c.deref-3.result.now ≡ log_of path = c.deref-3.ensures.value ∙ c.requires.names.log in
-    let more_1 = subst (λ (l : List ℕ). LeavesOnly d2 d3 (OneStepOn (ChangesFile d2 l (TornWrite (end.gate + 1) (length bytes))) d2)) log_1 c.write_synced.ensures.any_moment in
     let d4 = g.D.Disk.state c.write_synced-2.new.disk in
+    let log_1 : c.deref-3.result.now ≡ log_of path = c.deref-3.ensures.value ∙ c.requires.names.log in
     let kept_1 = subst (λ (l : List ℕ). KeepsOthers d2 d3 l) log_1 c.write_synced.ensures.others in
-    let on_1 = subst (λ (l : List ℕ). IsOnDisk d3 l) log_1 c.in_ok-write_synced.ensures.durable in
-    let written_1 = subst (λ (l : List ℕ). IsWrittenAt (bytes_in (d2.seen l)) (end.gate + 1) bytes (bytes_in (d3.seen l))) log_1 c.in_ok-write_synced.ensures.written in
-    let fits = c.record_of.ensures.fits in
-    let says = told_by-body_of told fits.0 fits.1 fits.2 in
-    let at_gate = subst (λ (l : List ℕ). Ready d0 path end told staged d3 l) (c.record_of.ensures.bytes ∙ body_of-shut told) (done_record d0 path end told staged d2 d3 bytes at_record more_1 kept_1 on_1 written_1) in
     let log_2 : c.deref-4.result.now ≡ log_of path = c.deref-4.ensures.value ∙ c.requires.names.log in
     let kept_2 = subst (λ (l : List ℕ). KeepsOthers d3 d4 l) log_2 c.write_synced-2.ensures.others in
-    kept_gate d0 path end told staged d3 d4 (body_of told ++ 0 ∷ []) at_gate kept_2
+    let quiet = outside_twice path d0 d1 d2 (outside_quiet path d0 d1 c.sync.ensures.quiet) (outside_quiet path d1 d2 c.sync-2.ensures.quiet) in
+    let record_out = outside_twice path d0 d2 d3 quiet (outside_kept path (log_of path) d2 d3 (log_in path) kept_1) in
+    outside_twice path d0 d3 d4 record_out (outside_kept path (log_of path) d3 d4 (log_in path) kept_2)
 
 pub returns-clause-settled : goal.returns-clause-settled
-returns-clause-settled g c =
+returns-clause-settled g c honest =
+    let h4 = honest in
+    let h3 = c.write_synced-2.ensures.others.honest h4 in
+    let h2 = c.write_synced.ensures.others.honest h3 in
+    let h1 = c.sync-2.ensures.quiet.honest h2 in
+    let h0 = c.sync.ensures.quiet.honest h1 in
     let path = folder_of c.args.names.now in
     let told = c.args.told in
     let end = c.args.end in
-    let staged = c.requires.staged in
+    let staged = (c.requires.staged h0) in
     let d0 = g.D.Disk.state c.args.disk.now in
     let d1 = g.D.Disk.state c.sync.new.self in
     let d2 = g.D.Disk.state c.sync-2.new.self in
@@ -97,23 +101,27 @@ returns-clause-settled g c =
     let more_1 = subst (λ (l : List ℕ). LeavesOnly d2 d3 (OneStepOn (ChangesFile d2 l (TornWrite (end.gate + 1) (length bytes))) d2)) log_1 c.write_synced.ensures.any_moment in
     let d4 = g.D.Disk.state c.write_synced-2.new.disk in
     let kept_1 = subst (λ (l : List ℕ). KeepsOthers d2 d3 l) log_1 c.write_synced.ensures.others in
-    let on_1 = subst (λ (l : List ℕ). IsOnDisk d3 l) log_1 c.in_ok-write_synced.ensures.durable in
+    let on_1 = subst (λ (l : List ℕ). IsOnDisk d3 l) log_1 (c.in_ok-write_synced.ensures.durable h3) in
     let written_1 = subst (λ (l : List ℕ). IsWrittenAt (bytes_in (d2.seen l)) (end.gate + 1) bytes (bytes_in (d3.seen l))) log_1 c.in_ok-write_synced.ensures.written in
-    let fits = c.record_of.ensures.fits in
-    let says = told_by-body_of told fits.0 fits.1 fits.2 in
-    let at_gate = subst (λ (l : List ℕ). Ready d0 path end told staged d3 l) (c.record_of.ensures.bytes ∙ body_of-shut told) (done_record d0 path end told staged d2 d3 bytes at_record more_1 kept_1 on_1 written_1) in
+    let says = told_by-body_of told c.record_of.ensures.fits in
+    let at_gate = subst (λ (l : List ℕ). Ready d0 path end told staged d3 l) c.record_of.ensures.bytes (done_record d0 path end told staged d2 d3 bytes at_record more_1 kept_1 on_1 written_1) in
     let log_2 : c.deref-4.result.now ≡ log_of path = c.deref-4.ensures.value ∙ c.requires.names.log in
     let kept_2 = subst (λ (l : List ℕ). KeepsOthers d3 d4 l) log_2 c.write_synced-2.ensures.others in
-    let on_2 = subst (λ (l : List ℕ). IsOnDisk d4 l) log_2 c.in_ok-write_synced-2.ensures.durable in
+    let on_2 = subst (λ (l : List ℕ). IsOnDisk d4 l) log_2 (c.in_ok-write_synced-2.ensures.durable h4) in
     let written_2 = subst (λ (l : List ℕ). IsWrittenAt (bytes_in (d3.seen l)) end.gate (1 ∷ []) (bytes_in (d4.seen l))) log_2 c.in_ok-write_synced-2.ensures.written in
     done_gate d0 path end told staged d3 d4 (body_of told) refl says at_gate kept_2 on_2 written_2
 
 pub returns-clause-acknowledged : goal.returns-clause-acknowledged
-returns-clause-acknowledged g c =
+returns-clause-acknowledged g c honest =
+    let h4 = honest in
+    let h3 = c.write_synced-2.ensures.others.honest h4 in
+    let h2 = c.write_synced.ensures.others.honest h3 in
+    let h1 = c.sync-2.ensures.quiet.honest h2 in
+    let h0 = c.sync.ensures.quiet.honest h1 in
     let path = folder_of c.args.names.now in
     let told = c.args.told in
     let end = c.args.end in
-    let staged = c.requires.staged in
+    let staged = (c.requires.staged h0) in
     let d0 = g.D.Disk.state c.args.disk.now in
     let d1 = g.D.Disk.state c.sync.new.self in
     let d2 = g.D.Disk.state c.sync-2.new.self in
@@ -126,21 +134,25 @@ returns-clause-acknowledged g c =
     let more_1 = subst (λ (l : List ℕ). LeavesOnly d2 d3 (OneStepOn (ChangesFile d2 l (TornWrite (end.gate + 1) (length bytes))) d2)) log_1 c.write_synced.ensures.any_moment in
     let d4 = g.D.Disk.state c.write_synced-2.new.disk in
     let kept_1 = subst (λ (l : List ℕ). KeepsOthers d2 d3 l) log_1 c.write_synced.ensures.others in
-    let on_1 = subst (λ (l : List ℕ). IsOnDisk d3 l) log_1 c.in_ok-write_synced.ensures.durable in
+    let on_1 = subst (λ (l : List ℕ). IsOnDisk d3 l) log_1 (c.in_ok-write_synced.ensures.durable h3) in
     let written_1 = subst (λ (l : List ℕ). IsWrittenAt (bytes_in (d2.seen l)) (end.gate + 1) bytes (bytes_in (d3.seen l))) log_1 c.in_ok-write_synced.ensures.written in
-    let fits = c.record_of.ensures.fits in
-    let says = told_by-body_of told fits.0 fits.1 fits.2 in
-    let at_gate = subst (λ (l : List ℕ). Ready d0 path end told staged d3 l) (c.record_of.ensures.bytes ∙ body_of-shut told) (done_record d0 path end told staged d2 d3 bytes at_record more_1 kept_1 on_1 written_1) in
+    let says = told_by-body_of told c.record_of.ensures.fits in
+    let at_gate = subst (λ (l : List ℕ). Ready d0 path end told staged d3 l) c.record_of.ensures.bytes (done_record d0 path end told staged d2 d3 bytes at_record more_1 kept_1 on_1 written_1) in
     let log_2 : c.deref-4.result.now ≡ log_of path = c.deref-4.ensures.value ∙ c.requires.names.log in
     let kept_2 = subst (λ (l : List ℕ). KeepsOthers d3 d4 l) log_2 c.write_synced-2.ensures.others in
     same_gate d0 path end told staged d3 d4 (body_of told ++ 0 ∷ []) at_gate kept_2
 
 pub returns-clause-any_moment : goal.returns-clause-any_moment
-returns-clause-any_moment g c =
+returns-clause-any_moment g c honest =
+    let h4 = honest in
+    let h3 = c.write_synced-2.ensures.others.honest h4 in
+    let h2 = c.write_synced.ensures.others.honest h3 in
+    let h1 = c.sync-2.ensures.quiet.honest h2 in
+    let h0 = c.sync.ensures.quiet.honest h1 in
     let path = folder_of c.args.names.now in
     let told = c.args.told in
     let end = c.args.end in
-    let staged = c.requires.staged in
+    let staged = (c.requires.staged h0) in
     let d0 = g.D.Disk.state c.args.disk.now in
     let d1 = g.D.Disk.state c.sync.new.self in
     let d2 = g.D.Disk.state c.sync-2.new.self in
@@ -153,11 +165,10 @@ returns-clause-any_moment g c =
     let more_1 = subst (λ (l : List ℕ). LeavesOnly d2 d3 (OneStepOn (ChangesFile d2 l (TornWrite (end.gate + 1) (length bytes))) d2)) log_1 c.write_synced.ensures.any_moment in
     let d4 = g.D.Disk.state c.write_synced-2.new.disk in
     let kept_1 = subst (λ (l : List ℕ). KeepsOthers d2 d3 l) log_1 c.write_synced.ensures.others in
-    let on_1 = subst (λ (l : List ℕ). IsOnDisk d3 l) log_1 c.in_ok-write_synced.ensures.durable in
+    let on_1 = subst (λ (l : List ℕ). IsOnDisk d3 l) log_1 (c.in_ok-write_synced.ensures.durable h3) in
     let written_1 = subst (λ (l : List ℕ). IsWrittenAt (bytes_in (d2.seen l)) (end.gate + 1) bytes (bytes_in (d3.seen l))) log_1 c.in_ok-write_synced.ensures.written in
-    let fits = c.record_of.ensures.fits in
-    let says = told_by-body_of told fits.0 fits.1 fits.2 in
-    let at_gate = subst (λ (l : List ℕ). Ready d0 path end told staged d3 l) (c.record_of.ensures.bytes ∙ body_of-shut told) (done_record d0 path end told staged d2 d3 bytes at_record more_1 kept_1 on_1 written_1) in
+    let says = told_by-body_of told c.record_of.ensures.fits in
+    let at_gate = subst (λ (l : List ℕ). Ready d0 path end told staged d3 l) c.record_of.ensures.bytes (done_record d0 path end told staged d2 d3 bytes at_record more_1 kept_1 on_1 written_1) in
     let log_2 : c.deref-4.result.now ≡ log_of path = c.deref-4.ensures.value ∙ c.requires.names.log in
     let more_2 = subst (λ (l : List ℕ). LeavesOnly d3 d4 (OneStepOn (ChangesFile d3 l (TornWrite end.gate 1)) d3)) log_2 c.write_synced-2.ensures.any_moment in
     run_gate d0 path end told staged d3 d4 (body_of told) refl says at_gate more_2
@@ -165,26 +176,15 @@ returns-clause-any_moment g c =
 pub returns-clause-outside : goal.returns-clause-outside
 returns-clause-outside g c =
     let path = folder_of c.args.names.now in
-    let told = c.args.told in
-    let end = c.args.end in
-    let staged = c.requires.staged in
     let d0 = g.D.Disk.state c.args.disk.now in
     let d1 = g.D.Disk.state c.sync.new.self in
     let d2 = g.D.Disk.state c.sync-2.new.self in
     let d3 = g.D.Disk.state c.write_synced.new.disk in
-    let m_flushed = subst (λ (l : List ℕ). d1.is_flushed l) (c.deref.ensures.value ∙ c.requires.names.messages) c.in_ok-sync.ensures.durable in
-    let k_flushed = subst (λ (l : List ℕ). d2.is_flushed l) (c.deref-2.ensures.value ∙ c.requires.names.keys) c.in_ok-sync-2.ensures.durable in
-    let at_record = ready d0 path end told staged d1 d2 c.sync.ensures.quiet c.sync-2.ensures.quiet m_flushed k_flushed in
-    let bytes = c.record_of.result in
-    let log_1 : c.deref-3.result.now ≡ log_of path = c.deref-3.ensures.value ∙ c.requires.names.log in
-    let more_1 = subst (λ (l : List ℕ). LeavesOnly d2 d3 (OneStepOn (ChangesFile d2 l (TornWrite (end.gate + 1) (length bytes))) d2)) log_1 c.write_synced.ensures.any_moment in
     let d4 = g.D.Disk.state c.write_synced-2.new.disk in
+    let log_1 : c.deref-3.result.now ≡ log_of path = c.deref-3.ensures.value ∙ c.requires.names.log in
     let kept_1 = subst (λ (l : List ℕ). KeepsOthers d2 d3 l) log_1 c.write_synced.ensures.others in
-    let on_1 = subst (λ (l : List ℕ). IsOnDisk d3 l) log_1 c.in_ok-write_synced.ensures.durable in
-    let written_1 = subst (λ (l : List ℕ). IsWrittenAt (bytes_in (d2.seen l)) (end.gate + 1) bytes (bytes_in (d3.seen l))) log_1 c.in_ok-write_synced.ensures.written in
-    let fits = c.record_of.ensures.fits in
-    let says = told_by-body_of told fits.0 fits.1 fits.2 in
-    let at_gate = subst (λ (l : List ℕ). Ready d0 path end told staged d3 l) (c.record_of.ensures.bytes ∙ body_of-shut told) (done_record d0 path end told staged d2 d3 bytes at_record more_1 kept_1 on_1 written_1) in
     let log_2 : c.deref-4.result.now ≡ log_of path = c.deref-4.ensures.value ∙ c.requires.names.log in
     let kept_2 = subst (λ (l : List ℕ). KeepsOthers d3 d4 l) log_2 c.write_synced-2.ensures.others in
-    kept_gate d0 path end told staged d3 d4 (body_of told ++ 0 ∷ []) at_gate kept_2
+    let quiet = outside_twice path d0 d1 d2 (outside_quiet path d0 d1 c.sync.ensures.quiet) (outside_quiet path d1 d2 c.sync-2.ensures.quiet) in
+    let record_out = outside_twice path d0 d2 d3 quiet (outside_kept path (log_of path) d2 d3 (log_in path) kept_1) in
+    outside_twice path d0 d3 d4 record_out (outside_kept path (log_of path) d3 d4 (log_in path) kept_2)

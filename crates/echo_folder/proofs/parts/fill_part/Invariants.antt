@@ -1,5 +1,5 @@
 use Rattle.std.proofs.Common.{◌≡◌, ◌-◌, ◌≤◌, length, take, drop}
-use Rattle.echo_disk.specs.Disk.{bytes_in}
+use Rattle.echo_disk.specs.Disk.{Honestly, bytes_in}
 use Rattle.echo_disk.specs.Runs.{ChangesNothing}
 use Rattle.echo_folder.proofs.parts.fill_part.Given as goal
 
@@ -7,7 +7,7 @@ abbrev pub invariant-reads : goal.invariant-reads
 invariant-reads g l = record {
   quiet : ChangesNothing (g.D.Disk.state l.fn.disk) (g.D.Disk.state l.disk);
   within : l.done ≤ length l.part;
-  front : take l.done l.part ≡ take l.done (drop l.from (bytes_in ((g.D.Disk.state l.fn.disk).seen l.path)));
+  front : Honestly (g.D.Disk.state l.disk) (take l.done l.part ≡ take l.done (drop l.from (bytes_in ((g.D.Disk.state l.fn.disk).seen l.path))));
   cause : g.D.Disk.failures l.fn.disk ≤ g.D.Disk.failures l.disk;
 }
 

@@ -11,7 +11,9 @@ use Rattle.echo_folder.proofs.Behind.{messages_run, messages_same, messages_adde
 use Rattle.echo_folder.proofs.staging.stage_messages.Goals as goal
 
 pub returns-in_err-write_at-clause-any_moment : goal.returns-in_err-write_at-clause-any_moment
-returns-in_err-write_at-clause-any_moment g c =
+returns-in_err-write_at-clause-any_moment g c honest =
+    let h1 = honest in
+    let h0 = c.write_at.ensures.time.honest h1 in
     let path = folder_of c.args.names.now in
     let told = c.args.told in
     let d0 = g.D.Disk.state c.args.disk.now in
@@ -19,7 +21,7 @@ returns-in_err-write_at-clause-any_moment g c =
     let n = length c.args.bytes.now in
     let file : c.deref.result.now ≡ messages_of path told.number = c.deref.ensures.value ∙ c.requires.names.messages in
     let crash = subst (λ (l : List ℕ). LeavesOneStepOn (ChangesFile d0 l (TornWrite told.messages n)) d0 d) file c.write_at.ensures.crash in
-    messages_run d0 d path c.args.end told c.requires.staged n c.write_at.ensures.time crash
+    messages_run d0 d path c.args.end told (c.requires.staged h0) n c.write_at.ensures.time crash
 
 pub returns-in_err-write_at-clause-outside : goal.returns-in_err-write_at-clause-outside
 returns-in_err-write_at-clause-outside g c =
@@ -34,12 +36,15 @@ returns-in_err-write_at-clause-outside g c =
       flushed = c.write_at.ensures.flushed;
       named = λ m. c.write_at.ensures.named m (λ h. h);
       alone = λ m. c.write_at.ensures.alone m (λ h. h);
+      honest = c.write_at.ensures.time.honest;
     } in
     let kept = subst (λ (l : List ℕ). KeepsOthers d0 d l) file kept_at in
     outside_kept path (messages_of path told.number) d0 d (messages_in path told.number) kept
 
 pub returns-clause-staged : goal.returns-clause-staged
-returns-clause-staged g c =
+returns-clause-staged g c honest =
+    let h1 = honest in
+    let h0 = c.write_at.ensures.time.honest h1 in
     let path = folder_of c.args.names.now in
     let told = c.args.told in
     let d0 = g.D.Disk.state c.args.disk.now in
@@ -51,15 +56,18 @@ returns-clause-staged g c =
       flushed = c.write_at.ensures.flushed;
       named = λ m. c.write_at.ensures.named m (λ h. h);
       alone = λ m. c.write_at.ensures.alone m (λ h. h);
+      honest = c.write_at.ensures.time.honest;
     } in
     let kept = subst (λ (l : List ℕ). KeepsOthers d0 d l) file kept_at in
     let crash = subst (λ (l : List ℕ). LeavesOneStepOn (ChangesFile d0 l (TornWrite told.messages n)) d0 d) file c.write_at.ensures.crash in
     let written = subst (λ (l : List ℕ). IsWrittenAt (bytes_in (d0.seen l)) told.messages c.args.bytes.now (bytes_in (d.seen l))) file c.in_ok-write_at.ensures.written in
     let there = subst (λ (l : List ℕ). IsSome (d.seen l)) file c.write_at.ensures.there in
-    messages_staged d0 d path c.args.end told c.requires.staged c.args.bytes.now kept written there crash
+    messages_staged d0 d path c.args.end told (c.requires.staged h0) c.args.bytes.now kept written there crash
 
 pub returns-clause-added : goal.returns-clause-added
-returns-clause-added g c =
+returns-clause-added g c honest =
+    let h1 = honest in
+    let h0 = c.write_at.ensures.time.honest h1 in
     let path = folder_of c.args.names.now in
     let told = c.args.told in
     let d0 = g.D.Disk.state c.args.disk.now in
@@ -71,13 +79,16 @@ returns-clause-added g c =
       flushed = c.write_at.ensures.flushed;
       named = λ m. c.write_at.ensures.named m (λ h. h);
       alone = λ m. c.write_at.ensures.alone m (λ h. h);
+      honest = c.write_at.ensures.time.honest;
     } in
     let kept = subst (λ (l : List ℕ). KeepsOthers d0 d l) file kept_at in
     let written = subst (λ (l : List ℕ). IsWrittenAt (bytes_in (d0.seen l)) told.messages c.args.bytes.now (bytes_in (d.seen l))) file c.in_ok-write_at.ensures.written in
-    messages_added d0 d path c.args.end told c.requires.staged c.args.bytes.now kept written
+    messages_added d0 d path c.args.end told (c.requires.staged h0) c.args.bytes.now kept written
 
 pub returns-clause-same : goal.returns-clause-same
-returns-clause-same g c =
+returns-clause-same g c honest =
+    let h1 = honest in
+    let h0 = c.write_at.ensures.time.honest h1 in
     let path = folder_of c.args.names.now in
     let told = c.args.told in
     let d0 = g.D.Disk.state c.args.disk.now in
@@ -89,13 +100,16 @@ returns-clause-same g c =
       flushed = c.write_at.ensures.flushed;
       named = λ m. c.write_at.ensures.named m (λ h. h);
       alone = λ m. c.write_at.ensures.alone m (λ h. h);
+      honest = c.write_at.ensures.time.honest;
     } in
     let kept = subst (λ (l : List ℕ). KeepsOthers d0 d l) file kept_at in
     let written = subst (λ (l : List ℕ). IsWrittenAt (bytes_in (d0.seen l)) told.messages c.args.bytes.now (bytes_in (d.seen l))) file c.in_ok-write_at.ensures.written in
-    messages_same d0 d path c.args.end told c.requires.staged c.args.bytes.now kept written
+    messages_same d0 d path c.args.end told (c.requires.staged h0) c.args.bytes.now kept written
 
 pub returns-clause-any_moment : goal.returns-clause-any_moment
-returns-clause-any_moment g c =
+returns-clause-any_moment g c honest =
+    let h1 = honest in
+    let h0 = c.write_at.ensures.time.honest h1 in
     let path = folder_of c.args.names.now in
     let told = c.args.told in
     let d0 = g.D.Disk.state c.args.disk.now in
@@ -103,7 +117,7 @@ returns-clause-any_moment g c =
     let n = length c.args.bytes.now in
     let file : c.deref.result.now ≡ messages_of path told.number = c.deref.ensures.value ∙ c.requires.names.messages in
     let crash = subst (λ (l : List ℕ). LeavesOneStepOn (ChangesFile d0 l (TornWrite told.messages n)) d0 d) file c.write_at.ensures.crash in
-    messages_run d0 d path c.args.end told c.requires.staged n c.write_at.ensures.time crash
+    messages_run d0 d path c.args.end told (c.requires.staged h0) n c.write_at.ensures.time crash
 
 pub returns-clause-outside : goal.returns-clause-outside
 returns-clause-outside g c =
@@ -118,6 +132,7 @@ returns-clause-outside g c =
       flushed = c.write_at.ensures.flushed;
       named = λ m. c.write_at.ensures.named m (λ h. h);
       alone = λ m. c.write_at.ensures.alone m (λ h. h);
+      honest = c.write_at.ensures.time.honest;
     } in
     let kept = subst (λ (l : List ℕ). KeepsOthers d0 d l) file kept_at in
     outside_kept path (messages_of path told.number) d0 d (messages_in path told.number) kept

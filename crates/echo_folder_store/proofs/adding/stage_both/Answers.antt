@@ -20,31 +20,44 @@ returns-clause-number g c =
     IfOk-weaker c.stage_keys.result (λ (m : Told). m ≡ record more { keys = more.keys + length c.args.keys.now }) (λ (m : Told). m.number ≡ told.number)
     (λ m is. ap (λ (t : Told). t.number) is ∙ ap (λ (t : Told). t.number) c.in_ok-more.ensures.told) c.stage_keys.ensures.told
 
+pub returns-clause-mark : goal.returns-clause-mark
+returns-clause-mark g c =
+    let told = c.args.told in
+    let more = c.in_ok-more.more in
+    IfOk-weaker c.stage_keys.result (λ (m : Told). m ≡ record more { keys = more.keys + length c.args.keys.now }) (λ (m : Told). m.mark ≡ told.mark)
+    (λ m is. ap (λ (t : Told). t.mark) is ∙ ap (λ (t : Told). t.mark) c.in_ok-more.ensures.told) c.stage_keys.ensures.told
+
 pub returns-clause-added : goal.returns-clause-added
-returns-clause-added g c =
+returns-clause-added g c honest =
+    let h2 = honest in
+    let h1 = c.stage_keys.ensures.outside.honest h2 in
     let path = folder_of c.args.names.now in
     let d0 = g.D.Disk.state c.args.disk.now in
     let d1 = g.D.Disk.state c.stage_messages.new.disk in
     let d2 = g.D.Disk.state c.stage_keys.new.disk in
     IfOk-weaker c.stage_keys.result (λ (m : Told). base_at d2 path m ≡ and_keys (base_at d1 path c.in_ok-more.more) c.args.keys.now)
     (λ (m : Told). base_at d2 path m ≡ and_keys (and_messages (base_at d0 path c.args.told) c.args.bytes.now) c.args.keys.now)
-    (λ m is. is ∙ ap (λ (b : BaseBytes). and_keys b c.args.keys.now) c.in_ok-more.ensures.added) c.stage_keys.ensures.added
+    (λ m is. is ∙ ap (λ (b : BaseBytes). and_keys b c.args.keys.now) (c.in_ok-more.ensures.added h1)) (c.stage_keys.ensures.added h2)
 
 pub returns-clause-same : goal.returns-clause-same
-returns-clause-same g c =
+returns-clause-same g c honest =
+    let h2 = honest in
+    let h1 = c.stage_keys.ensures.outside.honest h2 in
     let path = folder_of c.args.names.now in
     let d0 = g.D.Disk.state c.args.disk.now in
     let d1 = g.D.Disk.state c.stage_messages.new.disk in
     let d2 = g.D.Disk.state c.stage_keys.new.disk in
-    on_ok_weaker {P = base_at d2 path c.args.end.told ≡ base_at d1 path c.args.end.told} {Q = base_at d2 path c.args.end.told ≡ base_at d0 path c.args.end.told} c.stage_keys.result (λ is. is ∙ c.in_ok-more.ensures.same) c.stage_keys.ensures.same
+    on_ok_weaker {P = base_at d2 path c.args.end.told ≡ base_at d1 path c.args.end.told} {Q = base_at d2 path c.args.end.told ≡ base_at d0 path c.args.end.told} c.stage_keys.result (λ is. is ∙ (c.in_ok-more.ensures.same h1)) (c.stage_keys.ensures.same h2)
 
 pub returns-clause-any_moment : goal.returns-clause-any_moment
-returns-clause-any_moment g c =
+returns-clause-any_moment g c honest =
+    let h2 = honest in
+    let h1 = c.stage_keys.ensures.outside.honest h2 in
     let path = folder_of c.args.names.now in
     let d0 = g.D.Disk.state c.args.disk.now in
     let d1 = g.D.Disk.state c.stage_messages.new.disk in
     both_runs path d0 d1 (g.D.Disk.state c.stage_keys.new.disk) (base_at d0 path c.args.end.told) (base_at d1 path c.args.end.told)
-    c.stage_messages.ensures.any_moment c.stage_keys.ensures.any_moment c.stage_messages.ensures.outside c.in_ok-more.ensures.same
+    (c.stage_messages.ensures.any_moment h1) (c.stage_keys.ensures.any_moment h2) c.stage_messages.ensures.outside (c.in_ok-more.ensures.same h1)
 
 pub returns-clause-outside : goal.returns-clause-outside
 returns-clause-outside g c =

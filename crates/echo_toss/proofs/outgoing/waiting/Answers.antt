@@ -7,9 +7,9 @@ use Rattle.echo_toss.proofs.outgoing.waiting.Goals as goal
 pub waiting-preserved : goal.waiting-preserved
 waiting-preserved g c =
     let so = c.waiting.invariant in (
-      λ base kept.
-          let was = so.0 base kept in
-          let found = c.in_ok-outgoing_at.ensures.outgoing base (so.1.keeps base kept) in (
+      λ honest base kept.
+          let was = so.0 (c.outgoing_at.ensures.looks.quiet.honest honest) base kept in
+          let found = c.in_ok-outgoing_at.ensures.outgoing honest base (so.1.keeps base kept) in (
             was.0,
             next_waits (outgoing_of c.args.links.now) base.messages c.waiting.at found.0 _ _ _ (sym found.1) was.1
                 (c.in_ok-push.ensures.items ∙ ap (λ (o : Outgoing). c.waiting.all.items ++ o ∷ []) found.2),

@@ -10,26 +10,26 @@ pub returns-in_err-judge-clause-prepared : goal.returns-in_err-judge-clause-prep
 returns-in_err-judge-clause-prepared g c =
     let p = err_from_is_err_and c.from_residual.result c.from_residual.ensures.1 in
     rw (p.1, p.2)
-    (λ base kept. draft_refused c.args.links.now base.messages c.args.tag.now c.args.draft.now c.args.serial c.args.stamp c.in_err-judge.field-0.0 c.in_err-judge.ensures)
+    (λ honest base kept. draft_refused c.args.links.now base.messages c.args.tag.now c.args.draft.now c.args.serial c.args.stamp c.in_err-judge.field-0.0 c.in_err-judge.ensures)
 
 pub returns-in_err-is_known-clause-prepared : goal.returns-in_err-is_known-clause-prepared
 returns-in_err-is_known-clause-prepared g c =
     let p = err_from_is_err_and c.from_residual-in_err-is_known.result c.from_residual-in_err-is_known.ensures.1 in
-    rw (p.1, p.2) (λ base kept. memory_fault c.args.links.now base.messages c.args.tag.now c.args.draft.now c.args.serial c.args.stamp c.in_ok-judge.ensures)
+    rw (p.1, p.2) (λ honest base kept. memory_fault c.args.links.now base.messages c.args.tag.now c.args.draft.now c.args.serial c.args.stamp c.in_ok-judge.ensures)
 
 pub returns-then-branch-clause-prepared : goal.returns-then-branch-clause-prepared
-returns-then-branch-clause-prepared g c = λ base kept.
+returns-then-branch-clause-prepared g c = λ honest base kept.
     draft_passes c.args.links.now base.messages c.args.tag.now c.args.draft.now c.args.serial c.args.stamp true c.in_ok-judge.ensures
-    (ap (λ a. list_any (has_id (id_of a c.args.serial)) base.messages) (sym c.system.ensures.own) ∙ sym (c.in_ok-is_known.ensures.known base kept) ∙ c.if-branch.true)
+    (ap (λ a. list_any (has_id (id_of a c.args.serial)) base.messages) (sym c.system.ensures.own) ∙ sym (c.in_ok-is_known.ensures.known honest base kept) ∙ c.if-branch.true)
 
 pub returns-in_err-made-clause-prepared : goal.returns-in_err-made-clause-prepared
 returns-in_err-made-clause-prepared g c =
     let p = err_from_is_err_and c.from_residual-in_err-made.result c.from_residual-in_err-made.ensures.1 in
-    rw (p.1, p.2) (λ base kept. memory_fault c.args.links.now base.messages c.args.tag.now c.args.draft.now c.args.serial c.args.stamp c.in_ok-judge.ensures)
+    rw (p.1, p.2) (λ honest base kept. memory_fault c.args.links.now base.messages c.args.tag.now c.args.draft.now c.args.serial c.args.stamp c.in_ok-judge.ensures)
 
 pub returns-clause-prepared : goal.returns-clause-prepared
-returns-clause-prepared g c = λ base kept.
+returns-clause-prepared g c = λ honest base kept.
     prepared c.args.links.now base.messages c.args.tag.now c.args.draft.now c.args.serial c.args.stamp c.in_ok-made.field-0.0 c.in_ok-made.field-0.1
     c.system.ensures.file c.in_ok-judge.ensures
-    (ap (λ a. list_any (has_id (id_of a c.args.serial)) base.messages) (sym c.system.ensures.own) ∙ sym (c.in_ok-is_known.ensures.known base kept) ∙ c.if-branch.false)
+    (ap (λ a. list_any (has_id (id_of a c.args.serial)) base.messages) (sym c.system.ensures.own) ∙ sym (c.in_ok-is_known.ensures.known honest base kept) ∙ c.if-branch.false)
     c.in_ok-made.ensures.key c.in_ok-made.ensures.message

@@ -6,13 +6,13 @@ use Rattle.echo_folder_store.proofs.Looked.{alone_passes, none_found, passed_on,
 use Rattle.echo_folder_store.proofs.folder.Folder.find.Goals as goal
 
 pub returns-then-branch-clause-found : goal.returns-then-branch-clause-found
-returns-then-branch-clause-found g c = λ base told have.
+returns-then-branch-clause-found g c honest = λ base told have.
     let test = g.W.Sought.test c.args.sought.now in
     let many = told.many in
     let found = c.in-Some.ensures.found.1 in
     let keys : c.deref.result.now ≡ c.args.self.now.keys.items = c.deref.ensures.value in
     let inside : c.in-Some.place < length base = omega (arith, many, subst (λ (l : List ℕ). c.in-Some.place < length l / 16) keys found) in
-    let is = c.in_ok-alone.ensures.read base (told_quiet (g.D.Disk.state c.args.disk.now) (g.D.Disk.state c.entries.disk) c.args.self.now base c.args.self.now.keys.items c.entries.invariant.quiet told) inside in
+    let is = c.in_ok-alone.ensures.read honest base (told_quiet (g.D.Disk.state c.args.disk.now) (g.D.Disk.state c.entries.disk) c.args.self.now base c.args.self.now.keys.items c.entries.invariant.quiet told) inside in
     sym (alone_passes test base c.in-Some.place c.in_ok-alone.alone (some_message base c.in-Some.place inside) inside is (sym c.in_ok-is_in.ensures ∙ c.if-branch.true))
 
 pub returns-then-branch-clause-quiet : goal.returns-then-branch-clause-quiet
@@ -26,18 +26,18 @@ entries-preserved g c =
       quiet = nothing_twice (g.D.Disk.state c.args.disk.now) (g.D.Disk.state c.entries.disk) (g.D.Disk.state c.read.new.disk) c.entries.invariant.quiet c.read.ensures.quiet;
       cause = let later = c.read.ensures.cause.later in let before = c.entries.invariant.cause in omega (arith, later, before);
       within = omega (arith, found);
-      passed = λ base told have.
+      passed = λ honest base told have.
           let test = g.W.Sought.test c.args.sought.now in
           let many = told.many in
           let inside : c.in-Some.place < length base = omega (arith, many, found) in
-          let is = c.in_ok-alone.ensures.read base (told_quiet (g.D.Disk.state c.args.disk.now) (g.D.Disk.state c.entries.disk) c.args.self.now base c.args.self.now.keys.items c.entries.invariant.quiet told) inside in
-          passed_on test c.args.digest base c.args.self.now.keys.items c.entries.from c.in-Some.place c.in_ok-alone.alone have (c.entries.invariant.passed base told have)
+          let is = c.in_ok-alone.ensures.read honest base (told_quiet (g.D.Disk.state c.args.disk.now) (g.D.Disk.state c.entries.disk) c.args.self.now base c.args.self.now.keys.items c.entries.invariant.quiet told) inside in
+          passed_on test c.args.digest base c.args.self.now.keys.items c.entries.from c.in-Some.place c.in_ok-alone.alone have (c.entries.invariant.passed (c.read.ensures.quiet.honest honest) base told have)
           (subst (λ (l : List ℕ). (j : ℕ) → c.entries.from ≤ j → j < c.in-Some.place → digest_at l j ≢ c.args.digest) keys c.in-Some.ensures.first) is (sym c.in_ok-is_in.ensures ∙ c.if-branch.false);
     }
 
 pub returns-clause-found : goal.returns-clause-found
-returns-clause-found g c = λ base told have.
+returns-clause-found g c honest = λ base told have.
     let test = g.W.Sought.test c.args.sought.now in
     let keys : c.deref.result.now ≡ c.args.self.now.keys.items = c.deref.ensures.value in
-    sym (none_found test c.args.digest base c.args.self.now.keys.items c.entries.from told.many have (c.entries.invariant.passed base told have)
+    sym (none_found test c.args.digest base c.args.self.now.keys.items c.entries.from told.many have (c.entries.invariant.passed honest base told have)
     (subst (λ (l : List ℕ). (j : ℕ) → c.entries.from ≤ j → j < length l / 16 → digest_at l j ≢ c.args.digest) keys c.in_default.ensures.none))

@@ -1,4 +1,5 @@
 use Rattle.std.proofs.Common.{◌≡◌, ◌-◌, ◌/◌, ◌<◌, ◌≤◌, ℕ, List, false, length, get_or}
+use Rattle.echo_disk.specs.Disk.{Honestly}
 use Rattle.echo_disk.specs.Runs.{ChangesNothing}
 use Rattle.echo_filed.specs.Filed.{Filed}
 use Rattle.echo_keys.specs.Keys.{StandWhereTold}
@@ -11,9 +12,9 @@ invariant-entries g l = record {
   quiet : ChangesNothing (g.D.Disk.state l.fn.disk) (g.D.Disk.state l.disk);
   cause : g.D.Disk.failures l.fn.disk ≤ g.D.Disk.failures l.disk;
   within : l.from ≤ length l.self.keys.items / 16;
-  passed : (base : List Filed) → StandWhereTold base (held_by (g.D.Disk.state l.fn.disk) l.self).messages l.self.keys.items
+  passed : Honestly (g.D.Disk.state l.disk) ((base : List Filed) → StandWhereTold base (held_by (g.D.Disk.state l.fn.disk) l.self).messages l.self.keys.items
       → HaveDigest (g.W.Sought.test l.sought) l.digest base l.self.keys.items
-      → (j : ℕ) (d : Filed) → j < l.from → j < length base → g.W.Sought.test l.sought (get_or base j d) ≡ false;
+      → (j : ℕ) (d : Filed) → j < l.from → j < length base → g.W.Sought.test l.sought (get_or base j d) ≡ false);
 }
 
 abbrev pub decreases-entries : goal.decreases-entries

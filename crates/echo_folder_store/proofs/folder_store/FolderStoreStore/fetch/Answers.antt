@@ -11,24 +11,27 @@ pub returns-then-place-count-clause-cause : goal.returns-then-place-count-clause
 returns-then-place-count-clause-cause g c =
     let s = c.args.self.now in
     let d = g.D.Disk.state s.disk in
-    let digest = g.H.Digest.digest s.digest in
+    let keyed = g.H.Digest.keyed in
     let past = c.if-place-count.true in
-    none_there (state_of d digest s.folder s.alone) (g.D.Disk.failures s.disk) c.args.place c.count.result c.requires.within
-    (λ base holds. c.count.ensures ∙ many_messages digest d s.folder base c.requires.ready holds) (omega (arith, past))
+    none_there (state_of d keyed s.folder s.alone) (g.D.Disk.failures s.disk) c.args.place c.count.result c.requires.within
+    (λ honest base holds. c.count.ensures ∙ many_messages keyed d s.folder base (c.requires.ready.opened honest) holds) (omega (arith, past))
 
 pub returns-in_err-alone-clause-cause : goal.returns-in_err-alone-clause-cause
 returns-in_err-alone-clause-cause g c =
     let s = c.args.self.now in
     let d = g.D.Disk.state s.disk in
-    let digest = g.H.Digest.digest s.digest in
+    let keyed = g.H.Digest.keyed in
     let p = err_from_is_err_and c.from_residual.result c.from_residual.ensures.1 in
     rw (p.1, p.2)
-    (handed_cause (state_of d digest s.folder s.alone) (λ (base : Base) (alone : Base). IsAloneOf base.messages c.args.place alone) (g.D.Disk.failures s.disk) (g.D.Disk.failures c.read.new.disk) c.in_err-alone.field-0.0
-    c.in_err-alone.ensures.cause (λ base holds. c.in_err-alone.ensures.read base.messages (told_here digest d s.folder base c.requires.ready holds) (c.requires.within base holds)))
+    (handed_cause (state_of d keyed s.folder s.alone) (state_of (g.D.Disk.state c.read.new.disk) keyed s.folder s.alone) (λ (base : Base) (alone : Base). IsAloneOf base.messages c.args.place alone) (g.D.Disk.failures s.disk) (g.D.Disk.failures c.read.new.disk) c.in_err-alone.field-0.0
+    c.in_err-alone.ensures.cause (λ honest base holds.
+    let was = c.in_err-alone.ensures.quiet.honest honest in
+    c.in_err-alone.ensures.read honest base.messages (told_here keyed d s.folder base (c.requires.ready.opened was) holds) (c.requires.within was base holds)))
 
 pub returns-clause-fetched : goal.returns-clause-fetched
-returns-clause-fetched g c = λ base holds.
+returns-clause-fetched g c = λ honest base holds.
     let s = c.args.self.now in
     let d = g.D.Disk.state s.disk in
-    let digest = g.H.Digest.digest s.digest in
-    fetched base.messages c.args.place c.in_ok-alone.alone (c.requires.within base holds) (c.in_ok-alone.ensures.read base.messages (told_here digest d s.folder base c.requires.ready holds) (c.requires.within base holds))
+    let keyed = g.H.Digest.keyed in
+    let was = c.in_ok-alone.ensures.quiet.honest honest in
+    fetched base.messages c.args.place c.in_ok-alone.alone (c.requires.within was base holds) (c.in_ok-alone.ensures.read honest base.messages (told_here keyed d s.folder base (c.requires.ready.opened was) holds) (c.requires.within was base holds))

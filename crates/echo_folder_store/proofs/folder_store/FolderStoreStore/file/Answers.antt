@@ -5,29 +5,41 @@ use Rattle.echo_folder_store.specs.Opened.{held_by}
 use Rattle.echo_folder_store.specs.State.{state_of}
 use Rattle.echo_folder_store.proofs.Causes.{at_error, done_both}
 use Rattle.echo_folder_store.proofs.Seen.{filed_more}
-use Rattle.echo_folder_store.proofs.Stated.{stages}
+use Rattle.echo_folder_store.proofs.Stated.{stages, went_on}
 use Rattle.echo_folder_store.proofs.folder_store.FolderStoreStore.file.Goals as goal
+
+pub returns-in_err-bytes-clause-commits : goal.returns-in_err-bytes-clause-commits
+returns-in_err-bytes-clause-commits g c =
+    let s = c.args.self.now in
+    let old = state_of (g.D.Disk.state s.disk) g.H.Digest.keyed s.folder s.alone in
+    looks_commit old old c.requires.ready (no_look old c.requires.ready)
 
 pub returns-in_err-digested-clause-commits : goal.returns-in_err-digested-clause-commits
 returns-in_err-digested-clause-commits g c =
     let s = c.args.self.now in
-    let old = state_of (g.D.Disk.state s.disk) (g.H.Digest.digest s.digest) s.folder s.alone in
+    let old = state_of (g.D.Disk.state s.disk) g.H.Digest.keyed s.folder s.alone in
     looks_commit old old c.requires.ready (no_look old c.requires.ready)
 
 pub returns-clause-filed : goal.returns-clause-filed
-returns-clause-filed g c = λ base holds.
+returns-clause-filed g c = λ honest base holds.
     let s = c.args.self.now in
-    let digest = g.H.Digest.digest s.digest in
+    let keyed = g.H.Digest.keyed in
     let before = held_by (g.D.Disk.state s.disk) s.folder in
     let stored = subst (λ (l : List ℕ). IsStoredAlone c.args.message l) (sym c.deref-2.ensures.value) c.in_ok-bytes.ensures.stored in
     let after = held_by (g.D.Disk.state c.stage.new.disk) c.stage.new.self in
-    done_both (λ staged fits. filed_more digest after before base c.args.message c.args.key c.deref-2.result.now c.deref.result.now c.of-digest.result staged fits holds stored c.in_ok-bytes.ensures.filed c.requires.own (c.requires.new base holds) (c.deref.ensures.value ∙ c.in_ok-digested.ensures) c.of-digest.ensures)
-    c.stage.result c.stage.ensures.staged c.stage.ensures.fits
+    done_both (λ staged fits. filed_more keyed after before base c.args.message c.args.key c.deref-2.result.now c.deref.result.now c.digest-digest.result staged fits holds stored c.in_ok-bytes.ensures.filed c.requires.own (c.requires.new (c.stage.ensures.outside.honest honest) base holds) (c.deref.ensures.value ∙ c.in_ok-digested.ensures) c.digest-digest.ensures)
+    c.stage.result (c.stage.ensures.staged honest) (c.stage.ensures.fits honest)
+
+pub returns-clause-goes_on : goal.returns-clause-goes_on
+returns-clause-goes_on g c =
+    let s = c.args.self.now in
+    went_on (g.D.Disk.state s.disk) (g.D.Disk.state c.stage.new.disk) g.H.Digest.keyed s.folder c.stage.new.self s.alone s.alone c.stage.result c.stage.ensures.named c.stage.ensures.opened
+    c.stage.ensures.same c.stage.ensures.outside
 
 pub returns-clause-undone : goal.returns-clause-undone
-returns-clause-undone g c = at_error c.stage.result (λ undoes base holds. absurd undoes)
+returns-clause-undone g c = at_error c.stage.result (λ honest undoes base holds. absurd undoes)
 
 pub returns-clause-commits : goal.returns-clause-commits
 returns-clause-commits g c =
     let s = c.args.self.now in
-    stages (g.D.Disk.state s.disk) (g.D.Disk.state c.stage.new.disk) (g.H.Digest.digest s.digest) s.folder c.stage.new.self s.alone s.alone c.stage.ensures.path c.stage.ensures.any_moment c.stage.ensures.outside
+    stages (g.D.Disk.state s.disk) (g.D.Disk.state c.stage.new.disk) g.H.Digest.keyed s.folder c.stage.new.self s.alone s.alone c.stage.ensures.path c.stage.ensures.any_moment c.stage.ensures.outside

@@ -3,6 +3,6 @@ use Rattle.echo_folder_store.proofs.Seen.{many_messages}
 use Rattle.echo_folder_store.proofs.folder_store.FolderStoreStore.len.Goals as goal
 
 pub returns-clause-count : goal.returns-clause-count
-returns-clause-count g c = λ base holds.
+returns-clause-count g c = λ honest base holds.
     let s = c.args.self.now in
-    c.count.ensures ∙ many_messages (g.H.Digest.digest s.digest) (g.D.Disk.state s.disk) s.folder base c.requires holds
+    c.count.ensures ∙ many_messages g.H.Digest.keyed (g.D.Disk.state s.disk) s.folder base (c.requires.opened honest) holds

@@ -7,8 +7,8 @@ use Rattle.echo_folder_store.proofs.Seen.{end_holds}
 use Rattle.echo_folder_store.proofs.folder_store.FolderStoreStore.move_to_end.Goals as goal
 
 pub returns-clause-moved : goal.returns-clause-moved
-returns-clause-moved g c = λ base holds.
+returns-clause-moved g c = λ honest base holds.
     let s = c.args.self.now in
     let d = g.D.Disk.state s.disk in
-    let digest = g.H.Digest.digest s.digest in
-    subst (λ (f : Folder). HoldsBase digest (held_by d f) (all_scanned base)) (sym c.move_to_end.ensures) (end_holds digest d s.folder base c.requires holds)
+    let keyed = g.H.Digest.keyed in
+    subst (λ (f : Folder). HoldsBase keyed (held_by d f) (all_scanned base)) (sym c.move_to_end.ensures) (end_holds keyed d s.folder base (c.requires.opened honest) holds)

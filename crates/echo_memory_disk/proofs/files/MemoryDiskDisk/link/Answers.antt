@@ -5,7 +5,7 @@ pub returns-clause-linked : goal.returns-clause-linked
 returns-clause-linked c = link_linked c.args.self.now.steps.items c.link.new.disk.steps.items c.args.from.now c.args.to.now c.link.result c.link.ensures.adds
 
 pub returns-clause-free : goal.returns-clause-free
-returns-clause-free c = link_free c.args.self.now.steps.items c.link.new.disk.steps.items c.args.from.now c.args.to.now c.link.result c.link.ensures.adds
+returns-clause-free c = λ honest. link_free c.args.self.now.steps.items c.link.new.disk.steps.items c.args.from.now c.args.to.now c.link.result c.link.ensures.adds
 
 pub returns-clause-taken : goal.returns-clause-taken
 returns-clause-taken c = link_taken c.args.self.now.steps.items c.link.new.disk.steps.items c.args.from.now c.args.to.now c.link.result c.link.ensures.adds

@@ -11,21 +11,21 @@ returns-clause-beside c =
     let old = c.args.self.now.steps.items in
     let new = c.write.new.disk.steps.items in
     let path = c.args.path.now in
-    (change_effect c.write.result old new path (IsWrittenAt (bytes_in (seen_at old path)) c.args.at c.args.bytes.now) (TornWrite c.args.at (length c.args.bytes.now) (kept_at old path)) c.write.ensures.adds (TornWrite c.args.at (length c.args.bytes.now)) (TornWrite-none c.args.at (length c.args.bytes.now)) (λ bytes is. whole_write (seen_at old path) c.args.at c.args.bytes.now bytes c.requires.within is) (λ f torn. torn)).beside
+    (change_effect c.write.result old new path (IsWrittenAt (bytes_in (seen_at old path)) c.args.at c.args.bytes.now) (TornWrite c.args.at (length c.args.bytes.now) (kept_at old path)) c.write.ensures.adds (TornWrite c.args.at (length c.args.bytes.now)) (TornWrite-none c.args.at (length c.args.bytes.now)) (λ bytes is. whole_write (seen_at old path) c.args.at c.args.bytes.now bytes (c.requires.within tt) is) (λ f torn. torn)).beside
 
 pub returns-clause-crash : goal.returns-clause-crash
 returns-clause-crash c =
     let old = c.args.self.now.steps.items in
     let new = c.write.new.disk.steps.items in
     let path = c.args.path.now in
-    (change_effect c.write.result old new path (IsWrittenAt (bytes_in (seen_at old path)) c.args.at c.args.bytes.now) (TornWrite c.args.at (length c.args.bytes.now) (kept_at old path)) c.write.ensures.adds (TornWrite c.args.at (length c.args.bytes.now)) (TornWrite-none c.args.at (length c.args.bytes.now)) (λ bytes is. whole_write (seen_at old path) c.args.at c.args.bytes.now bytes c.requires.within is) (λ f torn. torn)).crash
+    (change_effect c.write.result old new path (IsWrittenAt (bytes_in (seen_at old path)) c.args.at c.args.bytes.now) (TornWrite c.args.at (length c.args.bytes.now) (kept_at old path)) c.write.ensures.adds (TornWrite c.args.at (length c.args.bytes.now)) (TornWrite-none c.args.at (length c.args.bytes.now)) (λ bytes is. whole_write (seen_at old path) c.args.at c.args.bytes.now bytes (c.requires.within tt) is) (λ f torn. torn)).crash
 
 pub returns-clause-flushed : goal.returns-clause-flushed
 returns-clause-flushed c =
     let old = c.args.self.now.steps.items in
     let new = c.write.new.disk.steps.items in
     let path = c.args.path.now in
-    (change_effect c.write.result old new path (IsWrittenAt (bytes_in (seen_at old path)) c.args.at c.args.bytes.now) (TornWrite c.args.at (length c.args.bytes.now) (kept_at old path)) c.write.ensures.adds (TornWrite c.args.at (length c.args.bytes.now)) (TornWrite-none c.args.at (length c.args.bytes.now)) (λ bytes is. whole_write (seen_at old path) c.args.at c.args.bytes.now bytes c.requires.within is) (λ f torn. torn)).flushed
+    (change_effect c.write.result old new path (IsWrittenAt (bytes_in (seen_at old path)) c.args.at c.args.bytes.now) (TornWrite c.args.at (length c.args.bytes.now) (kept_at old path)) c.write.ensures.adds (TornWrite c.args.at (length c.args.bytes.now)) (TornWrite-none c.args.at (length c.args.bytes.now)) (λ bytes is. whole_write (seen_at old path) c.args.at c.args.bytes.now bytes (c.requires.within tt) is) (λ f torn. torn)).flushed
 
 pub returns-clause-written : goal.returns-clause-written
 returns-clause-written c =

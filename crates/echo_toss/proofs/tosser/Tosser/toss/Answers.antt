@@ -1,11 +1,19 @@
-use Rattle.std.proofs.Common.{subst}
+use Rattle.std.proofs.Common.{refl, subst}
 use Rattle.echo_steps.specs.SystemState.{SystemState}
-use Rattle.echo_toss.specs.Messages.{IsOpened}
-use Rattle.echo_toss.proofs.Stops.{tossed_part}
+use Rattle.echo_toss.specs.PacketSteps.{PacketStep}
+use Rattle.echo_toss.specs.PacketsIn.{state_in}
+use Rattle.echo_toss.proofs.PacketsIn.{tossed_at}
 use Rattle.echo_toss.proofs.tosser.Tosser.toss.Goals as goal
+use Rattle.echo_toss.proofs.tosser.Tosser.toss.Goals.{in-Ok, in-Err}
 
-pub returns-in-Err-toss_messages-clause-tossed : goal.returns-in-Err-toss_messages-clause-tossed
-returns-in-Err-toss_messages-clause-tossed g c =
-    let P : SystemState → Type 0 = λ s. IsOpened s.file (g.R.Read.remaining c.args.reader.now) (g.R.Read.remaining c.opened.new.reader) c.in-Ok.sender in
-    tossed_part c.args.limits c.in-Ok.sender c.args.self.now c.toss_messages.new.self _ _ _ c.toss_messages.new.tally c.in-Err-toss_messages.cause
-    (subst P c.self.view_is c.in-Ok.ensures.front) c.in-Err-toss_messages.ensures.tossed
+pub returns-clause-tossed : goal.returns-clause-tossed
+returns-clause-tossed g c =
+    let file = c.self.inside.links in
+    let base = c.self.inside.store.base in
+    let after = c.toss_packet_in.new.store.base in
+    let P : SystemState → Type 0 = λ s.
+    PacketStep c.args.limits s (g.R.Read.remaining c.args.reader.now) (g.R.Read.remaining c.toss_packet_in.new.reader) c.match-toss_packet_in.result (state_in file after) in
+    subst P c.self.view_is (elim c.match-toss_packet_in.branch [
+      | in-Ok w ↦ rw w.result-is (tossed_at c.args.limits file base after _ _ _ _ _ tt (λ b is. is) (w.in-Ok.ensures.tossed tt base refl))
+      | in-Err w ↦ rw (w.result-is, w.fault_in.ensures) (tossed_at c.args.limits file base after _ _ _ _ _ tt (λ b is. is) (w.in-Err.ensures.tossed tt base refl))
+    ])

@@ -1,0 +1,60 @@
+//! A base folder on files of the system.
+use crate::bases::{Base, Change, change_folder, read_base};
+use echo_folder::open;
+use echo_real_disk::{RealDisk, Unknown};
+use std::fs;
+use std::fs::OpenOptions;
+use std::test::Fail;
+
+/// The base folder of the test.
+const FOLDER: &[u8] = b"disk_tests_base/";
+
+/// A length of a log that ends inside its second record.
+const INSIDE: u64 = 40;
+
+#[test]
+fn a_base_folder_is_opened_again_and_without_a_record_cut_short(
+    rt: HostRuntime,
+) -> Result<(), Fail> {
+    let alloc = rt.alloc();
+    let _ = fs::remove_dir_all(&rt, "disk_tests_base");
+    fs::create_dir(&rt, "disk_tests_base")?;
+    let first = Change {
+        anew: false,
+        messages: Vec::from_slice(alloc, b"first message")?,
+        keys: Vec::from_slice(alloc, b"first key")?,
+        cursor: 1,
+    };
+    let second = Change {
+        anew: true,
+        messages: Vec::from_slice(alloc, b"another")?,
+        keys: Vec::from_slice(alloc, b"key")?,
+        cursor: 2,
+    };
+    let empty = Base {
+        messages: Vec::new(alloc),
+        keys: Vec::new(alloc),
+        cursor: 0,
+    };
+    let before = empty.changed(alloc, &first)?;
+    let after = before.changed(alloc, &second)?;
+
+    let mut disk = RealDisk::new(&rt, Unknown);
+    let end = open(alloc, &mut disk, FOLDER)?;
+    let end = change_folder(alloc, &mut disk, FOLDER, end, &first)?;
+    let _ = change_folder(alloc, &mut disk, FOLDER, end, &second)?;
+
+    let mut again = RealDisk::new(&rt, Unknown);
+    let end = open(alloc, &mut again, FOLDER)?;
+    assert!(rt; read_base(alloc, &mut again, FOLDER, end)?.is(&after));
+
+    OpenOptions::new()
+        .write(true)
+        .open(&rt, "disk_tests_base/log")?
+        .set_len(INSIDE)?;
+    let mut cut = RealDisk::new(&rt, Unknown);
+    let end = open(alloc, &mut cut, FOLDER)?;
+    assert!(rt; read_base(alloc, &mut cut, FOLDER, end)?.is(&before));
+    fs::remove_dir_all(&rt, "disk_tests_base")?;
+    Ok(())
+}

@@ -1,0 +1,12 @@
+-- The bytes say the characters so far, and the others stand in what is left of the text.
+use Rattle.std.proofs.Common.{◌≡◌, ◌++◌}
+use Rattle.std.specs.Str.{IsUtf8, chars, encode_utf8_all}
+use Rattle.echo_charset.specs.Charset.{characters}
+use Rattle.echo_charset.proofs.charset.Charset.single_bytes.Given as goal
+
+abbrev pub invariant-text : goal.invariant-text
+invariant-text l = record {
+  said : characters l.self l.bytes.items ≡ encode_utf8_all l.yielded;
+  left : l.yielded ++ chars l.character-iterator.rest.now ≡ chars l.text;
+  whole : IsUtf8 l.character-iterator.rest.now;
+}

@@ -1,0 +1,17 @@
+-- Texts in the bytes of a charset.
+use Rattle.std.specs.Prelude.{ℕ, ◌≡◌, ◌<◌, ◌⊎◌, false, Contains, List}
+use Rattle.std.specs.Str.{chars}
+use Rattle.echo_charset.specs.declared.charset.Charset.{Charset}
+use Rattle.echo_charset.specs.Charset.{character, is_utf8}
+
+-- no byte of a charset is the character; nor is one U+FFFD, which stands for what a charset does not have
+abbrev pub IsLacked : Charset → ℕ → Type 0
+IsLacked charset c = (c ≡ 0xFFFD) ⊎ ((byte : ℕ) → byte < 256 → character charset byte ≡ c → ⊥)
+
+-- a character of the text is one that the charset lacks
+abbrev pub LacksOne : Charset → List ℕ → Type 0
+LacksOne charset text = (c : ℕ) × Contains (chars text) c × IsLacked charset c
+
+-- the same, of a charset that has not all characters, as UTF-8 has
+abbrev pub Lacks : Charset → List ℕ → Type 0
+Lacks charset text = (is_utf8 charset ≡ false) × LacksOne charset text

@@ -1,0 +1,40 @@
+//! Whose a base folder is, and the digests by its key.
+ghost use Rattle.std.specs.Prelude.{◌≡◌, true, false};
+ghost use Rattle.echo_folder_store.specs.Held.{digest_by};
+ghost use Rattle.echo_folder_store.specs.Owned.{IsUnclaimed, owner_of, with_mark};
+
+use crate::folder::Folder;
+use echo_folder::Mark;
+use echo_keys::Digest;
+
+impl Folder {
+    /// Whose it is, none where nobody has claimed it.
+    pub fn owner(&self) -> Option<u64>
+        ensures { result ≡ owner_of self.now.told.mark }
+    {
+        if self.told.mark.owner == 0 {
+            return None;
+        }
+        Some(self.told.mark.owner)
+    }
+
+    /// Gives it an owner and a key, where it has no owner and no message, and answers whether it did. Nothing is
+    /// committed.
+    pub fn claim(&mut self, mark: Mark) -> bool
+        ensures claimed { result ≡ true → IsUnclaimed self.old × (self.new ≡ with_mark self.old mark) }
+        ensures refused { result ≡ false → (IsUnclaimed self.old → ⊥) × (self.new ≡ self.old) }
+    {
+        if self.told.mark.owner != 0 || !self.keys.is_empty() {
+            return false;
+        }
+        self.told.mark = mark;
+        true
+    }
+
+    // The digest by its key.
+    pub(crate) fn digest<H: Digest>(&self, bytes: &[u8]) -> u64
+        ensures { result ≡ digest_by H.keyed self.now.told.mark bytes.now }
+    {
+        H::keyed(self.told.mark.first, self.told.mark.second).of(bytes)
+    }
+}

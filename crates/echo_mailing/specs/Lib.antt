@@ -1,0 +1,5 @@
+pub mod Fault
+pub mod Written
+pub mod CharsetLine
+pub mod Letter
+pub mod Mailed

@@ -1,0 +1,18 @@
+//! Mail messages (RFC 5322) posted as messages of an area.
+//!
+//! The contract for the layers above: `post_mail` is `post` of echo_changing with the words that a mail says, in
+//! the bytes of a charset, and other words where the mail lacks one; or the fault of the mail that applies.
+//!
+//! Modules in reading order: `fault` (why a mail is not posted), `writing` (what a mail says, in a charset),
+//! `charset_line` (the line of that charset), `letter` (the words of a mail) and `mailed` (they are posted).
+#![tactic(auto)]
+
+mod charset_line;
+mod fault;
+mod letter;
+mod mailed;
+mod writing;
+
+pub use fault::LetterFault;
+pub use letter::{Letter, Spare, letter_in};
+pub use mailed::{MailWords, post_mail};

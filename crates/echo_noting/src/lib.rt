@@ -1,0 +1,12 @@
+//! Packets that are tossed with a note on each of their messages that is not filed.
+//!
+//! The contract for the layer above: a packet is tossed as `Tosser::toss` does it, and just the notes on its
+//! messages that were not filed, in order, are added to a text.
+//!
+//! Modules in reading order: `note` (the line of one message) and `noting` (a packet).
+#![tactic(auto)]
+
+mod note;
+mod noting;
+
+pub use noting::toss_noting;

@@ -1,0 +1,4 @@
+pub mod Next
+pub mod Noted
+pub mod Replay
+pub mod Unknown

@@ -1,0 +1,11 @@
+-- The first reply of the lines that are left is that of all.
+use Rattle.std.proofs.Common.{◌≡◌, length}
+use Rattle.echo_text.specs.Lines.{lines, reply_word}
+use Rattle.echo_text.specs.Echo.{first_after}
+use Rattle.echo_stored.proofs.reading.first_reply.Given as goal
+
+abbrev pub invariant-lines : goal.invariant-lines
+invariant-lines l = first_after reply_word (lines l.rest) ≡ first_after reply_word (lines l.text)
+
+abbrev pub decreases-lines : goal.decreases-lines
+decreases-lines l = length l.rest

@@ -1,0 +1,239 @@
+//! A stored message that an editor wrote, read for posting.
+ghost use Rattle.std.specs.Prelude.{◌≡◌, ◌==◌, ◌||◌, ◌≤◌, ◌++◌, false, true, not, drop, length, option_copied, take, take_while, IsTrue, IfOk, MatchOption, OnOk};
+ghost use Rattle.echo_text.specs.Echo.{first_after, id_in};
+ghost use Rattle.echo_text.specs.Lines.{after_feeds, after_word, begins, is_feed, is_origin, is_path, is_seen, is_tear, lines, msgid_word, reply_word};
+ghost use Rattle.echo_stored.specs.StoredReading.{ReadAnswers, body_of, field_at, is_local, is_made, is_sent, is_to_post, own_line, reply_in, text_in, until_zero};
+ghost use Rattle.echo_stored.specs.declared.reading.StoredFault.TheVariants.{Memory};
+
+use echo_addr::Items;
+use echo_text::{push_line, split_line, trimmed};
+use std::alloc::{AllocError, Global};
+
+/// Why bytes are not to be posted.
+#[derive(Clone, Copy, Debug, PartialEq, Eq)]
+pub enum StoredFault {
+    /// They are no stored message, it is not Local, or it was sent.
+    BadMessage,
+    Memory,
+}
+
+impl From<AllocError> for StoredFault {
+    ghost from_gives = { λ _ fault. fault ≡ Memory };
+
+    fn from(_refused: AllocError) -> StoredFault {
+        StoredFault::Memory
+    }
+}
+
+/// What an editor wrote: names, subject, the id of the message that is replied to or no bytes, and the lines of the
+/// text but for those that posting makes or a scan adds, each with its 0D.
+#[derive(Debug, Drop)]
+pub struct StoredDraft<'a> {
+    pub from_name: &'a [u8],
+    pub to_name: &'a [u8],
+    pub subject: &'a [u8],
+    pub reply: &'a [u8],
+    pub body: Items<u8>,
+}
+
+/// The stored message (FTS-0001) that these bytes are, read for posting: one that is Local and not Sent.
+pub fn read_stored<'a>(alloc: Global, bytes: &'a [u8]) -> Result<StoredDraft<'a>, StoredFault>
+    ensures { ReadAnswers bytes.now result }
+{
+    if !is_to_post(bytes) {
+        return Err(StoredFault::BadMessage);
+    }
+    let text = text_in(bytes);
+    let body = Items::new(body_of(alloc, text)?);
+    Ok(StoredDraft {
+        from_name: field_at(bytes, 0, 36),
+        to_name: field_at(bytes, 36, 36),
+        subject: field_at(bytes, 72, 72),
+        reply: reply_in(text),
+        body,
+    })
+}
+
+// Whether they are a stored message that was written here and not sent yet.
+fn is_to_post(bytes: &[u8]) -> bool
+    ensures value { result ≡ is_to_post bytes.now }
+    ensures long { IsTrue result → 190 ≤ length bytes.now }
+{
+    bytes.len() >= 190 && is_local(bytes[187]) && !is_sent(bytes[186])
+}
+
+fn is_local(high: u8) -> bool
+    ensures { result ≡ is_local high }
+{
+    high % 2 == 1
+}
+
+fn is_sent(low: u8) -> bool
+    ensures { result ≡ is_sent low }
+{
+    low / 8 % 2 == 1
+}
+
+// The field of this size at this place.
+fn field_at(bytes: &[u8], place: usize, size: usize) -> &[u8]
+    requires long { 190 ≤ length bytes.now }
+    requires place { place ≤ 72 }
+    requires size { size ≤ 72 }
+    ensures { result.now ≡ field_at place size bytes.now }
+{
+    until_zero(&bytes[place..place + size])
+}
+
+// The text behind the numbers.
+fn text_in(bytes: &[u8]) -> &[u8]
+    requires { 190 ≤ length bytes.now }
+    ensures { result.now ≡ text_in bytes.now }
+{
+    until_zero(behind_numbers(bytes))
+}
+
+fn behind_numbers(bytes: &[u8]) -> &[u8]
+    requires { 190 ≤ length bytes.now }
+    ensures { result.now ≡ drop 190 bytes.now }
+{
+    &bytes[190..]
+}
+
+// What stands before the first 00.
+fn until_zero(bytes: &[u8]) -> &[u8]
+    ensures { result.now ≡ until_zero bytes.now }
+{
+    &bytes[..filled_len(bytes)]
+}
+
+// How many bytes that is.
+fn filled_len(bytes: &[u8]) -> usize
+    ensures exact { result ≡ length (take_while (λ b. not (b == 0)) bytes.now) }
+    ensures within { result ≤ length bytes.now }
+{
+    bytes.iter().take_while(|b| **b != 0).count()
+}
+
+// The lines of the text but for those that are made.
+fn body_of(alloc: Global, text: &[u8]) -> Result<Vec<u8>, AllocError>
+    ensures { IfOk result (λ body. body.items ≡ body_of text.now) }
+{
+    let mut body = Vec::new(alloc);
+    let mut rest = text;
+    'lines: while !rest.is_empty() {
+        let (line, after) = split_line(rest);
+        push_own(&mut body, line)?;
+        rest = after;
+    }
+    Ok(body)
+}
+
+// Adds a line, unless it is made.
+fn push_own(body: &mut Vec<u8>, line: &[u8]) -> Result<(), AllocError>
+    ensures { OnOk result (body.new.items ≡ body.old.items ++ own_line line.now) }
+{
+    if is_made(line) {
+        return Ok(());
+    }
+    push_line(body, line)
+}
+
+// Whether posting makes such a line, or a scan adds it.
+fn is_made(line: &[u8]) -> bool
+    ensures { result ≡ is_made line.now }
+{
+    is_id_line(line) || is_tear(line) || is_origin(line) || is_list(line)
+}
+
+fn is_id_line(line: &[u8]) -> bool
+    ensures { result ≡ begins msgid_word line.now || begins reply_word line.now }
+{
+    begins(b"\x01MSGID:", line) || begins(b"\x01REPLY:", line)
+}
+
+fn is_list(line: &[u8]) -> bool
+    ensures { result ≡ is_seen line.now || is_path line.now }
+{
+    begins(b"SEEN-BY:", line) || begins(b"\x01PATH:", line)
+}
+
+fn is_origin(line: &[u8]) -> bool
+    ensures { result ≡ is_origin line.now }
+{
+    begins(b" * Origin: ", line)
+}
+
+// Three hyphens, alone or with a blank 20 behind.
+#[tactic(auto, unfolding(echo_text::specs::Lines::is_tear))]
+fn is_tear(line: &[u8]) -> bool
+    ensures { result ≡ is_tear line.now }
+{
+    begins(b"--- ", line) || (begins(b"---", line) && after_feeds(line).len() == 3)
+}
+
+// Whether the line begins with the word, after line feeds.
+fn begins(word: &[u8], line: &[u8]) -> bool
+    ensures value { result ≡ begins word.now line.now }
+    ensures fits { IsTrue result → length word.now ≤ length (after_feeds line.now) }
+{
+    after_feeds(line).starts_with(word)
+}
+
+// The line without the line feeds at its front.
+fn after_feeds(line: &[u8]) -> &[u8]
+    ensures { result.now ≡ after_feeds line.now }
+{
+    &line[feed_count(line)..]
+}
+
+// How many line feeds stand at the front.
+fn feed_count(line: &[u8]) -> usize
+    ensures exact { result ≡ length (take_while is_feed line.now) }
+    ensures within { result ≤ length line.now }
+{
+    line.iter().take_while(|b| **b == b'\n').count()
+}
+
+// The id of the message that is replied to, or no bytes.
+fn reply_in(text: &[u8]) -> &[u8]
+    ensures { result.now ≡ reply_in text.now }
+{
+    match first_reply(text) {
+        Some(id) => id,
+        None => &[],
+    }
+}
+
+// What follows the colon of the first REPLY line with more than blanks there.
+fn first_reply(text: &[u8]) -> Option<&[u8]>
+    ensures { option_copied result ≡ first_after reply_word (lines text.now) }
+{
+    let mut rest = text;
+    'lines: while !rest.is_empty() {
+        let (line, after) = split_line(rest);
+        if let Some(id) = reply_of_line(line) {
+            return Some(id);
+        }
+        rest = after;
+    }
+    None
+}
+
+// The same of one line.
+fn reply_of_line(line: &[u8]) -> Option<&[u8]>
+    ensures { option_copied result ≡ id_in reply_word line.now }
+{
+    let id = trimmed(after_reply(line)?);
+    if id.is_empty() { None } else { Some(id) }
+}
+
+// What follows the word in a REPLY line.
+fn after_reply(line: &[u8]) -> Option<&[u8]>
+    ensures { MatchOption result (begins reply_word line.now ≡ false) (λ rest. (begins reply_word line.now ≡ true) × (rest.now ≡ after_word reply_word line.now)) }
+{
+    if begins(b"\x01REPLY:", line) {
+        Some(&after_feeds(line)[7..])
+    } else {
+        None
+    }
+}

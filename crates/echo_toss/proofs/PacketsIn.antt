@@ -1,0 +1,176 @@
+-- A packet is tossed into a store, message by message.
+use Rattle.std.proofs.Common.{◌≡◌, ◌≤◌, ℕ, ◌+◌, List, [], ◌++◌, inl, refl, sym, ap, ◌∙◌, subst, arith, Option, IfSome, Result, Ok, Err}
+use Rattle.std.proofs.KnownBytes.{Consumes-nil, Consumes-trans}
+use Rattle.echo_disk.specs.Disk.{Honestly}
+use Rattle.echo_addr.specs.declared.address.Address.{Address}
+use Rattle.echo_packet.specs.declared.limits.Limits.{Limits}
+use Rattle.echo_packet.specs.declared.fault.PacketFault.{PacketFault}
+use Rattle.echo_packet.specs.declared.fault.PacketFault.TheVariants as fault
+use Rattle.echo_packet.specs.Next.{FailsInMessage, NextFault}
+use Rattle.std.specs.Io.KnownBytes.{Consumes}
+use Rattle.echo_packet.specs.Header.{header_bytes, word}
+use Rattle.echo_packet.specs.Message.{messages_bytes}
+use Rattle.echo_base.specs.Base.{Base}
+use Rattle.echo_links.specs.Links.{LinkFile}
+use Rattle.echo_store.specs.Store.{CommitsNothing, GoesOn, StoreState}
+use Rattle.echo_store.proofs.Runs.{looks_commit, looks_go_on, no_look}
+use Rattle.echo_steps.specs.declared.outcome.Outcome.{Outcome}
+use Rattle.echo_steps.specs.declared.outcome.Outcome.TheVariants.{BadTag, Filed, Known, NoArea, NotEcho, NotLinked}
+use Rattle.echo_steps.specs.SystemState.{SystemState}
+use Rattle.echo_toss.specs.declared.tally.Tally.{Tally}
+use Rattle.echo_toss.specs.declared.fault.TossCause.{TossCause}
+use Rattle.echo_toss.specs.declared.fault.TossCause.TheVariants as stop
+use Rattle.echo_toss.specs.Tallies.{all_counted, tally_of, tally_with}
+use Rattle.echo_toss.specs.PacketSteps.{cause_of, HasTossed, PacketStep, TossesAll, TossesPart}
+use Rattle.echo_toss.specs.Messages.{IsOpened, IsUnopened, TossesToEnd}
+use Rattle.echo_toss.specs.declared.stop.TossStop.{TossStop}
+use Rattle.echo_toss.specs.declared.stop.TossStop.TheVariants as toss
+use Rattle.echo_toss.specs.declared.stop.StoppedToss.{StoppedToss}
+use Rattle.echo_toss.specs.PacketsIn.{HoldsUnlessFailed, ReadsMessages, TossesPacketIn, packet_answer, state_in, stop_in}
+use Rattle.echo_toss.proofs.PacketTosses.{HasGone, all_given, some_taken}
+
+-- messages were tossed into the store, which went on, and no read failed
+pub record HasGoneIn (limits : Limits) (sender : Address) (file : LinkFile) (old mid : StoreState) (first now : ℕ) (before left : Option (List ℕ)) (given at : ℕ) (tally : Tally) (failed still : ℕ) : Type 0 where
+  pub each : Honestly mid.disk ((base : Base) → old.keeps base
+      → (next : Base) × HasGone limits sender (state_in file base) before left given at tally (state_in file next) failed still × mid.keeps next)
+  pub any : (base : Base) → (tried : Tally) × (next : Base) × HasGone limits sender (state_in file base) before left given at tried (state_in file next) failed still
+  pub on : GoesOn old mid
+  pub commits : CommitsNothing old mid
+  pub counted : all_counted tally ≡ given
+  pub within : given ≤ limits.messages
+  pub device : still ≡ failed
+  pub later : first ≤ now
+
+-- before the first message
+none_gone : (limits : Limits) (sender : Address) (s : SystemState) (before : Option (List ℕ)) (failed : ℕ) → HasGone limits sender s before before 0 58 (tally_of []) s failed failed
+none_gone limits sender s before failed = record {
+  messages = [];
+  taken = record {
+    are_messages = record { each = tt; room = omega arith };
+    bytes = Consumes-nil before;
+    count = refl;
+    place = refl;
+    done = record { state = refl; counts = refl };
+  };
+  device = refl;
+}
+
+-- before the first message nothing has gone
+pub begun : (limits : Limits) (sender : Address) (file : LinkFile) (old : StoreState) (first : ℕ) (before : Option (List ℕ)) (tally : Tally) (failed : ℕ) → old.is_ready → tally ≡ tally_of []
+    → HasGoneIn limits sender file old old first first before before 0 58 tally failed failed
+begun limits sender file old first before tally failed ready none =
+    let gone : (t : Tally) → t ≡ tally_of [] → (base : Base) → HasGone limits sender (state_in file base) before before 0 58 t (state_in file base) failed failed =
+    λ t is base. subst (λ (x : Tally). HasGone limits sender (state_in file base) before before 0 58 x (state_in file base) failed failed) (sym is) (none_gone limits sender (state_in file base) before failed) in
+    record {
+      each = λ honest base kept. (base, gone tally none base, kept);
+      any = λ base. (tally, base, gone tally none base);
+      on = looks_go_on old old (no_look old ready);
+      commits = looks_commit old old ready (no_look old ready);
+      counted = ap all_counted none;
+      within = omega arith;
+      device = refl;
+      later = omega arith;
+    }
+
+-- so many messages were counted
+counted_same : (limits : Limits) (sender : Address) (s t : SystemState) (before left : Option (List ℕ)) (given at : ℕ) (tried tally : Tally) (failed still : ℕ) → HasGone limits sender s before left given at tried t failed still
+    → all_counted tally ≡ given → all_counted tried ≡ all_counted tally
+counted_same limits sender s t before left given at tried tally failed still gone counted =
+    all_given limits sender s t before left gone.messages given at tried gone.taken ∙ sym counted
+
+-- a fault of the bytes is one whatever the store holds
+pub read_faulty : {A : Type 0} (limits : Limits) (sender : Address) (file : LinkFile) (base : Base) (before left after : Option (List ℕ)) (given at : ℕ) (tally : Tally) (f : PacketFault) (failed still : ℕ)
+    → (tried : Tally) × (next : Base) × HasGone limits sender (state_in file base) before left given at tried (state_in file next) failed still → all_counted tally ≡ given
+    → IfSome left (λ bs. NextFault limits given at bs f) → FailsInMessage limits given at [] left after f
+    → ReadsMessages {A = A} limits sender file base before after (all_counted tally) (Err (cause_of f))
+read_faulty limits sender file base before left after given at tally f failed still (tried, next, gone) counted wrong lost = record {
+  tally = tried;
+  next = next;
+  step = some_taken limits sender (state_in file base) (state_in file next) before left after gone.messages given at tried f gone.taken wrong lost;
+  count = counted_same limits sender (state_in file base) (state_in file next) before left given at tried tally failed still gone counted;
+}
+
+-- where the store failed the messages before were read
+pub read_so_far : {A : Type 0} (limits : Limits) (sender : Address) (file : LinkFile) (base : Base) (before left after : Option (List ℕ)) (given at : ℕ) (tally : Tally) (failed still : ℕ)
+    → (tried : Tally) × (next : Base) × HasGone limits sender (state_in file base) before left given at tried (state_in file next) failed still → all_counted tally ≡ given
+    → ReadsMessages {A = A} limits sender file base before after (all_counted tally) (Err stop.Memory)
+read_so_far limits sender file base before left after given at tally failed still (tried, next, gone) counted = record {
+  tally = tried;
+  next = next;
+  step = record { messages = gone.messages; left = left; given = given; at = at; taken = gone.taken; stops = tt };
+  count = counted_same limits sender (state_in file base) (state_in file next) before left given at tried tally failed still gone counted;
+}
+
+-- and at the terminator all
+pub read_all : {A : Type 0} (limits : Limits) (sender : Address) (file : LinkFile) (base : Base) (before left after : Option (List ℕ)) (given at : ℕ) (tally : Tally) (failed still : ℕ) (done : A)
+    → (tried : Tally) × (next : Base) × HasGone limits sender (state_in file base) before left given at tried (state_in file next) failed still → all_counted tally ≡ given
+    → Consumes left after (word 0) → ReadsMessages limits sender file base before after (all_counted tally) (Ok done)
+read_all limits sender file base before left after given at tally failed still done (tried, next, gone) counted ends = record {
+  tally = tried;
+  next = next;
+  step = record { messages = gone.messages; left = left; given = given; at = at; taken = gone.taken; ends = ends };
+  count = counted_same limits sender (state_in file base) (state_in file next) before left given at tried tally failed still gone counted;
+}
+
+-- each outcome counts one more
+pub all_counted-tally_with : (t : Tally) (o : Outcome) → all_counted (tally_with t o) ≡ all_counted t + 1
+all_counted-tally_with t Filed = omega arith
+all_counted-tally_with t Known = omega arith
+all_counted-tally_with t NotEcho = omega arith
+all_counted-tally_with t BadTag = omega arith
+all_counted-tally_with t NoArea = omega arith
+all_counted-tally_with t NotLinked = omega arith
+
+-- a packet that was opened was tossed to its end
+pub tossed_all : (limits : Limits) (sender : Address) (old new : SystemState) (before mid after : Option (List ℕ)) (tally : Tally)
+    → IsOpened old.file before mid sender → TossesToEnd limits sender old mid after tally new → TossesAll limits old before after tally new
+tossed_all limits sender old new before mid after tally o t =
+    let ms = t.messages in
+    let most = Consumes-trans mid t.left after (messages_bytes ms) (word 0) t.taken.bytes t.ends in
+    record {
+      header = o.header;
+      messages = ms;
+      bytes = (
+        header_bytes o.header ++ (messages_bytes ms ++ word 0),
+        Consumes-trans before mid after (header_bytes o.header) (messages_bytes ms ++ word 0) o.bytes most,
+        record { header = o.is_header; messages = t.taken.are_messages; bytes = refl },
+      );
+      for_us = o.for_us;
+      done = subst (λ (s : Address). HasTossed s ms old tally new) o.origin t.taken.done;
+    }
+
+-- a packet that was not opened was not tossed
+pub tossed_none : (limits : Limits) (s : SystemState) (before after : Option (List ℕ)) (tally : Tally) (cause : TossCause) → tally ≡ tally_of []
+    → IsUnopened s.file before after cause → TossesPart limits s before after tally cause s
+tossed_none limits s before after tally (stop.NotForUs a) none u = record {
+  header = u.header;
+  bytes = (header_bytes u.header, u.bytes, (u.is_header, refl));
+  is = u.is;
+  other = u.other;
+  nothing = (refl, none);
+}
+tossed_none limits s before after tally stop.Memory none u = absurd u
+tossed_none limits s before after tally (stop.Packet fault.Memory) none u = absurd u
+tossed_none limits s before after tally (stop.Packet (fault.Truncated n)) none u = inl (record { fault = u.fault; inside = u.inside; nothing = (refl, none) })
+tossed_none limits s before after tally (stop.Packet (fault.NotType2 n)) none u = inl (record { fault = u.fault; inside = u.inside; nothing = (refl, none) })
+tossed_none limits s before after tally (stop.Packet (fault.NotMessage n)) none u = inl (record { fault = u.fault; inside = u.inside; nothing = (refl, none) })
+tossed_none limits s before after tally (stop.Packet (fault.FieldTooLong n)) none u = inl (record { fault = u.fault; inside = u.inside; nothing = (refl, none) })
+tossed_none limits s before after tally (stop.Packet (fault.TextTooLong n)) none u = inl (record { fault = u.fault; inside = u.inside; nothing = (refl, none) })
+tossed_none limits s before after tally (stop.Packet (fault.Read n)) none u = inl (record { fault = u.fault; inside = u.inside; nothing = (refl, none) })
+tossed_none limits s before after tally (stop.Packet fault.Stopped) none u = inl (record { fault = u.fault; inside = u.inside; nothing = (refl, none) })
+tossed_none limits s before after tally (stop.Packet (fault.Write n)) none u = inl (record { fault = u.fault; inside = u.inside; nothing = (refl, none) })
+tossed_none limits s before after tally (stop.Packet (fault.TooManyMessages n)) none u = inl (record { fault = u.fault; inside = u.inside; nothing = (refl, none) })
+tossed_none limits s before after tally (stop.Packet (fault.BadField n)) none u = inl (record { fault = u.fault; inside = u.inside; nothing = (refl, none) })
+
+held : {A : Type 0} (old new : StoreState) (r : Result A TossStop) (base : Base) → old.undoes → HoldsUnlessFailed old r new base → new.keeps base
+held old new (Ok done) base undoes is = is
+held old new (Err (toss.Packet why)) base undoes is = is
+held old new (Err (toss.Store error)) base undoes is = is undoes
+
+-- at a store that takes back what failed, and holds this base alone, it is the toss at a system
+pub tossed_at : (limits : Limits) (file : LinkFile) (base after : Base) (before rest : Option (List ℕ)) (old new : StoreState) (result : Result Tally StoppedToss)
+    → old.undoes → ((b : Base) → new.keeps b → b ≡ after) → TossesPacketIn limits file base before rest old result new
+    → PacketStep limits (state_in file base) before rest (packet_answer result) (state_in file after)
+tossed_at limits file base after before rest old new result undoes alone went =
+    subst (λ (b : Base). PacketStep limits (state_in file base) before rest (packet_answer result) (state_in file b))
+    (alone went.next (held old new (stop_in result) went.next undoes went.holds)) went.step

@@ -1,0 +1,97 @@
+-- Tossing a whole packet at a system whose messages and cursor are in a store.
+use Rattle.std.specs.Prelude.{◌≡◌, ℕ, List, Option, Result, Ok, Err}
+use Rattle.echo_addr.specs.declared.address.Address.{Address}
+use Rattle.echo_packet.specs.declared.limits.Limits.{Limits}
+use Rattle.echo_base.specs.Base.{Base}
+use Rattle.echo_links.specs.Links.{LinkFile}
+use Rattle.echo_store.specs.Store.{GoesOn, StoreState}
+use Rattle.echo_store.specs.declared.store_error.StoreError.{StoreError}
+use Rattle.echo_steps.specs.SystemState.{SystemState}
+use Rattle.echo_toss.specs.declared.tally.Tally.{Tally}
+use Rattle.echo_toss.specs.declared.fault.TossCause.{TossCause}
+use Rattle.echo_toss.specs.declared.fault.TossCause.TheVariants as cause
+use Rattle.echo_toss.specs.declared.fault.TossFault.{TossFault}
+use Rattle.echo_toss.specs.declared.stop.TossStop.{TossStop}
+use Rattle.echo_toss.specs.declared.stop.TossStop.TheVariants as toss
+use Rattle.echo_toss.specs.declared.stop.StoppedToss.{StoppedToss}
+use Rattle.echo_toss.specs.Tallies.{all_counted}
+use Rattle.echo_toss.specs.PacketSteps.{PacketStep}
+use Rattle.echo_toss.specs.Messages.{TossesMessages}
+
+-- a system with this link file, whose store holds this base
+abbrev pub state_in : LinkFile → Base → SystemState
+state_in file base = record { file = file; base = base.messages; cursor = base.cursor }
+
+-- what stopped a toss, as steps of a system tell it: that the store failed, as out of memory
+abbrev pub cause_in : TossStop → TossCause
+cause_in (toss.Packet why) = why
+cause_in (toss.Store error) = cause.Memory
+
+-- the same of what a toss of messages answered
+abbrev pub messages_answer : {A : Type 0} → Result A TossStop → Result A TossCause
+messages_answer (Ok done) = Ok done
+messages_answer (Err stop) = Err (cause_in stop)
+
+-- the same of what a toss of a packet answered
+abbrev pub packet_answer : Result Tally StoppedToss → Result Tally TossFault
+packet_answer (Ok tally) = Ok tally
+packet_answer (Err stopped) = Err (record { tally = stopped.tally; cause = cause_in stopped.stop })
+
+-- what stopped it, without its tally
+abbrev pub stop_in : Result Tally StoppedToss → Result (Unit {0}) TossStop
+stop_in (Ok tally) = Ok tt
+stop_in (Err stopped) = Err stopped.stop
+
+-- what the store answered
+abbrev pub toss_answer : {A : Type 0} → Result A TossStop → Result (Unit {0}) StoreError
+toss_answer (Ok done) = Ok tt
+toss_answer (Err (toss.Packet why)) = Ok tt
+toss_answer (Err (toss.Store error)) = Err error
+
+-- the store holds this base; where it failed, if it takes back what failed
+abbrev pub HoldsUnlessFailed : {A : Type 0} → StoreState → Result A TossStop → StoreState → Base → Type 0
+HoldsUnlessFailed old (Ok done) new base = new.keeps base
+HoldsUnlessFailed old (Err (toss.Packet why)) new base = new.keeps base
+HoldsUnlessFailed old (Err (toss.Store error)) new base = old.undoes → new.keeps base
+
+-- where the store did not fail, it goes on
+abbrev pub GoesOnUnlessFailed : {A : Type 0} → StoreState → Result A TossStop → StoreState → Type 0
+GoesOnUnlessFailed old (Ok done) new = GoesOn old new
+GoesOnUnlessFailed old (Err (toss.Packet why)) new = GoesOn old new
+GoesOnUnlessFailed old (Err (toss.Store error)) new = Unit {0}
+
+-- the toss of the packet at the front of a reader's bytes, from this base to the one that the store holds then
+pub record TossesPacketIn (limits : Limits) (file : LinkFile) (base : Base) (before after : Option (List ℕ)) (old : StoreState) (result : Result Tally StoppedToss) (new : StoreState) : Type 0 where
+  pub next : Base
+  pub step : PacketStep limits (state_in file base) before after (packet_answer result) (state_in file next)
+  pub holds : HoldsUnlessFailed old (stop_in result) new next
+
+-- the same of the messages behind a header
+pub record TossesMessagesIn {A : Type 0} (limits : Limits) (sender : Address) (file : LinkFile) (base : Base) (before after : Option (List ℕ)) (tally : Tally) (old : StoreState) (result : Result A TossStop) (new : StoreState) : Type 0 where
+  pub next : Base
+  pub step : TossesMessages limits sender (state_in file base) before after tally (messages_answer result) (state_in file next)
+  pub holds : HoldsUnlessFailed old result new next
+
+-- how many messages an answer counts
+abbrev pub counted_in : Result Tally TossFault → ℕ
+counted_in (Ok tally) = all_counted tally
+counted_in (Err f) = all_counted f.tally
+
+-- the same answer with another tally
+abbrev pub with_tally : Tally → Result Tally TossFault → Result Tally TossFault
+with_tally tally (Ok other) = Ok tally
+with_tally tally (Err f) = Err (record { tally = tally; cause = f.cause })
+
+-- At a system with this base a toss of the packet takes the same bytes, counts as many messages, and stops for the same cause.
+pub record ReadsPacket (limits : Limits) (file : LinkFile) (base : Base) (before after : Option (List ℕ)) (result : Result Tally TossFault) : Type 0 where
+  pub tally : Tally
+  pub next : Base
+  pub step : PacketStep limits (state_in file base) before after (with_tally tally result) (state_in file next)
+  pub count : all_counted tally ≡ counted_in result
+
+-- the same of the messages behind a header, of which so many were counted
+pub record ReadsMessages {A : Type 0} (limits : Limits) (sender : Address) (file : LinkFile) (base : Base) (before after : Option (List ℕ)) (counted : ℕ) (result : Result A TossCause) : Type 0 where
+  pub tally : Tally
+  pub next : Base
+  pub step : TossesMessages limits sender (state_in file base) before after tally result (state_in file next)
+  pub count : all_counted tally ≡ counted

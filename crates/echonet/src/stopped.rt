@@ -1,0 +1,139 @@
+//! What a scan that was stopped left in the folder of packets: packets that stand beside their names. The number in
+//! a name is how many messages were scanned before, so it shows whether that scan came to move the cursor.
+
+use crate::inputs::output_fault;
+use echo_device::{Sink, Watched, fill_from};
+use echo_files::{OutputFault, drop_staged, flush_folder, name_staged};
+use echo_status::{Fault, Status};
+use std::alloc::AllocError;
+use std::io::ErrorKind;
+use std::{fs, io};
+
+/// Where a base file has its cursor, in four bytes, low byte first.
+const CURSOR: usize = 8;
+
+/// A packet that stands beside its path, and how many messages were scanned before it.
+#[derive(Drop)]
+struct Left {
+    path: String,
+    before: u32,
+}
+
+/// How many messages of a base file were scanned; none where there is no file.
+pub fn cursor_in(base: Option<&[u8]>) -> u32 {
+    match base {
+        Some(bytes) if bytes.len() >= CURSOR + 4 => u32::from_le_bytes([
+            bytes[CURSOR],
+            bytes[CURSOR + 1],
+            bytes[CURSOR + 2],
+            bytes[CURSOR + 3],
+        ]),
+        _ => 0,
+    }
+}
+
+/// The same of the base file with this path, as it is now, where that can be read.
+pub fn cursor_of(rt: &HostRuntime, base: &str) -> Option<u32> {
+    match fs::open(rt, base) {
+        Ok(file) => {
+            let mut front = [0u8; CURSOR + 4];
+            let came = fill_from(&mut Watched::new(file), &mut front, 0).ok()?;
+            Some(cursor_in(Some(&front[..came])))
+        }
+        Err(error) if error.kind() == ErrorKind::NotFound => Some(0),
+        Err(_) => None,
+    }
+}
+
+/// Brings scans of the system with this address into the folder that were stopped to their end: where the cursor was
+/// moved a packet gets its name, else it is removed. `cursor` is how many messages were scanned so far.
+pub fn finish_stopped<E: Sink>(
+    rt: &HostRuntime,
+    own: &str,
+    folder: &str,
+    cursor: u32,
+    errors: &mut E,
+) -> Status {
+    let found = match packets_left(rt, own, folder) {
+        Ok(found) => found,
+        Err(fault) => return fault.report(errors),
+    };
+    for left in &found {
+        let path = left.path.as_str();
+        if let Err(fault) = finish(rt, own, left, cursor) {
+            return output_fault(fault, path).report(errors);
+        }
+    }
+    if !found.is_empty() {
+        if let Err(fault) = flush_folder(rt, folder) {
+            return output_fault(fault, folder).report(errors);
+        }
+    }
+    Status::Good
+}
+
+// Names the packet, or removes it.
+fn finish(rt: &HostRuntime, own: &str, left: &Left, cursor: u32) -> Result<(), OutputFault> {
+    if left.before < cursor {
+        name_staged(rt.alloc(), rt, left.path.as_str(), own)
+    } else {
+        drop_staged(rt.alloc(), rt, left.path.as_str(), own)
+    }
+}
+
+// The packets of the system that stand beside their names in the folder. One that is not there has none.
+fn packets_left<'a>(rt: &HostRuntime, own: &str, folder: &'a str) -> Result<Vec<Left>, Fault<'a>> {
+    let ending = format!(in rt.alloc(); ".pkt.~{own}~.new")?;
+    let mut found = Vec::new(rt.alloc());
+    let listing = match fs::read_dir(rt, folder) {
+        Ok(listing) => listing,
+        Err(error) if error.kind() == ErrorKind::NotFound => return Ok(found),
+        Err(error) => return Err(listing_fault(&error, folder)),
+    };
+    for entry in listing {
+        match entry {
+            Ok(entry) => {
+                if let Some((front, before)) = packet_beside(entry.file_name(), ending.as_str()) {
+                    let path = path_in(rt, folder, front)?;
+                    found.push(Left { path, before })?;
+                }
+            }
+            // A name that is no text is none of ours.
+            Err(error) if error.kind() == ErrorKind::InvalidFilename => {}
+            Err(error) => return Err(listing_fault(&error, folder)),
+        }
+    }
+    Ok(found)
+}
+
+fn listing_fault<'a>(error: &io::Error, folder: &'a str) -> Fault<'a> {
+    match error.kind() {
+        ErrorKind::OutOfMemory => Fault::OutOfMemory,
+        _ => Fault::CannotUse(folder),
+    }
+}
+
+// What stands before `.pkt` in the name of a packet beside its own, and the number at its end.
+fn packet_beside<'n>(name: &'n str, ending: &str) -> Option<(&'n str, u32)> {
+    let front = name.strip_suffix(ending)?;
+    let (_, number) = front.rsplit_once('.')?;
+    let before = number.parse::<u32>().ok()?;
+    Some((front, before))
+}
+
+// The path of a packet in the folder.
+fn path_in(rt: &HostRuntime, folder: &str, front: &str) -> Result<String, AllocError> {
+    let mut path = folder_path(rt, folder)?;
+    path.push_str(front)?;
+    path.push_str(".pkt")?;
+    Ok(path)
+}
+
+/// The folder, and a `/` where it ends in none.
+pub fn folder_path(rt: &HostRuntime, folder: &str) -> Result<String, AllocError> {
+    let mut path = String::from_str(rt.alloc(), folder)?;
+    if !folder.ends_with('/') {
+        path.push('/')?;
+    }
+    Ok(path)
+}
