@@ -10,7 +10,7 @@ use std::test::Fail;
 const FOLDER: &[u8] = b"disk_tests_base/";
 
 /// A length of a log that ends inside its second record.
-const INSIDE: u64 = 40;
+const INSIDE: u64 = 75;
 
 #[test]
 fn a_base_folder_is_opened_again_and_without_a_record_cut_short(
