@@ -1,6 +1,6 @@
 //! A base folder on files of the system.
 use crate::bases::{Base, Change, change_folder, read_base};
-use echo_folder::open;
+use echo_folder::{Mark, open};
 use echo_real_disk::{RealDisk, Unknown};
 use std::fs;
 use std::fs::OpenOptions;
@@ -8,6 +8,19 @@ use std::test::Fail;
 
 /// The base folder of the test.
 const FOLDER: &[u8] = b"disk_tests_base/";
+
+/// Nobody's mark, and that of the folder's owner.
+const UNCLAIMED: Mark = Mark {
+    owner: 0,
+    first: 0,
+    second: 0,
+};
+
+const CLAIMED: Mark = Mark {
+    owner: 5,
+    first: 6,
+    second: 7,
+};
 
 /// A length of a log that ends inside its second record.
 const INSIDE: u64 = 75;
@@ -24,17 +37,20 @@ fn a_base_folder_is_opened_again_and_without_a_record_cut_short(
         messages: Vec::from_slice(alloc, b"first message")?,
         keys: Vec::from_slice(alloc, b"first key")?,
         cursor: 1,
+        mark: CLAIMED,
     };
     let second = Change {
         anew: true,
         messages: Vec::from_slice(alloc, b"another")?,
         keys: Vec::from_slice(alloc, b"key")?,
         cursor: 2,
+        mark: CLAIMED,
     };
     let empty = Base {
         messages: Vec::new(alloc),
         keys: Vec::new(alloc),
         cursor: 0,
+        mark: UNCLAIMED,
     };
     let before = empty.changed(alloc, &first)?;
     let after = before.changed(alloc, &second)?;
