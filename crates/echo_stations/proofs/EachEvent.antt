@@ -65,7 +65,7 @@ first-agrees links files are = record {
   only_postings = λ s there m has. absurd (none-filed files s there m has.filed);
 }
 
-fresh-files : (files : List LinkFile) → map own_address (map fresh files) ≡ map file_address files
+pub fresh-files : (files : List LinkFile) → map own_address (map fresh files) ≡ map file_address files
 fresh-files [] = refl
 fresh-files (file ∷ files) = ap (λ (xs : List Address). file_address file ∷ xs) (fresh-files files)
 

@@ -131,7 +131,7 @@ part-delivered run i s k p bytes new before there is front =
     }
 
 -- what is read of a packet file is its bytes
-opened-bytes : (packets : List (List ℕ)) (k : ℕ) (file : Coming) (reader : Device) → IsPacketAt packets k file → Opens (λ (d : Device). d.contents) file (Ok reader)
+pub opened-bytes : (packets : List (List ℕ)) (k : ℕ) (file : Coming) (reader : Device) → IsPacketAt packets k file → Opens (λ (d : Device). d.contents) file (Ok reader)
     → (bytes : List ℕ) × (nth k packets ≡ Some bytes) × (reader.contents ≡ Some bytes)
 opened-bytes packets k (Holds bytes) reader at opened = (bytes, at, opened)
 opened-bytes packets k (Fails why) reader at opened = absurd opened
@@ -259,14 +259,14 @@ left-behind [] old fault left new (none, rest, end) = absurd (none_some (sym non
 left-behind (file ∷ files) old fault left new (inl (run, first, more)) = let less = left-behind files run fault left new more in omega (arith, less)
 left-behind (file ∷ files) old fault left new (inr (why, is, same, last)) = omega (arith, ap (λ (l : List Coming). length l) same)
 
-same-length : (packets : List (List ℕ)) (indexes : List ℕ) (files : List Coming) → Paired (IsPacketAt packets) indexes files → length indexes ≡ length files
+pub same-length : (packets : List (List ℕ)) (indexes : List ℕ) (files : List Coming) → Paired (IsPacketAt packets) indexes files → length indexes ≡ length files
 same-length packets [] [] are = refl
 same-length packets [] (file ∷ files) are = absurd are
 same-length packets (k ∷ indexes) [] are = absurd are
 same-length packets (k ∷ indexes) (file ∷ files) are = let e = same-length packets indexes files are.1 in omega (arith, e)
 
 -- one more was tossed whole
-whole-more : (packets : List (List ℕ)) (k : ℕ) (indexes : List ℕ) (files : List Coming) (old : TossRun) (stopped : Option Fault) (left : List Coming) (new : TossRun)
+pub whole-more : (packets : List (List ℕ)) (k : ℕ) (indexes : List ℕ) (files : List Coming) (old : TossRun) (stopped : Option Fault) (left : List Coming) (new : TossRun)
     → Paired (IsPacketAt packets) indexes files → TossesEach itself files old stopped left new
     → k ∷ whole_of indexes stopped left ≡ whole_of (k ∷ indexes) stopped left
 whole-more packets k indexes files old None left new are each = refl
