@@ -10,3 +10,4 @@ pub mod Replied
 pub mod Coming
 pub mod TossedPacket
 pub mod Tossed
+pub mod PacketFiles

@@ -1,6 +1,5 @@
-ghost use Rattle.std.specs.Prelude.{◌≡◌, ◌++◌, None, length, map, IfOk, OnOk};
+ghost use Rattle.std.specs.Prelude.{◌≡◌, ◌++◌, None, map, IfOk, OnOk};
 ghost use Rattle.std.specs.List.{flat_map};
-ghost use Rattle.echo_packet.specs.Packet.{packet_bytes};
 ghost use Rattle.echo_status.specs.Devices.{output_of};
 ghost use Rattle.echo_changing.specs.Files.{Leaves};
 ghost use Rattle.echo_changing.specs.Handed.{Handed};
@@ -60,7 +59,7 @@ fn scan_system<'a, S: BuildHasher, W: Sink>(
     let packets = system.scan(stamp)?;
     let base = saved(alloc, system)?;
     let mut lines = Vec::new(alloc);
-    let files = packet_files(alloc, &packets, before, &mut lines)?;
+    let files = packet_files(alloc, packets, before, &mut lines)?;
     print_rest(&mut lines, out)?;
     Ok(Files {
         packets: Items::new(files),
@@ -71,31 +70,29 @@ fn scan_system<'a, S: BuildHasher, W: Sink>(
 /// The file of each packet. Adds a line for each.
 pub fn packet_files(
     alloc: Global,
-    packets: &[Packet],
+    packets: Vec<Packet>,
     before: usize,
     lines: &mut Vec<u8>,
 ) -> Result<Vec<PacketFile>, AllocError>
-    ensures files { IfOk result (λ files. files.items ≡ map (file_sent before) packets.now) }
-    ensures lines { OnOk result (lines.new.items ≡ lines.old.items ++ flat_map line_sent packets.now) }
+    ensures files { IfOk result (λ files. files.items ≡ map (file_sent before) packets.items) }
+    ensures lines { OnOk result (lines.new.items ≡ lines.old.items ++ flat_map line_sent packets.items) }
 {
-    let mut files = Vec::new(alloc);
+    let mut files = Vec::with_capacity(alloc, packets.len())?;
     'packets: for packet in packets {
-        let file = packet_file(alloc, packet, before)?;
-        push_packet(lines, packet, file.bytes.len())?;
-        files.push(file)?;
+        push_packet(alloc, lines, &packet)?;
+        files.push(packet_file(alloc, packet, before)?)?;
     }
     Ok(files)
 }
 
 // The file of a packet.
-fn packet_file(alloc: Global, packet: &Packet, before: usize) -> Result<PacketFile, AllocError>
-    ensures { IfOk result (λ file. file ≡ file_sent before packet.now) }
+fn packet_file(alloc: Global, packet: Packet, before: usize) -> Result<PacketFile, AllocError>
+    ensures { IfOk result (λ file. file ≡ file_sent before packet) }
 {
     let name = packet_name(alloc, destination(&packet.header), before)?;
-    let bytes = packet.encode(alloc)?;
     Ok(PacketFile {
         name: Items::new(name),
-        bytes: Items::new(bytes),
+        packet,
     })
 }
 
@@ -121,11 +118,11 @@ fn packet_name(alloc: Global, to: Address, before: usize) -> Result<Vec<u8>, All
     Ok(name.into_bytes())
 }
 
-// Adds the line of a packet of so many bytes.
-fn push_packet(lines: &mut Vec<u8>, packet: &Packet, bytes: usize) -> Result<(), AllocError>
-    requires { bytes ≡ length (packet_bytes packet.now.header packet.now.messages) }
+// Adds the line of a packet, with the count of its bytes.
+fn push_packet(alloc: Global, lines: &mut Vec<u8>, packet: &Packet) -> Result<(), AllocError>
     ensures { OnOk result (lines.new.items ≡ lines.old.items ++ line_sent packet.now) }
 {
     let to = destination(&packet.header);
+    let bytes = packet.encode(alloc)?.len();
     push_sent(lines, to, packet.messages.len(), bytes)
 }

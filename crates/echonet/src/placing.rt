@@ -92,20 +92,31 @@ fn stage_packets<E: Sink>(
     errors: &mut E,
 ) -> Status {
     for (i, (packet, path)) in packets.iter().zip(paths).enumerate() {
-        let new = NewFile {
-            path: path.as_str(),
-            own,
-            bytes: packet.bytes.as_slice(),
-            known_by: PACKET_KNOWN_BY,
-        };
-        if let Err(fault) = stage_file(rt.alloc(), rt, new) {
+        if let Err(fault) = stage_packet(rt, own, packet, path.as_str()) {
             for staged in paths.iter().take(i) {
                 let _ = drop_staged(rt.alloc(), rt, staged.as_str(), own);
             }
-            return output_fault(fault, path.as_str()).report(errors);
+            return fault.report(errors);
         }
     }
     flushed(rt, folder, paths, errors)
+}
+
+// Writes a packet beside its name. Its bytes are held no longer than that takes.
+fn stage_packet<'p>(
+    rt: &HostRuntime,
+    own: &str,
+    packet: &PacketFile,
+    path: &'p str,
+) -> Result<(), Fault<'p>> {
+    let bytes = packet.bytes(rt.alloc())?;
+    let new = NewFile {
+        path,
+        own,
+        bytes: &bytes,
+        known_by: PACKET_KNOWN_BY,
+    };
+    stage_file(rt.alloc(), rt, new).map_err(|fault| output_fault(fault, path))
 }
 
 // Gives each packet its name, and flushes the folder. One whose name was taken meanwhile stays beside it for the next

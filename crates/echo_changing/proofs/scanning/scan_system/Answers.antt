@@ -2,7 +2,7 @@ use Rattle.std.proofs.Common.{◌≡◌, ◌-◌, ◌++◌, ℕ, List, map, Some
 use Rattle.std.specs.List.{flat_map}
 use Rattle.echo_steps.specs.declared.packet.Packet.{Packet}
 use Rattle.echo_changing.specs.declared.leaving.Files.{Files}
-use Rattle.echo_changing.specs.declared.leaving.PacketFile.{PacketFile}
+use Rattle.echo_changing.specs.PacketFiles.{PacketFile}
 use Rattle.echo_changing.specs.Scanned.{file_sent, line_sent}
 use Rattle.std.proofs.lemmas.Result.{err_from_is_err_and}
 use Rattle.echo_changing.proofs.Stationed.{scan_refused, scan_unsaved, was_scanned}
@@ -29,10 +29,9 @@ pub returns-in_err-print_rest : goal.returns-in_err-print_rest
 returns-in_err-print_rest g c handed given went_on =
     let p = err_from_is_err_and c.from_residual-in_err-print_rest.result c.from_residual-in_err-print_rest.ensures.1 in
     let files : Files = record { packets = c.in_ok-files.files.items; base = Some c.in_ok-base.base } in
-    let same = c.deref.ensures.value in
     let before : ℕ = c.filed.result - c.waiting.result in
-    let sent = subst (λ (ps : List Packet). c.in_ok-files.files.items ≡ map (file_sent before) ps) same c.in_ok-files.ensures.files in
-    let printed = subst (λ (ps : List Packet). c.packet_files.new.lines.items ≡ c.new-lines.result.items ++ flat_map line_sent ps) same c.in_ok-files.ensures.lines in
+    let sent = c.in_ok-files.ensures.files in
+    let printed = c.in_ok-files.ensures.lines in
     let right = was_scanned c.args.stamp handed c.args.system.now c.scan.new.self c.in_ok-packets.packets.items c.in_ok-files.files.items c.filed.result c.waiting.result
     before c.in_ok-base.base c.new-lines.result.items c.packet_files.new.lines.items files given c.filed.ensures.base c.filed.ensures.count c.waiting.ensures refl c.in_ok-packets.ensures
     c.in_ok-base.ensures.ok c.in_ok-base.ensures.counts sent c.new-lines.ensures.items printed
@@ -44,10 +43,9 @@ returns-in_err-print_rest g c handed given went_on =
 
 pub returns : goal.returns
 returns g c handed given went_on =
-    let same = c.deref.ensures.value in
     let before : ℕ = c.filed.result - c.waiting.result in
-    let sent = subst (λ (ps : List Packet). c.in_ok-files.files.items ≡ map (file_sent before) ps) same c.in_ok-files.ensures.files in
-    let printed = subst (λ (ps : List Packet). c.packet_files.new.lines.items ≡ c.new-lines.result.items ++ flat_map line_sent ps) same c.in_ok-files.ensures.lines in
+    let sent = c.in_ok-files.ensures.files in
+    let printed = c.in_ok-files.ensures.lines in
     let right = was_scanned c.args.stamp handed c.args.system.now c.scan.new.self c.in_ok-packets.packets.items c.in_ok-files.files.items c.filed.result c.waiting.result
     before c.in_ok-base.base c.new-lines.result.items c.packet_files.new.lines.items _ given c.filed.ensures.base c.filed.ensures.count c.waiting.ensures refl c.in_ok-packets.ensures
     c.in_ok-base.ensures.ok c.in_ok-base.ensures.counts sent c.new-lines.ensures.items printed
