@@ -201,5 +201,37 @@ post one Ann Refused "no id" 2> fault.txt || status=$?
 same "a reply to no id" "2 echonet: B6 BadReply" "$status $(cat fault.txt)"
 same "names and subjects that begin with a hyphen" posted "$(post one -a --help | cut -d ' ' -f 1)"
 
+# A reader of the field. Words: a file, from, to, subject, the two bytes of its attribute word, body.
+field() { { printf '%s' "$1"; head -c "$2" /dev/zero; } | head -c "$2"; }
+stored() {
+  { field "$2" 36; field "$3" 36; field "$4" 72; field '26 Nov 26  12:00:00' 20; field '' 22
+    printf "$5\\0\\0%s\\r\\0" "$6"; } > "$1"
+}
+reader() { "$scripts/reader.sh" four "$1" "$2"; }
+told_id='posted TEST 1:10/1 ????????'
+same "reader.sh adds what the base has" "exported 21 messages, next 21" "$(reader TEST four/read)"
+stored four/read/22.msg Ann Bob Written '\0\1' 'From the editor.'
+stored four/read/23.msg Ann Bob 'Sent before' '\10\1' 'It is sent.'
+stored four/read/24.msg Ann Bob 'Not local' '\0\0' 'It came.'
+stored four/read/25.msg 'Bob the builder of thirty-six bytes!' Ann 'Too long' '\0\1' 'No end of the name.'
+reader TEST four/read > told.txt
+# shellcheck disable=SC2053
+same "it posts what an editor wrote" yes "$([[ $(head -n 1 told.txt) == $told_id ]] && echo yes)"
+same "and puts aside what is refused" "put aside 25.msg: echonet: B3 FieldTooLong" "$(sed -n 2p told.txt)"
+same "and adds what is new" "exported 1 messages, next 22" "$(tail -n 1 told.txt)"
+same "what it did with the files" "22.msg | 25.msg 25.msg.why | 23.msg 24.msg 25.msg" \
+  "$(ls four/read/posted | xargs) | $(ls four/read/refused | xargs) | $(cd four/read && ls 2[2-9].msg | xargs)"
+same "the message in the base" "subject Written line From the editor." \
+  "$("$program" list --from 21 four/base | grep -E '^subject|^line [A-Z]' | xargs)"
+same "a second run does nothing" "exported 0 messages, next 22" "$(reader TEST four/read)"
+stored four/read/27.msg Ann Bob 'No such area' '\0\1' 'For nobody.'
+reader OTHER four/other > /dev/null
+cp four/read/27.msg four/other/
+same "an area that is not there" "put aside 27.msg: echonet: B1 NoArea" "$(reader OTHER four/other | head -n 1)"
+for number in 1 2 3; do reader TEST four/read > "read.$number" & done
+wait
+same "runs at the same moment post a file once" "1 23" \
+  "$(cat read.? | grep -c ^posted) $("$program" list four/base | grep -c ^message)"
+
 echo "$passed checks passed, $failed failed"
 [ $failed -eq 0 ]

@@ -15,6 +15,8 @@ mod graph;
 #[cfg(test)]
 mod links;
 #[cfg(test)]
+mod mail;
+#[cfg(test)]
 mod nodelist;
 #[cfg(test)]
 mod packet;
