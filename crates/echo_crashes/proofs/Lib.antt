@@ -6,3 +6,7 @@ pub mod Others
 pub mod EachCommand
 pub mod Shown
 pub mod Whole
+pub mod Elsewhere
+pub mod InFolders
+pub mod OverFolders
+pub mod AllFolders

@@ -1,3 +1,4 @@
 pub mod Disks
 pub mod Stopping
 pub mod OverCrashes
+pub mod Folders

@@ -1,5 +1,6 @@
 //! What holds of the definitions. Each law is the contract of a function that does nothing.
 
+ghost use Rattle.echo_crashes.specs.Folders.{FoldersAreFiles, HeadlineWithFolders};
 ghost use Rattle.echo_crashes.specs.OverCrashes.{CrashesAreNone, HeadlineOverCrashes, SoundOverCrashes, WholeAreAmong};
 
 /// Whatever stops commands at whatever moment: the disks have the base files and postings of a net on which such
@@ -28,4 +29,16 @@ pub fn files_are_sound_over_crashes()
 /// whole, its base file has each posting exactly once, unchanged where it was not purged.
 pub fn files_are_in_order_over_crashes()
     ensures { HeadlineOverCrashes }
+{}
+
+/// What commands do on stations with base folders, which are committed at once or not at all, they do on the base files
+/// that these folders stand for.
+pub fn folders_are_base_files()
+    ensures { FoldersAreFiles }
+{}
+
+/// So the headline holds over crashes on nets in which some stations have base folders, or all: of each, what the
+/// files show is what its folder holds.
+pub fn folders_are_in_order_over_crashes()
+    ensures { HeadlineWithFolders }
 {}

@@ -9,5 +9,5 @@ mod laws;
 
 pub use laws::{
     crashes_are_none, files_are_in_order_over_crashes, files_are_sound_over_crashes,
-    whole_commands_are_among_them,
+    folders_are_base_files, folders_are_in_order_over_crashes, whole_commands_are_among_them,
 };
