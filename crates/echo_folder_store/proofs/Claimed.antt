@@ -5,12 +5,13 @@ use Rattle.echo_folder.specs.declared.log.Mark.{Mark}
 use Rattle.echo_filed.specs.Stored.{Stored}
 use Rattle.echo_base.specs.Base.{Base}
 use Rattle.echo_keys.specs.Keys.{keys_from}
+use Rattle.echo_keys.specs.declared.index.Index.{Index}
 use Rattle.echo_keys.proofs.Placed.{keys_long}
 use Rattle.echo_store.specs.Store.{CommitsNothing, GoesOn}
 use Rattle.echo_folder_store.specs.Held.{HoldsBase, digest_by}
 use Rattle.echo_folder_store.specs.Opened.{IsOpen, held_by, path_of}
 use Rattle.echo_folder_store.specs.Owned.{IsUnclaimed, with_mark}
-use Rattle.echo_folder_store.specs.State.{IsUsable, state_of}
+use Rattle.echo_folder_store.specs.State.{IsIndexed, IsUsable, state_of}
 use Rattle.echo_folder_store.specs.declared.folder.Folder.{Folder}
 use Rattle.echo_folder_store.proofs.Staged.{nothing_left, outside_same}
 use Rattle.echo_folder_store.proofs.Stated.{stages}
@@ -89,3 +90,6 @@ claim_commits keyed d f g mark result k claim usable =
     by_claim (λ (x : Folder). CommitsNothing (state_of d keyed f k) (state_of d keyed x k)) f g mark result claim
     (stages d d keyed f f k k refl (λ honest. nothing_left d f (usable.opened honest)) (outside_same (path_of f) d))
     (λ free. stages d d keyed f (with_mark f mark) k k refl (λ honest. nothing_left d f (usable.opened honest)) (outside_same (path_of f) d))
+
+pub claim_indexed : (d : DiskState) (f g : Folder) (mark : Mark) (result : Bool) (i : Index) → IsClaim f g mark result → IsIndexed d f i → IsIndexed d g i
+claim_indexed d f g mark result i claim was = by_claim (λ (x : Folder). IsIndexed d x i) f g mark result claim was (λ free. was)

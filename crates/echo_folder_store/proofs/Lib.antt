@@ -1,6 +1,7 @@
 mod Bases
 mod Causes
 mod Claimed
+mod Indexed
 mod Looked
 mod Numbered
 mod OneMore
@@ -8,4 +9,5 @@ mod Seen
 mod Single
 mod Staged
 mod Stated
+mod WhereSo
 mod Whole

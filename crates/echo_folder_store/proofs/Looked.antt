@@ -36,18 +36,19 @@ pub some_message : (base : List Filed) (i : ℕ) → i < length base → Filed
 some_message [] i within = absurd (omega (arith, within))
 some_message (m ∷ rest) i within = m
 
--- those up to one that was looked at do not pass
-pub passed_on : (test : Filed → Bool) (digest : ℕ) (base : List Filed) (keys : List ℕ) (from place : ℕ) (alone : Base) → HaveDigest test digest base keys
-    → ((j : ℕ) (d : Filed) → j < from → j < length base → test (get_or base j d) ≡ false) → ((j : ℕ) → from ≤ j → j < place → digest_at keys j ≢ digest)
-    → IsAloneOf base place alone → list_any test alone.messages ≡ false → (j : ℕ) (d : Filed) → j < place + 1 → j < length base → test (get_or base j d) ≡ false
-passed_on test digest base keys from place alone have before others is fails j d upto inside =
+-- those from one on that was looked at do not pass
+pub passed_on : (test : Filed → Bool) (digest : ℕ) (base : List Filed) (keys : List ℕ) (below place : ℕ) (alone : Base) → length keys ≡ 16 * length base → HaveDigest test digest base keys
+    → ((j : ℕ) (d : Filed) → below ≤ j → j < length base → test (get_or base j d) ≡ false) → ((j : ℕ) → place < j → j < below → j < length keys / 16 → digest_at keys j ≢ digest)
+    → IsAloneOf base place alone → list_any test alone.messages ≡ false → (j : ℕ) (d : Filed) → place ≤ j → j < length base → test (get_or base j d) ≡ false
+passed_on test digest base keys below place alone many have behind others is fails j d from inside =
     let here : (j ≡ place) → test (get_or base j d) ≡ false = λ at. subst (λ (n : ℕ). test (get_or base n d) ≡ false) (sym at) (alone_fails test base place alone d is fails) in
-    ⊎_elim (λ (h : j < from). before j d h inside)
-    (λ (h : from ≤ j). ⊎_elim (λ (k : j < place). other_digest test digest base keys have j d inside (others j h k)) (λ (k : place ≤ j). here (omega (arith, k, upto))) (cases_lt j place))
-    (cases_lt j from)
+    ⊎_elim
+    (λ (h : j < below). ⊎_elim (λ (k : place < j). other_digest test digest base keys have j d inside (others j k h (omega (arith, many, inside)))) (λ (k : j ≤ place). here (omega (arith, k, from))) (cases_lt place j))
+    (λ (h : below ≤ j). behind j d h inside)
+    (cases_lt j below)
 
--- where all up to a number fail, and none behind has the digest, none passes
-pub none_found : (test : Filed → Bool) (digest : ℕ) (base : List Filed) (keys : List ℕ) (from : ℕ) → length keys ≡ 16 * length base → HaveDigest test digest base keys
-    → ((j : ℕ) (d : Filed) → j < from → j < length base → test (get_or base j d) ≡ false) → ((j : ℕ) → from ≤ j → j < length keys / 16 → digest_at keys j ≢ digest) → list_any test base ≡ false
-none_found test digest base keys from many have before others =
-    none_passes test base (λ j d inside. ⊎_elim (λ (h : j < from). before j d h inside) (λ (h : from ≤ j). other_digest test digest base keys have j d inside (others j h (omega (arith, many, inside)))) (cases_lt j from))
+-- where all from a number on fail, and none before has the digest, none passes
+pub none_found : (test : Filed → Bool) (digest : ℕ) (base : List Filed) (keys : List ℕ) (below : ℕ) → length keys ≡ 16 * length base → HaveDigest test digest base keys
+    → ((j : ℕ) (d : Filed) → below ≤ j → j < length base → test (get_or base j d) ≡ false) → ((j : ℕ) → j < below → j < length keys / 16 → digest_at keys j ≢ digest) → list_any test base ≡ false
+none_found test digest base keys below many have behind others =
+    none_passes test base (λ j d inside. ⊎_elim (λ (h : j < below). other_digest test digest base keys have j d inside (others j h (omega (arith, many, inside)))) (λ (h : below ≤ j). behind j d h inside) (cases_lt j below))

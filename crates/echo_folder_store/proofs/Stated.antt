@@ -8,7 +8,7 @@ use Rattle.echo_folder.specs.Moments.{IsBeforeOrAfter, KeepsOutside, StandsAlone
 use Rattle.echo_folder.specs.Standing.{BaseBytes, StandsFor}
 use Rattle.echo_folder.proofs.Quiet.{base_quiet}
 use Rattle.echo_base.specs.Base.{Base}
-use Rattle.echo_store.specs.Store.{CommitsNothing, GoesOn, HasStoreCause, IsSameStore, KeepsBeside, LooksOn, MayCommit, StandsBeside, StandsForEither, StoreState}
+use Rattle.echo_store.specs.Store.{Commits, CommitsNothing, GoesOn, HasStoreCause, IsSameStore, KeepsBeside, LooksOn, MayCommit, StandsBeside, StandsForEither, StoreState}
 use Rattle.echo_store.specs.declared.store_error.StoreError.{StoreError}
 use Rattle.echo_store.specs.declared.store_error.StoreError.TheVariants as error
 use Rattle.echo_folder_store.specs.Answers.{Answers, HasReadCause}
@@ -63,6 +63,17 @@ went_on d e keyed f g h k (Ok done) named opened same kept = record {
   honest = kept.honest;
 }
 went_on d e keyed f g h k (Err failed) named opened same kept = tt
+
+-- what was held is committed
+pub committed : {T : Type 0} (d e : DiskState) (keyed : ℕ → ℕ → List ℕ → ℕ) (f g : Folder) (h k : Option Base) (r : Result T StoreError) → IsNamed g → Honestly e (OnOk r (IsOpen e g))
+    → Honestly e (OnOk r (held_by e g ≡ held_by d f)) → Honestly e (OnOk r (committed_by e g ≡ held_by d f)) → KeepsOutside (path_of f) d e → OnOk r (Commits (state_of d keyed f h) (state_of e keyed g k))
+committed d e keyed f g h k (Ok done) named opened same now kept = record {
+  ready = record { named = named; opened = opened };
+  keeps = λ honest base is. subst (λ (b : BaseBytes). HoldsBase keyed b base) (sym (same honest)) is;
+  committed = λ honest base is. subst (λ (b : BaseBytes). HoldsBase keyed b base) (sym (now honest)) is;
+  honest = kept.honest;
+}
+committed d e keyed f g h k (Err failed) named opened same now kept = tt
 
 -- the base from before a commit, or the one that was held
 either_stands : (keyed : ℕ → ℕ → List ℕ → ℕ) (path : List ℕ) (first next : Base) (before now : BaseBytes) (c : Files) → HoldsBase keyed before first → HoldsBase keyed now next

@@ -3,6 +3,8 @@ use Rattle.std.specs.Prelude.{ℕ, List, Option, Some, None, slice_get}
 use Rattle.echo_disk.specs.Disk.{DiskState, Honestly, IsIn}
 use Rattle.echo_base.specs.Base.{Base}
 use Rattle.echo_filed.specs.Filed.{Filed}
+use Rattle.echo_keys.specs.Index.{IsIndexOf}
+use Rattle.echo_keys.specs.declared.index.Index.{Index}
 use Rattle.echo_store.specs.Store.{StoreState}
 use Rattle.echo_folder_store.specs.Held.{HoldsBase, StandsForBase}
 use Rattle.echo_folder_store.specs.Opened.{IsNamed, IsOpen, committed_by, held_by, path_of}
@@ -30,4 +32,22 @@ state_of disk keyed folder alone = record {
   is_own = λ m. IsIn (path_of folder) m;
   undoes = ⊥;
   stays = λ honest usable base is c left. record { bytes = committed_by disk folder; stands = (usable.opened honest).staged.stands c left; holds = is };
+}
+
+-- where the disk was honest, an index is one of the folder's keys
+abbrev pub IsIndexed : DiskState → Folder → Index → Type 0
+IsIndexed disk folder index = Honestly disk (IsIndexOf folder.keys.items index)
+
+-- a store to which calls may be made only where this is so too
+abbrev pub where_so : StoreState → Type 0 → StoreState
+where_so s so = record {
+  disk = s.disk;
+  is_ready = s.is_ready × so;
+  keeps = s.keeps;
+  committed = s.committed;
+  at_hand = s.at_hand;
+  stands = s.stands;
+  is_own = s.is_own;
+  undoes = s.undoes;
+  stays = λ honest ready base is c left. s.stays honest ready.0 base is c left;
 }

@@ -4,6 +4,7 @@ ghost use Rattle.std.specs.List.{list_any};
 ghost use Rattle.echo_disk.specs.Disk.{Honestly};
 ghost use Rattle.echo_disk.specs.Runs.{ChangesNothing};
 ghost use Rattle.echo_filed.specs.Filed.{Filed};
+ghost use Rattle.echo_keys.specs.Index.{IsIndexOf};
 ghost use Rattle.echo_keys.specs.Keys.{StandWhereTold};
 ghost use Rattle.echo_folder_store.specs.Answers.{Answers, HasReadCause, HaveDigest};
 ghost use Rattle.echo_folder_store.specs.Opened.{IsOpen, held_by};
@@ -11,33 +12,36 @@ ghost use Rattle.echo_folder_store.specs.Opened.{IsOpen, held_by};
 use crate::folder::Folder;
 use crate::sought::Sought;
 use echo_disk::Disk;
-use echo_keys::next_with;
+use echo_keys::Index;
 use echo_store::StoreError;
 use std::alloc::Global;
 
 impl Folder {
-    /// Whether a message is the one that is looked for, where each such message has the digest.
+    /// Whether a message is the one that is looked for, where each such message has the digest. The index is one of
+    /// the folder's keys; what it has not yet is passed over.
     pub fn find<D: Disk, W: Sought>(
         &self,
         alloc: Global,
         disk: &mut D,
+        index: &Index,
         sought: &W,
         digest: u64,
     ) -> Result<bool, StoreError>
-        requires { Honestly (D.state disk.old) (IsOpen (D.state disk.old) self.now) }
+        requires opened { Honestly (D.state disk.old) (IsOpen (D.state disk.old) self.now) }
+        requires indexed { Honestly (D.state disk.old) (IsIndexOf self.now.keys.items index.now) }
         ensures found { Honestly (D.state disk.new) ((base : List Filed) → StandWhereTold base (held_by (D.state disk.old) self.now).messages self.now.keys.items
             → HaveDigest (W.test sought.now) digest base self.now.keys.items
             → Answers (λ found. found ≡ list_any (W.test sought.now) base) result) }
         ensures quiet { ChangesNothing (D.state disk.old) (D.state disk.new) }
         ensures cause { HasReadCause (D.failures disk.old) (D.failures disk.new) result }
     {
-        let mut from = 0;
-        'entries: while let Some(place) = next_with(&self.keys, digest, from) {
+        let mut below = self.count();
+        'entries: while let Some(place) = index.find_below(&self.keys, digest, below) {
             let alone = self.read(alloc, disk, place)?;
             if sought.is_in(&alone)? {
                 return Ok(true);
             }
-            from = place + 1;
+            below = place;
         }
         Ok(false)
     }

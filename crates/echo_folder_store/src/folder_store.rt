@@ -5,7 +5,7 @@ ghost use Rattle.echo_base.specs.Base.{Base};
 ghost use Rattle.echo_folder_store.specs.Held.{HoldsBase};
 ghost use Rattle.echo_folder_store.specs.Opened.{IsNamed, IsOpen, committed_by, held_by};
 ghost use Rattle.echo_folder_store.specs.Owned.{IsUnclaimed, owner_of, with_mark};
-ghost use Rattle.echo_folder_store.specs.State.{state_of};
+ghost use Rattle.echo_folder_store.specs.State.{IsIndexed, state_of, where_so};
 ghost use Rattle.echo_store.specs.Store.{CommitsNothing, GoesOn};
 
 use crate::alone::{Alone, bytes_alone};
@@ -14,17 +14,20 @@ use crate::sought::Id;
 use echo_disk::Disk;
 use echo_filed::{Filed, Key};
 use echo_folder::Mark;
-use echo_keys::{Digest, bytes_of_key};
+use echo_keys::{Digest, Index, bytes_of_key};
 use echo_store::{Store, StoreError};
 use std::alloc::Global;
 use std::marker::PhantomData;
 
 /// A base folder on a disk. After a call that failed in the middle of a change it is to be opened again.
+///
+/// The first look-ups of a run pass over its keys, and the others go by an index of them.
 #[derive(Drop)]
 pub struct FolderStore<D: Disk, H: Digest> {
     alloc: Global,
     disk: D,
     folder: Folder,
+    index: Index,
     // The message at hand.
     alone: Option<Alone>,
     digests: PhantomData<H>,
@@ -47,6 +50,7 @@ impl<D: Disk, H: Digest> FolderStore<D, H> {
             alloc,
             disk,
             folder,
+            index: Index::new(alloc),
             alone: None,
             digests: PhantomData,
         }
@@ -83,7 +87,7 @@ impl<D: Disk, H: Digest> FolderStore<D, H> {
 }
 
 impl<D: Disk, H: Digest> Store for FolderStore<D, H> {
-    ghost state = { λ store. state_of (D.state store.disk) H.keyed store.folder store.alone };
+    ghost state = { λ store. where_so (state_of (D.state store.disk) H.keyed store.folder store.alone) (IsIndexed (D.state store.disk) store.folder store.index) };
 
     ghost failures = { λ store. D.failures store.disk };
 
@@ -98,13 +102,21 @@ impl<D: Disk, H: Digest> Store for FolderStore<D, H> {
     fn knows(&mut self, key: &Key) -> Result<bool, StoreError> {
         let bytes = bytes_of_key(self.alloc, key)?;
         let digest = self.folder.digest::<H>(&bytes);
-        self.folder.find(self.alloc, &mut self.disk, key, digest)
+        self.index.prepare(self.alloc, &self.folder.keys);
+        self.folder
+            .find(self.alloc, &mut self.disk, &self.index, key, digest)
     }
 
     fn has_id(&mut self, msgid: &[u8]) -> Result<bool, StoreError> {
         let digest = self.folder.digest::<H>(msgid);
-        self.folder
-            .find(self.alloc, &mut self.disk, &Id { msgid }, digest)
+        self.index.prepare(self.alloc, &self.folder.keys);
+        self.folder.find(
+            self.alloc,
+            &mut self.disk,
+            &self.index,
+            &Id { msgid },
+            digest,
+        )
     }
 
     fn fetch(&mut self, place: usize) -> Result<(), StoreError> {

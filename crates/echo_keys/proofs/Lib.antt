@@ -1,3 +1,4 @@
 pub mod Digests
+pub mod Indexed
 pub mod Placed
 pub mod Told

@@ -4,7 +4,7 @@ ghost use Rattle.std.specs.Int.{w64, from_le_bytes};
 ghost use Rattle.echo_keys.specs.Keys.{digest_at, entry, place_at, place_behind};
 
 /// How many bytes an entry has.
-const ENTRY: usize = 16;
+pub(crate) const ENTRY: usize = 16;
 
 // Eight bytes from there on, low byte first.
 fn number_at(keys: &[u8], at: usize) -> u64
@@ -63,16 +63,20 @@ pub fn entry(place: u64, digest: u64) -> [u8; 16]
     ]
 }
 
-/// The first message from that number on whose entry has the digest. Its key may yet be another: compare whole keys.
-pub fn next_with(keys: &[u8], digest: u64, from: usize) -> Option<usize>
-    ensures found { IfSome result (λ i. (from ≤ i) × (i < length keys.now / 16) × (digest_at keys.now i ≡ digest)) }
-    ensures first { IfSome result (λ i. (j : ℕ) → from ≤ j → j < i → digest_at keys.now j ≢ digest) }
-    ensures none { IfNone result ((j : ℕ) → from ≤ j → j < length keys.now / 16 → digest_at keys.now j ≢ digest) }
+// The last message from that number on, and below the other, whose entry has the digest.
+pub(crate) fn last_from(keys: &[u8], digest: u64, from: usize, below: usize) -> Option<usize>
+    requires { below ≤ length keys.now / 16 }
+    ensures found { IfSome result (λ i. (from ≤ i) × (i < below) × (digest_at keys.now i ≡ digest)) }
+    ensures last { IfSome result (λ i. (j : ℕ) → i < j → j < below → digest_at keys.now j ≢ digest) }
+    ensures none { IfNone result ((j : ℕ) → from ≤ j → j < below → digest_at keys.now j ≢ digest) }
 {
-    'entries: for i in from..keys.len() / ENTRY {
-        if number_at(keys, ENTRY * i + 8) == digest {
-            return Some(i);
+    let mut end = below;
+    'entries: while end > from {
+        let place = end - 1;
+        if digest_of(keys, place) == digest {
+            return Some(place);
         }
+        end = place;
     }
     None
 }

@@ -1,6 +1,8 @@
 //! What holds of the definitions. Each law is the contract of a function that does nothing.
-ghost use Rattle.std.specs.Prelude.{◌≡◌, ℕ, List};
+ghost use Rattle.std.specs.Prelude.{◌≡◌, ◌++◌, ℕ, List};
 ghost use Rattle.echo_filed.specs.Filed.{Filed, key_of};
+ghost use Rattle.echo_keys.specs.Index.{IsIndexOf};
+ghost use Rattle.echo_keys.specs.declared.index.Index.{Index};
 ghost use Rattle.echo_keys.specs.Keys.{FolderStandsFor, StandWhereTold, TellsEach, digested, digested_key};
 
 /// In the keys of a base folder each message has an entry at its number with the digest of what makes it one.
@@ -18,4 +20,9 @@ pub fn equal_keys_have_one_digest()
 pub fn each_message_stands_where_told()
     ensures { (digest : List ℕ → ℕ) (base : List Filed) (cursor : ℕ) (messages keys : List ℕ)
         → FolderStandsFor digest base cursor messages keys → StandWhereTold base messages keys }
+{}
+
+/// An index of keys is one of these and of more behind them.
+pub fn an_index_stays_one()
+    ensures { (keys more : List ℕ) (index : Index) → IsIndexOf keys index → IsIndexOf (keys ++ more) index }
 {}

@@ -1,5 +1,6 @@
 use Rattle.std.proofs.Common.{◌≡◌, ◌≢◌, ◌≤◌, ◌<◌, ◌/◌, ℕ, List, length, sym, subst, ◌∙◌, arith}
 use Rattle.echo_disk.proofs.Moments.{nothing_twice}
+use Rattle.echo_keys.specs.Index.{IsIndexOf}
 use Rattle.echo_keys.specs.Keys.{digest_at}
 use Rattle.echo_folder_store.proofs.Bases.{told_quiet}
 use Rattle.echo_folder_store.proofs.Looked.{alone_passes, none_found, passed_on, some_message}
@@ -18,6 +19,9 @@ returns-then-branch-clause-found g c honest = λ base told have.
 pub returns-then-branch-clause-quiet : goal.returns-then-branch-clause-quiet
 returns-then-branch-clause-quiet g c = nothing_twice (g.D.Disk.state c.args.disk.now) (g.D.Disk.state c.entries.disk) (g.D.Disk.state c.read.new.disk) c.entries.invariant.quiet c.read.ensures.quiet
 
+pub returns-in_err-is_in-clause-quiet : goal.returns-in_err-is_in-clause-quiet
+returns-in_err-is_in-clause-quiet g c = nothing_twice (g.D.Disk.state c.args.disk.now) (g.D.Disk.state c.entries.disk) (g.D.Disk.state c.read.new.disk) c.entries.invariant.quiet c.read.ensures.quiet
+
 pub entries-preserved : goal.entries-preserved
 entries-preserved g c =
     let keys : c.deref.result.now ≡ c.args.self.now.keys.items = c.deref.ensures.value in
@@ -31,13 +35,18 @@ entries-preserved g c =
           let many = told.many in
           let inside : c.in-Some.place < length base = omega (arith, many, found) in
           let is = c.in_ok-alone.ensures.read honest base (told_quiet (g.D.Disk.state c.args.disk.now) (g.D.Disk.state c.entries.disk) c.args.self.now base c.args.self.now.keys.items c.entries.invariant.quiet told) inside in
-          passed_on test c.args.digest base c.args.self.now.keys.items c.entries.from c.in-Some.place c.in_ok-alone.alone have (c.entries.invariant.passed (c.read.ensures.quiet.honest honest) base told have)
-          (subst (λ (l : List ℕ). (j : ℕ) → c.entries.from ≤ j → j < c.in-Some.place → digest_at l j ≢ c.args.digest) keys c.in-Some.ensures.first) is (sym c.in_ok-is_in.ensures ∙ c.if-branch.false);
+          let before = c.read.ensures.quiet.honest honest in
+          let first = c.entries.invariant.quiet.honest before in
+          let index = subst (λ (l : List ℕ). IsIndexOf l c.args.index.now) (sym keys) (c.requires.indexed first) in
+          passed_on test c.args.digest base c.args.self.now.keys.items c.entries.below c.in-Some.place c.in_ok-alone.alone many have (c.entries.invariant.passed before base told have)
+          (subst (λ (l : List ℕ). (j : ℕ) → c.in-Some.place < j → j < c.entries.below → j < length l / 16 → digest_at l j ≢ c.args.digest) keys (c.in-Some.ensures.last index)) is (sym c.in_ok-is_in.ensures ∙ c.if-branch.false);
     }
 
 pub returns-clause-found : goal.returns-clause-found
 returns-clause-found g c honest = λ base told have.
     let test = g.W.Sought.test c.args.sought.now in
     let keys : c.deref.result.now ≡ c.args.self.now.keys.items = c.deref.ensures.value in
-    sym (none_found test c.args.digest base c.args.self.now.keys.items c.entries.from told.many have (c.entries.invariant.passed honest base told have)
-    (subst (λ (l : List ℕ). (j : ℕ) → c.entries.from ≤ j → j < length l / 16 → digest_at l j ≢ c.args.digest) keys c.in_default.ensures.none))
+    let first = c.entries.invariant.quiet.honest honest in
+    let index = subst (λ (l : List ℕ). IsIndexOf l c.args.index.now) (sym keys) (c.requires.indexed first) in
+    sym (none_found test c.args.digest base c.args.self.now.keys.items c.entries.below told.many have (c.entries.invariant.passed honest base told have)
+    (subst (λ (l : List ℕ). (j : ℕ) → j < c.entries.below → j < length l / 16 → digest_at l j ≢ c.args.digest) keys (c.in_default.ensures.none index)))

@@ -1,4 +1,4 @@
-use Rattle.std.proofs.Common.{◌≡◌, ◌-◌, ◌/◌, ◌<◌, ◌≤◌, ℕ, List, false, length, get_or}
+use Rattle.std.proofs.Common.{◌≡◌, ◌/◌, ◌<◌, ◌≤◌, ℕ, List, false, length, get_or}
 use Rattle.echo_disk.specs.Disk.{Honestly}
 use Rattle.echo_disk.specs.Runs.{ChangesNothing}
 use Rattle.echo_filed.specs.Filed.{Filed}
@@ -11,11 +11,11 @@ abbrev pub invariant-entries : goal.invariant-entries
 invariant-entries g l = record {
   quiet : ChangesNothing (g.D.Disk.state l.fn.disk) (g.D.Disk.state l.disk);
   cause : g.D.Disk.failures l.fn.disk ≤ g.D.Disk.failures l.disk;
-  within : l.from ≤ length l.self.keys.items / 16;
+  within : l.below ≤ length l.self.keys.items / 16;
   passed : Honestly (g.D.Disk.state l.disk) ((base : List Filed) → StandWhereTold base (held_by (g.D.Disk.state l.fn.disk) l.self).messages l.self.keys.items
       → HaveDigest (g.W.Sought.test l.sought) l.digest base l.self.keys.items
-      → (j : ℕ) (d : Filed) → j < l.from → j < length base → g.W.Sought.test l.sought (get_or base j d) ≡ false);
+      → (j : ℕ) (d : Filed) → l.below ≤ j → j < length base → g.W.Sought.test l.sought (get_or base j d) ≡ false);
 }
 
 abbrev pub decreases-entries : goal.decreases-entries
-decreases-entries g l = length l.self.keys.items / 16 - l.from
+decreases-entries g l = l.below

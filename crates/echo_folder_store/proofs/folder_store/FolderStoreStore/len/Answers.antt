@@ -5,4 +5,4 @@ use Rattle.echo_folder_store.proofs.folder_store.FolderStoreStore.len.Goals as g
 pub returns-clause-count : goal.returns-clause-count
 returns-clause-count g c = λ honest base holds.
     let s = c.args.self.now in
-    c.count.ensures ∙ many_messages g.H.Digest.keyed (g.D.Disk.state s.disk) s.folder base (c.requires.opened honest) holds
+    c.count.ensures ∙ many_messages g.H.Digest.keyed (g.D.Disk.state s.disk) s.folder base (c.requires.0.opened honest) holds

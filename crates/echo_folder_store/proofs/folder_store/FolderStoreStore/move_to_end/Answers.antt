@@ -11,4 +11,4 @@ returns-clause-moved g c = λ honest base holds.
     let s = c.args.self.now in
     let d = g.D.Disk.state s.disk in
     let keyed = g.H.Digest.keyed in
-    subst (λ (f : Folder). HoldsBase keyed (held_by d f) (all_scanned base)) (sym c.move_to_end.ensures) (end_holds keyed d s.folder base (c.requires.opened honest) holds)
+    subst (λ (f : Folder). HoldsBase keyed (held_by d f) (all_scanned base)) (sym c.move_to_end.ensures) (end_holds keyed d s.folder base (c.requires.0.opened honest) holds)

@@ -1,0 +1,10 @@
+use Rattle.std.proofs.Common.{◌≡◌, ◌<◌, length}
+use Rattle.echo_keys.specs.Index.{IsIndexOf, count_of}
+use Rattle.echo_keys.proofs.index.Index.follow.Given as goal
+
+abbrev pub invariant-entries : goal.invariant-entries
+invariant-entries l = record {
+  count : count_of l.self ≡ l.i;
+  room : 0 < length l.self.heads.items;
+  chains : IsIndexOf l.keys l.fn.self → IsIndexOf l.keys l.self;
+}

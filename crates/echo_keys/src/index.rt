@@ -1,0 +1,168 @@
+//! An index of the keys, by which a look-up goes to the messages with a digest and not over all of them.
+ghost use Rattle.std.specs.Prelude.{◌≡◌, ◌≢◌, ◌<◌, ◌≤◌, ◌+◌, ◌/◌, ◌↔◌, ◌⊎◌, ℕ, List, length, min, slice_index, IfSome, IfNone, IfOk, OnOk, IsTrue};
+ghost use Rattle.echo_keys.specs.Keys.{digest_at};
+ghost use Rattle.echo_keys.specs.Index.{IsIndexOf, count_of, head_of};
+
+use crate::entries::{ENTRY, digest_of, last_from};
+use std::alloc::{AllocError, Global};
+
+/// How many messages an index has at most: each, counted from 1, is a number of four bytes.
+const MOST: usize = 4_294_967_294;
+
+/// How many look-ups pass over the keys before an index is made of them: a posting has no more.
+const PASSES: u8 = 2;
+
+/// For the low bits of digests the last message with them, and for each message the last one before it with the same:
+/// counted from 1, and 0 where there is none. What was added to the keys since it last followed them, it has not; a
+/// look-up goes over that.
+#[derive(Drop)]
+pub struct Index {
+    heads: Vec<u32>,
+    before: Vec<u32>,
+    // How many look-ups passed over the keys.
+    passes: u8,
+}
+
+// Under which of so many heads a digest stands.
+fn head_of(heads: usize, digest: u64) -> usize
+    requires { 0 < heads }
+    ensures head { result ≡ head_of heads digest }
+    ensures within { result < heads }
+{
+    (digest & (heads as u64 - 1)) as usize
+}
+
+// Whether the message of this number is below the other and has the digest.
+fn has_digest(keys: &[u8], digest: u64, place: usize, below: usize) -> bool
+    requires { below ≤ length keys.now / 16 }
+    ensures { IsTrue result ↔ ((place < below) × (digest_at keys.now place ≡ digest)) }
+{
+    place < below && digest_of(keys, place) == digest
+}
+
+impl Index {
+    /// One that has no message yet.
+    pub fn new(alloc: Global) -> Index
+        ensures index { (keys : List ℕ) → IsIndexOf keys result }
+        ensures empty { count_of result ≡ 0 }
+    {
+        Index {
+            heads: Vec::new(alloc),
+            before: Vec::new(alloc),
+            passes: 0,
+        }
+    }
+
+    // One with so many heads that has no message yet.
+    fn with_heads(alloc: Global, heads: usize) -> Result<Index, AllocError>
+        ensures index { IfOk result (λ made. (keys : List ℕ) → IsIndexOf keys made) }
+        ensures heads { IfOk result (λ made. length made.heads.items ≡ heads) }
+    {
+        Ok(Index {
+            heads: vec![in alloc; 0; heads]?,
+            before: Vec::new(alloc),
+            passes: PASSES,
+        })
+    }
+
+    // Makes it anew with more heads, and no message, where it has few for so many messages.
+    fn make_room(&mut self, alloc: Global, all: usize) -> Result<(), AllocError>
+        ensures index { (keys : List ℕ) → IsIndexOf keys self.old → IsIndexOf keys self.new }
+        ensures room { OnOk result (0 < length self.new.heads.items) }
+    {
+        if self.heads.len() <= all / 4 {
+            *self = Index::with_heads(alloc, (all / 2).next_power_of_two())?;
+        }
+        Ok(())
+    }
+
+    // Takes in the message of this number, the next one. Where memory is refused, nothing has changed.
+    fn take_in(&mut self, keys: &[u8], number: usize) -> Result<(), AllocError>
+        requires within { number < length keys.now / 16 }
+        requires few { number < 4294967294 }
+        requires next { number ≡ count_of self.old }
+        requires room { 0 < length self.old.heads.items }
+        ensures index { IsIndexOf keys.now self.old → IsIndexOf keys.now self.new }
+        ensures count { OnOk result (count_of self.new ≡ number + 1) }
+        ensures heads { length self.new.heads.items ≡ length self.old.heads.items }
+    {
+        let head = head_of(self.heads.len(), digest_of(keys, number));
+        let last = self.heads[head];
+        self.before.push(last)?;
+        self.heads[head] = number as u32 + 1;
+        Ok(())
+    }
+
+    // Takes in the messages of the keys that it has not yet, up to the number that an index may have. Where memory is
+    // refused, it is an index of these keys still.
+    fn follow(&mut self, alloc: Global, keys: &[u8]) -> Result<(), AllocError>
+        ensures index { IsIndexOf keys.now self.old → IsIndexOf keys.now self.new }
+        ensures all { OnOk result (min (length keys.now / 16) 4294967294 ≤ count_of self.new) }
+    {
+        let all = (keys.len() / ENTRY).min(MOST);
+        self.make_room(alloc, all)?;
+        'entries: for i in self.before.len()..all {
+            self.take_in(keys, i)?;
+        }
+        Ok(())
+    }
+
+    /// To be called before each look-up: from the third on, it takes in what was added to the keys. Where memory is
+    /// refused for that, look-ups pass over what it has not.
+    pub fn prepare(&mut self, alloc: Global, keys: &[u8])
+        ensures { IsIndexOf keys.now self.old → IsIndexOf keys.now self.new }
+    {
+        if self.passes < PASSES {
+            self.passes += 1;
+        } else {
+            let _followed = self.follow(alloc, keys);
+        }
+    }
+
+    // The message of this number, counted from 1, and the last one before it under the same head.
+    fn link(&self, next: usize) -> Option<(usize, usize)>
+        ensures link { IfSome result (λ link. (next ≡ link.0 + 1) × (link.0 < count_of self.now) × (link.1 ≡ min (slice_index self.now.before.items link.0) link.0)) }
+        ensures none { IfNone result ((next ≡ 0) ⊎ (count_of self.now < next)) }
+    {
+        if next == 0 || next > self.before.len() {
+            return None;
+        }
+        let place = next - 1;
+        Some((place, (self.before[place] as usize).min(place)))
+    }
+
+    // The last message below that number which the index has and whose entry has the digest.
+    fn find_indexed(&self, keys: &[u8], digest: u64, below: usize) -> Option<usize>
+        requires { below ≤ length keys.now / 16 }
+        ensures found { IfSome result (λ i. (i < below) × (digest_at keys.now i ≡ digest)) }
+        ensures last { IsIndexOf keys.now self.now → IfSome result (λ i. (j : ℕ) → i < j → j < below → j < count_of self.now → digest_at keys.now j ≢ digest) }
+        ensures none { IsIndexOf keys.now self.now → IfNone result ((j : ℕ) → j < below → j < count_of self.now → digest_at keys.now j ≢ digest) }
+    {
+        if self.heads.is_empty() {
+            return None;
+        }
+        let mut next = self.heads[head_of(self.heads.len(), digest)] as usize;
+        'chain: while let Some((place, earlier)) = self.link(next) {
+            if has_digest(keys, digest, place, below) {
+                return Some(place);
+            }
+            next = earlier;
+        }
+        None
+    }
+
+    /// The last message below that number whose entry has the digest, among all of the keys. Its key may yet be
+    /// another: compare whole keys.
+    pub fn find_below(&self, keys: &[u8], digest: u64, below: usize) -> Option<usize>
+        ensures found { IfSome result (λ i. (i < below) × (i < length keys.now / 16) × (digest_at keys.now i ≡ digest)) }
+        ensures last { IsIndexOf keys.now self.now → IfSome result (λ i. (j : ℕ) → i < j → j < below → j < length keys.now / 16 → digest_at keys.now j ≢ digest) }
+        ensures none { IsIndexOf keys.now self.now → IfNone result ((j : ℕ) → j < below → j < length keys.now / 16 → digest_at keys.now j ≢ digest) }
+    {
+        let end = below.min(keys.len() / ENTRY);
+        let added = last_from(keys, digest, self.before.len(), end);
+        if added.is_some() {
+            return added;
+        }
+        self.find_indexed(keys, digest, end)
+    }
+}
