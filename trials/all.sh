@@ -28,6 +28,7 @@ for name in kept package keys kills crowds beside mailer full_disk devices piece
 each python3 trials/why.py &
 each python3 trials/export.py &
 each python3 trials/answers.py &
+each python3 trials/terminal.py &
 wait
 each python3 trials/stations.py 300 "$cores"
 each python3 trials/hostile.py "$inputs" "$cores"

@@ -1,15 +1,17 @@
 //! The program `echonet`: it reads the files that the command line names (`paths`, `inputs`), calls the
 //! commands (`judging`: `links`, which goes on where a file cannot be used), and puts what they leave in place
-//! (`station`, `packets`, `placing`, `stopped`, and `stored` for files of one message each). `clock` gives the moment
-//! and the serial that words leave to it.
+//! (`station`, `packets`, `placing`, `stopped`, and `stored` for files of one message each), under `locks`. `clock`
+//! gives the moment and the serial that words leave to it, `progress` tells a terminal how far a command is.
 #![tactic(auto)]
 
 mod clock;
 mod inputs;
 mod judging;
+mod locks;
 mod packets;
 mod paths;
 mod placing;
+mod progress;
 mod station;
 mod stopped;
 mod stored;
@@ -25,6 +27,7 @@ use echo_words::{CheckWords, Ending, ExportWords, Words, explain, parse};
 use inputs::{MAX_INPUT, read_file, read_given, read_if_given, read_links, read_script};
 use judging::run_links;
 use paths::{PathNames, names_of};
+use progress::{Cleared, Progress};
 use station::{run_post, run_post_mail, run_post_stored, run_purge, run_reply, run_scan, run_toss};
 use std::collections::hash_map::RandomState;
 use std::process::ExitCode;
@@ -202,6 +205,7 @@ fn run_replay<'a, W: Sink>(
 fn run_words<W: Sink, E: Sink>(
     rt: &HostRuntime,
     words: &Words<'_>,
+    progress: &Progress<'_>,
     out: &mut W,
     errors: &mut E,
 ) -> Status {
@@ -222,7 +226,7 @@ fn run_words<W: Sink, E: Sink>(
         Words::PostMail(words) => run_post_mail(rt, words, out, errors),
         Words::Reply(words) => run_reply(rt, words, out, errors),
         Words::PostStored(words) => run_post_stored(rt, words, out, errors),
-        Words::Toss(words) => run_toss(rt, words, out, errors),
+        Words::Toss(words) => run_toss(rt, words, progress, out, errors),
         Words::Scan {
             at,
             links,
@@ -274,12 +278,14 @@ fn run(rt: &HostRuntime) -> Status {
         Err(status) => return status,
     };
     match parse(rt.alloc(), words.as_slice()) {
-        Ok(Some(asked)) => run_words(
-            rt,
-            &asked,
-            &mut Watched::new(rt.stdout()),
-            &mut Watched::new(rt.stderr()),
-        ),
+        Ok(Some(asked)) => {
+            let progress = Progress::new(rt);
+            let mut out = Watched::new(Cleared::new(&progress, rt.stdout()));
+            let mut errors = Watched::new(Cleared::new(&progress, rt.stderr()));
+            let status = run_words(rt, &asked, &progress, &mut out, &mut errors);
+            progress.clear();
+            status
+        }
         Ok(None) => Status::CommandLine,
         Err(error) => status_of(rt, explain(rt, &error)),
     }

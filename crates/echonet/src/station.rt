@@ -3,9 +3,11 @@
 
 use crate::clock::{moment_of, serial_from};
 use crate::inputs::{MAX_TEXT_FILE, input_fault, read_base, read_file, read_standard_input};
+use crate::locks::lock_file;
 use crate::packets::PacketPaths;
 use crate::paths::{PathNames, names_of};
 use crate::placing::{Outbound, write_base, write_scan};
+use crate::progress::Progress;
 use crate::stopped::cursor_in;
 use echo_addr::{Address, Items};
 use echo_base::BaseFault;
@@ -39,7 +41,7 @@ struct Station<'a> {
 // The link file under its lock.
 fn locked_links<'a>(rt: &HostRuntime, path: &'a str) -> Result<(File, Vec<u8>), Fault<'a>> {
     let file = fs::open(rt, path).map_err(|error| open_fault(&error, path))?;
-    file.lock().map_err(|_| Fault::CannotUse(path))?;
+    lock_file(rt, &file, path).map_err(|_| Fault::CannotUse(path))?;
     let bytes = read_whole(rt.alloc(), &mut Watched::new(&file), MAX_TEXT_FILE);
     match bytes {
         Ok(bytes) => Ok((file, bytes)),
@@ -335,6 +337,7 @@ pub fn run_scan<'a, W: Sink, E: Sink>(
 pub fn run_toss<W: Sink, E: Sink>(
     rt: &HostRuntime,
     words: &TossWords<'_>,
+    progress: &Progress<'_>,
     out: &mut W,
     errors: &mut E,
 ) -> Status {
@@ -351,6 +354,8 @@ pub fn run_toss<W: Sink, E: Sink>(
     let mut packets = PacketPaths {
         rt,
         names: names.as_slice(),
+        packets: names.len(),
+        progress,
     };
     let done = if words.each {
         toss_each(rt.alloc(), given, limits, &mut packets, out)

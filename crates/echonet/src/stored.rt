@@ -2,6 +2,7 @@
 //! read until the last file stands, so that two runs never take the same numbers.
 
 use crate::inputs::{output_fault, read_file};
+use crate::locks::lock_file;
 use echo_addr::Items;
 use echo_base::BaseFault;
 use echo_device::Sink;
@@ -88,7 +89,7 @@ fn files_given<'a>(
 // The folder under its lock.
 fn locked_folder<'a>(rt: &HostRuntime, folder: &'a str) -> Result<File, Fault<'a>> {
     let file = fs::open(rt, folder).map_err(|error| folder_fault(&error, folder))?;
-    file.lock().map_err(|_| Fault::CannotUse(folder))?;
+    lock_file(rt, &file, folder).map_err(|_| Fault::CannotUse(folder))?;
     Ok(file)
 }
 

@@ -1,0 +1,212 @@
+"""What a terminal is told: that a lock is waited for, and how far a toss is.
+
+The program runs with standard error on a terminal of this trial's own (a pty), and with a pipe in its place, where it
+is to be told nothing of that. What stands on the screen is worked out from the bytes as a terminal shows them.
+"""
+import fcntl
+import os
+import pty
+import re
+import select
+import signal
+import subprocess
+import sys
+import tempfile
+import time
+
+import making
+
+TOP = os.path.dirname(os.path.dirname(os.path.abspath(__file__)))
+PROGRAM = os.environ.get("ECHONET", os.path.join(TOP, "bin", "echonet"))
+LINKS = making.link_file(making.OWN, [("TEST", [making.UPLINK, *making.DOWNLINKS])])
+MAIL = b"From: Ann\nTo: All\nSubject: Hi\nNewsgroups: TEST\n\nHello\n"
+LONGEST, MANY, MOST = 20, 60_000, 3
+TOSS = ["toss", "many.links", "many.base", *("%d.pkt" % number for number in range(MOST))]
+
+
+class Trial:
+    """What held, and what did not."""
+
+    def __init__(self):
+        self.passed, self.failed = 0, 0
+
+    def expect(self, what, held, found=b""):
+        """Counts one thing."""
+        self.passed, self.failed = self.passed + bool(held), self.failed + (not held)
+        if not held:
+            print("failed:", what, found[-400:], file=sys.stderr)
+
+
+def read_for(end, seconds, last=None):
+    """What comes from a descriptor until its other end is closed or it ends so, or for so long."""
+    came, until = b"", time.monotonic() + seconds
+    while not (last and came.endswith(last)) and select.select([end], [], [], max(0, until - time.monotonic()))[0]:
+        try:
+            more = os.read(end, 65536)
+        except OSError:
+            break
+        if not more:
+            break
+        came += more
+    return came
+
+
+def screen(came):
+    """The lines that a terminal shows of some bytes."""
+    lines, column = [[]], 0
+    for byte in came.decode():
+        if byte == "\r":
+            column = 0
+        elif byte == "\n":
+            lines.append([])
+        else:
+            lines[-1][column:column + 1] = byte
+            column += 1
+    return ["".join(line).rstrip() for line in lines]
+
+
+class Started:
+    """A run whose standard error is a terminal, or a pipe; standard output goes to the same terminal where asked."""
+
+    def __init__(self, words, given=b"", terminal=True, both=False):
+        self.end, other = pty.openpty() if terminal else os.pipe()
+        self.out = tempfile.TemporaryFile()
+        self.process = subprocess.Popen(
+            [PROGRAM, *words], stdin=subprocess.PIPE, stdout=other if both else self.out, stderr=other)
+        os.close(other)
+        self.process.stdin.write(given)
+        self.process.stdin.close()
+
+    def ended(self):
+        """Its status, what came to standard error, and what it printed elsewhere."""
+        came = read_for(self.end, LONGEST)
+        status = self.process.wait(LONGEST)
+        os.close(self.end)
+        self.out.seek(0)
+        return status, came, self.out.read()
+
+
+def locked(path):
+    """The lock of a file, held here."""
+    held = os.open(path, os.O_RDONLY)
+    fcntl.flock(held, fcntl.LOCK_EX)
+    return held
+
+
+def try_lock(trial, name, words, path, given=b""):
+    """One command whose lock is held for a while: on a terminal, with a pipe, and then free."""
+    told = b"echonet: waiting for the lock of %s\r\n" % path
+    for terminal in (True, False):
+        held = locked(path)
+        run = Started(words, given, terminal)
+        early = read_for(run.end, LONGEST, b"\n") if terminal else b""
+        early += read_for(run.end, 0.2)
+        trial.expect("%s waits" % name, run.process.poll() is None)
+        os.close(held)
+        status, late, _ = run.ended()
+        trial.expect("%s goes on once the lock is free" % name, status == 0, late)
+        trial.expect("%s tells a terminal, once" % name, early + late == (told if terminal else b""), early + late)
+    status, came, _ = Started(words, given).ended()
+    trial.expect("%s tells nothing where the lock is free" % name, (status, came) == (0, b""), came)
+
+
+def locks(trial):
+    """Each command that takes a lock."""
+    stamp = ["--at", making.STAMP]
+    post = ["--serial", "auto", *stamp, "links", "base"]
+    with open("links", "wb") as links, open("one.pkt", "wb") as packet:
+        links.write(LINKS)
+        packet.write(making.plain_packet([1], 10))
+    os.mkdir("out")
+    os.mkdir("read")
+    names = ["--area", "TEST", "--to", "All", "--from", "Ann", "--subject", "Hi"]
+    try_lock(trial, "post", ["post", *names, *post], b"links", b"Hello\n")
+    try_lock(trial, "post --mail", ["post", "--mail", *post], b"links", MAIL)
+    try_lock(trial, "reply", ["reply", "--from", "Ann", "--serial", "auto", *stamp, "0", "links", "base"], b"links")
+    try_lock(trial, "toss", ["toss", "links", "base", "one.pkt"], b"links")
+    try_lock(trial, "scan", ["scan", *stamp, "links", "base", "out"], b"links")
+    try_lock(trial, "purge", ["purge", "links", "base"], b"links")
+    try_lock(trial, "export --msg", ["export", "--msg", "read", "--area", "TEST", "base"], b"read")
+    os.rename("links", "a\x1b[2Jlinks")
+    held = locked("a\x1b[2Jlinks")
+    run = Started(["purge", "a\x1b[2Jlinks", "base"])
+    early = read_for(run.end, LONGEST, b"\n")
+    os.close(held)
+    trial.expect("a path cannot steer the terminal", early.endswith(b" of a\\x1b[2Jlinks\r\n"), early)
+    trial.expect("and the run ends well", run.ended()[0] == 0)
+
+
+def has_open(process, name):
+    """Whether a process has a file of this name open."""
+    folder = "/proc/%d/fd" % process
+    try:
+        return any(os.readlink(os.path.join(folder, each)).endswith("/" + name) for each in os.listdir(folder))
+    except OSError:
+        return False
+
+
+def slowed(words, name, terminal=True, both=False):
+    """A run that is stopped for a while once it has a file of this name open, so that it takes longer than a
+    second."""
+    run = Started(words, b"", terminal, both)
+    while not has_open(run.process.pid, name) and run.process.poll() is None:
+        time.sleep(0.001)
+    run.process.send_signal(signal.SIGSTOP)
+    time.sleep(1.1)
+    run.process.send_signal(signal.SIGCONT)
+    return run.ended()
+
+
+def tossed(terminal, both=False):
+    """A slow toss of many messages."""
+    if os.path.exists("many.base"):
+        os.remove("many.base")
+    return slowed(TOSS, "0.pkt", terminal, both)
+
+
+def steps(came, form):
+    """The numbers that a line of this form told, one after another."""
+    return [tuple(map(int, each)) for each in re.findall(rb"\r" + form + rb" *(?=\r)", came)]
+
+
+def progress(trial):
+    """How far a toss is."""
+    with open("many.links", "wb") as links:
+        links.write(LINKS)
+    for number in range(MOST):
+        with open("%d.pkt" % number, "wb") as packet:
+            packet.write(making.plain_packet(range(number * MANY, (number + 1) * MANY), 100))
+    line = b"filed %d known 0 notecho 0 badtag 0 noarea 0 notlinked 0\n" % MANY
+    status, came, out = tossed(True)
+    told = steps(came, rb"echonet: packet (\d+) of (\d+), (\d+)%")
+    trial.expect("a toss ends well", (status, out) == (0, line * MOST), out)
+    trial.expect("it tells how far it is", told and {each[1] for each in told} == {MOST}, came)
+    trial.expect("and goes on", told == sorted(told) and told[-1] <= (MOST, MOST, 100), came)
+    left = re.sub(rb"\rechonet: packet \d+ of \d+, \d+% *\r|\r *\r", b"", came)
+    trial.expect("it tells nothing else", not left, came)
+    trial.expect("and takes the line away", screen(came) == [""], came)
+    status, came, _ = tossed(True, both=True)
+    trial.expect("what it prints stands there alone", screen(came) == [line.decode().rstrip()] * MOST + [""], came)
+    trial.expect("where it told how far it was, too", b"of %d," % MOST in came, came)
+    trial.expect("a pipe is told nothing", tossed(False) == (0, b"", line * MOST))
+    for number in range(MOST):
+        with open("%d.pkt" % number, "wb") as packet:
+            packet.write(making.plain_packet([number], 100))
+    os.remove("many.base")
+    trial.expect("a short toss tells nothing", Started(TOSS).ended()[1] == b"")
+
+
+def main():
+    """Tries it in a folder of its own."""
+    trial = Trial()
+    with tempfile.TemporaryDirectory(prefix="echonet-trials.") as folder:
+        os.chdir(folder)
+        locks(trial)
+        progress(trial)
+        os.chdir(TOP)
+    print("terminal: %d passed, %d failed" % (trial.passed, trial.failed))
+    return trial.failed > 0
+
+
+if __name__ == "__main__":
+    sys.exit(main())
