@@ -4,15 +4,18 @@
 //! the bytes of a charset, and other words where the mail lacks one; or the fault of the mail that applies.
 //!
 //! Modules in reading order: `fault` (why a mail is not posted), `writing` (what a mail says, in a charset),
-//! `charset_line` (the line of that charset), `letter` (the words of a mail) and `mailed` (they are posted).
+//! `charset_line` (the line of that charset), `letter` (the words of a mail), `mailed` (they are
+//! posted) and `laws` (what holds of the definitions).
 #![tactic(auto)]
 
 mod charset_line;
 mod fault;
+mod laws;
 mod letter;
 mod mailed;
 mod writing;
 
 pub use fault::LetterFault;
+pub use laws::exported_ids_are_answered;
 pub use letter::{Letter, Spare, letter_in};
 pub use mailed::{MailWords, post_mail};
