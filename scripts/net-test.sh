@@ -195,6 +195,12 @@ same "the first serial that is free" "posted TEST 1:10/1 $(printf '%08x' $((seco
 same "the moment of the clock" yes "$("$program" list --from 20 four/base \
   | grep -q -e "^date $today" -e "^date $(day)" && echo yes)"
 
+# A JAM base for a reader, with an entry of eight bytes for each message.
+to_jam() { "$scripts/reader.sh" --jam four TEST four/jam; }
+same "reader.sh adds what the base has to a JAM base" "exported 21 messages, next 21" "$(to_jam)"
+same "and nothing twice" "exported 0 messages, next 21" "$(to_jam)"
+same "the entries of its index" 168 "$(wc -c < four/jam.jdx)"
+
 # A reply and a refused posting.
 status=0
 post one Ann Refused "no id" 2> fault.txt || status=$?

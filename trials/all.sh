@@ -27,6 +27,8 @@ each() {
 for name in kept package keys kills crowds beside mailer full_disk devices pieces refusals valgrind; do each trials/$name.sh & done
 each python3 trials/why.py &
 each python3 trials/export.py &
+each python3 trials/stored.py &
+each python3 trials/jam.py &
 each python3 trials/answers.py &
 each python3 trials/terminal.py &
 wait

@@ -1,6 +1,8 @@
 #!/bin/sh
 # reader.sh STATION AREA DIR: lets a reader of the field, as GoldED, read and write an area in the folder DIR of
 # stored messages (N.msg).
+# reader.sh --jam STATION AREA PATH: lets it read the area in the JAM base PATH (PATH.jhr and so on). What is new in the
+# base is added, and nothing is posted; PATH.next has the number of the message with which the next run begins.
 #
 # What an editor wrote there (Local, not Sent, and under no id of the base) is posted and then moves to DIR/posted;
 # what is refused goes to DIR/refused, with the line that tells why beside it in NAME.why. Then what is new in the
@@ -11,22 +13,47 @@ set -eu
 LC_ALL=C
 export LC_ALL
 
+form=--msg
+if [ "${1:-}" = --jam ]; then
+  form=--jam
+  shift
+fi
 if [ $# -ne 3 ]; then
-  echo "usage: reader.sh STATION AREA DIR" >&2
+  echo "usage: reader.sh [--jam] STATION AREA DIR" >&2
   exit 4
 fi
 station=$(cd "$1" && pwd)
 area=$2
+program=${ECHONET:-echonet}
+told=$(mktemp)
+trap 'rm -f "$told"' EXIT
+trap 'exit 3' HUP INT TERM
+
+# Adds what is new in the base. Words: the folder or the JAM base, the file with the number of the next message.
+add_new() {
+  if [ ! -e "$station/base" ]; then return; fi
+  from=$(cat "$2" 2> /dev/null || echo 0)
+  "$program" export "$form" "$1" --area "$area" --from "$from" "$station/base" > "$told"
+  next=$(sed -n 's/^exported [0-9]* messages, next \([0-9]*\)$/\1/p' "$told")
+  printf '%s\n' "$next" > "$2.new"
+  mv "$2.new" "$2"
+  cat "$told"
+}
+
+if [ $form = --jam ]; then
+  exec 9> "$3.lock"
+  flock 9
+  add_new "$3" "$3.next"
+  exit
+fi
+
 mkdir -p "$3"
 folder=$(cd "$3" && pwd)
-program=${ECHONET:-echonet}
 exec 9> "$folder/reader.lock"
 flock 9
 ids=$(mktemp)
-told=$(mktemp)
 changed=$(mktemp)
 trap 'rm -f "$ids" "$told" "$changed"' EXIT
-trap 'exit 3' HUP INT TERM
 
 # The id of a stored message, if it has one.
 id_of() {
@@ -79,7 +106,7 @@ if [ -e "$station/base" ]; then
   "$program" list --area "$area" "$station/base" | awk 'sub(/^line \\x01MSGID: */, "")' > "$ids"
 fi
 if [ ! -e "$folder/seen" ]; then touch -d @0 "$folder/seen"; fi
-find "$folder" -maxdepth 1 -type f -iname '*.msg' -cnewer "$folder/seen" > "$changed"
+find "$folder" -maxdepth 1 -type f -iname '*.msg' -cnewer "$folder/seen" | sort -V > "$changed"
 while IFS= read -r file; do
   if ! is_to_post "$file"; then continue; fi
   id=$(id_of "$file")
@@ -87,12 +114,5 @@ while IFS= read -r file; do
   post_one "$file"
 done < "$changed"
 
-if [ -e "$station/base" ]; then
-  from=$(cat "$folder/next" 2> /dev/null || echo 0)
-  "$program" export --msg "$folder" --area "$area" --from "$from" "$station/base" > "$told"
-  next=$(sed -n 's/^exported [0-9]* messages, next \([0-9]*\)$/\1/p' "$told")
-  printf '%s\n' "$next" > "$folder/next.new"
-  mv "$folder/next.new" "$folder/next"
-  cat "$told"
-fi
+add_new "$folder" "$folder/next"
 mv "$folder/seen.new" "$folder/seen"

@@ -1,3 +1,4 @@
 pub mod Names
 pub mod Numbered
 pub mod Told
+pub mod JamAdded

@@ -1,17 +1,20 @@
-//! Messages of a base as numbered files of a folder, each a stored message (FTS-0001), for the readers of the field.
+//! Messages of a base for the readers of the field: as numbered files of a folder, each a stored message (FTS-0001), or
+//! added to a JAM base.
 //!
 //! The contract for the program: the files are just those of the messages that are asked for, one after another, with
-//! their bytes and their names; the line that is printed at the end counts those that were made, and names the message
-//! from which the next export begins.
+//! their bytes and their names; what is added to a JAM base is just those messages, too. The line that is printed at the
+//! end counts those that were made, and names the message from which the next export begins.
 //!
-//! Modules in reading order: `names` (which number a file's name has), `numbering` (which files are made) and `telling`
-//! (the line at the end).
+//! Modules in reading order: `names` (which number a file's name has), `numbering` (which files are made), `adding` (what
+//! is added to a JAM base) and `telling` (the lines at the end).
 #![tactic(auto)]
 
+mod adding;
 mod names;
 mod numbering;
 mod telling;
 
+pub use adding::{Adding, JamBase, JamEnd, JamExport, export_jam};
 pub use names::number_in;
 pub use numbering::{Exported, MessageFile, export_files};
-pub use telling::{refuse_message, tell_exported};
+pub use telling::{refuse_message, tell_added, tell_cuts, tell_exported};

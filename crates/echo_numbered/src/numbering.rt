@@ -62,8 +62,8 @@ fn first_number(greatest: u32) -> u64
     u64::from(greatest.max(1)) + 1
 }
 
-// The base of the file.
-fn base_read<'a, S: BuildHasher + Drop>(
+/// The base of the file.
+pub(crate) fn base_read<'a, S: BuildHasher + Drop>(
     alloc: Global,
     base: &[u8],
     hasher: S,
@@ -119,8 +119,8 @@ fn is_last(
     Ok(is_same_stored(last, &stored))
 }
 
-// Whether the message of this number is asked for.
-fn is_exported(area: &[u8], first: u64, cursor: usize, i: usize, message: &Filed) -> bool
+/// Whether the message of this number is asked for.
+pub(crate) fn is_exported(area: &[u8], first: u64, cursor: usize, i: usize, message: &Filed) -> bool
     ensures { result ≡ is_exported area.now first cursor i message.now }
 {
     let tag = message.echo.tag.as_slice();

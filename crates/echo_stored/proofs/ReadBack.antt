@@ -1,5 +1,5 @@
 -- A stored message that was written is read back.
-use Rattle.std.proofs.Common.{◌≡◌, ◌≢◌, ℕ, suc, ◌+◌, ◌-◌, ◌≤◌, ◌<◌, ◌==◌, not, List, [], ◌∷◌, ◌++◌, length, take, drop, refl, sym, ap, subst, ◌∙◌, arith, append_assoc, length-append}
+use Rattle.std.proofs.Common.{◌≡◌, ◌≢◌, ℕ, suc, ◌+◌, ◌-◌, ◌<◌, ◌==◌, not, List, [], ◌∷◌, ◌++◌, length, take, refl, sym, ap, subst, ◌∙◌, arith, append_assoc, length-append}
 use Rattle.std.specs.List.{AllByRecursion, prefix_len}
 use Rattle.std.specs.Prelude.{replicate}
 use Rattle.std.proofs.lemmas.Bool.{cond-true, ne_eqb}
@@ -10,7 +10,7 @@ use Rattle.echo_filed.specs.Written.{text_of}
 use Rattle.echo_filed.proofs.Texts.{text_is_text}
 use Rattle.echo_text.specs.Echo.{EchoText, HasNoZero, IsEcho}
 use Rattle.echo_text.proofs.NoZeros.{written_has_no_zero}
-use Rattle.echo_stored.specs.StoredMessage.{attribute_of, padded, stored_address, stored_bytes, stored_front, stored_numbers, text_behind}
+use Rattle.echo_stored.specs.StoredMessage.{attribute_of, padded, stored_address, stored_front, stored_numbers, text_behind}
 use Rattle.echo_stored.specs.StoredReading.{ReadsBack, field_at, text_in, until_zero}
 use Rattle.echo_stored.proofs.Behind.{behind}
 

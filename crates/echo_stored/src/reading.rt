@@ -171,16 +171,16 @@ fn is_tear(line: &[u8]) -> bool
     begins(b"--- ", line) || (begins(b"---", line) && after_feeds(line).len() == 3)
 }
 
-// Whether the line begins with the word, after line feeds.
-fn begins(word: &[u8], line: &[u8]) -> bool
+/// Whether the line begins with the word, after line feeds.
+pub fn begins(word: &[u8], line: &[u8]) -> bool
     ensures value { result ≡ begins word.now line.now }
     ensures fits { IsTrue result → length word.now ≤ length (after_feeds line.now) }
 {
     after_feeds(line).starts_with(word)
 }
 
-// The line without the line feeds at its front.
-fn after_feeds(line: &[u8]) -> &[u8]
+/// The line without the line feeds at its front.
+pub fn after_feeds(line: &[u8]) -> &[u8]
     ensures { result.now ≡ after_feeds line.now }
 {
     &line[feed_count(line)..]
@@ -223,16 +223,16 @@ fn first_reply(text: &[u8]) -> Option<&[u8]>
 fn reply_of_line(line: &[u8]) -> Option<&[u8]>
     ensures { option_copied result ≡ id_in reply_word line.now }
 {
-    let id = trimmed(after_reply(line)?);
+    let id = trimmed(after_word(b"\x01REPLY:", line)?);
     if id.is_empty() { None } else { Some(id) }
 }
 
-// What follows the word in a REPLY line.
-fn after_reply(line: &[u8]) -> Option<&[u8]>
-    ensures { MatchOption result (begins reply_word line.now ≡ false) (λ rest. (begins reply_word line.now ≡ true) × (rest.now ≡ after_word reply_word line.now)) }
+/// What follows the word, where the line begins with it after line feeds.
+pub fn after_word<'a>(word: &[u8], line: &'a [u8]) -> Option<&'a [u8]>
+    ensures { MatchOption result (begins word.now line.now ≡ false) (λ rest. (begins word.now line.now ≡ true) × (rest.now ≡ after_word word.now line.now)) }
 {
-    if begins(b"\x01REPLY:", line) {
-        Some(&after_feeds(line)[7..])
+    if begins(word, line) {
+        Some(&after_feeds(line)[word.len()..])
     } else {
         None
     }

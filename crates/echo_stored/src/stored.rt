@@ -59,11 +59,11 @@ fn push_padded(stored: &mut Vec<u8>, bytes: &[u8], size: usize) -> Result<(), Al
 fn stored_address(message: &Filed) -> Address
     ensures { result ≡ stored_address message.now }
 {
-    known_address(in_origin(&message.echo), message.sender)
+    known_address(address_in_origin(&message.echo), message.sender)
 }
 
-// The address in the origin line of a text.
-fn in_origin(echo: &Echo) -> Option<Address>
+/// The address in the origin line of a text.
+pub fn address_in_origin(echo: &Echo) -> Option<Address>
     ensures { result ≡ origins.address_in_origin echo.now }
 {
     match echo.origin() {
@@ -149,8 +149,8 @@ fn push_behind(stored: &mut Vec<u8>, text: &[u8], front: usize) -> Result<(), Al
     push_bytes(stored, &text[front..])
 }
 
-// The text that is written for the message.
-fn written_text(alloc: Global, message: &Filed) -> Result<Vec<u8>, AllocError>
+/// The text that is written for the message.
+pub fn written_text(alloc: Global, message: &Filed) -> Result<Vec<u8>, AllocError>
     ensures { IfOk result (λ text. text.items ≡ text_of message.now.echo) }
 {
     write_text(alloc, &message.echo)

@@ -340,6 +340,11 @@ const READING: &[Entry] = &[
                 Form::OptionWith("DIR", "area", &["mbox", "json", "purged"]),
                 "Adds each message to this folder as a stored message, N.msg, for the readers of the field",
             ),
+            Word(
+                "jam",
+                Form::OptionWith("PATH", "area", &["mbox", "json", "purged", "msg"]),
+                "Adds each message to this JAM base, PATH.jhr and so on, which is made where there is none",
+            ),
             Word("BASE", Form::One, "The base of the system"),
         ],
     ),

@@ -32,6 +32,11 @@ pub fn serial_from<'a>(rt: &HostRuntime, word: &str) -> Result<(u32, bool), Faul
     Ok((serial as u32, true))
 }
 
+/// The seconds since 1970 began as a number of four bytes, as files of the field have them.
+pub fn created_now<'a>(rt: &HostRuntime) -> Result<u32, Fault<'a>> {
+    Ok((seconds(rt)? % SERIALS) as u32)
+}
+
 // The seconds since 1970 began, as the clock has them.
 fn seconds<'a>(rt: &HostRuntime) -> Result<u64, Fault<'a>> {
     let now = SystemTime::now(rt).map_err(|_| Fault::CannotUse(CLOCK))?;

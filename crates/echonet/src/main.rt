@@ -1,11 +1,13 @@
 //! The program `echonet`: it reads the files that the command line names (`paths`, `inputs`), calls the
 //! commands (`judging`: `links`, which goes on where a file cannot be used), and puts what they leave in place
-//! (`station`, `packets`, `placing`, `stopped`, and `stored` for files of one message each), under `locks`. `clock`
-//! gives the moment and the serial that words leave to it, `progress` tells a terminal how far a command is.
+//! (`station`, `packets`, `placing`, `stopped`, `stored` for files of one message each, and `jam` for JAM bases), under
+//! `locks`. `clock` gives the moment and the serial that words leave to it, `progress` tells a terminal how far a
+//! command is.
 #![tactic(auto)]
 
 mod clock;
 mod inputs;
+mod jam;
 mod judging;
 mod locks;
 mod packets;
@@ -25,6 +27,7 @@ use echo_rehearsing::{picture_why, replay, why};
 use echo_status::{Fault, Status, ended, number_of, wanted};
 use echo_words::{CheckWords, Ending, ExportWords, Words, explain, parse};
 use inputs::{MAX_INPUT, read_file, read_given, read_if_given, read_links, read_script};
+use jam::run_export_jam;
 use judging::run_links;
 use paths::{PathNames, names_of};
 use progress::{Cleared, Progress};
@@ -235,9 +238,10 @@ fn run_words<W: Sink, E: Sink>(
         } => run_scan(rt, *at, *links, *base, *folder, out, errors),
         Words::Purge { links, base } => run_purge(rt, *links, *base, out, errors),
         Words::List { area, from, base } => ended(run_list(rt, *area, *from, *base, out), errors),
-        Words::Export(words) => match words.msg {
-            Some(folder) => run_export_stored(rt, words, folder, out, errors),
-            None => run_export(rt, words, out, errors),
+        Words::Export(words) => match (words.msg, words.jam) {
+            (Some(folder), _) => run_export_stored(rt, words, folder, out, errors),
+            (None, Some(path)) => run_export_jam(rt, words, path, out, errors),
+            (None, None) => run_export(rt, words, out, errors),
         },
         Words::Replay { script, links } => {
             ended(run_replay(rt, *script, &names_of(rt, links), out), errors)

@@ -1,0 +1,102 @@
+-- The subfields of a JAM message (JAM-001), and its text.
+use Rattle.std.specs.Prelude.{ℕ, List, [], ◌∷◌, ◌++◌, length, drop, take, codes, if◌then◌else◌, nat_lt, sum_by, ◌||◌, Option, Some, None}
+use Rattle.std.specs.List.{flat_map}
+use Rattle.echo_addr.specs.declared.address.Address.{Address}
+use Rattle.echo_addr.specs.Address.{address_text}
+use Rattle.echo_addr.specs.ShortLines.{path_prefix, seen_prefix}
+use Rattle.echo_filed.specs.Filed.{Filed}
+use Rattle.echo_filed.specs.Stored.{long}
+use Rattle.echo_filed.specs.Written.{text_of}
+use Rattle.echo_packet.specs.Header.{word}
+use Rattle.echo_stored.specs.OriginAddress.{address_in_origin}
+use Rattle.echo_text.specs.Echo.{EchoText, ended}
+use Rattle.echo_text.specs.Lines.{after_feeds, after_word, begins, is_control, is_path, is_seen, later_lines, lines, msgid_word, reply_word, trimmed}
+
+-- a subfield: its kind, of two words, its length and its bytes
+abbrev pub subfield : ℕ → List ℕ → List ℕ
+subfield kind bytes = word kind ++ (word 0 ++ (long (length bytes) ++ bytes))
+
+-- the subfield of an address
+abbrev pub address_field : Address → List ℕ
+address_field a = subfield 0 (address_text a)
+
+-- the address of the origin line, else of the system that sent the message; none where neither is known
+abbrev pub origin_field : Option Address → Option Address → List ℕ
+origin_field (Some a) sender = address_field a
+origin_field None (Some a) = address_field a
+origin_field None None = []
+
+-- the lines that are written for a text, without its AREA line
+abbrev pub lines_behind : EchoText → List (List ℕ)
+lines_behind e = later_lines (lines (text_of e))
+
+-- what stands behind this in a line that tells which program wrote the message
+abbrev pub program_word : List ℕ
+program_word = 1 ∷ codes "PID:"
+
+-- what becomes a subfield: its kind, how many bytes that takes at most, and the bytes
+pub record Content : Type 0 where
+  pub kind : ℕ
+  pub most : ℕ
+  pub bytes : List ℕ
+
+abbrev pub content : ℕ → ℕ → List ℕ → Option Content
+content kind most bytes = Some (record { kind = kind; most = most; bytes = trimmed bytes })
+
+-- how many bytes an id takes at most
+abbrev pub most_of_id : ℕ
+most_of_id = 100
+
+-- as many as four bytes count
+abbrev pub most_of_all : ℕ
+most_of_all = 4294967295
+
+-- what becomes of a line: an id, that of the message replied to, the program, PATH, SEEN-BY, or another control line;
+-- nothing of a line of the body
+abbrev pub content_of : List ℕ → Option Content
+content_of line =
+    if begins msgid_word line then content 4 most_of_id (after_word msgid_word line)
+    else (if begins reply_word line then content 5 most_of_id (after_word reply_word line)
+    else (if begins program_word line then content 7 40 (after_word program_word line)
+    else (if is_path line then content 2002 most_of_all (after_word path_prefix line)
+    else (if is_seen line then content 2001 most_of_all (after_word seen_prefix line)
+    else (if is_control line then content 2000 255 (drop 1 (after_feeds line)) else None)))))
+
+-- its subfield, cut where it is too long
+abbrev pub content_field : Option Content → List ℕ
+content_field None = []
+content_field (Some c) = subfield c.kind (take c.most c.bytes)
+
+abbrev pub line_field : List ℕ → List ℕ
+line_field line = content_field (content_of line)
+
+-- 1 where it is cut
+abbrev pub content_cut : Option Content → ℕ
+content_cut None = 0
+content_cut (Some c) = if nat_lt c.most (length c.bytes) then 1 else 0
+
+-- how many of the lines are cut
+abbrev pub cuts_in : List (List ℕ) → ℕ
+cuts_in ls = sum_by (λ line. content_cut (content_of line)) ls
+
+-- a line of the body and its 0D
+abbrev pub body_line : List ℕ → List ℕ
+body_line line = if is_control line || is_seen line then [] else ended line
+
+-- the subfields of names and subject
+abbrev pub name_fields : Filed → List ℕ
+name_fields m = subfield 2 m.from_name ++ (subfield 3 m.to_name ++ subfield 6 m.subject)
+
+-- all subfields: the sender's address, the names, the subject, and those of the lines
+abbrev pub fields_of : Filed → List ℕ
+fields_of m =
+    origin_field (address_in_origin m.echo) m.sender
+    ++ (name_fields m ++ flat_map line_field (lines_behind m.echo))
+
+-- how many of them are cut
+abbrev pub cuts_of : Filed → ℕ
+cuts_of m = cuts_in (lines_behind m.echo)
+
+-- the text
+abbrev pub body_of : Filed → List ℕ
+body_of m = flat_map body_line (lines_behind m.echo)

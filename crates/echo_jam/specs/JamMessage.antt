@@ -1,0 +1,45 @@
+-- A message of a base in the files of a JAM base (JAM-001): its header, its text and its index entry.
+use Rattle.std.specs.Prelude.{ℕ, List, ◌++◌, length, take, Option, Some, None}
+use Rattle.echo_addr.specs.declared.address.Address.{Address}
+use Rattle.echo_filed.specs.Filed.{Filed}
+use Rattle.echo_filed.specs.Stored.{long}
+use Rattle.echo_packet.specs.Header.{word}
+use Rattle.echo_text.specs.Echo.{msgid_of, reply_of}
+use Rattle.echo_jam.specs.Crc.{jam_crc}
+use Rattle.echo_jam.specs.Fields.{body_of, fields_of, most_of_id}
+use Rattle.echo_jam.specs.Fixed.{jam_mark}
+use Rattle.echo_jam.specs.Moment.{seconds_of}
+
+-- the CRC of an id, as its subfield has it; all bits set where there is none
+abbrev pub id_crc : Option (List ℕ) → ℕ
+id_crc None = 4294967295
+id_crc (Some id) = jam_crc (take most_of_id id)
+
+-- the attribute: echomail, and Local where it was posted here
+abbrev pub jam_attribute : Option Address → ℕ
+jam_attribute None = 16777217
+jam_attribute (Some sender) = 16777216
+
+-- how the header of a message begins: `JAM`, revision 1, how long its subfields are, and no times read
+abbrev pub header_front : ℕ → List ℕ
+header_front size = jam_mark ++ (word 1 ++ (word 0 ++ (long size ++ long 0)))
+
+-- the CRCs of its ids, and no links to other messages
+abbrev pub header_ids : Filed → List ℕ
+header_ids m = long (id_crc (msgid_of m.echo.kept)) ++ (long (id_crc (reply_of m.echo.kept)) ++ (long 0 ++ (long 0 ++ long 0)))
+
+-- when it was written, not received nor processed; its number and attributes; where its text stands and how long it is;
+-- no password, no cost
+abbrev pub header_back : Filed → ℕ → ℕ → ℕ → List ℕ
+header_back m number place size =
+    (long (seconds_of m.date) ++ (long 0 ++ long 0))
+    ++ ((long number ++ (long (jam_attribute m.sender) ++ long 0)) ++ (long place ++ (long size ++ (long 4294967295 ++ long 0))))
+
+-- the header of the message of this number, whose text stands at this place of the texts
+abbrev pub header_of : Filed → ℕ → ℕ → List ℕ
+header_of m number place =
+    header_front (length (fields_of m)) ++ (header_ids m ++ (header_back m number place (length (body_of m)) ++ fields_of m))
+
+-- the index entry: the CRC of the addressee's name, and where the header stands
+abbrev pub entry_of : Filed → ℕ → List ℕ
+entry_of m place = long (jam_crc m.to_name) ++ long place

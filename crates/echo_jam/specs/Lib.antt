@@ -1,0 +1,7 @@
+pub mod Crc
+pub mod Moment
+pub mod Fields
+pub mod JamMessage
+pub mod Fixed
+pub mod Standing
+pub mod Same

@@ -1,0 +1,113 @@
+//! What becomes of a line of a text: a subfield, cut where that takes less, or a line of the body.
+ghost use Rattle.std.specs.Prelude.{◌≡◌, ◌+◌, IfOk, MatchOption, None, Some, drop, take, true};
+ghost use Rattle.echo_text.specs.Lines.{after_feeds, is_control, is_seen, lines};
+ghost use Rattle.echo_jam.specs.Fields as contents;
+ghost use Rattle.echo_jam.specs.Fields.{content_cut, content_of, cuts_in};
+
+use echo_stored::{after_feeds, after_word, begins};
+use echo_text::{split_line, trimmed};
+use std::alloc::AllocError;
+
+/// How many bytes the subfield of an id has at most.
+pub(crate) const MOST_OF_ID: usize = 100;
+
+/// That of the program that wrote the message, and of other control lines.
+const MOST_OF_PROGRAM: usize = 40;
+
+const MOST_OF_CONTROL: usize = 255;
+
+/// That of PATH and SEEN-BY lines: as many as four bytes count.
+const MOST_OF_ALL: usize = 4_294_967_295;
+
+/// What becomes a subfield: its kind, how many bytes that takes at most, and the bytes.
+#[derive(Clone, Copy)]
+pub(crate) struct LineContent<'a> {
+    pub(crate) kind: u16,
+    pub(crate) most: usize,
+    pub(crate) bytes: &'a [u8],
+}
+
+/// What becomes of a line.
+pub(crate) fn content_of(line: &[u8]) -> Option<LineContent<'_>>
+    ensures { MatchOption result (content_of line.now ≡ None) (λ c. content_of line.now ≡ Some (record { kind = c.kind; most = c.most; bytes = c.bytes.now })) }
+{
+    if let Some(id) = after_word(b"\x01MSGID:", line) {
+        Some(content(4, MOST_OF_ID, id))
+    } else if let Some(id) = after_word(b"\x01REPLY:", line) {
+        Some(content(5, MOST_OF_ID, id))
+    } else if let Some(program) = after_word(b"\x01PID:", line) {
+        Some(content(7, MOST_OF_PROGRAM, program))
+    } else if let Some(list) = after_word(b"\x01PATH:", line) {
+        Some(content(2002, MOST_OF_ALL, list))
+    } else if let Some(list) = after_word(b"SEEN-BY:", line) {
+        Some(content(2001, MOST_OF_ALL, list))
+    } else if is_control(line) {
+        Some(content(2000, MOST_OF_CONTROL, behind_mark(line)))
+    } else {
+        None
+    }
+}
+
+// Bytes without the blanks at both ends.
+fn content(kind: u16, most: usize, bytes: &[u8]) -> LineContent<'_>
+    ensures { Some (record { kind = result.kind; most = result.most; bytes = result.bytes.now }) ≡ contents.content kind most bytes.now }
+{
+    LineContent {
+        kind,
+        most,
+        bytes: trimmed(bytes),
+    }
+}
+
+/// The first so many bytes.
+pub(crate) fn front(bytes: &[u8], most: usize) -> &[u8]
+    ensures { result.now ≡ take most bytes.now }
+{
+    &bytes[..most.min(bytes.len())]
+}
+
+/// How many of the lines of a text are cut.
+pub(crate) fn cuts_in(text: &[u8]) -> Result<u64, AllocError>
+    ensures { IfOk result (λ n. n ≡ cuts_in (lines text.now)) }
+{
+    let mut rest = text;
+    let mut count: u64 = 0;
+    'lines: while !rest.is_empty() {
+        let (line, after) = split_line(rest);
+        count = count.checked_add(cut(line)).ok_or(AllocError)?;
+        rest = after;
+    }
+    Ok(count)
+}
+
+// 1 where the line is cut.
+fn cut(line: &[u8]) -> u64
+    ensures { result ≡ content_cut (content_of line.now) }
+{
+    match content_of(line) {
+        Some(content) if content.most < content.bytes.len() => 1,
+        _ => 0,
+    }
+}
+// What follows the 01 of a control line.
+fn behind_mark(line: &[u8]) -> &[u8]
+    requires { is_control line.now ≡ true }
+    ensures { result.now ≡ drop 1 (after_feeds line.now) }
+{
+    match after_feeds(line).split_first() {
+        Some((_, rest)) => rest,
+        None => &[],
+    }
+}
+
+pub(crate) fn is_control(line: &[u8]) -> bool
+    ensures { result ≡ is_control line.now }
+{
+    begins(b"\x01", line)
+}
+
+pub(crate) fn is_seen(line: &[u8]) -> bool
+    ensures { result ≡ is_seen line.now }
+{
+    begins(b"SEEN-BY:", line)
+}

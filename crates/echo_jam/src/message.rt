@@ -1,0 +1,218 @@
+//! A message in the files of a JAM base.
+ghost use Rattle.std.specs.Prelude.{◌≡◌, ◌+◌, ◌++◌, IfOk, OnOk, length, option_copied};
+ghost use Rattle.std.specs.List.{flat_map};
+ghost use Rattle.echo_filed.specs.Stored.{long};
+ghost use Rattle.echo_filed.specs.Written.{text_of};
+ghost use Rattle.echo_text.specs.Lines.{lines};
+ghost use Rattle.echo_jam.specs.Fields.{body_of, cuts_of, fields_of, lines_behind};
+ghost use Rattle.echo_jam.specs.JamMessage.{entry_of, header_back, header_front, header_ids, header_of, id_crc, jam_attribute};
+
+use crate::content::{MOST_OF_ID, cuts_in, front};
+use crate::crc::jam_crc;
+use crate::fields::{push_body, push_line_fields, push_names, push_origin, push_word};
+use crate::long::{count_of, place_behind, push_bytes, push_long};
+use crate::moment::seconds_of;
+use echo_addr::Address;
+use echo_filed::Filed;
+use echo_stored::written_text;
+use echo_text::split_line;
+use std::alloc::{AllocError, Global};
+
+/// What is added to the headers, the texts and the index of a JAM base, and how many subfields of it were cut.
+#[derive(Debug, Drop)]
+pub struct Jam {
+    pub headers: Vec<u8>,
+    pub texts: Vec<u8>,
+    pub index: Vec<u8>,
+    pub cuts: u64,
+}
+
+/// The subfields and the text of a message, and how many of its subfields were cut.
+#[derive(Drop)]
+pub(crate) struct Parts {
+    pub(crate) fields: Vec<u8>,
+    pub(crate) body: Vec<u8>,
+    pub(crate) cuts: u64,
+}
+
+/// Adds a message of this number. What is added to headers and texts begins at these places of their files. What four
+/// bytes do not count is refused as out of memory.
+pub fn push_jam(
+    alloc: Global,
+    jam: &mut Jam,
+    message: &Filed,
+    number: u32,
+    headers_at: u32,
+    texts_at: u32,
+) -> Result<(), AllocError>
+    ensures headers { OnOk result (jam.new.headers.items ≡ jam.old.headers.items ++ header_of message.now number (texts_at + length jam.old.texts.items)) }
+    ensures texts { OnOk result (jam.new.texts.items ≡ jam.old.texts.items ++ body_of message.now) }
+    ensures index { OnOk result (jam.new.index.items ≡ jam.old.index.items ++ entry_of message.now (headers_at + length jam.old.headers.items)) }
+    ensures cuts { OnOk result (jam.new.cuts ≡ jam.old.cuts + cuts_of message.now) }
+{
+    let parts = parts_of(alloc, message)?;
+    let size = count_of(&parts.body)?;
+    let place = place_behind(texts_at, &jam.texts)?;
+    let entry = place_behind(headers_at, &jam.headers)?;
+    jam.cuts = jam.cuts.checked_add(parts.cuts).ok_or(AllocError)?;
+    push_header(
+        &mut jam.headers,
+        message,
+        number,
+        place,
+        size,
+        &parts.fields,
+    )?;
+    push_bytes(&mut jam.texts, &parts.body)?;
+    push_entry(&mut jam.index, message, entry)
+}
+
+/// The subfields and the text of a message.
+pub(crate) fn parts_of(alloc: Global, message: &Filed) -> Result<Parts, AllocError>
+    ensures fields { IfOk result (λ parts. parts.fields.items ≡ fields_of message.now) }
+    ensures body { IfOk result (λ parts. parts.body.items ≡ body_of message.now) }
+    ensures cuts { IfOk result (λ parts. parts.cuts ≡ cuts_of message.now) }
+{
+    let text = written_text(alloc, message)?;
+    let (_, behind) = split_line(&text);
+    let fields = fields_of(alloc, message, behind)?;
+    let body = body_of(alloc, message, behind)?;
+    let cuts = cuts_in(behind)?;
+    Ok(Parts { fields, body, cuts })
+}
+
+/// Adds the header of a message of this number, whose text of so many bytes stands at this place, and its subfields.
+pub(crate) fn push_header(
+    header: &mut Vec<u8>,
+    message: &Filed,
+    number: u32,
+    place: u32,
+    size: u32,
+    fields: &[u8],
+) -> Result<(), AllocError>
+    ensures { OnOk result (header.new.items ≡ header.old.items ++ (header_front (length fields.now) ++ (header_ids message.now ++ (header_back message.now number place size ++ fields.now)))) }
+{
+    push_front(header, count_of(fields)?)?;
+    push_ids(header, message)?;
+    push_back(header, message, number, place, size)?;
+    push_bytes(header, fields)
+}
+
+// Adds how a header begins.
+fn push_front(header: &mut Vec<u8>, count: u32) -> Result<(), AllocError>
+    ensures { OnOk result (header.new.items ≡ header.old.items ++ header_front count) }
+{
+    header.extend_from_slice(b"JAM\0")?;
+    push_word(header, 1)?;
+    push_word(header, 0)?;
+    push_long(header, count)?;
+    push_long(header, 0)
+}
+
+// Adds the CRCs of ids, and no links.
+fn push_ids(header: &mut Vec<u8>, message: &Filed) -> Result<(), AllocError>
+    ensures { OnOk result (header.new.items ≡ header.old.items ++ header_ids message.now) }
+{
+    push_long(header, id_crc(message.echo.msgid()))?;
+    push_long(header, id_crc(message.echo.reply()))?;
+    push_long(header, 0)?;
+    push_long(header, 0)?;
+    push_long(header, 0)
+}
+
+// The CRC of an id, as its subfield has it; all bits set where there is none.
+fn id_crc(id: Option<&[u8]>) -> u32
+    ensures { result ≡ id_crc (option_copied id.entry) }
+{
+    match id {
+        Some(id) => jam_crc(front(id, MOST_OF_ID)),
+        None => u32::MAX,
+    }
+}
+
+// The attribute.
+fn jam_attribute(sender: Option<Address>) -> u32
+    ensures { result ≡ jam_attribute sender }
+{
+    match sender {
+        Some(_) => 0x0100_0000,
+        None => 0x0100_0001,
+    }
+}
+
+// Adds the moments, the number, the attribute, and where the text stands.
+fn push_back(
+    header: &mut Vec<u8>,
+    message: &Filed,
+    number: u32,
+    place: u32,
+    size: u32,
+) -> Result<(), AllocError>
+    ensures { OnOk result (header.new.items ≡ header.old.items ++ header_back message.now number place size) }
+{
+    push_moments(header, seconds_of(&message.date))?;
+    push_number(header, number, jam_attribute(message.sender))?;
+    push_place(header, place, size)
+}
+
+// Adds when it was written, and that it was neither received nor processed.
+fn push_moments(header: &mut Vec<u8>, written: u32) -> Result<(), AllocError>
+    ensures { OnOk result (header.new.items ≡ header.old.items ++ (long written ++ (long 0 ++ long 0))) }
+{
+    push_long(header, written)?;
+    push_long(header, 0)?;
+    push_long(header, 0)
+}
+
+// Adds the number and the attributes.
+fn push_number(header: &mut Vec<u8>, number: u32, attribute: u32) -> Result<(), AllocError>
+    ensures { OnOk result (header.new.items ≡ header.old.items ++ (long number ++ (long attribute ++ long 0))) }
+{
+    push_long(header, number)?;
+    push_long(header, attribute)?;
+    push_long(header, 0)
+}
+
+// Adds where the text stands and how long it is, no password and no cost.
+fn push_place(header: &mut Vec<u8>, place: u32, size: u32) -> Result<(), AllocError>
+    ensures { OnOk result (header.new.items ≡ header.old.items ++ (long place ++ (long size ++ (long 4294967295 ++ long 0)))) }
+{
+    push_long(header, place)?;
+    push_long(header, size)?;
+    push_long(header, u32::MAX)?;
+    push_long(header, 0)
+}
+
+/// All subfields of the message.
+pub(crate) fn fields_of(
+    alloc: Global,
+    message: &Filed,
+    behind: &[u8],
+) -> Result<Vec<u8>, AllocError>
+    requires { lines behind.now ≡ lines_behind message.now.echo }
+    ensures { IfOk result (λ fields. fields.items ≡ fields_of message.now) }
+{
+    let mut fields = Vec::new(alloc);
+    push_origin(alloc, &mut fields, message)?;
+    push_names(&mut fields, message)?;
+    push_line_fields(&mut fields, behind)?;
+    Ok(fields)
+}
+
+/// The text of the message.
+pub(crate) fn body_of(alloc: Global, message: &Filed, behind: &[u8]) -> Result<Vec<u8>, AllocError>
+    requires { lines behind.now ≡ lines_behind message.now.echo }
+    ensures { IfOk result (λ body. body.items ≡ body_of message.now) }
+{
+    let mut body = Vec::new(alloc);
+    push_body(&mut body, behind)?;
+    Ok(body)
+}
+
+/// Adds an index entry.
+pub(crate) fn push_entry(index: &mut Vec<u8>, message: &Filed, place: u32) -> Result<(), AllocError>
+    ensures { OnOk result (index.new.items ≡ index.old.items ++ entry_of message.now place) }
+{
+    push_long(index, jam_crc(message.to_name.as_slice()))?;
+    push_long(index, place)
+}

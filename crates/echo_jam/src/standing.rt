@@ -1,0 +1,198 @@
+//! What stands in the files of a JAM base.
+ghost use Rattle.std.specs.Prelude.{◌≡◌, ◌+◌, ◌*◌, ◌≤◌, ◌<◌, ◌^◌, IsTrue, length};
+ghost use Rattle.echo_filed.specs.Stored as numbers;
+ghost use Rattle.echo_packet.specs.Header as words;
+ghost use Rattle.echo_jam.specs.Standing.{active_at, active_in, are_entries, entries_in, fields_end, has_mark, has_text, is_base, is_deleted_at, is_entry, is_gone, is_header, last_at, last_in, next_number, place_in, standing_in};
+
+/// The last message of a base: the place of its header, that of its text, and how long that is.
+#[derive(Clone, Copy, Debug, PartialEq, Eq)]
+pub struct Last {
+    pub place: u32,
+    pub text: u32,
+    pub size: u32,
+}
+
+/// What stands in a base: the number of the next message, how often the base was changed, how many messages it says
+/// are active, how many are, and the last one, unless that is gone.
+#[derive(Clone, Copy, Debug, PartialEq, Eq)]
+pub struct Standing {
+    pub next: u32,
+    pub changes: u32,
+    pub active: u32,
+    pub counted: u32,
+    pub last: Option<Last>,
+}
+
+/// What stands in the base of these headers and this index, with so many bytes of texts. None where they are damaged, or
+/// none of a JAM base.
+pub fn standing_in(headers: &[u8], index: &[u8], texts: u64) -> Option<Standing>
+    ensures { result ≡ standing_in headers.now index.now texts }
+{
+    if !is_base(headers, index, texts) {
+        return None;
+    }
+    Some(Standing {
+        next: long_at(headers, 20) + (index.len() / 8) as u32,
+        changes: long_at(headers, 8),
+        active: long_at(headers, 12),
+        counted: active_in(headers, index),
+        last: last_in(headers, index, texts),
+    })
+}
+
+// Whether these are the headers and the index of a base.
+fn is_base(headers: &[u8], index: &[u8], texts: u64) -> bool
+    ensures value { result ≡ is_base headers.now index.now texts }
+    ensures room { IsTrue result → 1024 ≤ length headers.now }
+    ensures small { IsTrue result → next_number headers.now index.now < 2 ^ 32 }
+{
+    if headers.len() < 1024 || !has_mark(headers, 0) {
+        return false;
+    }
+    let next = long_at(headers, 20) as usize + index.len() / 8;
+    next < 1 << 32 && are_entries(headers, index, texts)
+}
+
+// The number of two bytes at a place.
+fn number_at(bytes: &[u8], at: usize) -> u32
+    requires { at + 2 ≤ length bytes.now }
+    ensures value { result ≡ words.number_at at bytes.now }
+    ensures small { result < 65536 }
+{
+    u32::from(bytes[at]) + 256 * u32::from(bytes[at + 1])
+}
+
+/// That of four.
+pub(crate) fn long_at(bytes: &[u8], at: usize) -> u32
+    requires { at + 4 ≤ length bytes.now }
+    ensures { result ≡ numbers.long_at at bytes.now }
+{
+    number_at(bytes, at) + 65536 * number_at(bytes, at + 2)
+}
+
+// Whether the mark of JAM stands there.
+fn has_mark(headers: &[u8], at: usize) -> bool
+    requires { at + 4 ≤ length headers.now }
+    ensures { result ≡ has_mark headers.now at }
+{
+    &headers[at..at + 4] == b"JAM\0".as_slice()
+}
+
+// Whether a whole header stands there, and its text.
+fn is_header(headers: &[u8], texts: u64, place: u32) -> bool
+    ensures value { result ≡ is_header headers.now texts place }
+    ensures room { IsTrue result → place + 76 ≤ length headers.now }
+{
+    let at = place as usize;
+    if at < 1024 || headers.len() < at + 76 {
+        return false;
+    }
+    has_mark(headers, at)
+        && fields_end(headers, at) <= headers.len()
+        && has_text(headers, texts, at)
+}
+
+// Where the subfields of the header end.
+fn fields_end(headers: &[u8], at: usize) -> usize
+    requires room { at + 76 ≤ length headers.now }
+    requires small { at < 2 ^ 32 }
+    ensures { result ≡ fields_end headers.now at }
+{
+    at + 76 + long_at(headers, at + 8) as usize
+}
+
+// Whether its text lies within the texts, or the message is deleted.
+fn has_text(headers: &[u8], texts: u64, at: usize) -> bool
+    requires room { at + 76 ≤ length headers.now }
+    requires small { at < 2 ^ 32 }
+    ensures { result ≡ has_text headers.now texts at }
+{
+    let end = u64::from(long_at(headers, at + 60)) + u64::from(long_at(headers, at + 64));
+    is_deleted(headers, at) || end <= texts
+}
+
+// Whether the message is deleted.
+fn is_deleted(headers: &[u8], at: usize) -> bool
+    requires { at < 2 ^ 32 }
+    ensures { result ≡ is_deleted_at headers.now at }
+{
+    match headers.get(at + 55) {
+        Some(byte) => *byte >= 128,
+        None => false,
+    }
+}
+
+// Where the header of an entry stands.
+fn place_in(index: &[u8], i: usize) -> u32
+    requires { 8 * i + 8 ≤ length index.now }
+    ensures { result ≡ place_in index.now i }
+{
+    long_at(index, 8 * i + 4)
+}
+
+// Whether each entry is gone or has its header.
+fn are_entries(headers: &[u8], index: &[u8], texts: u64) -> bool
+    ensures { result ≡ are_entries headers.now index.now texts (entries_in index.now) }
+{
+    let mut whole = true;
+    'entries: for i in 0..index.len() / 8 {
+        whole = whole && is_entry(headers, texts, place_in(index, i));
+    }
+    whole
+}
+
+// Whether the message is gone or has its header.
+fn is_entry(headers: &[u8], texts: u64, place: u32) -> bool
+    ensures { result ≡ is_entry headers.now texts place }
+{
+    place == u32::MAX || is_header(headers, texts, place)
+}
+
+// How many messages are neither gone nor deleted.
+fn active_in(headers: &[u8], index: &[u8]) -> u32
+    requires { entries_in index.now < 2 ^ 32 }
+    ensures { result ≡ active_in headers.now index.now (entries_in index.now) }
+{
+    let mut count = 0;
+    'entries: for i in 0..index.len() / 8 {
+        count += active_at(headers, place_in(index, i));
+    }
+    count
+}
+
+// 1 for a message that is neither.
+fn active_at(headers: &[u8], place: u32) -> u32
+    ensures value { result ≡ active_at headers.now place }
+    ensures small { result ≤ 1 }
+{
+    if place == u32::MAX || is_deleted(headers, place as usize) {
+        0
+    } else {
+        1
+    }
+}
+
+// The last message.
+fn last_in(headers: &[u8], index: &[u8], texts: u64) -> Option<Last>
+    ensures { result ≡ last_in headers.now index.now texts }
+{
+    let entries = index.len() / 8;
+    if entries == 0 {
+        return None;
+    }
+    last_at(headers, texts, place_in(index, entries - 1))
+}
+
+fn last_at(headers: &[u8], texts: u64, place: u32) -> Option<Last>
+    ensures { result ≡ last_at headers.now texts place }
+{
+    if place == u32::MAX || !is_header(headers, texts, place) {
+        return None;
+    }
+    let at = place as usize;
+    Some(Last {
+        place,
+        text: long_at(headers, at + 60),
+        size: long_at(headers, at + 64),
+    })
+}
