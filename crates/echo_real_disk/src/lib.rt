@@ -4,9 +4,10 @@
 //! their answers tell, and it is honest as long as each answer is what is seen. So a theorem over it reads: where
 //! the answers are those of such a disk. That each call is the one that is noted is to be read, in `system`.
 //!
-//! Modules in reading order: `system` (the calls), `trace` (what only clauses read), `start` and `real_disk`.
+//! Modules in reading order: `kept` (files that stay open), `system` (the calls), `trace` (what only clauses read), `start` and `real_disk`.
 #![tactic(auto)]
 
+mod kept;
 mod real_disk;
 mod start;
 mod system;

@@ -4,6 +4,7 @@ ghost use Rattle.echo_disk.specs.Runs.{ChangesNothing, HasCause};
 ghost use Rattle.echo_real_disk.specs.Noted.{note_of};
 ghost use Rattle.echo_real_disk.specs.Replay.{replay};
 
+use crate::kept::KeptFiles;
 use crate::start::Start;
 use crate::system;
 use crate::trace::{Call, Trace};
@@ -41,6 +42,7 @@ const SYNC_FOLDER: u64 = 10;
 pub struct RealDisk<R: Files + Drop, S: Start> {
     // None after a sync that failed: the system may have dropped what was written, and say so no more.
     files: Option<R>,
+    kept: KeptFiles<R::File>,
     trace: Trace,
     failures: u64,
     start: PhantomData<S>,
@@ -54,6 +56,7 @@ impl<R: Files + Drop, S: Start> RealDisk<R, S> {
     {
         RealDisk {
             files: Some(files),
+            kept: KeptFiles::none(),
             trace: Trace::empty(),
             failures: 0,
             start: PhantomData,
@@ -67,6 +70,7 @@ impl<R: Files + Drop, S: Start> RealDisk<R, S> {
     {
         if answer.is_err() {
             self.files = None;
+            self.kept = KeptFiles::none();
         }
     }
 }
@@ -151,7 +155,7 @@ impl<R: Files + Drop, S: Start> Disk for RealDisk<R, S> {
     }
 
     fn read_at(&mut self, path: &[u8], at: usize, buf: &mut [u8]) -> Result<usize, DiskError> {
-        let came = system::read_at(&self.files, path, at, buf);
+        let came = system::read_at(&self.files, &mut self.kept, path, at, buf);
         let (count, answer) = match &came {
             Ok(count) => (*count, 1),
             Err(_) => (0, 0),
@@ -169,7 +173,7 @@ impl<R: Files + Drop, S: Start> Disk for RealDisk<R, S> {
     }
 
     fn write_at(&mut self, path: &[u8], at: usize, bytes: &[u8]) -> Result<(), DiskError> {
-        let written = system::write_at(&self.files, path, at, bytes);
+        let written = system::write_at(&self.files, &mut self.kept, path, at, bytes);
         self.trace = self.trace.with(&Call {
             what: WRITE,
             at: at as u64,
@@ -197,12 +201,14 @@ impl<R: Files + Drop, S: Start> Disk for RealDisk<R, S> {
     }
 
     fn create(&mut self, path: &[u8]) -> Result<(), DiskError> {
+        self.kept = KeptFiles::none();
         let made = system::create(&self.files, path);
         self.trace = self.trace.with(&path_call(CREATE, path, done(&made)));
         counted(&mut self.failures, made)
     }
 
     fn rename(&mut self, from: &[u8], to: &[u8]) -> Result<(), DiskError> {
+        self.kept = KeptFiles::none();
         let renamed = system::rename(&self.files, from, to);
         self.trace = self.trace.with(&Call {
             what: RENAME,
@@ -217,6 +223,7 @@ impl<R: Files + Drop, S: Start> Disk for RealDisk<R, S> {
     }
 
     fn link(&mut self, from: &[u8], to: &[u8]) -> Result<bool, DiskError> {
+        self.kept = KeptFiles::none();
         let linked = system::link(&self.files, from, to);
         let answer = match &linked {
             Ok(true) => 2,
@@ -236,6 +243,7 @@ impl<R: Files + Drop, S: Start> Disk for RealDisk<R, S> {
     }
 
     fn remove(&mut self, path: &[u8]) -> Result<(), DiskError> {
+        self.kept = KeptFiles::none();
         let removed = system::remove(&self.files, path);
         self.trace = self.trace.with(&path_call(REMOVE, path, done(&removed)));
         counted(&mut self.failures, removed)

@@ -1,8 +1,10 @@
 //! The calls of the system. What they do is not known to a contract: this module is to be read.
 //!
-//! Where there are no files each call fails.
+//! Where there are no files each call fails. A file that is kept open is at its path still: only the calls of a disk
+//! give paths to other files, and it lets go of all that it kept before it makes one of those.
 ghost use Rattle.std.specs.Prelude.{◌≤◌, length, IfOk};
 
+use crate::kept::{KeptFiles, Placed};
 use echo_disk::DiskError;
 use std::fs::{OpenFile, OpenOptions};
 use std::io::{ErrorKind, Read, Seek, SeekFrom, Write};
@@ -53,23 +55,48 @@ pub(crate) fn len<R: Files>(files: &Option<R>, path: &[u8]) -> Result<usize, Dis
     measure(files, path).map_err(fault)
 }
 
-fn read<R: Files>(files: &Option<R>, path: &[u8], at: usize, buf: &mut [u8]) -> io::Result<usize>
+// Goes to the place, where the file is not there.
+fn go_to<F: Seek + Drop>(placed: &mut Placed<F>, at: u64) -> io::Result<()> {
+    if placed.at != at {
+        placed.at = placed.file.seek(SeekFrom::Start(at))?;
+    }
+    Ok(())
+}
+
+fn read<R: Files>(
+    files: &Option<R>,
+    kept: &mut KeptFiles<R::File>,
+    path: &[u8],
+    at: usize,
+    buf: &mut [u8],
+) -> io::Result<usize>
     ensures { IfOk result (λ count. count ≤ length buf.new) }
 {
-    let mut file = fs::open(usable(files)?, name(path)?)?;
-    file.seek(SeekFrom::Start(at as u64))?;
-    file.read(buf)
+    let files = usable(files)?;
+    let mut placed = match kept.take_read(path) {
+        Some(placed) => placed,
+        None => Placed {
+            file: fs::open(files, name(path)?)?,
+            at: 0,
+        },
+    };
+    go_to(&mut placed, at as u64)?;
+    let count = placed.file.read(buf)?;
+    placed.at = (at as u64).saturating_add(count as u64);
+    kept.keep_read(path, placed);
+    Ok(count)
 }
 
 pub(crate) fn read_at<R: Files>(
     files: &Option<R>,
+    kept: &mut KeptFiles<R::File>,
     path: &[u8],
     at: usize,
     buf: &mut [u8],
 ) -> Result<usize, DiskError>
     ensures { IfOk result (λ count. count ≤ length buf.new) }
 {
-    match read(files, path, at, buf) {
+    match read(files, kept, path, at, buf) {
         Ok(count) => Ok(count),
         Err(error) => Err(fault(error)),
     }
@@ -81,19 +108,35 @@ fn open_to_write<R: Files>(files: &Option<R>, path: &[u8]) -> io::Result<R::File
         .open(usable(files)?, name(path)?)
 }
 
-fn write<R: Files>(files: &Option<R>, path: &[u8], at: usize, bytes: &[u8]) -> io::Result<()> {
-    let mut file = open_to_write(files, path)?;
-    file.seek(SeekFrom::Start(at as u64))?;
-    file.write_all(bytes)
+fn write<R: Files>(
+    files: &Option<R>,
+    kept: &mut KeptFiles<R::File>,
+    path: &[u8],
+    at: usize,
+    bytes: &[u8],
+) -> io::Result<()> {
+    let mut placed = match kept.take_written(path) {
+        Some(placed) => placed,
+        None => Placed {
+            file: open_to_write(files, path)?,
+            at: 0,
+        },
+    };
+    go_to(&mut placed, at as u64)?;
+    placed.file.write_all(bytes)?;
+    placed.at = (at as u64).saturating_add(bytes.len() as u64);
+    kept.keep_written(path, placed);
+    Ok(())
 }
 
 pub(crate) fn write_at<R: Files>(
     files: &Option<R>,
+    kept: &mut KeptFiles<R::File>,
     path: &[u8],
     at: usize,
     bytes: &[u8],
 ) -> Result<(), DiskError> {
-    write(files, path, at, bytes).map_err(fault)
+    write(files, kept, path, at, bytes).map_err(fault)
 }
 
 fn set_len<R: Files>(files: &Option<R>, path: &[u8], len: usize) -> io::Result<()> {

@@ -1,0 +1,87 @@
+//! Files that stay open from one call to the next, so that many reads and writes of a file open it once.
+use std::mem;
+
+/// A longer path is opened at each call.
+const LONGEST: usize = 250;
+
+/// A file that is open, and the place in it at which the next read or write begins.
+#[derive(Drop)]
+pub(crate) struct Placed<F: Drop> {
+    pub(crate) file: F,
+    pub(crate) at: u64,
+}
+
+/// A file that is kept with its path.
+#[derive(Drop)]
+struct Kept<F: Drop> {
+    path: [u8; LONGEST],
+    len: usize,
+    placed: Placed<F>,
+}
+
+/// The file that was read last, and the two that were written last.
+#[derive(Drop)]
+pub(crate) struct KeptFiles<F: Drop> {
+    read: Option<Kept<F>>,
+    written: Option<Kept<F>>,
+    written_before: Option<Kept<F>>,
+}
+
+// The file at the path, taken out, where that is the one that is kept.
+fn take<F: Drop>(kept: &mut Option<Kept<F>>, path: &[u8]) -> Option<Placed<F>> {
+    let found = kept.take()?;
+    if found.path.get(..found.len) == Some(path) {
+        return Some(found.placed);
+    }
+    *kept = Some(found);
+    None
+}
+
+// A file to be kept with its path, where that is short enough.
+fn with_path<F: Drop>(path: &[u8], placed: Placed<F>) -> Option<Kept<F>> {
+    if path.len() > LONGEST {
+        return None;
+    }
+    let mut kept = [0u8; LONGEST];
+    kept[..path.len()].copy_from_slice(path);
+    Some(Kept {
+        path: kept,
+        len: path.len(),
+        placed,
+    })
+}
+
+impl<F: Drop> KeptFiles<F> {
+    pub(crate) fn none() -> KeptFiles<F> {
+        KeptFiles {
+            read: None,
+            written: None,
+            written_before: None,
+        }
+    }
+
+    /// The file at the path that is open to be read.
+    pub(crate) fn take_read(&mut self, path: &[u8]) -> Option<Placed<F>> {
+        take(&mut self.read, path)
+    }
+
+    pub(crate) fn keep_read(&mut self, path: &[u8], placed: Placed<F>) {
+        self.read = with_path(path, placed);
+    }
+
+    /// The file at the path that is open to be written.
+    pub(crate) fn take_written(&mut self, path: &[u8]) -> Option<Placed<F>> {
+        let last = take(&mut self.written, path);
+        if last.is_some() {
+            return last;
+        }
+        take(&mut self.written_before, path)
+    }
+
+    pub(crate) fn keep_written(&mut self, path: &[u8], placed: Placed<F>) {
+        let last = mem::replace(&mut self.written, with_path(path, placed));
+        if last.is_some() {
+            self.written_before = last;
+        }
+    }
+}
