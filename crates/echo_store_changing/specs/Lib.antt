@@ -6,3 +6,4 @@ pub mod Replied
 pub mod Scanned
 pub mod Purged
 pub mod Tossed
+pub mod AsOfFiles

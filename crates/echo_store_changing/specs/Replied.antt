@@ -5,15 +5,25 @@ use Rattle.echo_filed.specs.Filed.{Filed}
 use Rattle.echo_links.specs.Links.{LinkFile}
 use Rattle.echo_changing.specs.declared.posting.NewMessage.{NewMessage}
 use Rattle.echo_changing.specs.declared.replying.Answer.{Answer}
-use Rattle.echo_changing.specs.Replied.{IsReply}
+use Rattle.echo_changing.specs.declared.replying.Found.{Found}
+use Rattle.echo_changing.specs.Replied.{IsFound, IsReply}
 use Rattle.echo_status.specs.declared.fault.Fault.TheVariants.{BadNumber}
 use Rattle.echo_status.specs.Devices.{Output}
+use Rattle.echo_status.specs.Ended.{IsOutOfMemory}
 use Rattle.echo_steps.specs.SystemState.{SystemState}
 use Rattle.echo_store_changing.specs.declared.stop.Stop.{Stop}
 use Rattle.echo_store_changing.specs.declared.stop.Stop.TheVariants.{Met, Store}
 use Rattle.echo_store_changing.specs.Answered.{StopsFirst}
 use Rattle.echo_store_changing.specs.FreeSerial.{PostsFree, PostsFreeOn}
 use Rattle.echo_store_changing.specs.Posted.{Posts, PostsOn}
+
+-- the words that the message gives, which is found or not, or why there are none; or the store failed
+abbrev pub FindsOn : Option Filed → Result Found Stop → Type 0
+FindsOn None (Err (Met fault)) = fault ≡ BadNumber
+FindsOn None other = ⊥
+FindsOn (Some m) (Ok found) = IsFound m found
+FindsOn (Some m) (Err (Met fault)) = IsOutOfMemory fault
+FindsOn (Some m) (Err (Store cause)) = Unit {0}
 
 -- words are posted at a system with their serial, or with the first from that on that is free
 abbrev pub PostsAsOn : {A : Type 0} → Bool → NewMessage → SystemState → List ℕ → Output → Output → Result A Stop → Type 0

@@ -29,6 +29,11 @@ store_answer (Ok done) = Ok tt
 store_answer (Err (stop.Met fault)) = Ok tt
 store_answer (Err (stop.Store cause)) = Err cause
 
+-- the store failed
+abbrev pub IsOfStore : Stop → Type 0
+IsOfStore (stop.Met fault) = ⊥
+IsOfStore (stop.Store cause) = Unit {0}
+
 -- what is at the path cannot be used
 abbrev pub CannotUseAt : List ℕ → Fault → Type 0
 CannotUseAt path (CannotUse other) = other.now ≡ path

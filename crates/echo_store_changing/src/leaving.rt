@@ -3,7 +3,7 @@ ghost use Rattle.std.specs.Prelude.{◌≡◌, IfErr, OnOk};
 ghost use Rattle.echo_status.specs.Devices.{output_of};
 ghost use Rattle.echo_store.specs.Store.{Commits, HasStoreCause, MayCommit};
 ghost use Rattle.echo_store_changing.specs.Answered.{LooksWhereMet, PrintsAll};
-ghost use Rattle.echo_store_changing.specs.Stops.{store_answer};
+ghost use Rattle.echo_store_changing.specs.Stops.{IsOfStore, store_answer};
 
 use crate::stop::Stop;
 use echo_device::Sink;
@@ -15,6 +15,7 @@ pub fn commit_on<'a, T: Store>(store: &mut T) -> Result<(), Stop<'a>>
     requires { (T.state store.old).is_ready }
     ensures committed { OnOk result (Commits (T.state store.old) (T.state store.new)) }
     ensures either { MayCommit (T.state store.old) (T.state store.new) }
+    ensures of_store { IfErr result IsOfStore }
     ensures cause { HasStoreCause (T.state store.old) (T.state store.new) (T.failures store.old) (T.failures store.new) (store_answer result) }
 {
     store.commit()?;

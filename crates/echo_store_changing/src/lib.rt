@@ -10,6 +10,7 @@
 //! (what holds of the definitions).
 #![tactic(auto)]
 
+mod laws;
 mod leaving;
 mod posting;
 mod purging;
@@ -17,10 +18,9 @@ mod replying;
 mod scanning;
 mod serials;
 mod stop;
-#[cfg(test)]
-mod tests;
 mod tossing;
 
+pub use laws::file_laws;
 pub use leaving::commit_on;
 pub use posting::post_on;
 pub use purging::purge_on;

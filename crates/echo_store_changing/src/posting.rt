@@ -2,10 +2,12 @@
 ghost use Rattle.std.specs.Prelude.{◌≡◌, IfErr, OnOk};
 ghost use Rattle.echo_disk.specs.Disk.{Honestly};
 ghost use Rattle.echo_base.specs.Base.{Base};
+ghost use Rattle.echo_changing.specs.Lines.{posted_line};
 ghost use Rattle.echo_status.specs.Devices.{output_of};
-ghost use Rattle.echo_store.specs.Store.{HasStoreCause};
+ghost use Rattle.echo_store.specs.Store.{Commits, HasStoreCause, MayCommit};
+ghost use Rattle.echo_text.specs.Ids.{id_of};
 ghost use Rattle.echo_toss.specs.PacketsIn.{state_in};
-ghost use Rattle.echo_store_changing.specs.Answered.{CommitsNoneWhereMet, HasCommitted, MayMake};
+ghost use Rattle.echo_store_changing.specs.Answered.{CommitsNoneWhereMet, HasCommitted, LooksWhereMet, MayMake, PrintsAll};
 ghost use Rattle.echo_store_changing.specs.Posted.{Posts, PostsOn};
 ghost use Rattle.echo_store_changing.specs.Stops.{store_answer};
 
@@ -48,7 +50,26 @@ pub fn post_on<'a, T: Store, W: Sink>(
         words.serial,
         words.stamp,
     )?;
+    leave_posted(alloc, words.tag, words.serial, links, store, out)
+}
+
+/// Prints the line of a message that was posted with this serial, and commits what the store holds.
+pub(crate) fn leave_posted<'a, T: Store, W: Sink>(
+    alloc: Global,
+    tag: &[u8],
+    serial: u32,
+    links: &LinkFile,
+    store: &mut T,
+    out: &mut W,
+) -> Result<(), Stop<'a>>
+    requires { (T.state store.old).is_ready }
+    ensures printed { PrintsAll (posted_line tag.now (id_of links.now.system serial)) (output_of W.contents W.failures W.holds out.old) (output_of W.contents W.failures W.holds out.new) result }
+    ensures committed { OnOk result (Commits (T.state store.old) (T.state store.new)) }
+    ensures met { IfErr result (LooksWhereMet (T.state store.old) (T.state store.new)) }
+    ensures either { MayCommit (T.state store.old) (T.state store.new) }
+    ensures cause { HasStoreCause (T.state store.old) (T.state store.new) (T.failures store.old) (T.failures store.new) (store_answer result) }
+{
     let mut lines = Vec::new(alloc);
-    push_posted(alloc, &mut lines, words.tag, links.system(), words.serial)?;
+    push_posted(alloc, &mut lines, tag, links.system(), serial)?;
     leave(&mut lines, store, out)
 }

@@ -3,10 +3,10 @@ ghost use Rattle.std.specs.Prelude.{◌≡◌, IfErr, OnOk, slice_get};
 ghost use Rattle.echo_disk.specs.Disk.{Honestly};
 ghost use Rattle.echo_base.specs.Base.{Base};
 ghost use Rattle.echo_status.specs.Devices.{output_of};
-ghost use Rattle.echo_store.specs.Store.{HasStoreCause};
+ghost use Rattle.echo_store.specs.Store.{HasStoreCause, LooksOn};
 ghost use Rattle.echo_toss.specs.PacketsIn.{state_in};
 ghost use Rattle.echo_store_changing.specs.Answered.{CommitsNoneWhereMet, HasCommitted, MayMake};
-ghost use Rattle.echo_store_changing.specs.Replied.{PostsAs, PostsAsOn, Replies, RepliesOn};
+ghost use Rattle.echo_store_changing.specs.Replied.{FindsOn, PostsAs, PostsAsOn, Replies, RepliesOn};
 ghost use Rattle.echo_store_changing.specs.Stops.{store_answer};
 
 use crate::posting::post_on;
@@ -54,12 +54,11 @@ pub fn reply_on<'a, T: Store, W: Sink>(
 }
 
 // The words that the message of this number gives.
-fn found_on<'a, T: Store>(
-    alloc: Global,
-    index: u64,
-    store: &mut T,
-) -> Result<Found, Stop<'a>>
+fn found_on<'a, T: Store>(alloc: Global, index: u64, store: &mut T) -> Result<Found, Stop<'a>>
     requires { (T.state store.old).is_ready }
+    ensures found { Honestly (T.state store.new).disk ((base : Base) → (T.state store.old).keeps base → FindsOn (slice_get base.messages index) result) }
+    ensures looks { LooksOn (T.state store.old) (T.state store.new) }
+    ensures cause { HasStoreCause (T.state store.old) (T.state store.new) (T.failures store.old) (T.failures store.new) (store_answer result) }
 {
     if index >= store.len() as u64 {
         return Err(Stop::Met(Fault::BadNumber));

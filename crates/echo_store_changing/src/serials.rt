@@ -12,9 +12,9 @@ ghost use Rattle.echo_store_changing.specs.Answered.{CommitsNoneWhereMet, HasCom
 ghost use Rattle.echo_store_changing.specs.FreeSerial.{FilesFreeOn, PostsFree, PostsFreeOn};
 ghost use Rattle.echo_store_changing.specs.Stops.{store_answer};
 
-use crate::leaving::leave;
+use crate::posting::leave_posted;
 use crate::stop::Stop;
-use echo_changing::{NewMessage, draft_of, push_posted};
+use echo_changing::{NewMessage, draft_of};
 use echo_device::Sink;
 use echo_links::LinkFile;
 use echo_steps::{Draft, PostFault, Stamp};
@@ -52,9 +52,7 @@ pub fn post_free_on<'a, T: Store, W: Sink>(
         words.serial,
         words.stamp,
     )?;
-    let mut lines = Vec::new(alloc);
-    push_posted(alloc, &mut lines, words.tag, links.system(), serial)?;
-    leave(&mut lines, store, out)
+    leave_posted(alloc, words.tag, serial, links, store, out)
 }
 
 // Files a message with the first serial from this one on that is free. Looks once for each that is taken.

@@ -81,7 +81,7 @@ impl<'a> Stop<'a> {
     /// What is reported, where the store is at this path. Of a damaged message it is not told which one it is: that the
     /// store cannot be used.
     pub fn fault(self, base: &'a str) -> Fault<'a>
-        ensures { IsToldAs base.now self result }
+        ensures { IsToldAs base.now self.entry result }
     {
         match self {
             Stop::Met(fault) => fault,
