@@ -30,7 +30,7 @@ pub use leaving::{Done, Files, PacketFile};
 pub use lines::{MOST_TALLY, push_posted, push_purged, push_tally};
 pub use posting::{NewMessage, draft_of, post};
 pub use purging::purge;
-pub use replying::{Answer, is_id, reply};
+pub use replying::{Answer, Found, found_in, is_id, reply};
 pub use scanning::{packet_files, scan};
 pub use serials::post_free;
 pub use tossing::{fault_of, toss, toss_each};

@@ -36,13 +36,13 @@ pub struct Answer<'a> {
     pub stamp: Stamp,
 }
 
-// The words that a message gives.
+/// The words that a message gives to the answer.
 #[derive(Drop)]
-struct Found {
-    tag: Items<u8>,
-    to_name: Items<u8>,
-    subject: Items<u8>,
-    reply: Items<u8>,
+pub struct Found {
+    pub tag: Items<u8>,
+    pub to_name: Items<u8>,
+    pub subject: Items<u8>,
+    pub reply: Items<u8>,
 }
 
 /// `reply --from F --serial HEX8 --at STAMP I LINKS BASE`: posts an answer to the message of this number, with
@@ -119,8 +119,8 @@ fn post_as<'a, S: BuildHasher, W: Sink>(
     }
 }
 
-// The words that the message gives.
-fn found_in(alloc: Global, message: &Filed) -> Result<Found, AllocError>
+/// The words that the message gives.
+pub fn found_in(alloc: Global, message: &Filed) -> Result<Found, AllocError>
     ensures { IfOk result (IsFound message.now) }
 {
     let echo = &message.echo;

@@ -84,7 +84,7 @@ one_more_noted limits sender old mid before left ms m given at tally answer text
     ∙ ap (λ l. text ++ l) (sym (notes_of-push old.file old.base sender 1 58 ms m))
 
 -- a message that is not filed leaves the state
-not_filed : (answer : Outcome) (m : FiledMessage) → answer ≢ Filed → where_filed answer m ≡ None
+pub not_filed : (answer : Outcome) (m : FiledMessage) → answer ≢ Filed → where_filed answer m ≡ None
 not_filed Filed m other = absurd (other refl)
 not_filed NotEcho m other = refl
 not_filed BadTag m other = refl

@@ -83,8 +83,8 @@ fn note_messages<S: BuildHasher, R: Source>(
     }
 }
 
-// Adds the line of a message that was not filed, and leaves as much room as there was.
-fn note_outcome(
+/// Adds the line of a message that was not filed, and leaves as much room as there was.
+pub(crate) fn note_outcome(
     alloc: Global,
     text: &mut Vec<u8>,
     room: usize,

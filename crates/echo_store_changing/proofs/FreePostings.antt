@@ -1,0 +1,166 @@
+-- Postings into a store whose serial is looked for.
+use Rattle.std.proofs.Common.{◌≡◌, ℕ, ◌+◌, ◌-◌, ◌%◌, ◌^◌, ◌<◌, ◌≤◌, true, List, inl, inr, None, Some, Result, Err, refl, arith}
+use Rattle.echo_base.specs.Base.{Base}
+use Rattle.echo_changing.specs.declared.posting.NewMessage.{NewMessage}
+use Rattle.echo_changing.specs.FreeSerial.{is_taken, serial_after, with_serial}
+use Rattle.echo_changing.specs.Lines.{posted_line}
+use Rattle.echo_changing.specs.Posted.{draft_given}
+use Rattle.echo_changing.proofs.FreeSerials.{first_here, first_of_all, free_where_allowed, next_step, one_more, refused_first, taken_where_known}
+use Rattle.echo_disk.specs.Disk.{Honestly}
+use Rattle.echo_filed.specs.Filed.{Filed}
+use Rattle.echo_links.specs.Links.{LinkFile}
+use Rattle.echo_status.specs.declared.fault.Fault.TheVariants.{OutOfMemory}
+use Rattle.echo_status.specs.Devices.{Output}
+use Rattle.echo_steps.specs.declared.draft.Draft.{Draft}
+use Rattle.echo_steps.specs.declared.fault.PostFault.{PostFault}
+use Rattle.echo_steps.specs.declared.fault.PostFault.TheVariants as fault
+use Rattle.echo_steps.specs.declared.stamp.Stamp.{Stamp}
+use Rattle.echo_steps.specs.Posting.{post_refusal, posted}
+use Rattle.echo_steps.specs.SystemState.{SystemState}
+use Rattle.echo_steps.proofs.FirstRefusals.{refusal_first}
+use Rattle.echo_store.specs.Store.{LooksOn, StoreState, with_message}
+use Rattle.echo_store.proofs.Runs.{looks_twice, no_look}
+use Rattle.echo_text.specs.Ids.{id_of}
+use Rattle.echo_toss.specs.declared.stop.PostStop.{PostStop}
+use Rattle.echo_toss.specs.declared.stop.PostStop.TheVariants as post
+use Rattle.echo_toss.specs.PacketsIn.{state_in}
+use Rattle.echo_toss.specs.Stores.{IsPostStop, LooksWhereRefused}
+use Rattle.echo_toss.proofs.Judged.{is_fault}
+use Rattle.echo_store_changing.specs.declared.stop.Stop.{Stop}
+use Rattle.echo_store_changing.specs.declared.stop.Stop.TheVariants.{Met}
+use Rattle.echo_store_changing.specs.Answered.{PrintsAll}
+use Rattle.echo_store_changing.specs.FreeSerial.{FiledFree, FilesFreeOn, PostsFree, PostsFreeOn}
+use Rattle.echo_store_changing.specs.Stops.{post_stop}
+use Rattle.echo_store_changing.proofs.Postings.{post_printed, post_stopped, posts}
+
+-- serials were looked at in the store, from one on, and each was taken
+pub record HasLooked (file : LinkFile) (old mid : StoreState) (first now start serial steps : ℕ) : Type 0 where
+  pub looks : LooksOn old mid
+  pub later : first ≤ now
+  pub place : serial ≡ serial_after start steps
+  pub taken : Honestly mid.disk ((base : Base) → old.keeps base → (k : ℕ) → k < steps → is_taken file base.messages (serial_after start k) ≡ true)
+
+-- before the first one
+pub none_looked : (file : LinkFile) (old : StoreState) (first start : ℕ) → old.is_ready → start < 2 ^ 32 → HasLooked file old old first first start start 0
+none_looked file old first start ready small = record {
+  looks = no_look old ready;
+  later = omega arith;
+  place = omega (arith, small);
+  taken = λ honest base h k within. absurd (omega (arith, within));
+}
+
+-- and one more, which is taken
+pub one_more_looked : (file : LinkFile) (old mid new : StoreState) (first now then start serial steps : ℕ) (tag : List ℕ) (draft : Draft) (stamp : Stamp) → HasLooked file old mid first now start serial steps
+    → LooksOn mid new → now ≤ then → Honestly new.disk ((base : Base) → mid.keeps base → post_refusal file base.messages tag draft serial stamp ≡ Some fault.KnownSerial)
+    → HasLooked file old new first then start ((serial + 1) % 2 ^ 32) (steps + 1)
+one_more_looked file old mid new first now then start serial steps tag draft stamp so looks later known = record {
+  looks = looks_twice old mid new so.looks looks;
+  later = let before = so.later in omega (arith, before, later);
+  place = next_step start steps serial so.place;
+  taken = λ honest base h.
+      one_more file base.messages start steps (so.taken (looks.quiet.honest honest) base h)
+      (taken_where_known file base.messages tag draft start steps serial stamp fault.KnownSerial so.place (known honest base (so.looks.keeps base h)) refl);
+}
+
+-- a message that is filed with the serial that was not taken
+pub filed_first : (file : LinkFile) (old mid new : StoreState) (first now start serial steps : ℕ) (tag : List ℕ) (draft : Draft) (stamp : Stamp) (base : Base) → HasLooked file old mid first now start serial steps
+    → mid.disk.is_honest → old.keeps base → post_refusal file base.messages tag draft serial stamp ≡ None → new.keeps (with_message base (posted file tag draft serial stamp))
+    → FiledFree file base tag draft start stamp serial new
+filed_first file old mid new first now start serial steps tag draft stamp base so honest h allowed kept = record {
+  first = first_here file base.messages start steps serial so.place (so.taken honest base h) (free_where_allowed file base.messages tag draft serial stamp allowed);
+  allowed = allowed;
+  keeps = kept;
+}
+
+-- no posting is refused as out of memory
+never_memory : (file : LinkFile) (base : List Filed) (tag : List ℕ) (draft : Draft) (serial : ℕ) (stamp : Stamp) (why : PostFault) → post_refusal file base tag draft serial stamp ≡ Some why → why ≡ fault.Memory → ⊥
+never_memory file base tag draft serial stamp fault.Memory is memory = (refusal_first file base tag draft serial stamp fault.Memory).0 is
+never_memory file base tag draft serial stamp other is memory = absurd (cc)
+
+-- a message that is refused whatever its serial
+pub refused_on : (file : LinkFile) (new : StoreState) (tag : List ℕ) (draft : Draft) (start serial : ℕ) (stamp : Stamp) (base : Base) (why : PostStop)
+    → IsPostStop file base.messages tag draft serial stamp why → (why ≡ post.Refused fault.KnownSerial → ⊥) → FilesFreeOn file base tag draft start stamp (Err why) new
+refused_on file new tag draft start serial stamp base (post.Refused why) is unless =
+    elim (refused_first file base.messages tag draft start serial stamp why (is_fault file base.messages tag draft serial stamp why is) (λ known. unless (rw known refl))) [
+      | inl memory ↦ absurd (never_memory file base.messages tag draft serial stamp why is memory)
+      | inr found ↦ found
+    ]
+refused_on file new tag draft start serial stamp base (post.Store cause) is unless = tt
+
+-- the last serial of all is taken, too, or the message is refused whatever its serial
+pub refused_last : (file : LinkFile) (old mid new : StoreState) (first now start serial steps : ℕ) (tag : List ℕ) (draft : Draft) (stamp : Stamp) (base : Base) (why : PostStop)
+    → HasLooked file old mid first now start serial steps → steps ≡ 2 ^ 32 - 1 → mid.disk.is_honest → old.keeps base → IsPostStop file base.messages tag draft serial stamp why
+    → FilesFreeOn file base tag draft start stamp (Err why) new
+refused_last file old mid new first now start serial steps tag draft stamp base (post.Refused fault.KnownSerial) so all honest h is =
+    (serial, record { steps = steps; is = so.place; before = so.taken honest base h; ends = inr all }, is)
+refused_last file old mid new first now start serial steps tag draft stamp base (post.Store cause) so all honest h is = tt
+refused_last file old mid new first now start serial steps tag draft stamp base (post.Refused fault.NoArea) so all honest h is =
+    refused_on file new tag draft start serial stamp base (post.Refused fault.NoArea) is (λ e. absurd (cc))
+refused_last file old mid new first now start serial steps tag draft stamp base (post.Refused fault.ByteZero) so all honest h is =
+    refused_on file new tag draft start serial stamp base (post.Refused fault.ByteZero) is (λ e. absurd (cc))
+refused_last file old mid new first now start serial steps tag draft stamp base (post.Refused fault.FieldTooLong) so all honest h is =
+    refused_on file new tag draft start serial stamp base (post.Refused fault.FieldTooLong) is (λ e. absurd (cc))
+refused_last file old mid new first now start serial steps tag draft stamp base (post.Refused fault.BadStamp) so all honest h is =
+    refused_on file new tag draft start serial stamp base (post.Refused fault.BadStamp) is (λ e. absurd (cc))
+refused_last file old mid new first now start serial steps tag draft stamp base (post.Refused fault.BadReply) so all honest h is =
+    refused_on file new tag draft start serial stamp base (post.Refused fault.BadReply) is (λ e. absurd (cc))
+refused_last file old mid new first now start serial steps tag draft stamp base (post.Refused fault.Memory) so all honest h is =
+    refused_on file new tag draft start serial stamp base (post.Refused fault.Memory) is (λ e. absurd (cc))
+
+-- a refusal after looks has changed nothing
+pub looks_where : (old mid new : StoreState) (why : PostStop) → LooksOn old mid → LooksWhereRefused mid new why → LooksWhereRefused old new why
+looks_where old mid new (post.Refused why) looks more = looks_twice old mid new looks more
+looks_where old mid new (post.Store cause) looks more = tt
+
+-- what refused a serial that is known has changed nothing
+pub looks_known : (mid new : StoreState) (why : PostStop) → why ≡ post.Refused fault.KnownSerial → LooksWhereRefused mid new why → LooksOn mid new
+looks_known mid new (post.Refused why) known looks = looks
+looks_known mid new (post.Store cause) known looks = absurd (cc)
+
+pub refused_known : (file : LinkFile) (base : List Filed) (tag : List ℕ) (draft : Draft) (serial : ℕ) (stamp : Stamp) (why : PostStop) → why ≡ post.Refused fault.KnownSerial
+    → IsPostStop file base tag draft serial stamp why → post_refusal file base tag draft serial stamp ≡ Some fault.KnownSerial
+refused_known file base tag draft serial stamp (post.Refused fault.KnownSerial) known is = is
+refused_known file base tag draft serial stamp (post.Refused fault.NoArea) known is = absurd (cc)
+refused_known file base tag draft serial stamp (post.Refused fault.ByteZero) known is = absurd (cc)
+refused_known file base tag draft serial stamp (post.Refused fault.FieldTooLong) known is = absurd (cc)
+refused_known file base tag draft serial stamp (post.Refused fault.BadStamp) known is = absurd (cc)
+refused_known file base tag draft serial stamp (post.Refused fault.BadReply) known is = absurd (cc)
+refused_known file base tag draft serial stamp (post.Refused fault.Memory) known is = absurd (cc)
+refused_known file base tag draft serial stamp (post.Store cause) known is = absurd (cc)
+
+-- there is no memory for the draft
+pub free_memory_on : (words : NewMessage) (system : SystemState) (body : List ℕ) (old : Output) → PostsFreeOn {A = Unit {0}} words system body old old (Err (Met OutOfMemory))
+free_memory_on words system body old =
+    let found = first_of_all system.file system.base words.serial in
+    record { serial = found.0; first = found.1; posted = inr (inl tt, refl) }
+
+-- a posting that stopped
+pub free_stopped : (words : NewMessage) (file : LinkFile) (base : Base) (new : StoreState) (body : List ℕ) (old : Output) (draft : Draft) (why : PostStop) → draft ≡ draft_given words body
+    → FilesFreeOn file base words.tag.now draft words.serial words.stamp (Err why) new → PostsFreeOn {A = Unit {0}} words (state_in file base) body old old (Err (post_stop why))
+free_stopped words file base new body old draft (post.Refused why) drafted (serial, first, refused) = record {
+  serial = serial;
+  first = first;
+  posted = post_stopped (with_serial words serial) (state_in file base) body old draft (post.Refused why) drafted refused;
+}
+free_stopped words file base new body old draft (post.Store cause) drafted is =
+    let found = first_of_all file base.messages words.serial in
+    record { serial = found.0; first = found.1; posted = inl refl }
+
+-- the line of a posting is printed
+pub free_printed : {A : Type 0} (words : NewMessage) (file : LinkFile) (base : Base) (new : StoreState) (body : List ℕ) (serial : ℕ) (before after : Output) (draft : Draft) (result : Result A Stop) → draft ≡ draft_given words body
+    → FiledFree file base words.tag.now draft words.serial words.stamp serial new → PrintsAll (posted_line words.tag.now (id_of file.system serial)) before after result
+    → PostsFreeOn words (state_in file base) body before after result
+free_printed words file base new body serial before after draft result drafted filed out = record {
+  serial = serial;
+  first = filed.first;
+  posted = post_printed (with_serial words serial) (state_in file base) body before after draft result drafted filed.allowed out;
+}
+
+-- what it makes of a base
+pub free_posts : (file : LinkFile) (words : NewMessage) (body : List ℕ) (base : Base) (new : StoreState) (serial : ℕ) (draft : Draft) → draft ≡ draft_given words body
+    → FiledFree file base words.tag.now draft words.serial words.stamp serial new → PostsFree file words body base (with_message base (posted file words.tag.now draft serial words.stamp))
+free_posts file words body base new serial draft drafted filed = record {
+  serial = serial;
+  first = filed.first;
+  made = posts file (with_serial words serial) body base draft drafted filed.allowed;
+}

@@ -1,0 +1,55 @@
+-- Purges of a store.
+use Rattle.std.proofs.Common.{◌≡◌, ◌++◌, ℕ, List, [], inl, inr, ⊎_elim, Result, refl, ap, ◌∙◌}
+use Rattle.std.specs.Prelude.{count_by, not, take}
+use Rattle.echo_base.specs.Base.{Base}
+use Rattle.echo_changing.specs.Lines.{purged_line}
+use Rattle.echo_disk.specs.Disk.{Files, Honestly}
+use Rattle.echo_disk.proofs.Moments.{then_run, weaker_run}
+use Rattle.echo_filed.specs.Stubs.{is_stub}
+use Rattle.echo_status.proofs.Lines.{alone}
+use Rattle.echo_status.specs.Devices.{Output}
+use Rattle.echo_steps.specs.Purging.{changed}
+use Rattle.echo_store.specs.Store.{MayCommit, StandsForEither, StoreState, purged}
+use Rattle.echo_store.proofs.Runs.{same_twice}
+use Rattle.echo_store_changing.specs.declared.stop.Stop.{Stop}
+use Rattle.echo_store_changing.specs.Answered.{MayMake, PrintsAll, RefusesNone, StandsForMade}
+use Rattle.echo_store_changing.specs.Purged.{HoldsOrPurges, IsPurgedAt, PurgesOn}
+use Rattle.echo_store_changing.proofs.Commits.{kept_twice}
+use Rattle.echo_store_changing.proofs.Printed.{answered}
+
+-- what may be committed by a purge is what was held before
+pub purge_may : (old new : StoreState) → MayCommit old new → MayMake HoldsOrPurges old new
+purge_may old new may = record {
+  any_moment = λ honest first base is h.
+      weaker_run old.disk new.disk (StandsForEither old first base) (StandsForMade old (HoldsOrPurges base) first) (may.any_moment honest first base is h)
+      (λ c either. record { beside = either.beside; stands = ⊎_elim (λ s. inl s) (λ s. inr (base, inl refl, s)) either.stands });
+  beside = may.beside;
+  same = may.same;
+}
+
+-- what a crash leaves of the commit after it, as it stood before
+stood_purged : (old mid : StoreState) (first base : Base) (c : Files) → MayCommit old mid → StandsForEither mid base (purged base) c → StandsForMade old (HoldsOrPurges base) first c
+stood_purged old mid first base c may either = record {
+  beside = λ m other named flushed.
+      either.beside m (λ own. other ((may.same.own m).0 own)) (may.beside.named m other named) (may.beside.flushed m other flushed) ∙ may.beside.seen m other;
+  stands = ⊎_elim (λ s. inr (base, inl refl, (may.same.stands base c).0 s)) (λ s. inr (purged base, inr refl, (may.same.stands (purged base) c).0 s)) either.stands;
+}
+
+-- and then what it left may be
+pub purge_then : (old mid new : StoreState) → MayCommit old mid → Honestly mid.disk ((base : Base) → old.keeps base → mid.keeps (purged base))
+    → Honestly mid.disk ((base : Base) → old.keeps base → mid.committed base) → MayCommit mid new → MayMake HoldsOrPurges old new
+purge_then old mid new first kept done may = record {
+  any_moment = λ honest before base is h.
+      let at_mid = may.beside.honest honest in
+      then_run old.disk mid.disk new.disk (StandsForMade old (HoldsOrPurges base) before) (StandsForEither mid base (purged base)) ((purge_may old mid first).any_moment at_mid before base is h)
+      (may.any_moment honest base (purged base) (done at_mid base h) (kept at_mid base h)) (λ c either. stood_purged old mid before base c first either);
+  beside = kept_twice old mid new first.same first.beside may.beside;
+  same = same_twice old mid new first.same may.same;
+}
+
+-- the line of a purge is printed
+pub purge_printed : {A : Type 0} (base : Base) (count : ℕ) (none lines : List ℕ) (old new : Output) (result : Result A Stop) → count ≡ count_by (λ m. not (is_stub m)) (take base.cursor base.messages)
+    → none ≡ [] → lines ≡ none ++ purged_line count → PrintsAll lines old new result → PurgesOn base old new result
+unfolding changed
+purge_printed base count none lines old new result counted nothing whole out =
+    answered (IsPurgedAt base) RefusesNone lines old new result (λ v. alone none lines (purged_line count) nothing whole ∙ ap purged_line counted) out

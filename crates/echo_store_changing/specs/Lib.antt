@@ -1,0 +1,9 @@
+pub mod Stops
+pub mod Answered
+pub mod Posted
+pub mod FreeSerial
+pub mod Replied
+pub mod Scanned
+pub mod Purged
+pub mod Tossed
+pub mod AsOfFiles

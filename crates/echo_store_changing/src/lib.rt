@@ -1,0 +1,31 @@
+//! The commands that change a base, on any store of messages: `post`, `reply`, `scan`, `purge` and `toss`.
+//!
+//! The contract for the program: on a store that holds a base the lines and the faults of a command are those of the same
+//! command on a base file of the same messages and cursor; where that would write its base file the store holds and
+//! has committed the base that the command makes, and else it has committed nothing. A crash at any moment leaves the
+//! base that was committed before, or the one that the command makes. What fails beside is the store, and is told so.
+//!
+//! Modules in reading order: `stop` (why a command stopped), `leaving` (lines are printed, and the store committed),
+//! `posting`, `serials` (a posting whose serial is looked for), `replying`, `scanning`, `purging`, `tossing` and `laws`
+//! (what holds of the definitions).
+#![tactic(auto)]
+
+mod laws;
+mod leaving;
+mod posting;
+mod purging;
+mod replying;
+mod scanning;
+mod serials;
+mod stop;
+mod tossing;
+
+pub use laws::file_laws;
+pub use leaving::commit_on;
+pub use posting::post_on;
+pub use purging::purge_on;
+pub use replying::reply_on;
+pub use scanning::scan_on;
+pub use serials::post_free_on;
+pub use stop::Stop;
+pub use tossing::toss_on;

@@ -1,0 +1,75 @@
+//! The command `post` on a store.
+ghost use Rattle.std.specs.Prelude.{◌≡◌, IfErr, OnOk};
+ghost use Rattle.echo_disk.specs.Disk.{Honestly};
+ghost use Rattle.echo_base.specs.Base.{Base};
+ghost use Rattle.echo_changing.specs.Lines.{posted_line};
+ghost use Rattle.echo_status.specs.Devices.{output_of};
+ghost use Rattle.echo_store.specs.Store.{Commits, HasStoreCause, MayCommit};
+ghost use Rattle.echo_text.specs.Ids.{id_of};
+ghost use Rattle.echo_toss.specs.PacketsIn.{state_in};
+ghost use Rattle.echo_store_changing.specs.Answered.{CommitsNoneWhereMet, HasCommitted, LooksWhereMet, MayMake, PrintsAll};
+ghost use Rattle.echo_store_changing.specs.Posted.{Posts, PostsOn};
+ghost use Rattle.echo_store_changing.specs.Stops.{store_answer};
+
+use crate::leaving::leave;
+use crate::stop::Stop;
+use echo_changing::{NewMessage, draft_of, push_posted};
+use echo_device::Sink;
+use echo_links::LinkFile;
+use echo_store::Store;
+use echo_toss::post_in;
+use std::alloc::Global;
+
+/// `post`: files a message with this body in the store, whose lines end in 0A or 0D 0A, prints its tag and its id, and
+/// commits.
+pub fn post_on<'a, T: Store, W: Sink>(
+    alloc: Global,
+    words: NewMessage<'_>,
+    links: &LinkFile,
+    store: &mut T,
+    body: &[u8],
+    out: &mut W,
+) -> Result<(), Stop<'a>>
+    requires { (T.state store.old).is_ready }
+    ensures answers { Honestly (T.state store.new).disk ((base : Base) → (T.state store.old).keeps base
+        → PostsOn words.entry (state_in links.now base) body.now (output_of W.contents W.failures W.holds out.old) (output_of W.contents W.failures W.holds out.new) result) }
+    ensures committed { Honestly (T.state store.new).disk ((base : Base) → (T.state store.old).keeps base
+        → OnOk result (HasCommitted (Posts links.now words.entry body.now base) (T.state store.new))) }
+    ensures ready { OnOk result (T.state store.new).is_ready }
+    ensures met { IfErr result (CommitsNoneWhereMet (T.state store.old) (T.state store.new)) }
+    ensures crash { MayMake (Posts links.now words.entry body.now) (T.state store.old) (T.state store.new) }
+    ensures cause { HasStoreCause (T.state store.old) (T.state store.new) (T.failures store.old) (T.failures store.new) (store_answer result) }
+{
+    let draft = draft_of(alloc, words, body)?;
+    post_in(
+        alloc,
+        links,
+        store,
+        words.tag,
+        &draft,
+        words.serial,
+        words.stamp,
+    )?;
+    leave_posted(alloc, words.tag, words.serial, links, store, out)
+}
+
+/// Prints the line of a message that was posted with this serial, and commits what the store holds.
+pub(crate) fn leave_posted<'a, T: Store, W: Sink>(
+    alloc: Global,
+    tag: &[u8],
+    serial: u32,
+    links: &LinkFile,
+    store: &mut T,
+    out: &mut W,
+) -> Result<(), Stop<'a>>
+    requires { (T.state store.old).is_ready }
+    ensures printed { PrintsAll (posted_line tag.now (id_of links.now.system serial)) (output_of W.contents W.failures W.holds out.old) (output_of W.contents W.failures W.holds out.new) result }
+    ensures committed { OnOk result (Commits (T.state store.old) (T.state store.new)) }
+    ensures met { IfErr result (LooksWhereMet (T.state store.old) (T.state store.new)) }
+    ensures either { MayCommit (T.state store.old) (T.state store.new) }
+    ensures cause { HasStoreCause (T.state store.old) (T.state store.new) (T.failures store.old) (T.failures store.new) (store_answer result) }
+{
+    let mut lines = Vec::new(alloc);
+    push_posted(alloc, &mut lines, tag, links.system(), serial)?;
+    leave(&mut lines, store, out)
+}

@@ -1,0 +1,39 @@
+//! The command `purge` on a store.
+ghost use Rattle.std.specs.Prelude.{◌≡◌, IfErr, OnOk};
+ghost use Rattle.echo_disk.specs.Disk.{Honestly};
+ghost use Rattle.echo_base.specs.Base.{Base};
+ghost use Rattle.echo_status.specs.Devices.{output_of};
+ghost use Rattle.echo_store.specs.Store.{HasStoreCause};
+ghost use Rattle.echo_store_changing.specs.Answered.{HasCommitted, MayCommitWhereMet, MayMake};
+ghost use Rattle.echo_store_changing.specs.Purged.{HoldsOrPurges, Purges, PurgesOn};
+ghost use Rattle.echo_store_changing.specs.Stops.{store_answer};
+
+use crate::leaving::leave;
+use crate::stop::Stop;
+use echo_changing::push_purged;
+use echo_device::Sink;
+use echo_store::PurgedStore;
+use std::alloc::Global;
+
+/// `purge`: leaves of each scanned message with an id nothing of its text but the id, prints how many messages changed, and
+/// commits.
+pub fn purge_on<'a, T: PurgedStore, W: Sink>(
+    alloc: Global,
+    store: &mut T,
+    out: &mut W,
+) -> Result<(), Stop<'a>>
+    requires { (T.state store.old).is_ready }
+    ensures answers { Honestly (T.state store.new).disk ((base : Base) → (T.state store.old).keeps base
+        → PurgesOn base (output_of W.contents W.failures W.holds out.old) (output_of W.contents W.failures W.holds out.new) result) }
+    ensures committed { Honestly (T.state store.new).disk ((base : Base) → (T.state store.old).keeps base
+        → OnOk result (HasCommitted (Purges base) (T.state store.new))) }
+    ensures ready { OnOk result (T.state store.new).is_ready }
+    ensures met { IfErr result (MayCommitWhereMet (T.state store.old) (T.state store.new)) }
+    ensures crash { MayMake HoldsOrPurges (T.state store.old) (T.state store.new) }
+    ensures cause { HasStoreCause (T.state store.old) (T.state store.new) (T.failures store.old) (T.failures store.new) (store_answer result) }
+{
+    let count = store.purge()?;
+    let mut lines = Vec::new(alloc);
+    push_purged(&mut lines, count)?;
+    leave(&mut lines, store, out)
+}

@@ -1,0 +1,98 @@
+//! The command `reply` on a store.
+ghost use Rattle.std.specs.Prelude.{◌≡◌, IfErr, OnOk, slice_get};
+ghost use Rattle.echo_disk.specs.Disk.{Honestly};
+ghost use Rattle.echo_base.specs.Base.{Base};
+ghost use Rattle.echo_status.specs.Devices.{output_of};
+ghost use Rattle.echo_store.specs.Store.{HasStoreCause, LooksOn};
+ghost use Rattle.echo_toss.specs.PacketsIn.{state_in};
+ghost use Rattle.echo_store_changing.specs.Answered.{CommitsNoneWhereMet, HasCommitted, MayMake};
+ghost use Rattle.echo_store_changing.specs.Replied.{FindsOn, PostsAs, PostsAsOn, Replies, RepliesOn};
+ghost use Rattle.echo_store_changing.specs.Stops.{store_answer};
+
+use crate::posting::post_on;
+use crate::serials::post_free_on;
+use crate::stop::Stop;
+use echo_changing::{Answer, Found, NewMessage, found_in};
+use echo_device::Sink;
+use echo_links::LinkFile;
+use echo_status::Fault;
+use echo_store::{Store, StoreError};
+use std::alloc::Global;
+
+/// `reply`: posts an answer to the message of this number, with this body: in its area, to its author, with its subject and
+/// its id. A number that no message has is a fault.
+pub fn reply_on<'a, T: Store, W: Sink>(
+    alloc: Global,
+    index: u64,
+    answer: Answer<'_>,
+    links: &LinkFile,
+    store: &mut T,
+    body: &[u8],
+    out: &mut W,
+) -> Result<(), Stop<'a>>
+    requires { (T.state store.old).is_ready }
+    ensures answers { Honestly (T.state store.new).disk ((base : Base) → (T.state store.old).keeps base
+        → RepliesOn (slice_get base.messages index) answer.entry (state_in links.now base) body.now (output_of W.contents W.failures W.holds out.old) (output_of W.contents W.failures W.holds out.new) result) }
+    ensures committed { Honestly (T.state store.new).disk ((base : Base) → (T.state store.old).keeps base
+        → OnOk result (HasCommitted (Replies links.now index answer.entry body.now base) (T.state store.new))) }
+    ensures ready { OnOk result (T.state store.new).is_ready }
+    ensures met { IfErr result (CommitsNoneWhereMet (T.state store.old) (T.state store.new)) }
+    ensures crash { MayMake (Replies links.now index answer.entry body.now) (T.state store.old) (T.state store.new) }
+    ensures cause { HasStoreCause (T.state store.old) (T.state store.new) (T.failures store.old) (T.failures store.new) (store_answer result) }
+{
+    let found = found_on(alloc, index, store)?;
+    let words = NewMessage {
+        tag: found.tag.as_slice(),
+        to_name: found.to_name.as_slice(),
+        from_name: answer.from_name,
+        subject: found.subject.as_slice(),
+        reply: found.reply.as_slice(),
+        serial: answer.serial,
+        stamp: answer.stamp,
+    };
+    post_as(alloc, answer.free, words, links, store, body, out)
+}
+
+// The words that the message of this number gives.
+fn found_on<'a, T: Store>(alloc: Global, index: u64, store: &mut T) -> Result<Found, Stop<'a>>
+    requires { (T.state store.old).is_ready }
+    ensures found { Honestly (T.state store.new).disk ((base : Base) → (T.state store.old).keeps base → FindsOn (slice_get base.messages index) result) }
+    ensures looks { LooksOn (T.state store.old) (T.state store.new) }
+    ensures cause { HasStoreCause (T.state store.old) (T.state store.new) (T.failures store.old) (T.failures store.new) (store_answer result) }
+{
+    if index >= store.len() as u64 {
+        return Err(Stop::Met(Fault::BadNumber));
+    }
+    store.fetch(index as usize)?;
+    match store.at_hand() {
+        Some(message) => Ok(found_in(alloc, message)?),
+        None => Err(Stop::Store(StoreError::Damaged)),
+    }
+}
+
+// Posts with the serial of the words, or with the first from that on that is free.
+fn post_as<'a, T: Store, W: Sink>(
+    alloc: Global,
+    free: bool,
+    words: NewMessage<'_>,
+    links: &LinkFile,
+    store: &mut T,
+    body: &[u8],
+    out: &mut W,
+) -> Result<(), Stop<'a>>
+    requires { (T.state store.old).is_ready }
+    ensures answers { Honestly (T.state store.new).disk ((base : Base) → (T.state store.old).keeps base
+        → PostsAsOn free words.entry (state_in links.now base) body.now (output_of W.contents W.failures W.holds out.old) (output_of W.contents W.failures W.holds out.new) result) }
+    ensures committed { Honestly (T.state store.new).disk ((base : Base) → (T.state store.old).keeps base
+        → OnOk result (HasCommitted (PostsAs free links.now words.entry body.now base) (T.state store.new))) }
+    ensures ready { OnOk result (T.state store.new).is_ready }
+    ensures met { IfErr result (CommitsNoneWhereMet (T.state store.old) (T.state store.new)) }
+    ensures crash { MayMake (PostsAs free links.now words.entry body.now) (T.state store.old) (T.state store.new) }
+    ensures cause { HasStoreCause (T.state store.old) (T.state store.new) (T.failures store.old) (T.failures store.new) (store_answer result) }
+{
+    if free {
+        post_free_on(alloc, words, links, store, body, out)
+    } else {
+        post_on(alloc, words, links, store, body, out)
+    }
+}

@@ -1,0 +1,149 @@
+//! The command `toss` on a store: packet files one after the other, of which one is open at a time.
+ghost use Rattle.std.specs.Prelude.{◌≡◌, ◌+◌, ◌≤◌, IfErr, OnOk, vec_capacity, vec_len};
+ghost use Rattle.echo_disk.specs.Disk.{Honestly};
+ghost use Rattle.echo_base.specs.Base.{Base};
+ghost use Rattle.echo_changing.specs.TossedPacket.{TossRun};
+ghost use Rattle.echo_status.specs.Devices.{device_of, output_of};
+ghost use Rattle.echo_store.specs.Store.{CommitsNothing, GoesOn, HasStoreCause};
+ghost use Rattle.echo_store_changing.specs.Answered.{CommitsNoneWhereMet, MayMake};
+ghost use Rattle.echo_store_changing.specs.Stops.{store_answer};
+ghost use Rattle.echo_store_changing.specs.Tossed.{PrintsRun, ReportsIn, Tosses, TossesFiles, TossesNext, TossesOn};
+
+use crate::stop::Stop;
+use echo_changing::{MOST_TALLY, PacketFiles, fault_of, push_tally};
+use echo_device::{Sink, Source};
+use echo_links::LinkFile;
+use echo_noting::toss_noting_in;
+use echo_packet::Limits;
+use echo_status::{Fault, print_rest};
+use echo_store::{Store, StoreError};
+use echo_toss::{StoppedToss, Tally, TossStop, toss_packet_in};
+use std::alloc::Global;
+
+/// `toss`: tosses the packet at the front of each file into the store, in order, prints a line for each, and commits. At
+/// the fault of a packet, or of its file, the run ends: the fault is answered, and what was tossed before is committed,
+/// too; the files behind it are not opened. With `noting`, before the line of a packet stands one for each of its messages
+/// that was not filed (`toss --each`).
+pub fn toss_on<'a, T: Store, P: PacketFiles<'a>, W: Sink>(
+    alloc: Global,
+    limits: Limits,
+    noting: bool,
+    links: &LinkFile,
+    store: &mut T,
+    packets: &mut P,
+    out: &mut W,
+) -> Result<Option<Fault<'a>>, Stop<'a>>
+    requires { (T.state store.old).is_ready }
+    ensures answers { Honestly (T.state store.new).disk ((base : Base) → (T.state store.old).keeps base
+        → TossesOn noting limits (device_of P.Reader.remaining P.Reader.failures) links.now base (P.coming packets.old) (P.coming packets.new)
+        (output_of W.contents W.failures W.holds out.old) (output_of W.contents W.failures W.holds out.new) result (T.state store.new)) }
+    ensures ready { OnOk result (T.state store.new).is_ready }
+    ensures met { IfErr result (CommitsNoneWhereMet (T.state store.old) (T.state store.new)) }
+    ensures crash { MayMake (Tosses noting limits (device_of P.Reader.remaining P.Reader.failures) links.now (P.coming packets.old)) (T.state store.old) (T.state store.new) }
+    ensures cause { HasStoreCause (T.state store.old) (T.state store.new) (T.failures store.old) (T.failures store.new) (store_answer result) }
+{
+    let mut lines = Vec::new(alloc);
+    let stopped = toss_files(alloc, limits, noting, links, store, packets, &mut lines)?;
+    print_run(&mut lines, stopped, out)?;
+    store.commit()?;
+    Ok(stopped)
+}
+
+// Prints the lines of a run; of one that was stopped it is not reported that they could not be printed.
+fn print_run<'a, W: Sink>(
+    lines: &mut Vec<u8>,
+    stopped: Option<Fault<'a>>,
+    out: &mut W,
+) -> Result<(), Fault<'a>>
+    ensures { (run : TossRun) → run.lines ≡ lines.old.items → PrintsRun run stopped.entry (output_of W.contents W.failures W.holds out.old) (output_of W.contents W.failures W.holds out.new) result }
+{
+    let printed = print_rest(lines, out);
+    match stopped {
+        Some(_) => Ok(()),
+        None => printed,
+    }
+}
+
+// Tosses the packets of the files, up to the first fault, which is answered.
+fn toss_files<'a, T: Store, P: PacketFiles<'a>>(
+    alloc: Global,
+    limits: Limits,
+    noting: bool,
+    links: &LinkFile,
+    store: &mut T,
+    packets: &mut P,
+    lines: &mut Vec<u8>,
+) -> Result<Option<Fault<'a>>, StoreError>
+    requires { (T.state store.old).is_ready }
+    ensures tossed { Honestly (T.state store.new).disk ((base : Base) → (T.state store.old).keeps base
+        → TossesFiles noting limits (device_of P.Reader.remaining P.Reader.failures) links.now base (P.coming packets.old) (P.coming packets.new) lines.old.items lines.new.items result (T.state store.new)) }
+    ensures goes_on { OnOk result (GoesOn (T.state store.old) (T.state store.new)) }
+    ensures commits { CommitsNothing (T.state store.old) (T.state store.new) }
+    ensures cause { HasStoreCause (T.state store.old) (T.state store.new) (T.failures store.old) (T.failures store.new) result }
+{
+    'files: while let Some(opened) = packets.open_next() {
+        match opened {
+            Ok(mut reader) => {
+                let stopped = toss_next(alloc, limits, noting, links, store, &mut reader, lines)?;
+                if let Some(fault) = stopped {
+                    return Ok(Some(fault));
+                }
+            }
+            Err(fault) => return Ok(Some(fault)),
+        }
+    }
+    Ok(None)
+}
+
+// Tosses the packet at the front of what the reader has, adds its lines, and answers why it was not tossed whole. A
+// packet for whose line there is no memory is not read.
+fn toss_next<'a, T: Store, R: Source>(
+    alloc: Global,
+    limits: Limits,
+    noting: bool,
+    links: &LinkFile,
+    store: &mut T,
+    reader: &mut R,
+    lines: &mut Vec<u8>,
+) -> Result<Option<Fault<'a>>, StoreError>
+    requires { (T.state store.old).is_ready }
+    ensures tossed { Honestly (T.state store.new).disk ((base : Base) → (T.state store.old).keeps base
+        → TossesNext noting limits links.now base (device_of R.remaining R.failures reader.old) (device_of R.remaining R.failures reader.new) lines.old.items lines.new.items result (T.state store.new)) }
+    ensures goes_on { OnOk result (GoesOn (T.state store.old) (T.state store.new)) }
+    ensures commits { CommitsNothing (T.state store.old) (T.state store.new) }
+    ensures cause { HasStoreCause (T.state store.old) (T.state store.new) (T.failures store.old) (T.failures store.new) result }
+{
+    if lines.reserve(MOST_TALLY).is_err() {
+        return Ok(Some(Fault::OutOfMemory));
+    }
+    if noting {
+        let answer = toss_noting_in(alloc, links, store, reader, limits, lines, MOST_TALLY);
+        push_answer(lines, answer)
+    } else {
+        let answer = toss_packet_in(alloc, links, store, reader, limits);
+        push_answer(lines, answer)
+    }
+}
+
+// Adds the line of a packet, and answers why it was not tossed whole. There is to be room for the line.
+fn push_answer<'a>(
+    lines: &mut Vec<u8>,
+    answer: Result<Tally, StoppedToss>,
+) -> Result<Option<Fault<'a>>, StoreError>
+    requires { vec_len lines.old + 170 ≤ vec_capacity lines.old }
+    ensures { ReportsIn lines.old.items lines.new.items answer result }
+{
+    match answer {
+        Ok(tally) => {
+            push_tally(lines, tally);
+            Ok(None)
+        }
+        Err(stopped) => match stopped.stop {
+            TossStop::Packet(cause) => {
+                push_tally(lines, stopped.tally);
+                Ok(Some(fault_of(cause)))
+            }
+            TossStop::Store(error) => Err(error),
+        },
+    }
+}
