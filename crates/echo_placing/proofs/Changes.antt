@@ -3,19 +3,19 @@ use Rattle.std.proofs.Common.{◌≡◌, inl, ◌∙◌, List, ℕ, Option, Some
 use Rattle.echo_disk.specs.Disk.{DiskState, Files}
 use Rattle.echo_disk.specs.Steps.{ChangesFile, SameBeside}
 use Rattle.echo_disk.specs.Runs.{ChangesNothing, Elapses, KeepsAlone, KeepsFlushed, KeepsNamed, LeavesOnly, LeavesOneStepOn, OneStepOn}
-use Rattle.echo_disk.proofs.Moments.{left_now, one_call, then_run, weaker_run}
+use Rattle.echo_disk.proofs.Moments.{left_now, no_call, one_call, then_run, weaker_run}
 use Rattle.echo_placing.specs.Changes.{ChangesOnly, DifferAt, HasOnDisk}
 
 -- ---- runs whose moments are steps from the state before them
 
 -- one run after another: each outcome of the second is a step from one that the first has at its end
 pub then_steps : (d0 d1 d2 : DiskState) (R Q P : Files → Files → Type 0) → LeavesOnly d0 d1 (OneStepOn R d0) → LeavesOnly d1 d2 (OneStepOn Q d1)
-    → ((a b : Files) → R a b → P a b) → ((a b c : Files) → d1.may_leave b → R a b → Q b c → P a c) → LeavesOnly d0 d2 (OneStepOn P d0)
+    → ((a b : Files) → R a b → P a b) → ((a b c : Files) → d0.may_leave a → d1.may_leave b → R a b → Q b c → P a c) → LeavesOnly d0 d2 (OneStepOn P d0)
 then_steps d0 d1 d2 R Q P first second one both =
     then_run d0 d1 d2 (OneStepOn P d0) (OneStepOn Q d1)
     (weaker_run d0 d1 (OneStepOn R d0) (OneStepOn P d0) first (λ c step. (step.0, step.1, one step.0 c step.2)))
     second
-    (λ c step. let from = left_now d0 d1 (OneStepOn R d0) first step.0 step.1 in (from.0, from.1, both from.0 step.0 c step.1 from.2 step.2))
+    (λ c step. let from = left_now d0 d1 (OneStepOn R d0) first step.0 step.1 in (from.0, from.1, both from.0 step.0 c from.1 step.1 from.2 step.2))
 
 pub weaker_steps : (d0 d1 : DiskState) (R P : Files → Files → Type 0) → LeavesOnly d0 d1 (OneStepOn R d0) → ((a b : Files) → R a b → P a b) → LeavesOnly d0 d1 (OneStepOn P d0)
 weaker_steps d0 d1 R P run gives = weaker_run d0 d1 (OneStepOn R d0) (OneStepOn P d0) run (λ c step. (step.0, step.1, gives step.0 c step.2))
@@ -31,6 +31,17 @@ module _ (paths : List ℕ → Type 0) where
     alone = λ m other. quiet.alone m (λ h. h);
     honest = quiet.honest;
     any_moment = weaker_run old new old.may_leave (OneStepOn (DifferAt paths) old) quiet.run (λ c left. (c, left, λ m other. refl));
+  }
+
+  -- a run of no call
+  pub only_start : (disk : DiskState) → ChangesOnly paths disk disk
+  only_start disk = record {
+    seen = λ m other. refl;
+    named = λ m other is. is;
+    flushed = λ m other is. is;
+    alone = λ m other is. is;
+    honest = λ is. is;
+    any_moment = no_call disk (OneStepOn (DifferAt paths) disk) (λ c left. (c, left, λ m other. refl));
   }
 
   -- a call at one path, which is on the disk
@@ -58,7 +69,7 @@ module _ (paths : List ℕ → Type 0) where
         flushed = λ m other is. second.flushed m other (first.flushed m other is);
         alone = λ m other is. second.alone m other (first.alone m other is);
         honest = λ is. first.honest (second.honest is);
-        any_moment = then_steps d0 d1 d2 differ differ differ first.any_moment second.any_moment (λ a b r. r) (λ a b c left r q m other. q m other ∙ r m other);
+        any_moment = then_steps d0 d1 d2 differ differ differ first.any_moment second.any_moment (λ a b r. r) (λ a b c at left r q m other. q m other ∙ r m other);
       }
 
   -- what they do not change stays on the disk

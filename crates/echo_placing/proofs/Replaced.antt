@@ -45,4 +45,4 @@ module _ (path beside bytes : List ℕ) where
       → LeavesOneStepOn (RenamesFile d1 beside path) d1 d2 → LeavesOnly d0 d2 (OneStepOn (Replaces path beside bytes) d0)
   replaced_run d0 d1 d2 other run is named time crash =
       let R = Replaces path beside bytes in
-      then_steps d0 d1 d2 (DifferAt (λ m. m ≡ beside)) R R run.any_moment (renamed_run d1 d2 is named time crash) (not_yet other) (λ a b c left r q. then_replaced other a b c r q)
+      then_steps d0 d1 d2 (DifferAt (λ m. m ≡ beside)) R R run.any_moment (renamed_run d1 d2 is named time crash) (not_yet other) (λ a b c at left r q. then_replaced other a b c r q)

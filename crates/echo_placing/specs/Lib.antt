@@ -1,2 +1,6 @@
 pub mod Changes
+pub mod Commits
+pub mod Naming
+pub mod Outgoing
+pub mod Publishing
 pub mod Replacing
