@@ -1,5 +1,6 @@
 pub mod Changes
 pub mod Commits
+pub mod Finishing
 pub mod Naming
 pub mod Outgoing
 pub mod Publishing
