@@ -1,0 +1,106 @@
+use Rattle.std.proofs.Common.{◌≡◌, ◌⊎◌, inl, inr, ◌∙◌, ℕ, List}
+use Rattle.std.proofs.lemmas.Result.{on_ok_weaker}
+use Rattle.echo_disk.specs.Runs.{OneStepOn}
+use Rattle.echo_disk.proofs.Moments.{then_nothing}
+use Rattle.echo_placing.specs.Changes.{ChangesOnly, DifferAt}
+use Rattle.echo_placing.specs.Replacing.{Replaces}
+use Rattle.echo_placing.proofs.Changes.{only_nothing, then_only, weaker_steps, wider}
+use Rattle.echo_placing.proofs.Replaced.{not_yet, renamed_differ, replaced_run}
+use Rattle.echo_placing.proofs.Whole.{some_is_there}
+use Rattle.echo_placing.proofs.replacing.replace_file.Goals as goal
+
+pub rename-requires-clause-there : goal.rename-requires-clause-there
+rename-requires-clause-there g c honest = some_is_there _ _ c.in_ok-stage_file.ensures.staged.seen
+
+pub rename-requires-clause-durable : goal.rename-requires-clause-durable
+rename-requires-clause-durable g c honest = c.in_ok-stage_file.ensures.staged.flushed
+
+pub returns-in_err-stage_file-clause-any_moment : goal.returns-in_err-stage_file-clause-any_moment
+returns-in_err-stage_file-clause-any_moment g c =
+    let path = c.args.path.now in
+    let beside = c.args.beside.now in
+    let bytes = c.args.bytes.now in
+    weaker_steps (g.D.Disk.state c.args.disk.now) (g.D.Disk.state c.stage_file.new.disk) (DifferAt (λ m. m ≡ beside)) (Replaces path beside bytes) c.stage_file.ensures.changes.any_moment
+    (not_yet path beside bytes c.requires.other)
+
+pub returns-in_err-stage_file-clause-changes : goal.returns-in_err-stage_file-clause-changes
+returns-in_err-stage_file-clause-changes g c =
+    wider (λ (m : List ℕ). m ≡ c.args.beside.now) (λ (m : List ℕ). (m ≡ c.args.beside.now) ⊎ (m ≡ c.args.path.now)) (g.D.Disk.state c.args.disk.now) (g.D.Disk.state c.stage_file.new.disk)
+    (λ m is. inl is) c.stage_file.ensures.changes
+
+pub returns-in_err-rename-clause-any_moment : goal.returns-in_err-rename-clause-any_moment
+returns-in_err-rename-clause-any_moment g c =
+    let path = c.args.path.now in
+    let staged = c.in_ok-stage_file.ensures in
+    replaced_run path c.args.beside.now c.args.bytes.now (g.D.Disk.state c.args.disk.now) (g.D.Disk.state c.stage_file.new.disk) (g.D.Disk.state c.rename.new.self) c.requires.other
+    c.stage_file.ensures.changes staged.staged (staged.named path c.requires.path_in) c.rename.ensures.time c.rename.ensures.crash
+
+pub returns-in_err-rename-clause-changes : goal.returns-in_err-rename-clause-changes
+returns-in_err-rename-clause-changes g c =
+    let path = c.args.path.now in
+    let beside = c.args.beside.now in
+    let few = λ (m : List ℕ). m ≡ beside in
+    let both = λ (m : List ℕ). (m ≡ beside) ⊎ (m ≡ path) in
+    let d0 = g.D.Disk.state c.args.disk.now in
+    let d1 = g.D.Disk.state c.stage_file.new.disk in
+    let d2 = g.D.Disk.state c.rename.new.self in
+    let staged = c.in_ok-stage_file.ensures in
+    let renamed : ChangesOnly both d1 d2 = record {
+      seen = λ m out. c.rename.ensures.beside m (λ e. out (inl e)) (λ e. out (inr e));
+      named = c.rename.ensures.named;
+      flushed = c.rename.ensures.flushed;
+      alone = c.rename.ensures.alone;
+      honest = c.rename.ensures.time.honest;
+      any_moment = renamed_differ path beside c.args.bytes.now d1 d2 staged.staged (staged.named path c.requires.path_in) c.rename.ensures.time c.rename.ensures.crash;
+    } in
+    then_only both d0 d1 d2 (wider few both d0 d1 (λ m is. inl is) c.stage_file.ensures.changes) renamed
+
+pub returns-clause-any_moment : goal.returns-clause-any_moment
+returns-clause-any_moment g c =
+    let path = c.args.path.now in
+    let beside = c.args.beside.now in
+    let bytes = c.args.bytes.now in
+    let d0 = g.D.Disk.state c.args.disk.now in
+    let d2 = g.D.Disk.state c.rename.new.self in
+    let staged = c.in_ok-stage_file.ensures in
+    then_nothing d0 d2 (g.D.Disk.state c.sync_folder.new.self) (OneStepOn (Replaces path beside bytes) d0)
+    (replaced_run path beside bytes d0 (g.D.Disk.state c.stage_file.new.disk) d2 c.requires.other
+    c.stage_file.ensures.changes staged.staged (staged.named path c.requires.path_in) c.rename.ensures.time c.rename.ensures.crash)
+    c.sync_folder.ensures.quiet
+
+pub returns-clause-changes : goal.returns-clause-changes
+returns-clause-changes g c =
+    let path = c.args.path.now in
+    let beside = c.args.beside.now in
+    let few = λ (m : List ℕ). m ≡ beside in
+    let both = λ (m : List ℕ). (m ≡ beside) ⊎ (m ≡ path) in
+    let d0 = g.D.Disk.state c.args.disk.now in
+    let d1 = g.D.Disk.state c.stage_file.new.disk in
+    let d2 = g.D.Disk.state c.rename.new.self in
+    let d3 = g.D.Disk.state c.sync_folder.new.self in
+    let staged = c.in_ok-stage_file.ensures in
+    let renamed : ChangesOnly both d1 d2 = record {
+      seen = λ m out. c.rename.ensures.beside m (λ e. out (inl e)) (λ e. out (inr e));
+      named = c.rename.ensures.named;
+      flushed = c.rename.ensures.flushed;
+      alone = c.rename.ensures.alone;
+      honest = c.rename.ensures.time.honest;
+      any_moment = renamed_differ path beside c.args.bytes.now d1 d2 staged.staged (staged.named path c.requires.path_in) c.rename.ensures.time c.rename.ensures.crash;
+    } in
+    then_only both d0 d2 d3 (then_only both d0 d1 d2 (wider few both d0 d1 (λ m is. inl is) c.stage_file.ensures.changes) renamed) (only_nothing both d2 d3 c.sync_folder.ensures.quiet)
+
+pub returns-clause-replaced : goal.returns-clause-replaced
+returns-clause-replaced g c =
+    let path = c.args.path.now in
+    let quiet = c.sync_folder.ensures.quiet in
+    on_ok_weaker c.sync_folder.result
+    (λ named. record {
+      seen = quiet.seen path ∙ c.in_ok-rename.ensures.moved ∙ c.in_ok-stage_file.ensures.staged.seen;
+      named = named path c.requires.path_in;
+      flushed = quiet.flushed path (λ h. h) c.in_ok-rename.ensures.kept;
+    })
+    c.sync_folder.ensures.durable
+
+pub returns-clause-moved : goal.returns-clause-moved
+returns-clause-moved g c =
+    on_ok_weaker c.sync_folder.result (λ named. c.sync_folder.ensures.quiet.seen c.args.beside.now ∙ c.in_ok-rename.ensures.gone) c.sync_folder.ensures.durable

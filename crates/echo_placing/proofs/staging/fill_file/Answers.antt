@@ -1,0 +1,38 @@
+use Rattle.std.proofs.Common.{◌≡◌, ◌∙◌, ℕ, List, length, refl}
+use Rattle.std.proofs.lemmas.Result.{on_ok_weaker}
+use Rattle.echo_disk.specs.Steps.{TornWrite}
+use Rattle.echo_placing.proofs.Changes.{only_call, only_nothing, then_only}
+use Rattle.echo_placing.proofs.Whole.{written_whole}
+use Rattle.echo_placing.proofs.staging.fill_file.Goals as goal
+
+pub returns-in_err-write_at-clause-changes : goal.returns-in_err-write_at-clause-changes
+returns-in_err-write_at-clause-changes g c =
+    let path = c.args.path.now in
+    only_call (λ (m : List ℕ). m ≡ path) (g.D.Disk.state c.args.disk.now) (g.D.Disk.state c.write_at.new.self) path (TornWrite 0 (length c.args.bytes.now)) refl c.requires.named
+    c.write_at.ensures.beside c.write_at.ensures.crash (λ m other. c.write_at.ensures.named m (λ h. h)) c.write_at.ensures.flushed (λ m other. c.write_at.ensures.alone m (λ h. h)) c.write_at.ensures.time
+
+pub returns-clause-changes : goal.returns-clause-changes
+returns-clause-changes g c =
+    let path = c.args.path.now in
+    let at = λ (m : List ℕ). m ≡ path in
+    let d0 = g.D.Disk.state c.args.disk.now in
+    let d1 = g.D.Disk.state c.write_at.new.self in
+    let d2 = g.D.Disk.state c.sync.new.self in
+    then_only at d0 d1 d2
+    (only_call at d0 d1 path (TornWrite 0 (length c.args.bytes.now)) refl c.requires.named
+    c.write_at.ensures.beside c.write_at.ensures.crash (λ m other. c.write_at.ensures.named m (λ h. h)) c.write_at.ensures.flushed (λ m other. c.write_at.ensures.alone m (λ h. h)) c.write_at.ensures.time)
+    (only_nothing at d1 d2 c.sync.ensures.quiet)
+
+pub returns-clause-filled : goal.returns-clause-filled
+returns-clause-filled g c =
+    let path = c.args.path.now in
+    let d0 = g.D.Disk.state c.args.disk.now in
+    let d1 = g.D.Disk.state c.write_at.new.self in
+    let quiet = c.sync.ensures.quiet in
+    on_ok_weaker c.sync.result
+    (λ flushed. record {
+      seen = quiet.seen path ∙ written_whole (d0.seen path) (d1.seen path) c.args.bytes.now c.requires.empty c.write_at.ensures.there c.in_ok-write_at.ensures.written;
+      named = quiet.named path (λ h. h) (c.write_at.ensures.named path (λ h. h) c.requires.named);
+      flushed = flushed;
+    })
+    c.sync.ensures.durable

@@ -1,0 +1,7 @@
+pub mod Changes
+pub mod Commits
+pub mod Finishing
+pub mod Naming
+pub mod Outgoing
+pub mod Publishing
+pub mod Replacing

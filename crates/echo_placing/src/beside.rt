@@ -1,0 +1,79 @@
+//! Packets that stand beside their paths.
+ghost use Rattle.std.specs.Prelude.{◌≡◌, true, false, All, AllPairs, IfOk, OnOk};
+ghost use Rattle.echo_disk.specs.Disk.{Honestly};
+ghost use Rattle.echo_disk.specs.Runs.{ChangesNothing, HasCause, KeepsNamed};
+ghost use Rattle.echo_placing.specs.Changes.{ChangesOnly};
+ghost use Rattle.echo_placing.specs.Outgoing.{AreApart, ArePlaced, IsBesideOne, IsFilled, IsFree, IsMade, IsNamedBeside, IsStaged};
+
+use crate::outgoing::Outgoing;
+use crate::staging::fill_file;
+use echo_disk::{Disk, DiskError};
+
+// Whether no packet's path is taken.
+fn are_free<D: Disk>(disk: &mut D, packets: &[Outgoing<'_>]) -> Result<bool, DiskError>
+    ensures free { Honestly (D.state disk.new) (IfOk result (λ free. free ≡ true → All (IsFree (D.state disk.old)) packets.now)) }
+    ensures taken { Honestly (D.state disk.new) (IfOk result (λ free. free ≡ false → All (IsFree (D.state disk.old)) packets.now → ⊥)) }
+    ensures quiet { ChangesNothing (D.state disk.old) (D.state disk.new) }
+    ensures cause { HasCause (D.failures disk.old) (D.failures disk.new) result }
+{
+    'packets: for packet in packets {
+        if disk.exists(packet.path)? {
+            return Ok(false);
+        }
+    }
+    Ok(true)
+}
+
+// Makes an empty file beside each packet's path.
+fn make_files<D: Disk>(disk: &mut D, packets: &[Outgoing<'_>]) -> Result<(), DiskError>
+    requires apart { AllPairs AreApart packets.now }
+    requires named { All (IsNamedBeside (D.state disk.old)) packets.now }
+    ensures made { OnOk result (All (IsMade (D.state disk.new)) packets.now) }
+    ensures changes { ChangesOnly (IsBesideOne packets.now) (D.state disk.old) (D.state disk.new) }
+    ensures cause { HasCause (D.failures disk.old) (D.failures disk.new) result }
+{
+    'packets: for packet in packets {
+        disk.create(packet.beside)?;
+    }
+    Ok(())
+}
+
+// Writes the bytes of each packet into the file beside its path.
+fn fill_files<D: Disk>(disk: &mut D, packets: &[Outgoing<'_>]) -> Result<(), DiskError>
+    requires apart { AllPairs AreApart packets.now }
+    requires made { All (IsMade (D.state disk.old)) packets.now }
+    requires named { All (IsNamedBeside (D.state disk.old)) packets.now }
+    ensures filled { OnOk result (All (IsFilled (D.state disk.new)) packets.now) }
+    ensures named { KeepsNamed (λ m. ⊥) (D.state disk.old) (D.state disk.new) }
+    ensures changes { ChangesOnly (IsBesideOne packets.now) (D.state disk.old) (D.state disk.new) }
+    ensures cause { HasCause (D.failures disk.old) (D.failures disk.new) result }
+{
+    'packets: for packet in packets {
+        fill_file(disk, packet.beside, packet.bytes)?;
+    }
+    Ok(())
+}
+
+/// Writes each packet beside its path, and puts it on the disk. Where a path is taken it answers `false`, and writes
+/// none.
+pub fn stage_packets<D: Disk>(
+    disk: &mut D,
+    folder: &[u8],
+    packets: &[Outgoing<'_>],
+) -> Result<bool, DiskError>
+    requires { ArePlaced folder.now packets.now }
+    ensures staged { IfOk result (λ free. free ≡ true → All (IsStaged (D.state disk.new)) packets.now) }
+    ensures free { Honestly (D.state disk.new) (IfOk result (λ free. free ≡ true → All (IsFree (D.state disk.new)) packets.now)) }
+    ensures taken { Honestly (D.state disk.new) (IfOk result (λ free. free ≡ false → All (IsFree (D.state disk.old)) packets.now → ⊥)) }
+    ensures changes { ChangesOnly (IsBesideOne packets.now) (D.state disk.old) (D.state disk.new) }
+    ensures cause { HasCause (D.failures disk.old) (D.failures disk.new) result }
+{
+    disk.sync_folder(folder)?;
+    if !are_free(disk, packets)? {
+        return Ok(false);
+    }
+    make_files(disk, packets)?;
+    disk.sync_folder(folder)?;
+    fill_files(disk, packets)?;
+    Ok(true)
+}

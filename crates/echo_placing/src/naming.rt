@@ -1,0 +1,137 @@
+//! Packets get their paths: each a second path by a link, and then the path beside it goes.
+ghost use Rattle.std.specs.Prelude.{◌≡◌, ◌≢◌, ◌⊎◌, ◌↔◌, ◌≤◌, true, false, All, IfOk, OnOk, IsSome};
+ghost use Rattle.echo_disk.specs.Disk.{Honestly, IsIn};
+ghost use Rattle.echo_disk.specs.Runs.{ChangesNothing, HasCause, LeavesOnly, OneStepOn};
+ghost use Rattle.echo_placing.specs.Changes.{ChangesOnly};
+ghost use Rattle.echo_placing.specs.Naming.{HasItsPath, HasMoved, IsTaken, Names, NamesEach, StaysThere};
+ghost use Rattle.echo_placing.specs.Outgoing.{ArePlaced, IsFree, IsOfOne, IsStaged};
+
+use crate::outgoing::Outgoing;
+use echo_disk::{Disk, DiskError, read_file};
+use std::alloc::Global;
+
+// Whether two files have the same bytes.
+fn are_same<D: Disk>(
+    alloc: Global,
+    disk: &mut D,
+    one: &[u8],
+    other: &[u8],
+) -> Result<bool, DiskError>
+    requires one { Honestly (D.state disk.old) (IsSome ((D.state disk.old).seen one.now)) }
+    requires other { Honestly (D.state disk.old) (IsSome ((D.state disk.old).seen other.now)) }
+    ensures same { Honestly (D.state disk.new) (IfOk result (λ same. (same ≡ true) ↔ ((D.state disk.old).seen one.now ≡ (D.state disk.old).seen other.now))) }
+    ensures quiet { ChangesNothing (D.state disk.old) (D.state disk.new) }
+    ensures cause { HasCause (D.failures disk.old) (D.failures disk.new) result }
+{
+    let first = read_file(alloc, disk, one)?;
+    let second = read_file(alloc, disk, other)?;
+    Ok(first.as_slice() == second.as_slice())
+}
+
+// Whether the file beside a path has that path too. Then its bytes are on the disk at both.
+fn has_both<D: Disk>(
+    alloc: Global,
+    disk: &mut D,
+    beside: &[u8],
+    path: &[u8],
+) -> Result<bool, DiskError>
+    requires beside_there { Honestly (D.state disk.old) (IsSome ((D.state disk.old).seen beside.now)) }
+    requires path_there { Honestly (D.state disk.old) (IsSome ((D.state disk.old).seen path.now)) }
+    ensures same { Honestly (D.state disk.new) (IfOk result (λ both. (both ≡ true) ↔ ((D.state disk.old).seen beside.now ≡ (D.state disk.old).seen path.now))) }
+    ensures durable { IfOk result (λ both. both ≡ true → (D.state disk.new).is_flushed path.now) }
+    ensures quiet { ChangesNothing (D.state disk.old) (D.state disk.new) }
+    ensures cause { HasCause (D.failures disk.old) (D.failures disk.new) result }
+{
+    if !are_same(alloc, disk, beside, path)? {
+        return Ok(false);
+    }
+    disk.sync(path)?;
+    Ok(true)
+}
+
+// Gives the file beside a path that path too, unless another file has it. It may have it already.
+fn give_path<D: Disk>(
+    alloc: Global,
+    disk: &mut D,
+    beside: &[u8],
+    path: &[u8],
+) -> Result<bool, DiskError>
+    requires other { beside.now ≢ path.now }
+    requires there { Honestly (D.state disk.old) (IsSome ((D.state disk.old).seen beside.now)) }
+    requires durable { (D.state disk.old).is_flushed beside.now }
+    requires beside_named { (D.state disk.old).is_named beside.now }
+    requires path_named { (D.state disk.old).is_named path.now }
+    ensures given { Honestly (D.state disk.new) (IfOk result (λ given. given ≡ true → (D.state disk.new).seen path.now ≡ (D.state disk.old).seen beside.now)) }
+    ensures durable { IfOk result (λ given. given ≡ true → (D.state disk.new).is_flushed path.now) }
+    ensures over_none { Honestly (D.state disk.new) (OnOk result (IsSome ((D.state disk.old).seen path.now) → (D.state disk.new).seen path.now ≡ (D.state disk.old).seen path.now)) }
+    ensures taken { Honestly (D.state disk.new) (IfOk result (λ given. given ≡ false → IsTaken (D.state disk.old) path.now beside.now)) }
+    ensures any_moment { LeavesOnly (D.state disk.old) (D.state disk.new) (OneStepOn (Names path.now beside.now) (D.state disk.old)) }
+    ensures stays { StaysThere (D.state disk.old) (D.state disk.new) beside.now }
+    ensures changes { ChangesOnly (λ m. (m ≡ beside.now) ⊎ (m ≡ path.now)) (D.state disk.old) (D.state disk.new) }
+    ensures cause { HasCause (D.failures disk.old) (D.failures disk.new) result }
+{
+    if disk.link(beside, path)? {
+        return Ok(true);
+    }
+    has_both(alloc, disk, beside, path)
+}
+
+/// Gives the file beside a path that path, and takes the other one away. Where another file has the path it answers
+/// `false`, and both stay.
+pub fn name_packet<D: Disk>(
+    alloc: Global,
+    disk: &mut D,
+    folder: &[u8],
+    beside: &[u8],
+    path: &[u8],
+) -> Result<bool, DiskError>
+    requires path_in { IsIn folder.now path.now }
+    requires beside_in { IsIn folder.now beside.now }
+    requires other { beside.now ≢ path.now }
+    requires there { Honestly (D.state disk.old) (IsSome ((D.state disk.old).seen beside.now)) }
+    requires durable { (D.state disk.old).is_flushed beside.now }
+    requires beside_named { (D.state disk.old).is_named beside.now }
+    requires path_named { (D.state disk.old).is_named path.now }
+    ensures named { Honestly (D.state disk.new) (IfOk result (λ named. named ≡ true → HasMoved (D.state disk.old) (D.state disk.new) path.now beside.now)) }
+    ensures over_none { Honestly (D.state disk.new) (OnOk result (IsSome ((D.state disk.old).seen path.now) → (D.state disk.new).seen path.now ≡ (D.state disk.old).seen path.now)) }
+    ensures taken { Honestly (D.state disk.new) (IfOk result (λ named. named ≡ false → IsTaken (D.state disk.old) path.now beside.now)) }
+    ensures stays { IfOk result (λ named. named ≡ false → StaysThere (D.state disk.old) (D.state disk.new) beside.now) }
+
+    // A crash at any moment leaves the file at one of the two paths at least.
+    ensures any_moment { Honestly (D.state disk.new) (LeavesOnly (D.state disk.old) (D.state disk.new) (OneStepOn (Names path.now beside.now) (D.state disk.old))) }
+    ensures changes { ChangesOnly (λ m. (m ≡ beside.now) ⊎ (m ≡ path.now)) (D.state disk.old) (D.state disk.new) }
+    ensures cause { HasCause (D.failures disk.old) (D.failures disk.new) result }
+{
+    let given = give_path(alloc, disk, beside, path)?;
+    if !given {
+        return Ok(false);
+    }
+    disk.sync_folder(folder)?;
+    disk.remove(beside)?;
+    Ok(true)
+}
+
+/// Gives each packet its path, and answers whether all have theirs. One whose path another file has stays beside it.
+pub fn name_packets<D: Disk>(
+    alloc: Global,
+    disk: &mut D,
+    folder: &[u8],
+    packets: &[Outgoing<'_>],
+) -> Result<bool, DiskError>
+    requires placed { ArePlaced folder.now packets.now }
+    requires staged { All (IsStaged (D.state disk.old)) packets.now }
+    ensures named { Honestly (D.state disk.new) (IfOk result (λ all. all ≡ true → All (HasItsPath (D.state disk.new)) packets.now)) }
+    ensures taken { Honestly (D.state disk.new) (IfOk result (λ all. all ≡ false → All (IsFree (D.state disk.old)) packets.now → ⊥)) }
+
+    // A crash at any moment leaves each packet whole at one of its two paths at least.
+    ensures any_moment { Honestly (D.state disk.new) (LeavesOnly (D.state disk.old) (D.state disk.new) (OneStepOn (NamesEach packets.now) (D.state disk.old))) }
+    ensures changes { ChangesOnly (IsOfOne packets.now) (D.state disk.old) (D.state disk.new) }
+    ensures cause { HasCause (D.failures disk.old) (D.failures disk.new) result }
+{
+    let mut all = true;
+    'packets: for packet in packets {
+        all &= name_packet(alloc, disk, folder, packet.beside, packet.path)?;
+    }
+    disk.sync_folder(folder)?;
+    Ok(all)
+}

@@ -1,0 +1,31 @@
+//! Why files were not put in place.
+use echo_disk::DiskError;
+use thiserror::Error;
+
+/// Why files were not put in place.
+#[derive(Clone, Copy, Debug, PartialEq, Eq, Error)]
+pub enum PlacingError {
+    /// A growth was refused.
+    #[error("out of memory")]
+    Memory,
+    /// The device failed, and counts it.
+    #[error("the device failed")]
+    Device,
+    /// Another file has the path of a packet.
+    #[error("a path is taken")]
+    Taken,
+}
+
+impl From<DiskError> for PlacingError {
+    ghost use Rattle.std.specs.Prelude.{◌≡◌};
+    ghost use Rattle.echo_placing.specs.Publishing.{placing_cause};
+
+    ghost from_gives = { λ cause e. e ≡ placing_cause cause };
+
+    fn from(cause: DiskError) -> PlacingError {
+        match cause {
+            DiskError::Memory => PlacingError::Memory,
+            DiskError::Device => PlacingError::Device,
+        }
+    }
+}

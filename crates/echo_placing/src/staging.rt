@@ -1,0 +1,40 @@
+//! A file that is written and put on the disk, before it is settled that it is wanted.
+ghost use Rattle.std.specs.Prelude.{◌≡◌, ℕ, List, [], Some, OnOk};
+ghost use Rattle.echo_disk.specs.Disk.{IsIn};
+ghost use Rattle.echo_disk.specs.Runs.{HasCause, KeepsNamed};
+ghost use Rattle.echo_placing.specs.Changes.{ChangesOnly, HasOnDisk};
+
+use echo_disk::{Disk, DiskError};
+
+/// Writes the bytes of a file that was just made and whose path is on the disk. At `Ok` they are on it too.
+pub fn fill_file<D: Disk>(disk: &mut D, path: &[u8], bytes: &[u8]) -> Result<(), DiskError>
+    requires empty { (D.state disk.old).seen path.now ≡ Some [] }
+    requires named { (D.state disk.old).is_named path.now }
+    requires alone { (D.state disk.old).is_alone path.now }
+    ensures filled { OnOk result (HasOnDisk (D.state disk.new) path.now bytes.now) }
+    ensures named { KeepsNamed (λ m. ⊥) (D.state disk.old) (D.state disk.new) }
+    ensures changes { ChangesOnly (λ m. m ≡ path.now) (D.state disk.old) (D.state disk.new) }
+    ensures cause { HasCause (D.failures disk.old) (D.failures disk.new) result }
+{
+    disk.write_at(path, 0, bytes)?;
+    disk.sync(path)
+}
+
+/// Makes a file of these bytes in the place of what has the path, and puts it on the disk, with all paths of its folder.
+pub fn stage_file<D: Disk>(
+    disk: &mut D,
+    folder: &[u8],
+    path: &[u8],
+    bytes: &[u8],
+) -> Result<(), DiskError>
+    requires { IsIn folder.now path.now }
+    ensures staged { OnOk result (HasOnDisk (D.state disk.new) path.now bytes.now) }
+    ensures named { OnOk result ((m : List ℕ) → IsIn folder.now m → (D.state disk.new).is_named m) }
+    ensures changes { ChangesOnly (λ m. m ≡ path.now) (D.state disk.old) (D.state disk.new) }
+    ensures cause { HasCause (D.failures disk.old) (D.failures disk.new) result }
+{
+    disk.sync_folder(folder)?;
+    disk.create(path)?;
+    disk.sync_folder(folder)?;
+    fill_file(disk, path, bytes)
+}
