@@ -29,8 +29,9 @@ where
     tidied(files, beside.as_str(), done)
 }
 
-/// Gives a staged file its path. That something else has the path is a fault, and then both stay. Where it is the
-/// same file, since a run was stopped in between, only its name beside goes.
+/// Gives a staged file its path. It stands beside that too, until it is dropped: flush the folder first, else a crash
+/// may take both names. That something else has the path is a fault, but not the same file, as a run leaves it that was
+/// stopped in between.
 pub fn name_staged<R: Files>(
     alloc: Global,
     files: &R,
@@ -44,11 +45,10 @@ pub fn name_staged<R: Files>(
         }
         linked => linked?,
     }
-    fs::remove_file(files, beside.as_str())?;
     Ok(())
 }
 
-/// Removes a staged file, which was not given its path.
+/// Removes a staged file beside its path, which it was given or is not to have.
 pub fn drop_staged<R: Files>(
     alloc: Global,
     files: &R,

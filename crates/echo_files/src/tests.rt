@@ -259,8 +259,8 @@ fn permissions_come_first(rt: HostRuntime) -> Result<(), Fail> {
     Ok(())
 }
 
-/// A staged packet gets its name where that is free; where a run was stopped in between, its name beside goes;
-/// what another has there stays, and then the packet stays too.
+/// A staged packet gets its name where that is free, or has it, since a run was stopped in between; what another has
+/// there stays. Beside it the packet stays too.
 #[test]
 fn staged_packets_are_named_once(rt: HostRuntime) -> Result<(), Fail> {
     let alloc = rt.alloc();
@@ -279,7 +279,7 @@ fn staged_packets_are_named_once(rt: HostRuntime) -> Result<(), Fail> {
         assert_eq!(rt; answer.is_ok(), staged);
         let answer = name_staged(alloc, &disk, "a.pkt", "1.10.2");
         assert_eq!(rt; answer.is_ok(), named);
-        assert!(rt; holds(&state, BESIDE_PACKET, None)? == named);
+        assert!(rt; holds(&state, BESIDE_PACKET, Some(NEW))?);
         assert!(rt; holds(&state, "a.pkt", Some(there.unwrap_or(NEW)))?);
     }
     Ok(())
@@ -294,8 +294,10 @@ fn staging_stops_at_a_call(rt: HostRuntime) -> Result<(), Fail> {
         let disk = Disk::new(&state);
         let staged = stage_file(alloc, &disk, new_at("a.pkt"));
         let named = name_staged(alloc, &disk, "a.pkt", "1.10.2");
+        let dropped = drop_staged(alloc, &disk, "a.pkt", "1.10.2");
         assert!(rt; staged.is_ok() == (call > 5), "call {call}");
-        assert!(rt; named.is_ok() == (call > 7), "call {call}");
+        assert!(rt; named.is_ok() == (call > 6), "call {call}");
+        assert!(rt; dropped.is_ok() == (call > 7), "call {call}");
         assert!(rt;
             holds(&state, "a.pkt", Some(NEW))? == (call > 6),
             "call {call}"

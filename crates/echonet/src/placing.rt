@@ -119,8 +119,8 @@ fn stage_packet<'p>(
     stage_file(rt.alloc(), rt, new).map_err(|fault| output_fault(fault, path))
 }
 
-// Gives each packet its name, and flushes the folder. One whose name was taken meanwhile stays beside it for the next
-// scan, and is reported once the others have theirs.
+// Gives each packet its name, and takes it from beside that once the names are on the disk. One whose name was taken
+// meanwhile stays beside it for the next scan, and is reported once the others have theirs.
 fn name_packets<E: Sink>(
     rt: &HostRuntime,
     own: &str,
@@ -128,17 +128,46 @@ fn name_packets<E: Sink>(
     paths: &[String],
     errors: &mut E,
 ) -> Status {
+    let (named, stopped) = match linked(rt, own, paths) {
+        Ok(linked) => linked,
+        Err(_) => return Fault::OutOfMemory.report(errors),
+    };
+    match flushed(rt, folder, paths, errors) {
+        Status::Good => {}
+        failed => return failed,
+    }
+    let dropped = drop_named(rt, own, &named);
+    match stopped.or(dropped.err()) {
+        Some(fault) => fault.report(errors),
+        None => flushed(rt, folder, paths, errors),
+    }
+}
+
+// Gives each packet its name: the paths of those that have theirs now, and the first fault.
+fn linked<'p>(
+    rt: &HostRuntime,
+    own: &str,
+    paths: &'p [String],
+) -> Result<(Vec<&'p str>, Option<Fault<'p>>), AllocError> {
+    let mut named = Vec::with_capacity(rt.alloc(), paths.len())?;
     let mut stopped = None;
     for path in paths {
-        if let Err(fault) = name_staged(rt.alloc(), rt, path.as_str(), own) {
-            stopped = stopped.or(Some(output_fault(fault, path.as_str())));
+        match name_staged(rt.alloc(), rt, path.as_str(), own) {
+            Ok(()) => named.push(path.as_str())?,
+            Err(fault) => stopped = stopped.or(Some(output_fault(fault, path.as_str()))),
         }
     }
-    let status = flushed(rt, folder, paths, errors);
-    match stopped {
-        Some(fault) => fault.report(errors),
-        None => status,
+    Ok((named, stopped))
+}
+
+// Takes packets from beside their names.
+fn drop_named<'p>(rt: &HostRuntime, own: &str, named: &[&'p str]) -> Result<(), Fault<'p>> {
+    for path in named.iter().copied() {
+        if let Err(fault) = drop_staged(rt.alloc(), rt, path, own) {
+            return Err(output_fault(fault, path));
+        }
     }
+    Ok(())
 }
 
 // Flushes the folder, where there are packets.

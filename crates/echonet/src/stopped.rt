@@ -3,7 +3,7 @@
 
 use crate::inputs::output_fault;
 use echo_device::{Sink, Watched, fill_from};
-use echo_files::{OutputFault, drop_staged, flush_folder, name_staged};
+use echo_files::{drop_staged, flush_folder, name_staged};
 use echo_status::{Fault, Status};
 use std::alloc::AllocError;
 use std::io::ErrorKind;
@@ -58,27 +58,39 @@ pub fn finish_stopped<E: Sink>(
         Ok(found) => found,
         Err(fault) => return fault.report(errors),
     };
-    for left in &found {
-        let path = left.path.as_str();
-        if let Err(fault) = finish(rt, own, left, cursor) {
-            return output_fault(fault, path).report(errors);
-        }
+    if found.is_empty() {
+        return Status::Good;
     }
-    if !found.is_empty() {
-        if let Err(fault) = flush_folder(rt, folder) {
-            return output_fault(fault, folder).report(errors);
-        }
+    match finish(rt, own, folder, &found, cursor) {
+        Ok(()) => Status::Good,
+        Err(fault) => fault.report(errors),
     }
-    Status::Good
 }
 
-// Names the packet, or removes it.
-fn finish(rt: &HostRuntime, own: &str, left: &Left, cursor: u32) -> Result<(), OutputFault> {
-    if left.before < cursor {
-        name_staged(rt.alloc(), rt, left.path.as_str(), own)
-    } else {
-        drop_staged(rt.alloc(), rt, left.path.as_str(), own)
+// Names the packets whose scan moved the cursor. Once their names are on the disk, nothing stays beside them.
+fn finish<'p>(
+    rt: &HostRuntime,
+    own: &str,
+    folder: &'p str,
+    found: &'p [Left],
+    cursor: u32,
+) -> Result<(), Fault<'p>> {
+    for left in found {
+        let path = left.path.as_str();
+        if left.before < cursor {
+            if let Err(fault) = name_staged(rt.alloc(), rt, path, own) {
+                return Err(output_fault(fault, path));
+            }
+        }
     }
+    flush_folder(rt, folder).map_err(|fault| output_fault(fault, folder))?;
+    for left in found {
+        let path = left.path.as_str();
+        if let Err(fault) = drop_staged(rt.alloc(), rt, path, own) {
+            return Err(output_fault(fault, path));
+        }
+    }
+    flush_folder(rt, folder).map_err(|fault| output_fault(fault, folder))
 }
 
 // The packets of the system that stand beside their names in the folder. One that is not there has none.
