@@ -30,13 +30,13 @@ itself-like Purge = refl
 itself-like (Toss indexes) = (indexes, refl)
 
 -- a command on the net, and the run, that go with the disks after a command
-record Followed (event : CommandEvent) (net : Net) (new : Disks) : Type 0 where
-  plain : CommandEvent
-  like : IsLikeEvent event plain
-  then : Net
-  happens : Happens plain net then
-  later : Run
-  tracks : Tracks new then later
+pub record Followed (event : CommandEvent) (net : Net) (new : Disks) : Type 0 where
+  pub plain : CommandEvent
+  pub like : IsLikeEvent event plain
+  pub then : Net
+  pub happens : Happens plain net then
+  pub later : Run
+  pub tracks : Tracks new then later
 
 -- the command did nothing on the net
 idle : (event : CommandEvent) (net : Net) (run : Run) (new : Disks) → Tracks new net run → Followed event net new
@@ -84,7 +84,7 @@ led event plain net new like l = record {
   tracks = l.tracks;
 }
 
-followed : (event : CommandEvent) (d new : Disks) (net : Net) (run : Run) → Tracks d net run → MayHappen event d new → Followed event net new
+pub followed : (event : CommandEvent) (d new : Disks) (net : Net) (run : Run) → Tracks d net run → MayHappen event d new → Followed event net new
 followed event d new net run t (inl same) = idle event net run new (subst (λ (x : Disks). Tracks x net run) (sym same) t)
 followed event d new net run t (inr leads) = by event.command refl leads
   where
@@ -131,7 +131,7 @@ followed-all (event ∷ commands) d new net run t (next, first, rest) =
     }
 
 -- before the first command
-first-tracks : (links : List (List ℕ)) (files : List LinkFile) → AreLinkFiles links files → Different (map file_address files)
+pub first-tracks : (links : List (List ℕ)) (files : List LinkFile) → AreLinkFiles links files → Different (map file_address files)
     → Tracks (first_disks links) (first_net links) (start files)
 first-tracks links files are apart = record {
   agrees = first-agrees links files are;

@@ -44,7 +44,7 @@ filing-cursor : (s : System) (o : Option Filed) → cursor_of (filing s o) ≡ c
 filing-cursor s None = refl
 filing-cursor s (Some m) = refl
 
-tossing-cursor : (sender : Address) (ms : List Message) (s : System) → cursor_of (tossing_at sender ms s) ≡ cursor_of s
+pub tossing-cursor : (sender : Address) (ms : List Message) (s : System) → cursor_of (tossing_at sender ms s) ≡ cursor_of s
 tossing-cursor sender [] s = refl
 tossing-cursor sender (q ∷ ms) s =
     tossing-cursor sender ms (filing s (tossing s.file s.base sender q)) ∙ filing-cursor s (tossing s.file s.base sender q)

@@ -1,8 +1,8 @@
-mod AnyPacket
-mod AnyFiles
-mod Purgings
-mod Alone
-mod Steps
-mod Shown
-mod Stays
-mod FaultlessTosses
+pub mod AnyPacket
+pub mod AnyFiles
+pub mod Purgings
+pub mod Alone
+pub mod Steps
+pub mod Shown
+pub mod Stays
+pub mod FaultlessTosses

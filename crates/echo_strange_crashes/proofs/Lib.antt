@@ -1,0 +1,4 @@
+pub mod Retracked
+pub mod Lone
+pub mod Grown
+pub mod Shown

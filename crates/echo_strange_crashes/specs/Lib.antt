@@ -1,0 +1,2 @@
+pub mod LoneDisks
+pub mod AloneOverCrashes
