@@ -21,7 +21,7 @@ pub use input::{InputFault, read_whole};
 pub use owned::Owned;
 pub use reading::{open_regular, read_file, read_file_if_there};
 pub use staging::{drop_staged, name_staged, stage_file};
-pub use writing::{NewFile, OutputFault, create_file, flush_folder, replace_file};
+pub use writing::{NewFile, OutputFault, create_file, flush_folder, flush_path, replace_file};
 
 #[cfg(test)]
 mod tests;

@@ -112,6 +112,13 @@ pub fn flush_folder<R: Files>(files: &R, folder: &str) -> Result<(), OutputFault
     Ok(())
 }
 
+/// Flushes the folder of the file with this path, or of the one that a symbolic link leads to, so that a power cut
+/// leaves the file that has the path now.
+pub fn flush_path<R: Files>(alloc: Global, files: &R, path: &str) -> Result<(), OutputFault> {
+    let target = target_of(alloc, files, path)?;
+    flush_folder(files, folder_of(target.as_str()))
+}
+
 // The bytes by which a file of its kind is known.
 pub(crate) fn start_of(bytes: &[u8], known_by: usize) -> &[u8]
     ensures { result.now ≡ take known_by bytes.now }

@@ -2,8 +2,9 @@
 //! a name is how many messages were scanned before, so it shows whether that scan came to move the cursor.
 
 use crate::inputs::output_fault;
+use crate::placing::Outbound;
 use echo_device::{Sink, Watched, fill_from};
-use echo_files::{drop_staged, flush_folder, name_staged};
+use echo_files::{drop_staged, flush_folder, flush_path, name_staged};
 use echo_status::{Fault, Status};
 use std::alloc::AllocError;
 use std::io::ErrorKind;
@@ -46,22 +47,25 @@ pub fn cursor_of(rt: &HostRuntime, base: &str) -> Option<u32> {
 }
 
 /// Brings scans of the system with this address into the folder that were stopped to their end: where the cursor was
-/// moved a packet gets its name, else it is removed. `cursor` is how many messages were scanned so far.
+/// moved a packet gets its name, else it is removed. The base with that cursor is put on the disk before.
 pub fn finish_stopped<E: Sink>(
     rt: &HostRuntime,
     own: &str,
-    folder: &str,
-    cursor: u32,
+    base: &str,
+    to: Outbound<'_>,
     errors: &mut E,
 ) -> Status {
-    let found = match packets_left(rt, own, folder) {
+    let found = match packets_left(rt, own, to.folder) {
         Ok(found) => found,
         Err(fault) => return fault.report(errors),
     };
     if found.is_empty() {
         return Status::Good;
     }
-    match finish(rt, own, folder, &found, cursor) {
+    if let Err(fault) = flush_path(rt.alloc(), rt, base) {
+        return output_fault(fault, base).report(errors);
+    }
+    match finish(rt, own, to, &found) {
         Ok(()) => Status::Good,
         Err(fault) => fault.report(errors),
     }
@@ -71,13 +75,13 @@ pub fn finish_stopped<E: Sink>(
 fn finish<'p>(
     rt: &HostRuntime,
     own: &str,
-    folder: &'p str,
+    to: Outbound<'p>,
     found: &'p [Left],
-    cursor: u32,
 ) -> Result<(), Fault<'p>> {
+    let folder = to.folder;
     for left in found {
         let path = left.path.as_str();
-        if left.before < cursor {
+        if left.before < to.before {
             if let Err(fault) = name_staged(rt.alloc(), rt, path, own) {
                 return Err(output_fault(fault, path));
             }
