@@ -158,6 +158,7 @@ fn begin_jam<'a>(rt: &HostRuntime, path: &'a str) -> Result<(), Fault<'a>> {
         _ => return Err(Fault::CannotUse(path)),
     }
     make_empty(rt, path, ".jdt").map_err(|error| jam_fault(&error, path))?;
+    make_empty(rt, path, ".jlr").map_err(|error| jam_fault(&error, path))?;
     let headers = with_end(rt, path, ".jhr")?;
     let bytes = new_fixed(rt.alloc(), created_now(rt)?)?;
     let new = NewFile {
