@@ -1,4 +1,5 @@
 mod Bases
+mod Beside
 mod Causes
 mod Claimed
 mod Indexed
@@ -9,5 +10,6 @@ mod Seen
 mod Single
 mod Staged
 mod Stated
+mod Stubbed
 mod WhereSo
 mod Whole
