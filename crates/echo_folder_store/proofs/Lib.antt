@@ -1,15 +1,15 @@
-mod Bases
+pub mod Bases
 mod Beside
-mod Causes
-mod Claimed
+pub mod Causes
+pub mod Claimed
 mod Indexed
-mod Looked
-mod Numbered
+pub mod Looked
+pub mod Numbered
 mod OneMore
-mod Seen
+pub mod Seen
 mod Single
-mod Staged
+pub mod Staged
 mod Stated
-mod Stubbed
+pub mod Stubbed
 mod WhereSo
 mod Whole

@@ -17,7 +17,7 @@ mod owning;
 mod purging;
 mod sought;
 
-pub use alone::{Alone, bytes_alone};
+pub use alone::{Alone, bytes_alone, read_alone};
 pub use folder::Folder;
 pub use folder_store::FolderStore;
 pub use laws::one_message_more;
