@@ -6,10 +6,12 @@ mod Indexed
 mod Looked
 mod Numbered
 mod OneMore
+mod Plain
 mod Seen
 mod Single
 mod Staged
 mod Stated
 mod Stubbed
+mod Waits
 mod WhereSo
 mod Whole
