@@ -17,8 +17,9 @@ use Rattle.echo_base.specs.Base.{Base}
 use Rattle.echo_keys.specs.Keys.{StandWhereTold}
 use Rattle.echo_keys.proofs.Placed.{stand_where_told}
 use Rattle.echo_folder_store.specs.Held.{HoldsBase, digest_by, StandsForBase, StandsForBaseOrWasLeft}
-use Rattle.echo_folder_store.specs.Opened.{IsOpen, held_by, path_of}
+use Rattle.echo_folder_store.specs.Opened.{IsOpen, IsWritten, and_waiting, held_by, path_of}
 use Rattle.echo_folder_store.specs.declared.folder.Folder.{Folder}
+use Rattle.echo_folder_store.proofs.Waits.{written_held}
 
 -- each message has its entry, and the cursor is within them
 pub told_where : (keyed : ℕ → ℕ → List ℕ → ℕ) (bytes : BaseBytes) (base : Base) → HoldsBase keyed bytes base → StandWhereTold base.messages bytes.messages bytes.keys
@@ -49,35 +50,35 @@ pub open_quiet : (d e : DiskState) (folder : Folder) → ChangesNothing d e → 
 open_quiet d e folder quiet was = record {
   names = was.names;
   staged = staged_quiet d e (path_of folder) folder.end folder.told quiet was.staged;
-  keys = was.keys ∙ sym (ap (λ (b : BaseBytes). b.keys) (base_quiet d e (path_of folder) folder.told quiet));
+  keys = was.keys ∙ sym (ap (λ (b : BaseBytes). (and_waiting b folder.waiting).keys) (base_quiet d e (path_of folder) folder.told quiet));
 }
 
 -- and each message where its entry tells
 pub told_quiet : (d e : DiskState) (folder : Folder) (base : List Filed) (keys : List ℕ) → ChangesNothing d e → StandWhereTold base (held_by d folder).messages keys → StandWhereTold base (held_by e folder).messages keys
-told_quiet d e folder base keys quiet told = subst (λ (b : BaseBytes). StandWhereTold base b.messages keys) (sym (base_quiet d e (path_of folder) folder.told quiet)) told
+told_quiet d e folder base keys quiet told = subst (λ (b : BaseBytes). StandWhereTold base (and_waiting b folder.waiting).messages keys) (sym (base_quiet d e (path_of folder) folder.told quiet)) told
 
 -- what opening left is open
 pub opened_is : (d e : DiskState) (path : List ℕ) (end : End) (folder : Folder) → ChangesNothing d e → IsAtRest d path end → path_of folder ≡ path → AreNames folder.names end.told.number → folder.end ≡ end → folder.told ≡ end.told
-    → folder.keys.items ≡ (base_at d path end.told).keys → IsOpen e folder
-opened_is d e path end folder quiet rest at names same_end same_told keys =
+    → folder.keys.items ≡ (base_at d path end.told).keys → IsWritten folder → IsOpen e folder
+opened_is d e path end folder quiet rest at names same_end same_told keys none =
     let here : IsStaged e path end end.told = staged_quiet d e path end end.told quiet (rest_staged d path end end.told.cursor end.told.mark rest) in
     let at_path : IsStaged e (path_of folder) end end.told = subst (λ (p : List ℕ). IsStaged e p end end.told) (sym at) here in
     let at_end : IsStaged e (path_of folder) folder.end end.told = subst (λ (x : End). IsStaged e (path_of folder) x end.told) (sym same_end) at_path in
     record {
       names = subst (λ (t : Told). AreNames folder.names t.number) (sym same_told) names;
       staged = subst (λ (t : Told). IsStaged e (path_of folder) folder.end t) (sym same_told) at_end;
-      keys = keys ∙ sym (ap (λ (b : BaseBytes). b.keys) (base_quiet d e path end.told quiet)) ∙ (λ i. (base_at e (sym at i) (sym same_told i)).keys);
+      keys = keys ∙ sym (ap (λ (b : BaseBytes). b.keys) (base_quiet d e path end.told quiet)) ∙ (λ i. (base_at e (sym at i) (sym same_told i)).keys) ∙ sym (ap (λ (b : BaseBytes). b.keys) (written_held e folder none));
     }
 
 -- it holds the bytes and the mark for which the files stood
-pub opened_bytes : (d e : DiskState) (path : List ℕ) (folder : Folder) (told : Told) (bytes : BaseBytes) → ChangesNothing d e → path_of folder ≡ path → folder.told ≡ told → base_at d path told ≡ bytes → held_by e folder ≡ bytes
-opened_bytes d e path folder told bytes quiet at same_told same = (λ i. base_at e (at i) (same_told i)) ∙ base_quiet d e path told quiet ∙ same
+pub opened_bytes : (d e : DiskState) (path : List ℕ) (folder : Folder) (told : Told) (bytes : BaseBytes) → ChangesNothing d e → path_of folder ≡ path → folder.told ≡ told → base_at d path told ≡ bytes → IsWritten folder → held_by e folder ≡ bytes
+opened_bytes d e path folder told bytes quiet at same_told same none = written_held e folder none ∙ (λ i. base_at e (at i) (same_told i)) ∙ base_quiet d e path told quiet ∙ same
 
 -- and so the base
 pub opened_holds : (keyed : ℕ → ℕ → List ℕ → ℕ) (d e : DiskState) (path : List ℕ) (folder : Folder) (told : Told) (bytes : BaseBytes) (base : Base) → ChangesNothing d e → path_of folder ≡ path → folder.told ≡ told
-    → base_at d path told ≡ bytes → HoldsBase keyed bytes base → HoldsBase keyed (held_by e folder) base
-opened_holds keyed d e path folder told bytes base quiet at same_told same holds =
-    subst (λ (b : BaseBytes). HoldsBase keyed b base) (sym (opened_bytes d e path folder told bytes quiet at same_told same)) holds
+    → base_at d path told ≡ bytes → HoldsBase keyed bytes base → IsWritten folder → HoldsBase keyed (held_by e folder) base
+opened_holds keyed d e path folder told bytes base quiet at same_told same holds none =
+    subst (λ (b : BaseBytes). HoldsBase keyed b base) (sym (opened_bytes d e path folder told bytes quiet at same_told same none)) holds
 
 -- the keys that were read are those of the file of this number
 pub keys_there : (d : DiskState) (path : List ℕ) (told : Told) (names : Names) (keys : List ℕ) → folder_of names ≡ path → AreNames names told.number → keys ≡ take told.keys (bytes_in (d.seen names.keys.items)) → keys ≡ (base_at d path told).keys

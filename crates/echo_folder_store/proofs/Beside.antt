@@ -1,9 +1,9 @@
 -- A base folder, and beside its files those that are made in their place.
-use Rattle.std.proofs.Common.{◌≡◌, ◌≢◌, ◌≤◌, ◌/◌, ℕ, List, length, take, sym, ap, subst, ◌∙◌, arith, inr}
+use Rattle.std.proofs.Common.{◌≡◌, ◌≢◌, ◌≤◌, ◌/◌, ℕ, List, length, take, sym, ap, subst, ◌∙◌, arith, inl, inr, ⊎_elim}
 use Rattle.std.specs.Prelude.{IsSome}
 use Rattle.echo_disk.specs.Disk.{DiskState, bytes_in}
 use Rattle.echo_disk.specs.Runs.{ChangesNothing, LeavesOnly}
-use Rattle.echo_disk.proofs.Moments.{then_run}
+use Rattle.echo_disk.proofs.Moments.{then_run, weaker_run}
 use Rattle.echo_folder.specs.AtRest.{IsAtRest}
 use Rattle.echo_folder.specs.Moments.{IsBeforeOrAfter, KeepsOutside, StandsAlone}
 use Rattle.echo_folder.specs.Names.{AreNames, keys_of, messages_of}
@@ -15,10 +15,11 @@ use Rattle.echo_keys.specs.Keys.{StandWhereTold}
 use Rattle.echo_folder_store.specs.Added.{SameBesideBoth}
 use Rattle.echo_folder_store.specs.Held.{HoldsBase}
 use Rattle.echo_folder_store.specs.Left.{IsBesideIn, IsReadable}
-use Rattle.echo_folder_store.specs.Opened.{IsOpen, committed_by, held_by, path_of}
+use Rattle.echo_folder_store.specs.Opened.{IsOpen, IsWritten, committed_by, held_by, path_of}
 use Rattle.echo_folder_store.specs.declared.folder.Folder.{Folder}
 use Rattle.echo_folder_store.proofs.Bases.{told_where}
 use Rattle.echo_folder_store.proofs.Staged.{committed_staged}
+use Rattle.echo_folder_store.proofs.Waits.{written_held}
 
 -- what was committed is the same
 pub committed_beside : (d : DiskState) (f g : Folder) → IsBesideIn f g → committed_by d g ≡ committed_by d f
@@ -51,28 +52,30 @@ readable_beside d e f g beside same was =
     readable_same d e f (same (messages_of (path_of f) n) m_m m_k) (same (keys_of (path_of f) n) k_m k_k) was
 
 -- an open folder at rest can be read
-pub rest_readable : (d : DiskState) (f : Folder) → IsOpen d f → IsAtRest d (path_of f) f.end → f.end.told ≡ f.told → IsReadable d f
-rest_readable d f opened rest told = record {
+pub rest_readable : (d : DiskState) (f : Folder) → IsOpen d f → IsAtRest d (path_of f) f.end → f.end.told ≡ f.told → IsWritten f → IsReadable d f
+rest_readable d f opened rest told none = record {
   names = subst (λ (t : Told). AreNames f.names t.number) (sym told) opened.names;
   there = rest.messages_on.there;
   long = rest.messages_long;
-  keys = opened.keys ∙ ap (λ (t : Told). (base_at d (path_of f) t).keys) (sym told);
+  keys = opened.keys ∙ ap (λ (b : BaseBytes). b.keys) (written_held d f none) ∙ ap (λ (t : Told). (base_at d (path_of f) t).keys) (sym told);
 }
 
 -- and one at rest is open
-pub rest_open : (d e : DiskState) (f : Folder) → IsOpen d f → IsAtRest e (path_of f) f.end → f.end.told ≡ f.told → committed_by e f ≡ committed_by d f → IsOpen e f
-rest_open d e f opened rest told same = record {
+pub rest_open : (d e : DiskState) (f : Folder) → IsOpen d f → IsAtRest e (path_of f) f.end → f.end.told ≡ f.told → committed_by e f ≡ committed_by d f → IsWritten f → IsOpen e f
+rest_open d e f opened rest told same none = record {
   names = opened.names;
   staged = committed_staged e (path_of f) f.end f.told rest told;
   keys = opened.keys
+      ∙ ap (λ (b : BaseBytes). b.keys) (written_held d f none)
       ∙ ap (λ (t : Told). (base_at d (path_of f) t).keys) (sym told)
       ∙ sym (ap (λ (b : BaseBytes). b.keys) same)
-      ∙ ap (λ (t : Told). (base_at e (path_of f) t).keys) told;
+      ∙ ap (λ (t : Told). (base_at e (path_of f) t).keys) told
+      ∙ sym (ap (λ (b : BaseBytes). b.keys) (written_held e f none));
 }
 
 -- it holds what was committed
-pub rest_held : (d : DiskState) (f : Folder) → f.end.told ≡ f.told → held_by d f ≡ committed_by d f
-rest_held d f told = ap (λ (t : Told). base_at d (path_of f) t) (sym told)
+pub rest_held : (d : DiskState) (f : Folder) → f.end.told ≡ f.told → IsWritten f → held_by d f ≡ committed_by d f
+rest_held d f told none = written_held d f none ∙ ap (λ (t : Told). base_at d (path_of f) t) (sym told)
 
 -- each message stands where the keys that were read tell
 pub told_readable : (keyed : ℕ → ℕ → List ℕ → ℕ) (d : DiskState) (f : Folder) (base : Base) (file : List ℕ) → IsReadable d f → HoldsBase keyed (committed_by d f) base → file ≡ f.names.messages.items
@@ -97,6 +100,21 @@ after_commit path d e f first next now one two kept same =
     (λ c left. record {
       outside = λ m out named flushed. left.outside m out (kept.named m out named) (kept.flushed m out flushed) ∙ kept.seen m out;
       stands = inr (subst (λ (b : BaseBytes). StandsFor path b c) same left.stands);
+    })
+
+-- what was committed is the base from before a commit
+pub before_only : (path : List ℕ) (d e : DiskState) (first next : BaseBytes) → LeavesOnly d e (StandsAlone path d first) → LeavesOnly d e (IsBeforeOrAfter path d first next)
+before_only path d e first next run =
+    weaker_run d e (StandsAlone path d first) (IsBeforeOrAfter path d first next) run (λ c left. record { outside = left.outside; stands = inl left.stands })
+
+-- and a run that left it, before a commit
+pub before_commit : (path : List ℕ) (d e f : DiskState) (first next now held : BaseBytes) → LeavesOnly d e (StandsAlone path d first) → LeavesOnly e f (IsBeforeOrAfter path e now held) → KeepsOutside path d e → now ≡ first
+    → held ≡ next → LeavesOnly d f (IsBeforeOrAfter path d first next)
+before_commit path d e f first next now held one two kept same more =
+    then_run d e f (IsBeforeOrAfter path d first next) (IsBeforeOrAfter path e now held) (before_only path d e first next one) two
+    (λ c left. record {
+      outside = λ m out named flushed. left.outside m out (kept.named m out named) (kept.flushed m out flushed) ∙ kept.seen m out;
+      stands = ⊎_elim (λ (s : StandsFor path now c). inl (subst (λ (b : BaseBytes). StandsFor path b c) same s)) (λ (s : StandsFor path held c). inr (subst (λ (b : BaseBytes). StandsFor path b c) more s)) left.stands;
     })
 
 -- under another cursor it is open still

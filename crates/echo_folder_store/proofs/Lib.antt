@@ -6,10 +6,12 @@ mod Indexed
 pub mod Looked
 pub mod Numbered
 mod OneMore
+mod Plain
 pub mod Seen
 mod Single
 pub mod Staged
 mod Stated
 pub mod Stubbed
+mod Waits
 mod WhereSo
 mod Whole

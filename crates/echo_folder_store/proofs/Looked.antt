@@ -4,9 +4,9 @@ use Rattle.std.specs.List.{list_any}
 use Rattle.std.proofs.lemmas.Bool.{cases_lt, false_from_ne_true, or_from, or_parts}
 use Rattle.std.proofs.lemmas.List.Folds.{list_any_at}
 use Rattle.echo_filed.specs.Filed.{Filed}
-use Rattle.echo_base.specs.Base.{Base}
 use Rattle.echo_keys.specs.Keys.{digest_at}
-use Rattle.echo_folder_store.specs.Answers.{HaveDigest, IsAloneOf}
+use Rattle.echo_folder_store.specs.Added.{IsStoredAlone}
+use Rattle.echo_folder_store.specs.Answers.{HaveDigest, IsStoredOf}
 
 -- none passes
 pub none_passes : {X : Type 0} (test : X → Bool) (xs : List X) → ((i : ℕ) (d : X) → i < length xs → test (get_or xs i d) ≡ false) → list_any test xs ≡ false
@@ -18,18 +18,9 @@ pub other_digest : (test : Filed → Bool) (digest : ℕ) (base : List Filed) (k
     → test (get_or base j d) ≡ false
 other_digest test digest base keys have j d within other = false_from_ne_true (test (get_or base j d)) (λ passes. other (have j d within passes))
 
--- the only message of a base passes, or it does not
-pub alone_fails : (test : Filed → Bool) (base : List Filed) (place : ℕ) (alone : Base) (d : Filed) → IsAloneOf base place alone → list_any test alone.messages ≡ false → test (get_or base place d) ≡ false
-alone_fails test base place alone d is fails =
-    (or_parts (test (get_or base place d)) false (sym (ap (list_any test) (is d)) ∙ fails)).0
-
-pub alone_passes : (test : Filed → Bool) (base : List Filed) (place : ℕ) (alone : Base) (d : Filed) → place < length base → IsAloneOf base place alone → list_any test alone.messages ≡ true → list_any test base ≡ true
-alone_passes test base place alone d within is passes =
-    list_any_at test base place d within (one_passes (test (get_or base place d)) (sym (ap (list_any test) (is d)) ∙ passes))
-  where
-    one_passes : (b : Bool) → b || false ≡ true → b ≡ true
-    one_passes true h = refl
-    one_passes false h = h
+-- the bytes of a message of a base are those of the message alone
+pub stored_of : (base : List Filed) (place : ℕ) (bytes file : List ℕ) → IsStoredOf base place bytes → file ≡ bytes → (d : Filed) → IsStoredAlone (get_or base place d) file
+stored_of base place bytes file of same d = record { s = of.s; size = of.size; alone = of.alone; is = sym (of.is d); same = same ∙ of.same }
 
 -- a message of a base that has one
 pub some_message : (base : List Filed) (i : ℕ) → i < length base → Filed
@@ -37,11 +28,11 @@ some_message [] i within = absurd (omega (arith, within))
 some_message (m ∷ rest) i within = m
 
 -- those from one on that was looked at do not pass
-pub passed_on : (test : Filed → Bool) (digest : ℕ) (base : List Filed) (keys : List ℕ) (below place : ℕ) (alone : Base) → length keys ≡ 16 * length base → HaveDigest test digest base keys
+pub passed_on : (test : Filed → Bool) (digest : ℕ) (base : List Filed) (keys : List ℕ) (below place : ℕ) → length keys ≡ 16 * length base → HaveDigest test digest base keys
     → ((j : ℕ) (d : Filed) → below ≤ j → j < length base → test (get_or base j d) ≡ false) → ((j : ℕ) → place < j → j < below → j < length keys / 16 → digest_at keys j ≢ digest)
-    → IsAloneOf base place alone → list_any test alone.messages ≡ false → (j : ℕ) (d : Filed) → place ≤ j → j < length base → test (get_or base j d) ≡ false
-passed_on test digest base keys below place alone many have behind others is fails j d from inside =
-    let here : (j ≡ place) → test (get_or base j d) ≡ false = λ at. subst (λ (n : ℕ). test (get_or base n d) ≡ false) (sym at) (alone_fails test base place alone d is fails) in
+    → ((d : Filed) → test (get_or base place d) ≡ false) → (j : ℕ) (d : Filed) → place ≤ j → j < length base → test (get_or base j d) ≡ false
+passed_on test digest base keys below place many have behind others fails j d from inside =
+    let here : (j ≡ place) → test (get_or base j d) ≡ false = λ at. subst (λ (n : ℕ). test (get_or base n d) ≡ false) (sym at) (fails d) in
     ⊎_elim
     (λ (h : j < below). ⊎_elim (λ (k : place < j). other_digest test digest base keys have j d inside (others j k h (omega (arith, many, inside)))) (λ (k : j ≤ place). here (omega (arith, k, from))) (cases_lt place j))
     (λ (h : below ≤ j). behind j d h inside)

@@ -13,7 +13,7 @@ use Rattle.echo_store.specs.declared.store_error.StoreError.{StoreError}
 use Rattle.echo_store.specs.declared.store_error.StoreError.TheVariants as error
 use Rattle.echo_folder_store.specs.Answers.{Answers, HasReadCause}
 use Rattle.echo_folder_store.specs.Held.{HoldsBase, StandsForBase}
-use Rattle.echo_folder_store.specs.Opened.{IsNamed, IsOpen, committed_by, held_by, path_of}
+use Rattle.echo_folder_store.specs.Opened.{IsNamed, IsOpen, and_waiting, committed_by, held_by, path_of}
 use Rattle.echo_folder_store.specs.State.{IsUsable, state_of}
 use Rattle.echo_folder_store.specs.declared.folder.Folder.{Folder}
 use Rattle.echo_folder_store.proofs.Bases.{open_quiet}
@@ -21,7 +21,7 @@ use Rattle.echo_folder_store.proofs.Bases.{open_quiet}
 -- a look at the disk is one at the store
 pub looks : (d e : DiskState) (keyed : ℕ → ℕ → List ℕ → ℕ) (f : Folder) (h k : Option Base) → IsUsable d f → ChangesNothing d e → LooksOn (state_of d keyed f h) (state_of e keyed f k)
 looks d e keyed f h k usable quiet =
-    let held : held_by e f ≡ held_by d f = base_quiet d e (path_of f) f.told quiet in
+    let held : held_by e f ≡ held_by d f = ap (λ (b : BaseBytes). and_waiting b f.waiting) (base_quiet d e (path_of f) f.told quiet) in
     let told : committed_by e f ≡ committed_by d f = base_quiet d e (path_of f) f.end.told quiet in
     record {
       ready = record { named = usable.named; opened = λ honest. open_quiet d e f quiet (usable.opened (quiet.honest honest)) };

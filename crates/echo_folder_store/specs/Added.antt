@@ -1,5 +1,5 @@
 -- A message added to a base folder.
-use Rattle.std.specs.Prelude.{◌≡◌, ◌≢◌, ℕ, List, length}
+use Rattle.std.specs.Prelude.{◌≡◌, ◌≢◌, ℕ, ◌+◌, ◌<◌, ◌^◌, List, ◌++◌, length}
 use Rattle.echo_disk.specs.Disk.{Files}
 use Rattle.echo_filed.specs.Filed.{Filed}
 use Rattle.echo_filed.specs.Stored.{IsStored, Stored, message_in, stored_bytes}
@@ -7,6 +7,7 @@ use Rattle.echo_filed.specs.declared.stored.Version.TheVariants.{Second}
 use Rattle.echo_folder.specs.Names.{keys_of, messages_of}
 use Rattle.echo_folder.specs.Standing.{BaseBytes, and_keys, and_messages}
 use Rattle.echo_keys.specs.Keys.{MayStandAlone, entry}
+use Rattle.echo_folder_store.specs.declared.folder.Folder.{Folder}
 
 -- the bytes are this message, as a base file may have it alone
 pub record IsStoredAlone (m : Filed) (bytes : List ℕ) : Type 0 where
@@ -19,6 +20,20 @@ pub record IsStoredAlone (m : Filed) (bytes : List ℕ) : Type 0 where
 -- the bytes of one message more, with its entry
 abbrev pub with_stored : BaseBytes → List ℕ → ℕ → BaseBytes
 with_stored base bytes digest = and_keys (and_messages base bytes) (entry (length base.messages) digest)
+
+-- where a message begins that is put behind those that are written and those that wait
+abbrev pub next_place : Folder → ℕ
+next_place folder = folder.told.messages + length folder.waiting.messages.items
+
+-- one message more waits to be written, with its entry
+pub record OneMoreWaits (old new : Folder) (bytes : List ℕ) (digest : ℕ) : Type 0 where
+  pub names : new.names ≡ old.names
+  pub end : new.end ≡ old.end
+  pub told : new.told ≡ old.told
+  pub keys : new.keys.items ≡ old.keys.items ++ entry (next_place old) digest
+  pub messages : new.waiting.messages.items ≡ old.waiting.messages.items ++ bytes
+  pub entries : new.waiting.keys.items ≡ old.waiting.keys.items ++ entry (next_place old) digest
+  pub fits : next_place old + length bytes < 2 ^ 64
 
 -- all but the two files of that number is as it was
 abbrev pub SameBesideBoth : List ℕ → ℕ → Files → Files → Type 0

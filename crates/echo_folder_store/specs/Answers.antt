@@ -3,7 +3,9 @@ use Rattle.std.specs.Prelude.{◌≡◌, ◌≤◌, ◌<◌, ℕ, Bool, true, Li
 use Rattle.echo_device.specs.Device.{Failed}
 use Rattle.echo_base.specs.Base.{Base}
 use Rattle.echo_filed.specs.Filed.{Filed}
-use Rattle.echo_keys.specs.Keys.{digest_at}
+use Rattle.echo_filed.specs.Stored.{IsStored, Stored, message_in, stored_bytes}
+use Rattle.echo_filed.specs.declared.stored.Version.TheVariants.{Second}
+use Rattle.echo_keys.specs.Keys.{MayStandAlone, digest_at}
 use Rattle.echo_store.specs.declared.store_error.StoreError.{StoreError}
 use Rattle.echo_store.specs.declared.store_error.StoreError.TheVariants as error
 
@@ -21,6 +23,14 @@ pub record HasReadCause {T : Type 0} (before now : ℕ) (result : Result T Store
 -- the message of this number, alone in a base of its own
 abbrev pub IsAloneOf : List Filed → ℕ → Base → Type 0
 IsAloneOf messages place alone = (d : Filed) → alone.messages ≡ slice_index_or messages place d ∷ []
+
+-- the bytes are those of the message of this number, as it is stored
+pub record IsStoredOf (messages : List Filed) (place : ℕ) (bytes : List ℕ) : Type 0 where
+  pub s : Stored
+  pub size : IsStored Second s
+  pub alone : MayStandAlone s
+  pub is : (d : Filed) → slice_index_or messages place d ≡ message_in Second s
+  pub same : bytes ≡ stored_bytes Second s
 
 -- each message that passes the test has this digest in its entry
 abbrev pub HaveDigest : (Filed → Bool) → ℕ → List Filed → List ℕ → Type 0

@@ -1,18 +1,28 @@
 -- A base folder that is open.
-use Rattle.std.specs.Prelude.{◌≡◌, ℕ, List}
+use Rattle.std.specs.Prelude.{◌≡◌, ℕ, List, []}
 use Rattle.echo_disk.specs.Disk.{DiskState}
 use Rattle.echo_folder.specs.Names.{AreNames, folder_of}
 use Rattle.echo_folder.specs.AtRest.{IsStaged}
-use Rattle.echo_folder.specs.Standing.{BaseBytes, base_at}
+use Rattle.echo_folder.specs.Standing.{BaseBytes, and_keys, and_messages, base_at}
 use Rattle.echo_folder_store.specs.declared.folder.Folder.{Folder}
+use Rattle.echo_folder_store.specs.declared.waiting.Waiting.{Waiting}
 
 -- its path
 abbrev pub path_of : Folder → List ℕ
 path_of folder = folder_of folder.names
 
+-- with the messages and the keys that wait to be written behind them
+abbrev pub and_waiting : BaseBytes → Waiting → BaseBytes
+and_waiting base waiting = and_keys (and_messages base waiting.messages.items) waiting.keys.items
+
 -- what it holds, with what is not committed yet
 abbrev pub held_by : DiskState → Folder → BaseBytes
-held_by disk folder = base_at disk (path_of folder) folder.told
+held_by disk folder = and_waiting (base_at disk (path_of folder) folder.told) folder.waiting
+
+-- nothing waits to be written
+pub record IsWritten (folder : Folder) : Type 0 where
+  pub messages : folder.waiting.messages.items ≡ []
+  pub keys : folder.waiting.keys.items ≡ []
 
 -- it has the paths of its files
 abbrev pub IsNamed : Folder → Type 0

@@ -1,15 +1,15 @@
 //! What is added to a base folder, and committed.
-ghost use Rattle.std.specs.Prelude.{◌≡◌, ◌≢◌, ◌<◌, ◌+◌, ◌^◌, ◌/◌, length, IfOk, OnOk, IsErrOf};
+ghost use Rattle.std.specs.Prelude.{◌≡◌, ◌≢◌, ◌<◌, ◌+◌, ◌^◌, ◌/◌, length, IfOk, IfSome, OnOk, IsErrOf};
 ghost use Rattle.echo_disk.specs.Disk.{Honestly};
 ghost use Rattle.echo_disk.specs.Runs.{HasCause, LeavesOnly};
 ghost use Rattle.echo_folder.specs.AtRest.{IsAtRest, IsStaged};
 ghost use Rattle.echo_folder.specs.Moments.{IsBeforeOrAfter, KeepsOutside, StandsAlone};
 ghost use Rattle.echo_folder.specs.Names.{AreNames, folder_of};
 ghost use Rattle.echo_folder.specs.Standing.{and_keys, and_messages, base_at};
-ghost use Rattle.echo_folder_store.specs.Added.{SameBesideBoth, with_stored};
+ghost use Rattle.echo_folder_store.specs.Added.{OneMoreWaits, SameBesideBoth, with_stored};
 ghost use Rattle.echo_folder_store.specs.Answers.{HasReadCause};
 ghost use Rattle.echo_folder_store.specs.Left.{AreGone};
-ghost use Rattle.echo_folder_store.specs.Opened.{IsNamed, IsOpen, committed_by, held_by, path_of};
+ghost use Rattle.echo_folder_store.specs.Opened.{IsNamed, IsOpen, IsWritten, committed_by, held_by, path_of};
 
 use crate::folder::{ENTRY, Folder};
 use echo_disk::{Disk, DiskError};
@@ -19,6 +19,9 @@ use echo_store::StoreError;
 
 /// How many bytes a commit adds to the log.
 const RECORD: usize = 50;
+
+/// How many bytes of messages wait at most, but for those of the last message.
+const PIECE: usize = 65_536;
 
 // Writes messages and their keys behind those that are staged.
 fn stage_both<D: Disk>(
@@ -51,8 +54,71 @@ fn stage_both<D: Disk>(
 }
 
 impl Folder {
-    /// Writes a message, as it is stored, behind those that are there, and its entry. Nothing is committed. At an
-    /// error nothing is known but what a crash may leave: open the folder again.
+    // Where the next message begins, where eight bytes count all behind so many bytes more.
+    fn next_place(&self, more: usize) -> Option<usize>
+        ensures place { IfSome result (λ place. place ≡ self.now.told.messages + length self.now.waiting.messages.items) }
+        ensures room { IfSome result (λ place. place + more < 2 ^ 64) }
+    {
+        let place = self.told.messages.checked_add(self.waiting.messages.len())?;
+        if more > usize::MAX - place {
+            return None;
+        }
+        Some(place)
+    }
+
+    // Puts a message, as it is stored, behind those that are there, and its entry, to be written.
+    fn add(&mut self, bytes: &[u8], digest: u64) -> Result<(), StoreError>
+        ensures names { self.new.names ≡ self.old.names }
+        ensures end { self.new.end ≡ self.old.end }
+        ensures told { self.new.told ≡ self.old.told }
+        ensures waits { OnOk result (OneMoreWaits self.old self.new bytes.now digest) }
+        ensures whole { IsErrOf result StoreError.Damaged → ⊥ }
+        ensures device { IsErrOf result StoreError.Device → ⊥ }
+    {
+        let Some(place) = self.next_place(bytes.len()) else {
+            return Err(StoreError::TooMany);
+        };
+        let entry = entry(place as u64, digest);
+        self.keys.extend_from_slice(&entry)?;
+        self.waiting.add(bytes, &entry)?;
+        Ok(())
+    }
+
+    // Writes what waits.
+    fn write_out<D: Disk>(&mut self, disk: &mut D) -> Result<(), StoreError>
+        requires named { IsNamed self.old }
+        requires opened { Honestly (D.state disk.old) (IsOpen (D.state disk.old) self.old) }
+        ensures named { IsNamed self.new }
+        ensures opened { Honestly (D.state disk.new) (OnOk result (IsOpen (D.state disk.new) self.new)) }
+        ensures written { OnOk result (IsWritten self.new) }
+        ensures path { path_of self.new ≡ path_of self.old }
+        ensures mark { self.new.told.mark ≡ self.old.told.mark }
+        ensures held { Honestly (D.state disk.new) (OnOk result (held_by (D.state disk.new) self.new ≡ held_by (D.state disk.old) self.old)) }
+        ensures same { Honestly (D.state disk.new) (OnOk result (committed_by (D.state disk.new) self.new ≡ committed_by (D.state disk.old) self.old)) }
+        ensures end { self.new.end ≡ self.old.end }
+        ensures number { self.new.told.number ≡ self.old.told.number }
+        ensures beside { SameBesideBoth (path_of self.old) self.old.told.number (D.state disk.old).seen (D.state disk.new).seen }
+        ensures any_moment { Honestly (D.state disk.new) (LeavesOnly (D.state disk.old) (D.state disk.new)
+            (StandsAlone (path_of self.old) (D.state disk.old) (committed_by (D.state disk.old) self.old))) }
+        ensures outside { KeepsOutside (path_of self.old) (D.state disk.old) (D.state disk.new) }
+        ensures whole { IsErrOf result StoreError.Damaged → ⊥ }
+        ensures cause { HasReadCause (D.failures disk.old) (D.failures disk.new) result }
+    {
+        let messages = &self.waiting.messages;
+        let keys = &self.waiting.keys;
+        if messages.len() > usize::MAX - self.told.messages
+            || keys.len() > usize::MAX - self.told.keys
+        {
+            return Err(StoreError::TooMany);
+        }
+        let more = stage_both(disk, &self.names, self.end, self.told, messages, keys)?;
+        self.told = more;
+        self.waiting.clear();
+        Ok(())
+    }
+
+    /// Puts a message, as it is stored, behind those that are there, and its entry. Many are written by one call.
+    /// Nothing is committed. At an error nothing is known but what a crash may leave: open the folder again.
     pub fn stage<D: Disk>(
         &mut self,
         disk: &mut D,
@@ -79,14 +145,11 @@ impl Folder {
         ensures whole { IsErrOf result StoreError.Damaged → ⊥ }
         ensures cause { HasReadCause (D.failures disk.old) (D.failures disk.new) result }
     {
-        if bytes.len() > usize::MAX - self.told.messages || self.told.keys > usize::MAX - ENTRY {
-            return Err(StoreError::TooMany);
+        self.add(bytes, digest)?;
+        if self.waiting.messages.len() < PIECE {
+            return Ok(());
         }
-        let entry = entry(self.told.messages as u64, digest);
-        self.keys.extend_from_slice(&entry)?;
-        let more = stage_both(disk, &self.names, self.end, self.told, bytes, &entry)?;
-        self.told = more;
-        Ok(())
+        self.write_out(disk)
     }
 
     /// Moves the cursor to the end: all messages are scanned. Nothing is committed.
@@ -96,11 +159,13 @@ impl Folder {
         self.told.cursor = self.count() as u64;
     }
 
-    // Writes the record that tells what it holds.
-    fn acknowledge<D: Disk>(&mut self, disk: &mut D) -> Result<(), StoreError>
+    // Writes the record that tells what it holds, all of which is written.
+    fn tell<D: Disk>(&mut self, disk: &mut D) -> Result<(), StoreError>
         requires named { IsNamed self.old }
         requires opened { Honestly (D.state disk.old) (IsOpen (D.state disk.old) self.old) }
+        requires written { IsWritten self.old }
         ensures named { IsNamed self.new }
+        ensures written { IsWritten self.new }
         ensures opened { Honestly (D.state disk.new) (OnOk result (IsOpen (D.state disk.new) self.new)) }
         ensures path { path_of self.new ≡ path_of self.old }
         ensures mark { self.new.told.mark ≡ self.old.told.mark }
@@ -122,6 +187,31 @@ impl Folder {
         let end = commit(disk, &self.names, self.end, self.told)?;
         self.end = end;
         Ok(())
+    }
+
+    // Writes what waits, and the record that tells what it holds.
+    fn acknowledge<D: Disk>(&mut self, disk: &mut D) -> Result<(), StoreError>
+        requires named { IsNamed self.old }
+        requires opened { Honestly (D.state disk.old) (IsOpen (D.state disk.old) self.old) }
+        ensures named { IsNamed self.new }
+        ensures written { OnOk result (IsWritten self.new) }
+        ensures opened { Honestly (D.state disk.new) (OnOk result (IsOpen (D.state disk.new) self.new)) }
+        ensures path { path_of self.new ≡ path_of self.old }
+        ensures mark { self.new.told.mark ≡ self.old.told.mark }
+        ensures same { Honestly (D.state disk.new) (OnOk result (held_by (D.state disk.new) self.new ≡ held_by (D.state disk.old) self.old)) }
+        ensures committed { Honestly (D.state disk.new) (OnOk result (committed_by (D.state disk.new) self.new ≡ held_by (D.state disk.old) self.old)) }
+        ensures settled { Honestly (D.state disk.new) (OnOk result (IsAtRest (D.state disk.new) (path_of self.new) self.new.end)) }
+        ensures told { OnOk result (self.new.end.told ≡ self.new.told) }
+
+        // A crash at any moment leaves what was committed before, or what was held.
+        ensures any_moment { Honestly (D.state disk.new) (LeavesOnly (D.state disk.old) (D.state disk.new)
+            (IsBeforeOrAfter (path_of self.old) (D.state disk.old) (committed_by (D.state disk.old) self.old) (held_by (D.state disk.old) self.old))) }
+        ensures outside { KeepsOutside (path_of self.old) (D.state disk.old) (D.state disk.new) }
+        ensures whole { IsErrOf result StoreError.Damaged → ⊥ }
+        ensures cause { HasReadCause (D.failures disk.old) (D.failures disk.new) result }
+    {
+        self.write_out(disk)?;
+        self.tell(disk)
     }
 
     // Removes the files of a number that no longer counts.
@@ -151,6 +241,7 @@ impl Folder {
         requires named { IsNamed self.old }
         requires opened { Honestly (D.state disk.old) (IsOpen (D.state disk.old) self.old) }
         ensures named { IsNamed self.new }
+        ensures written { OnOk result (IsWritten self.new) }
         ensures opened { Honestly (D.state disk.new) (OnOk result (IsOpen (D.state disk.new) self.new)) }
         ensures path { path_of self.new ≡ path_of self.old }
         ensures mark { self.new.told.mark ≡ self.old.told.mark }

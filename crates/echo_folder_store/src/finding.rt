@@ -1,4 +1,4 @@
-//! A message looked up by its digest: only those that have it are read, and the whole key is compared.
+//! A message looked up by its digest: only those that have it are read, and keys are compared whole.
 ghost use Rattle.std.specs.Prelude.{◌≡◌, List};
 ghost use Rattle.std.specs.List.{list_any};
 ghost use Rattle.echo_disk.specs.Disk.{Honestly};
@@ -10,7 +10,7 @@ ghost use Rattle.echo_folder_store.specs.Answers.{Answers, HasReadCause, HaveDig
 ghost use Rattle.echo_folder_store.specs.Opened.{IsOpen, held_by};
 
 use crate::folder::Folder;
-use crate::sought::Sought;
+use crate::sought::{Sought, is_stored};
 use echo_disk::Disk;
 use echo_keys::Index;
 use echo_store::StoreError;
@@ -37,8 +37,8 @@ impl Folder {
     {
         let mut below = self.count();
         'entries: while let Some(place) = index.find_below(&self.keys, digest, below) {
-            let alone = self.read(alloc, disk, place)?;
-            if sought.is_in(&alone)? {
+            let bytes = self.stored(alloc, disk, place)?;
+            if is_stored(alloc, sought, &bytes)? {
                 return Ok(true);
             }
             below = place;

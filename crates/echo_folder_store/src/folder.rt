@@ -1,19 +1,20 @@
 //! A base folder that is open: what is known of its files, and a message read by its number.
-ghost use Rattle.std.specs.Prelude.{◌≡◌, ◌≤◌, ◌<◌, ◌/◌, ℕ, List, length, IfOk, IsErrOf, IsSome, take};
+ghost use Rattle.std.specs.Prelude.{◌≡◌, ◌≤◌, ◌<◌, ◌+◌, ◌/◌, ◌++◌, ℕ, List, length, IfOk, IsErrOf, IsSome, drop, take};
 ghost use Rattle.echo_disk.specs.Disk.{Honestly, bytes_in};
-ghost use Rattle.echo_disk.specs.Runs.{ChangesNothing, LeavesOnly};
+ghost use Rattle.echo_disk.specs.Runs.{ChangesNothing, HasCause, LeavesOnly};
 ghost use Rattle.echo_folder.specs.Moments.{KeepsOutside};
 ghost use Rattle.echo_folder.specs.Opening.{AreAlone, HasFolderCause};
 ghost use Rattle.echo_folder.specs.Standing.{BaseBytes, StandsFor};
 ghost use Rattle.echo_base.specs.Base.{Base};
 ghost use Rattle.echo_filed.specs.Filed.{Filed};
 ghost use Rattle.echo_keys.specs.Keys.{StandWhereTold};
-ghost use Rattle.echo_folder_store.specs.Answers.{Answers, HasReadCause, IsAloneOf};
+ghost use Rattle.echo_folder_store.specs.Answers.{Answers, HasReadCause, IsAloneOf, IsStoredOf};
 ghost use Rattle.echo_folder_store.specs.Held.{HoldsBase, StandsForBase, StandsForBaseOrWasLeft};
 ghost use Rattle.echo_folder_store.specs.Opened.{IsNamed, IsOpen, held_by, path_of};
 
 use crate::alone::{Alone, read_alone};
-use echo_disk::Disk;
+use crate::waiting::Waiting;
+use echo_disk::{Disk, DiskError};
 use echo_folder::{End, FolderError, Names, Told, open, read_part};
 use echo_keys::{end_of, place_of};
 use echo_store::StoreError;
@@ -22,16 +23,80 @@ use std::alloc::Global;
 /// How many bytes of the keys tell of a message.
 pub(crate) const ENTRY: usize = 16;
 
-/// What is known of the files of a base folder: where its log ends, what a commit would tell now, and the keys.
+/// What is known of the files of a base folder: where its log ends, what a commit would tell of what is written, the
+/// keys, and what waits to be written.
 #[derive(Drop)]
 pub struct Folder {
     pub(crate) names: Names,
     pub(crate) end: End,
     pub(crate) told: Told,
     pub(crate) keys: Vec<u8>,
+    pub(crate) waiting: Waiting,
 }
 
-// The message that stands between two places of the messages.
+// The bytes between two places of the messages, of which the last ones wait to be written.
+fn read_across<D: Disk>(
+    alloc: Global,
+    disk: &mut D,
+    messages: &[u8],
+    written: usize,
+    waiting: &[u8],
+    begins: usize,
+    ends: usize,
+) -> Result<Vec<u8>, DiskError>
+    requires there { Honestly (D.state disk.old) (IsSome ((D.state disk.old).seen messages.now)) }
+    requires long { Honestly (D.state disk.old) (written ≤ length (bytes_in ((D.state disk.old).seen messages.now))) }
+    requires order { begins ≤ ends }
+    requires within { ends ≤ written + length waiting.now }
+    ensures bytes { Honestly (D.state disk.new) (IfOk result (λ part. part.items
+        ≡ drop begins (take ends (take written (bytes_in ((D.state disk.old).seen messages.now)) ++ waiting.now)))) }
+    ensures quiet { ChangesNothing (D.state disk.old) (D.state disk.new) }
+    ensures cause { HasCause (D.failures disk.old) (D.failures disk.new) result }
+{
+    let from = begins.saturating_sub(written);
+    let to = ends.saturating_sub(written);
+    let mut part = read_part(
+        alloc,
+        disk,
+        messages,
+        begins.min(written),
+        ends.min(written),
+    )?;
+    part.extend_from_slice(&waiting[from..to])?;
+    Ok(part)
+}
+
+// The bytes of the message of this number, where some messages wait to be written.
+fn stored_at<D: Disk>(
+    alloc: Global,
+    disk: &mut D,
+    messages: &[u8],
+    written: usize,
+    waiting: &[u8],
+    keys: &[u8],
+    place: usize,
+) -> Result<Vec<u8>, StoreError>
+    requires there { Honestly (D.state disk.old) (IsSome ((D.state disk.old).seen messages.now)) }
+    requires long { Honestly (D.state disk.old) (written ≤ length (bytes_in ((D.state disk.old).seen messages.now))) }
+    requires within { place < length keys.now / 16 }
+    ensures stored { Honestly (D.state disk.new) ((base : List Filed) → StandWhereTold base (take written (bytes_in ((D.state disk.old).seen messages.now)) ++ waiting.now) keys.now
+        → place < length base → Answers (λ bytes. IsStoredOf base place bytes.items) result) }
+    ensures quiet { ChangesNothing (D.state disk.old) (D.state disk.new) }
+    ensures cause { HasReadCause (D.failures disk.old) (D.failures disk.new) result }
+{
+    let Some(all) = written.checked_add(waiting.len()) else {
+        return Err(StoreError::TooMany);
+    };
+    let begins = place_of(keys, place) as usize;
+    let ends = end_of(keys, place, all as u64) as usize;
+    if begins > ends || ends > all {
+        return Err(StoreError::Damaged);
+    }
+    let bytes = read_across(alloc, disk, messages, written, waiting, begins, ends)?;
+    Ok(bytes)
+}
+
+// The message of this number, where all messages are written.
 pub(crate) fn message_at<D: Disk>(
     alloc: Global,
     disk: &mut D,
@@ -48,12 +113,7 @@ pub(crate) fn message_at<D: Disk>(
     ensures quiet { ChangesNothing (D.state disk.old) (D.state disk.new) }
     ensures cause { HasReadCause (D.failures disk.old) (D.failures disk.new) result }
 {
-    let begins = place_of(keys, place) as usize;
-    let ends = end_of(keys, place, all as u64) as usize;
-    if begins > ends || ends > all {
-        return Err(StoreError::Damaged);
-    }
-    let bytes = read_part(alloc, disk, messages, begins, ends)?;
+    let bytes = stored_at(alloc, disk, messages, all, &[], keys, place)?;
     read_alone(alloc, &bytes)
 }
 
@@ -88,11 +148,13 @@ impl Folder {
         if keys.len() % ENTRY != 0 || end.told.cursor as usize > count {
             return Err(FolderError::Corrupt);
         }
+        let waiting = Waiting::new(alloc);
         Ok(Folder {
             names,
             end,
             told: end.told,
             keys,
+            waiting,
         })
     }
 
@@ -110,6 +172,26 @@ impl Folder {
         self.told.cursor as usize
     }
 
+    // The bytes of the message of this number, counted from 0.
+    pub(crate) fn stored<D: Disk>(
+        &self,
+        alloc: Global,
+        disk: &mut D,
+        place: usize,
+    ) -> Result<Vec<u8>, StoreError>
+        requires opened { Honestly (D.state disk.old) (IsOpen (D.state disk.old) self.now) }
+        requires within { place < length self.now.keys.items / 16 }
+        ensures stored { Honestly (D.state disk.new) ((base : List Filed) → StandWhereTold base (held_by (D.state disk.old) self.now).messages self.now.keys.items
+            → place < length base → Answers (λ bytes. IsStoredOf base place bytes.items) result) }
+        ensures quiet { ChangesNothing (D.state disk.old) (D.state disk.new) }
+        ensures cause { HasReadCause (D.failures disk.old) (D.failures disk.new) result }
+    {
+        let messages = &self.names.messages;
+        let written = self.told.messages;
+        let waiting = &self.waiting.messages;
+        stored_at(alloc, disk, messages, written, waiting, &self.keys, place)
+    }
+
     /// The message of this number, counted from 0.
     pub fn read<D: Disk>(
         &self,
@@ -124,13 +206,7 @@ impl Folder {
         ensures quiet { ChangesNothing (D.state disk.old) (D.state disk.new) }
         ensures cause { HasReadCause (D.failures disk.old) (D.failures disk.new) result }
     {
-        message_at(
-            alloc,
-            disk,
-            &self.names.messages,
-            self.told.messages,
-            &self.keys,
-            place,
-        )
+        let bytes = self.stored(alloc, disk, place)?;
+        read_alone(alloc, &bytes)
     }
 }

@@ -1,7 +1,8 @@
 //! A base folder, of which a command reads and writes only what it handles.
 //!
-//! Modules in reading order: `alone` (one message by itself, read and made), `sought` (what is looked for), `folder`
-//! (opened, a message read by its number), `finding` (looked up by digests), `owning` (whose it is), `adding` (added
+//! Modules in reading order: `alone` (one message by itself, read and made), `front` (what its
+//! first lines tell), `sought` (what is looked for), `waiting`
+//! (what is not written yet), `folder` (opened, a message read by its number), `finding` (looked up by digests), `owning` (whose it is), `adding` (added
 //! to and committed), `leaving` (what a purge leaves of a message), `purging`, `folder_store` (all of this as a store)
 //! and `laws` (what holds of the definitions).
 #![tactic(auto)]
@@ -11,11 +12,13 @@ mod alone;
 mod finding;
 mod folder;
 mod folder_store;
+mod front;
 mod laws;
 mod leaving;
 mod owning;
 mod purging;
 mod sought;
+mod waiting;
 
 pub use alone::{Alone, bytes_alone, read_alone};
 pub use folder::Folder;

@@ -14,6 +14,7 @@ ghost use Rattle.echo_folder_store.specs.Opened.{IsNamed, IsOpen, committed_by, 
 
 use crate::folder::{Folder, message_at};
 use crate::leaving::{HEAD, left_of};
+use crate::waiting::Waiting;
 use echo_disk::Disk;
 use echo_folder::{Names, stage_anew};
 use echo_keys::digest_of;
@@ -56,11 +57,13 @@ impl Folder {
         let names = Names::new(alloc, &self.names.folder, number)?;
         let told = stage_anew(disk, &names, self.end, number, 0)?;
         let keys = Vec::new(alloc);
+        let waiting = Waiting::new(alloc);
         Ok(Folder {
             names,
             end: self.end,
             told,
             keys,
+            waiting,
         })
     }
 

@@ -1,15 +1,23 @@
 //! What is looked for among the messages of a base folder.
-ghost use Rattle.std.specs.Prelude.{◌≡◌, Bool, IfOk};
+ghost use Rattle.std.specs.Prelude.{◌≡◌, Bool, true, IfOk, IsErrOf, IsTrue};
 ghost use Rattle.std.specs.List.{list_any};
 ghost use Rattle.echo_filed.specs.Filed.{Filed, has_id, key_of, same_key};
+ghost use Rattle.echo_folder_store.specs.Added.{IsStoredAlone};
+ghost use Rattle.echo_folder_store.specs.Answers.{Answers};
 
-use crate::alone::Alone;
+use crate::alone::{Alone, read_alone};
+use crate::front::{has_plain_id, has_plain_tag, text_in};
 use echo_filed::Key;
-use std::alloc::AllocError;
+use echo_store::StoreError;
+use std::alloc::{AllocError, Global};
 
 /// What makes a message the one that is looked for.
 pub trait Sought {
     ghost test: { Self → Filed → Bool };
+
+    /// Whether the stored message plainly is one. It may be one where it is not plain.
+    fn is_plain(&self, bytes: &[u8]) -> bool
+        ensures { IsTrue result → (m : Filed) → IsStoredAlone m bytes.now → test self.now m ≡ true };
 
     /// Whether the message is one.
     fn is_in(&self, alone: &Alone) -> Result<bool, AllocError>
@@ -18,6 +26,16 @@ pub trait Sought {
 
 impl Sought for Key {
     ghost test = { λ key m. same_key (key_of m) key };
+
+    fn is_plain(&self, bytes: &[u8]) -> bool {
+        let Key::ById { tag, msgid } = self else {
+            return false;
+        };
+        let Some(text) = text_in(bytes) else {
+            return false;
+        };
+        has_plain_tag(text, tag.as_slice()) && has_plain_id(text, msgid.as_slice())
+    }
 
     fn is_in(&self, alone: &Alone) -> Result<bool, AllocError> {
         Ok(alone.knows(self))
@@ -33,7 +51,30 @@ pub struct Id<'a> {
 impl Sought for Id<'_> {
     ghost test = { λ id. has_id id.msgid.now };
 
+    fn is_plain(&self, bytes: &[u8]) -> bool {
+        let Some(text) = text_in(bytes) else {
+            return false;
+        };
+        has_plain_id(text, self.msgid)
+    }
+
     fn is_in(&self, alone: &Alone) -> Result<bool, AllocError> {
         alone.has_id(self.msgid)
     }
+}
+
+/// Whether the message that is stored so is the one that is looked for. All of it is read only where that is not plain.
+pub(crate) fn is_stored<W: Sought>(
+    alloc: Global,
+    sought: &W,
+    bytes: &[u8],
+) -> Result<bool, StoreError>
+    ensures found { (m : Filed) → IsStoredAlone m bytes.now → Answers (λ found. found ≡ W.test sought.now m) result }
+    ensures device { IsErrOf result StoreError.Device → ⊥ }
+{
+    if sought.is_plain(bytes) {
+        return Ok(true);
+    }
+    let alone = read_alone(alloc, bytes)?;
+    Ok(sought.is_in(&alone)?)
 }

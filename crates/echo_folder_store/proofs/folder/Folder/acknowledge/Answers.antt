@@ -1,29 +1,34 @@
-use Rattle.std.proofs.Common.{refl}
-use Rattle.echo_folder_store.specs.declared.folder.Folder.{Folder}
-use Rattle.echo_folder_store.proofs.Staged.{committed_held, committed_open, committed_told}
+use Rattle.std.proofs.Common.{ℕ, List, subst, ◌∙◌}
+use Rattle.std.proofs.lemmas.Result.{on_ok_weaker}
+use Rattle.echo_disk.specs.Runs.{LeavesOnly}
+use Rattle.echo_folder.specs.Moments.{IsBeforeOrAfter, KeepsOutside}
+use Rattle.echo_folder.proofs.Gates.{outside_twice}
+use Rattle.echo_folder_store.specs.Opened.{committed_by, held_by, path_of}
+use Rattle.echo_folder_store.proofs.Beside.{before_commit, before_only}
 use Rattle.echo_folder_store.proofs.folder.Folder.acknowledge.Goals as goal
 
-pub returns-clause-opened : goal.returns-clause-opened
-returns-clause-opened g c honest =
-    let h1 = honest in
-    let h0 = c.commit.ensures.outside.honest h1 in
+pub returns-in_err-write_out-clause-any_moment : goal.returns-in_err-write_out-clause-any_moment
+returns-in_err-write_out-clause-any_moment g c honest =
     let f = c.args.self.now in
-    let now : Folder = record { names = f.names; end = c.in_ok-end.end; told = f.told; keys = f.keys } in
-    committed_open (g.D.Disk.state c.args.disk.now) (g.D.Disk.state c.commit.new.disk) f now (c.requires.opened h0) refl refl refl (c.in_ok-end.ensures.settled h1) c.in_ok-end.ensures.told (c.in_ok-end.ensures.acknowledged h1)
+    let d = g.D.Disk.state c.args.disk.now in
+    before_only (path_of f) d (g.D.Disk.state c.write_out.new.disk) (committed_by d f) (held_by d f) (c.write_out.ensures.any_moment honest)
 
-pub returns-clause-same : goal.returns-clause-same
-returns-clause-same g c honest =
-    let h1 = honest in
-    let f = c.args.self.now in
-    let now : Folder = record { names = f.names; end = c.in_ok-end.end; told = f.told; keys = f.keys } in
-    committed_held (g.D.Disk.state c.args.disk.now) (g.D.Disk.state c.commit.new.disk) f now refl refl c.in_ok-end.ensures.told (c.in_ok-end.ensures.acknowledged h1)
+pub returns-clause-any_moment : goal.returns-clause-any_moment
+returns-clause-any_moment g c honest =
+    let h1 = c.tell.ensures.outside.honest honest in
+    let d0 = g.D.Disk.state c.args.disk.now in
+    let d1 = g.D.Disk.state c.write_out.new.disk in
+    let d2 = g.D.Disk.state c.tell.new.disk in
+    let f0 = c.args.self.now in
+    let f1 = c.write_out.new.self in
+    before_commit (path_of f0) d0 d1 d2 (committed_by d0 f0) (held_by d0 f0) (committed_by d1 f1) (held_by d1 f1) (c.write_out.ensures.any_moment h1)
+    (subst (λ (p : List ℕ). LeavesOnly d1 d2 (IsBeforeOrAfter p d1 (committed_by d1 f1) (held_by d1 f1))) c.write_out.ensures.path (c.tell.ensures.any_moment honest)) c.write_out.ensures.outside
+    (c.in_ok-write_out.ensures.same h1) (c.in_ok-write_out.ensures.held h1)
 
-pub returns-clause-committed : goal.returns-clause-committed
-returns-clause-committed g c honest =
-    let h1 = honest in
-    let f = c.args.self.now in
-    let now : Folder = record { names = f.names; end = c.in_ok-end.end; told = f.told; keys = f.keys } in
-    committed_told (g.D.Disk.state c.args.disk.now) (g.D.Disk.state c.commit.new.disk) f now refl (c.in_ok-end.ensures.acknowledged h1)
-
-pub returns-clause-settled : goal.returns-clause-settled
-returns-clause-settled g c honest = c.in_ok-end.ensures.settled honest
+pub returns-clause-outside : goal.returns-clause-outside
+returns-clause-outside g c =
+    let d0 = g.D.Disk.state c.args.disk.now in
+    let d1 = g.D.Disk.state c.write_out.new.disk in
+    let d2 = g.D.Disk.state c.tell.new.disk in
+    let f0 = c.args.self.now in
+    outside_twice (path_of f0) d0 d1 d2 c.write_out.ensures.outside (subst (λ (p : List ℕ). KeepsOutside p d1 d2) c.write_out.ensures.path c.tell.ensures.outside)

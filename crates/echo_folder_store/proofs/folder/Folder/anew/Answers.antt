@@ -3,14 +3,15 @@ use Rattle.echo_disk.specs.Runs.{LeavesOnly}
 use Rattle.echo_folder.specs.AtRest.{IsAtRest}
 use Rattle.echo_folder.specs.Moments.{KeepsOutside, StandsAlone}
 use Rattle.echo_folder.specs.Names.{AreNames, folder_of, keys_of, messages_of}
-use Rattle.echo_folder.specs.Standing.{base_at}
+use Rattle.echo_folder.specs.Standing.{BaseBytes, base_at}
 use Rattle.echo_folder.specs.declared.log.Told.{Told}
 use Rattle.echo_folder.proofs.Renewed.{alone_first, alone_run}
 use Rattle.echo_folder_store.specs.Left.{IsBesideIn}
-use Rattle.echo_folder_store.specs.Opened.{path_of}
+use Rattle.echo_folder_store.specs.Opened.{IsWritten, path_of}
 use Rattle.echo_folder_store.specs.declared.folder.Folder.{Folder}
 use Rattle.echo_folder_store.proofs.Beside.{readable_beside}
 use Rattle.echo_folder_store.proofs.Staged.{outside_same}
+use Rattle.echo_folder_store.proofs.Waits.{written_held}
 use Rattle.echo_folder_store.proofs.folder.Folder.anew.Goals as goal
 
 pub returns-in_err-names-clause-any_moment : goal.returns-in_err-names-clause-any_moment
@@ -70,19 +71,20 @@ returns-clause-opened g c honest =
     let f = c.args.self.now in
     let d0 = g.D.Disk.state c.args.disk.now in
     let d1 = g.D.Disk.state c.stage_anew.new.disk in
-    let next : Folder = record { names = c.in_ok-names.names; end = f.end; told = c.in_ok-told.told; keys = c.new-keys.result } in
+    let next : Folder = record { names = c.in_ok-names.names; end = f.end; told = c.in_ok-told.told; keys = c.new-keys.result; waiting = c.new-waiting.result } in
     let told = c.in_ok-told.ensures.told in
+    let none : IsWritten next = record { messages = c.new-waiting.ensures.messages; keys = c.new-waiting.ensures.keys } in
     record {
       names = subst (λ (t : Told). AreNames c.in_ok-names.names t.number) (sym told) c.in_ok-names.ensures.names;
       staged = c.in_ok-told.ensures.staged honest;
-      keys = c.new-keys.ensures.items ∙ sym (ap (λ (t : Told). (base_at d1 (folder_of c.in_ok-names.names) t).keys) told);
+      keys = c.new-keys.ensures.items ∙ sym (ap (λ (t : Told). (base_at d1 (folder_of c.in_ok-names.names) t).keys) told) ∙ sym (ap (λ (b : BaseBytes). b.keys) (written_held d1 next none));
     }
 
 pub returns-clause-beside : goal.returns-clause-beside
 returns-clause-beside g c =
     let f = c.args.self.now in
     let folder : folder_of c.in_ok-names.names ≡ path_of f = c.in_ok-names.ensures.folder ∙ c.deref.ensures.value in
-    let next : Folder = record { names = c.in_ok-names.names; end = f.end; told = c.in_ok-told.told; keys = c.new-keys.result } in
+    let next : Folder = record { names = c.in_ok-names.names; end = f.end; told = c.in_ok-told.told; keys = c.new-keys.result; waiting = c.new-waiting.result } in
     let told = c.in_ok-told.ensures.told in
     let beside : IsBesideIn f next = record {
       path = folder;
@@ -96,7 +98,9 @@ pub returns-clause-empty : goal.returns-clause-empty
 returns-clause-empty g c =
     let d0 = g.D.Disk.state c.args.disk.now in
     let d1 = g.D.Disk.state c.stage_anew.new.disk in
-    ap (λ (t : Told). base_at d1 (folder_of c.in_ok-names.names) t) c.in_ok-told.ensures.told
+    let next : Folder = record { names = c.in_ok-names.names; end = c.args.self.now.end; told = c.in_ok-told.told; keys = c.new-keys.result; waiting = c.new-waiting.result } in
+    let none : IsWritten next = record { messages = c.new-waiting.ensures.messages; keys = c.new-waiting.ensures.keys } in
+    written_held d1 next none ∙ ap (λ (t : Told). base_at d1 (folder_of c.in_ok-names.names) t) c.in_ok-told.ensures.told
 
 pub returns-clause-committed : goal.returns-clause-committed
 returns-clause-committed g c honest =
@@ -112,7 +116,7 @@ returns-clause-readable g c honest =
     let d0 = g.D.Disk.state c.args.disk.now in
     let d1 = g.D.Disk.state c.stage_anew.new.disk in
     let folder : folder_of c.in_ok-names.names ≡ path_of f = c.in_ok-names.ensures.folder ∙ c.deref.ensures.value in
-    let next : Folder = record { names = c.in_ok-names.names; end = f.end; told = c.in_ok-told.told; keys = c.new-keys.result } in
+    let next : Folder = record { names = c.in_ok-names.names; end = f.end; told = c.in_ok-told.told; keys = c.new-keys.result; waiting = c.new-waiting.result } in
     let told = c.in_ok-told.ensures.told in
     let beside : IsBesideIn f next = record {
       path = folder;

@@ -16,7 +16,7 @@ returns-clause-opened g c honest =
     let d1 = g.D.Disk.state c.acknowledge.new.disk in
     let d2 = g.D.Disk.state c.remove_former.new.disk in
     let f = c.acknowledge.new.self in
-    on_ok_weaker {P = IsAtRest d2 (path_of f) f.end} c.remove_former.result (λ rest. rest_open d1 d2 f (c.in_ok-acknowledge.ensures.opened h1) rest c.in_ok-acknowledge.ensures.told c.remove_former.ensures.same)
+    on_ok_weaker {P = IsAtRest d2 (path_of f) f.end} c.remove_former.result (λ rest. rest_open d1 d2 f (c.in_ok-acknowledge.ensures.opened h1) rest c.in_ok-acknowledge.ensures.told c.remove_former.ensures.same c.in_ok-acknowledge.ensures.written)
     (c.remove_former.ensures.settled honest)
 
 pub returns-clause-same : goal.returns-clause-same
@@ -26,7 +26,7 @@ returns-clause-same g c honest =
     let d2 = g.D.Disk.state c.remove_former.new.disk in
     let f = c.acknowledge.new.self in
     on_ok_weaker {P = IsAtRest d2 (path_of f) f.end} c.remove_former.result
-    (λ rest. rest_held d2 f c.in_ok-acknowledge.ensures.told ∙ c.remove_former.ensures.same ∙ c.in_ok-acknowledge.ensures.committed h1) (c.remove_former.ensures.settled honest)
+    (λ rest. rest_held d2 f c.in_ok-acknowledge.ensures.told c.in_ok-acknowledge.ensures.written ∙ c.remove_former.ensures.same ∙ c.in_ok-acknowledge.ensures.committed h1) (c.remove_former.ensures.settled honest)
 
 pub returns-clause-committed : goal.returns-clause-committed
 returns-clause-committed g c honest =
@@ -66,3 +66,6 @@ returns-clause-gone g c honest =
     let former = f0.end.told.number in
     on_ok_weaker {P = former < 10 → former ≢ f.end.told.number → AreGone d2 (path_of f) former} c.remove_former.result
     (λ gone digit other. subst (λ (p : List ℕ). AreGone d2 p former) c.acknowledge.ensures.path (gone digit other)) (c.remove_former.ensures.gone honest)
+
+pub returns-clause-written : goal.returns-clause-written
+returns-clause-written g c = on_ok_from c.remove_former.result c.in_ok-acknowledge.ensures.written

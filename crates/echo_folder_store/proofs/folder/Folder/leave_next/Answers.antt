@@ -13,10 +13,10 @@ use Rattle.echo_folder_store.specs.Added.{IsStoredAlone}
 use Rattle.echo_folder_store.specs.Answers.{IsAloneOf}
 use Rattle.echo_folder_store.specs.Held.{HoldsBase}
 use Rattle.echo_folder_store.specs.Left.{IsBesideIn, first_left, left_if}
-use Rattle.echo_folder_store.specs.Opened.{committed_by, held_by, path_of}
+use Rattle.echo_folder_store.specs.Opened.{and_waiting, committed_by, held_by, path_of}
 use Rattle.echo_folder_store.proofs.Bases.{open_quiet}
 use Rattle.echo_folder_store.proofs.Beside.{committed_beside, many_readable, readable_beside, readable_quiet, told_readable}
-use Rattle.echo_folder_store.proofs.Causes.{handed_on}
+use Rattle.echo_folder_store.proofs.Causes.{failed_since, handed_on}
 use Rattle.echo_folder_store.proofs.Looked.{some_message}
 use Rattle.echo_folder_store.proofs.Staged.{both_runs, nothing_left}
 use Rattle.echo_folder_store.proofs.Stated.{not_damaged}
@@ -264,7 +264,7 @@ returns-clause-left g c honest =
     let scanned = nat_lt c.args.place f.end.told.cursor in
     let cursor : f.end.told.cursor ≡ base.cursor = here.cursor in
     let below : IsBelow scanned c.args.place base.cursor = subst (λ (n : ℕ). IsBelow scanned c.args.place n) cursor (is_below c.args.place f.end.told.cursor) in
-    let held : held_by d1 n ≡ held_by d0 n = base_quiet d0 d1 (path_of n) n.told quiet in
+    let held : held_by d1 n ≡ held_by d0 n = ap (λ (b : BaseBytes). and_waiting b n.waiting) (base_quiet d0 d1 (path_of n) n.told quiet) in
     let whole = c.deref-4.result.now in
     let piece : take (length whole - 16) (drop 16 whole) ≡ drop 16 whole = take_all (length whole - 16) (drop 16 whole) (omega (arith, length-drop 16 whole)) in
     let bytes : take (length whole - 16) (drop 16 whole) ≡ drop 16 c.in_ok-left.left.file.items = piece ∙ ap (λ (l : List ℕ). drop 16 l) c.deref-4.ensures.value in
@@ -295,3 +295,15 @@ returns-clause-changed g c honest =
     let cursor : f.end.told.cursor ≡ base.cursor = here.cursor in
     let below : IsBelow scanned c.args.place base.cursor = subst (λ (n : ℕ). IsBelow scanned c.args.place n) cursor (is_below c.args.place f.end.told.cursor) in
     changed_step base c.args.place d scanned c.in_ok-left.left.changed within below (c.in_ok-left.ensures.changed m alone)
+
+pub returns-in_err-stage-clause-cause : goal.returns-in_err-stage-clause-cause
+returns-in_err-stage-clause-cause g c =
+    let one = c.message_at.ensures.cause.later in
+    let cause = c.in_err-stage.ensures.cause in
+    let two = cause.later in
+    record {
+      later = omega (arith, one, two);
+      failed = λ is.
+          failed_since (g.D.Disk.failures c.args.disk.now) (g.D.Disk.failures c.message_at.new.disk) (g.D.Disk.failures c.stage.new.disk) one
+          (cause.failed (handed_on _ _ c.from_residual-in_err-stage.result c.from_residual-in_err-stage.ensures.1 is));
+    }

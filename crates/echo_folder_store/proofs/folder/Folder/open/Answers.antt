@@ -82,17 +82,17 @@ returns-clause-opened g c honest =
     let told = c.in_ok-end.end.told in
     let keys = c.in_ok-keys.keys.items in
     let bytes : keys ≡ take told.keys (bytes_in (d1.seen c.in_ok-names.names.keys.items)) = (c.in_ok-keys.ensures.bytes h2) ∙ ap (λ (m : List ℕ). take told.keys (bytes_in (d1.seen m))) c.deref.ensures.value in
-    let folder : Folder = record { names = c.in_ok-names.names; end = c.in_ok-end.end; told = c.in_ok-end.end.told; keys = c.in_ok-keys.keys } in
+    let folder : Folder = record { names = c.in_ok-names.names; end = c.in_ok-end.end; told = c.in_ok-end.end.told; keys = c.in_ok-keys.keys; waiting = c.new-waiting.result } in
     opened_is d1 (g.D.Disk.state c.read_part.new.disk) c.args.path.now c.in_ok-end.end folder c.read_part.ensures.quiet (c.in_ok-end.ensures.settled h1) c.in_ok-names.ensures.folder c.in_ok-names.ensures.names refl refl
-    (keys_there d1 c.args.path.now told c.in_ok-names.names keys c.in_ok-names.ensures.folder c.in_ok-names.ensures.names bytes)
+    (keys_there d1 c.args.path.now told c.in_ok-names.names keys c.in_ok-names.ensures.folder c.in_ok-names.ensures.names bytes) (record { messages = c.new-waiting.ensures.messages; keys = c.new-waiting.ensures.keys })
 
 pub returns-clause-found : goal.returns-clause-found
 returns-clause-found g c honest =
     let h1 = c.read_part.ensures.quiet.honest honest in
     λ bytes stands.
-    let folder : Folder = record { names = c.in_ok-names.names; end = c.in_ok-end.end; told = c.in_ok-end.end.told; keys = c.in_ok-keys.keys } in
+    let folder : Folder = record { names = c.in_ok-names.names; end = c.in_ok-end.end; told = c.in_ok-end.end.told; keys = c.in_ok-keys.keys; waiting = c.new-waiting.result } in
     opened_bytes (g.D.Disk.state c.open.new.disk) (g.D.Disk.state c.read_part.new.disk) c.args.path.now folder c.in_ok-end.end.told bytes c.read_part.ensures.quiet c.in_ok-names.ensures.folder refl
-    ((c.in_ok-end.ensures.same h1) bytes stands)
+    ((c.in_ok-end.ensures.same h1) bytes stands) (record { messages = c.new-waiting.ensures.messages; keys = c.new-waiting.ensures.keys })
 
 pub returns-clause-same : goal.returns-clause-same
 returns-clause-same g c honest =
@@ -100,9 +100,9 @@ returns-clause-same g c honest =
     let h1 = c.read_part.ensures.quiet.honest h2 in
     λ keyed base stands.
     let d1 = g.D.Disk.state c.open.new.disk in
-    let folder : Folder = record { names = c.in_ok-names.names; end = c.in_ok-end.end; told = c.in_ok-end.end.told; keys = c.in_ok-keys.keys } in
+    let folder : Folder = record { names = c.in_ok-names.names; end = c.in_ok-end.end; told = c.in_ok-end.end.told; keys = c.in_ok-keys.keys; waiting = c.new-waiting.result } in
     opened_holds keyed d1 (g.D.Disk.state c.read_part.new.disk) c.args.path.now folder c.in_ok-end.end.told stands.bytes base c.read_part.ensures.quiet c.in_ok-names.ensures.folder refl
-    ((c.in_ok-end.ensures.same h1) stands.bytes stands.stands) stands.holds
+    ((c.in_ok-end.ensures.same h1) stands.bytes stands.stands) stands.holds (record { messages = c.new-waiting.ensures.messages; keys = c.new-waiting.ensures.keys })
 
 pub returns-clause-any_moment : goal.returns-clause-any_moment
 returns-clause-any_moment g c honest =

@@ -17,7 +17,7 @@ anew-requires-clause-readable g c honest =
     let f0 = c.args.self.now in
     let d1 = g.D.Disk.state c.commit.new.disk in
     let f1 = c.commit.new.self in
-    rest_readable d1 f1 (c.in_ok-commit.ensures.opened honest) (c.in_ok-commit.ensures.settled honest) c.in_ok-commit.ensures.told
+    rest_readable d1 f1 (c.in_ok-commit.ensures.opened honest) (c.in_ok-commit.ensures.settled honest) c.in_ok-commit.ensures.told c.in_ok-commit.ensures.written
 
 pub returns-in_err-next-clause-any_moment : goal.returns-in_err-next-clause-any_moment
 returns-in_err-next-clause-any_moment g c honest =

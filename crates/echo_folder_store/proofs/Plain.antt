@@ -1,0 +1,81 @@
+-- What the first two lines of a text tell plainly.
+use Rattle.std.proofs.Common.{◌≡◌, ℕ, ◌<◌, ◌≤◌, ◌==◌, nat_lt, true, false, List, ◌∷◌, ◌++◌, length, map, take, drop, get_or, Option, Some, refl, sym, ap, ◌∙◌, arith}
+use Rattle.std.specs.List.{filter, find}
+use Rattle.std.proofs.lemmas.Bool.{and_from, cond-false, cond-true, lt-ltb, ne_eqb, or_from}
+use Rattle.std.proofs.lemmas.List.{drop_at, take-append-drop}
+use Rattle.std.proofs.lemmas.Slice.Eq.{bytes_eq-Decides}
+use Rattle.std.specs.Prelude.{bytes_eq, option_map, unwrap_or}
+use Rattle.echo_text.specs.Echo.{EchoText, msgid_of}
+use Rattle.echo_text.specs.Lines.{after_word, area_tag, area_word, begins, first_line, is_tag, later_lines, lines, msgid_word, trimmed}
+use Rattle.echo_text.specs.Tail.{kept_of}
+use Rattle.echo_text.proofs.KeptLines.{msgids_kept}
+use Rattle.echo_text.proofs.Tags.{area_tag_back}
+use Rattle.echo_filed.specs.Filed.{Filed, has_id, key_of, key_with, same_key}
+use Rattle.echo_filed.specs.Stored.{IsStored, Stored, after_length, after_long_length, has_tag, last_bytes, message_in, stored_bytes}
+use Rattle.echo_filed.specs.Written.{echo_of}
+use Rattle.echo_filed.specs.declared.key.Key.{Key}
+use Rattle.echo_filed.specs.declared.key.Key.TheVariants.{ById}
+use Rattle.echo_filed.specs.declared.stored.Version.TheVariants.{Second}
+
+-- the AREA line that is written for a tag has that tag
+pub plain_tag : (line tag : List ℕ) → is_tag tag ≡ true → take 5 line ≡ area_word → drop 5 line ≡ tag → area_tag line ≡ tag
+plain_tag line tag right front rest = ap area_tag (sym (take-append-drop 5 line) ∙ (λ i. front i ++ rest i)) ∙ area_tag_back tag right
+
+first_found : (id : List ℕ) (others : List (List ℕ)) → 0 < length id → find (λ found. nat_lt 0 (length found)) (id ∷ others) ≡ Some id
+first_found id others some = cond-true (nat_lt 0 (length id)) (Some id) (find (λ found. nat_lt 0 (length found)) others) (lt-ltb 0 (length id) some)
+
+-- a MSGID line in front has the id
+id_in_front : (rest id : List ℕ) (later : List (List ℕ)) → trimmed rest ≡ id → 0 < length id → msgid_of (kept_of ((msgid_word ++ rest) ∷ later)) ≡ Some id
+unfolding msgid_of begins after_word
+id_in_front rest id later is some =
+    ap (λ (found : List (List ℕ)). find (λ found. nat_lt 0 (length found)) (map (λ line. trimmed (after_word msgid_word line)) found)) (msgids_kept ((msgid_word ++ rest) ∷ later))
+    ∙ ap (λ (one : List ℕ). find (λ found. nat_lt 0 (length found)) (one ∷ map (λ line. trimmed (after_word msgid_word line)) (filter (begins msgid_word) later))) is
+    ∙ first_found id (map (λ line. trimmed (after_word msgid_word line)) (filter (begins msgid_word) later)) some
+
+pub plain_id : (line id : List ℕ) (later : List (List ℕ)) → take 7 line ≡ msgid_word → trimmed (drop 7 line) ≡ id → 0 < length id → msgid_of (kept_of (line ∷ later)) ≡ Some id
+plain_id line id later front rest some =
+    ap (λ (l : List ℕ). msgid_of (kept_of (l ∷ later))) (sym (take-append-drop 7 line) ∙ ap (λ (l : List ℕ). l ++ drop 7 line) front)
+    ∙ id_in_front (drop 7 line) id later rest some
+
+-- the names of a stored message stand behind 27 bytes
+pub strings_in : (s : Stored) (bytes : List ℕ) → IsStored Second s → bytes ≡ stored_bytes Second s
+    → drop 27 bytes ≡ after_length s.to_name ++ (after_length s.from_name ++ (after_length s.subject ++ last_bytes Second s))
+unfolding stored_bytes
+strings_in s bytes size is =
+    ap (λ (l : List ℕ). drop 27 l) is
+    ∙ drop_at s.date (after_length s.to_name ++ (after_length s.from_name ++ (after_length s.subject ++ last_bytes Second s))) 20 size.date_len
+
+-- its first byte tells whether it has its text
+pub whole_in : (s : Stored) (bytes : List ℕ) → bytes ≡ stored_bytes Second s → get_or bytes 0 0 ≤ 1 → has_tag Second s.kind ≡ false
+unfolding stored_bytes
+whole_in s bytes is small =
+    let first : get_or bytes 0 0 ≡ s.kind = ap (λ (l : List ℕ). get_or l 0 0) is in
+    or_from (s.kind == 2) (s.kind == 3) (ne_eqb s.kind 2 (λ (e : s.kind ≡ 2). omega (arith, first, small, e))) (ne_eqb s.kind 3 (λ (e : s.kind ≡ 3). omega (arith, first, small, e)))
+
+-- the text stands behind its length
+pub last_in : (s : Stored) (last : List ℕ) → has_tag Second s.kind ≡ false → last ≡ last_bytes Second s → drop 4 last ≡ s.last
+last_in s last whole is =
+    ap (λ (l : List ℕ). drop 4 l) (is ∙ cond-false (has_tag Second s.kind) (after_length s.tag ++ after_long_length s.last) (after_long_length s.last) whole)
+
+-- what the message says that has such a text
+echo_is : (s : Stored) (text : List ℕ) → has_tag Second s.kind ≡ false → text ≡ s.last → (message_in Second s).echo ≡ echo_of text
+unfolding message_in
+echo_is s text whole is = cond-false (has_tag Second s.kind) _ (echo_of s.last) whole ∙ ap echo_of (sym is)
+
+module _ (s : Stored) (m : Filed) (text id : List ℕ) (is : message_in Second s ≡ m) (whole : has_tag Second s.kind ≡ false) (last : text ≡ s.last) (has : msgid_of (kept_of (later_lines (lines text))) ≡ Some id) where
+  echo : m.echo ≡ echo_of text
+  echo = ap (λ (x : Filed). x.echo) (sym is) ∙ echo_is s text whole last
+
+  kept_is : msgid_of m.echo.kept ≡ Some id
+  unfolding echo_of
+  kept_is = ap (λ (e : EchoText). msgid_of e.kept) echo ∙ has
+
+  pub plain_has_id : has_id id m ≡ true
+  plain_has_id = ap (λ (o : Option (List ℕ)). unwrap_or (option_map (bytes_eq id) o) false) kept_is ∙ (bytes_eq-Decides id id).1 refl
+
+  pub plain_key : (tag : List ℕ) → area_tag (first_line (lines text)) ≡ tag → same_key (key_of m) (ById tag id) ≡ true
+  unfolding key_of echo_of
+  plain_key tag tagged =
+      let said : m.echo.tag ≡ tag = ap (λ (e : EchoText). e.tag) echo ∙ tagged in
+      let key : key_of m ≡ ById tag id = (λ i. key_with m (kept_is i)) ∙ ap (λ (t : List ℕ). ById t id) said in
+      ap (λ (k : Key). same_key k (ById tag id)) key ∙ and_from (bytes_eq tag tag) (bytes_eq id id) ((bytes_eq-Decides tag tag).1 refl) ((bytes_eq-Decides id id).1 refl)
