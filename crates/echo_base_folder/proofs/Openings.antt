@@ -15,10 +15,11 @@ use Rattle.echo_folder.specs.declared.log.Told.{Told}
 use Rattle.echo_folder.proofs.Opened.{end_tells}
 use Rattle.echo_keys.specs.Keys.{FolderStandsFor}
 use Rattle.echo_folder_store.specs.Held.{HoldsBase, StandsForBase, StandsForBaseOrWasLeft, digest_by}
-use Rattle.echo_folder_store.specs.Opened.{IsNamed, IsOpen, committed_by, held_by, path_of}
+use Rattle.echo_folder_store.specs.Opened.{IsNamed, IsOpen, IsWritten, committed_by, held_by, path_of}
 use Rattle.echo_folder_store.specs.Owned.{with_mark}
 use Rattle.echo_folder_store.specs.declared.folder.Folder.{Folder}
 use Rattle.echo_folder_store.proofs.Claimed.{claimed_holds, claimed_open}
+use Rattle.echo_folder_store.proofs.Waits.{written_held}
 use Rattle.echo_base_folder.specs.Ours.{IsMarkOfOther, IsNotOurs, IsOfOther, SameKey, number_of}
 use Rattle.echo_base_folder.specs.Unopened.{HaveRoom, IsBroken, StandsForNone}
 use Rattle.echo_base_folder.specs.Wrong.{IsToldBy}
@@ -70,10 +71,11 @@ pub claimed_opened : (d : DiskState) (f g : Folder) → g ≡ with_mark f g.told
 claimed_opened d f g only opened = subst (λ (x : Folder). IsOpen d x) (sym only) (claimed_open d f g.told.mark opened)
 
 -- and what was committed last is so still
-pub claimed_committed : (keyed : ℕ → ℕ → List ℕ → ℕ) (d : DiskState) (f g : Folder) (base : Base) → g ≡ with_mark f g.told.mark → f.told ≡ f.end.told → HoldsBase keyed (held_by d f) base → HoldsBase keyed (committed_by d g) base
-claimed_committed keyed d f g base only settled holds =
+pub claimed_committed : (keyed : ℕ → ℕ → List ℕ → ℕ) (d : DiskState) (f g : Folder) (base : Base) → g ≡ with_mark f g.told.mark → f.told ≡ f.end.told → IsWritten f → HoldsBase keyed (held_by d f) base
+    → HoldsBase keyed (committed_by d g) base
+claimed_committed keyed d f g base only settled written holds =
     let same : committed_by d g ≡ committed_by d f = ap (λ (x : Folder). committed_by d x) only in
-    let last : held_by d f ≡ committed_by d f = λ i. base_at d (path_of f) (settled i) in
+    let last : held_by d f ≡ committed_by d f = written_held d f written ∙ (λ i. base_at d (path_of f) (settled i)) in
     subst (λ (b : BaseBytes). HoldsBase keyed b base) (last ∙ sym same) holds
 
 -- the files that stand for none stood for none before looks

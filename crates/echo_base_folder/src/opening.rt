@@ -8,7 +8,7 @@ ghost use Rattle.echo_folder.specs.Moments.{KeepsOutside};
 ghost use Rattle.echo_folder.specs.Opening.{AreAlone};
 ghost use Rattle.echo_folder.specs.Standing.{BaseBytes, StandsFor};
 ghost use Rattle.echo_folder_store.specs.Held.{HoldsBase, StandsForBase, StandsForBaseOrWasLeft};
-ghost use Rattle.echo_folder_store.specs.Opened.{IsNamed, IsOpen, held_by, path_of};
+ghost use Rattle.echo_folder_store.specs.Opened.{IsNamed, IsOpen, IsWritten, held_by, path_of};
 ghost use Rattle.echo_base_folder.specs.Ours.{IsLeftAlone, IsNotOurs, IsOfOther, number_of};
 ghost use Rattle.echo_base_folder.specs.Unopened.{HasOpened, HaveRoom, IsBroken, IsUnopened};
 ghost use Rattle.echo_base_folder.specs.Unread.{HasUnreadCause};
@@ -36,6 +36,7 @@ fn opened<D: Disk>(alloc: Global, disk: &mut D, path: &[u8]) -> Result<Folder, U
     ensures named { IfOk result IsNamed }
     ensures path { IfOk result (λ folder. path_of folder ≡ path.now) }
     ensures settled { IfOk result (λ folder. folder.told ≡ folder.end.told) }
+    ensures written { IfOk result IsWritten }
     ensures found { Honestly (D.state disk.new) ((bytes : BaseBytes) → StandsFor path.now bytes (D.state disk.old).seen
         → IfOk result (λ folder. held_by (D.state disk.new) folder ≡ bytes)) }
     ensures same { Honestly (D.state disk.new) ((keyed : ℕ → ℕ → List ℕ → ℕ) (base : Base) → StandsForBase keyed path.now base (D.state disk.old).seen
@@ -69,6 +70,7 @@ pub fn open_base<D: Disk>(
     ensures named { IfOk result IsNamed }
     ensures path { IfOk result (λ folder. path_of folder ≡ path.now) }
     ensures settled { IfOk result (λ folder. folder.told ≡ folder.end.told) }
+    ensures written { IfOk result IsWritten }
     ensures same { Honestly (D.state disk.new) ((keyed : ℕ → ℕ → List ℕ → ℕ) (base : Base) → StandsForBase keyed path.now base (D.state disk.old).seen
         → IfOk result (λ folder. HoldsBase keyed (held_by (D.state disk.new) folder) base)) }
 
@@ -97,6 +99,7 @@ fn open_ours<D: Disk>(
     ensures named { IfOk result IsNamed }
     ensures path { IfOk result (λ folder. path_of folder ≡ path.now) }
     ensures settled { IfOk result (λ folder. folder.told ≡ folder.end.told) }
+    ensures written { IfOk result IsWritten }
     ensures same { Honestly (D.state disk.new) ((keyed : ℕ → ℕ → List ℕ → ℕ) (base : Base) → StandsForBase keyed path.now base (D.state disk.old).seen
         → IfOk result (λ folder. HoldsBase keyed (held_by (D.state disk.new) folder) base)) }
     ensures any_moment { Honestly (D.state disk.new) ((keyed : ℕ → ℕ → List ℕ → ℕ) (base : Base) → StandsForBase keyed path.now base (D.state disk.old).seen

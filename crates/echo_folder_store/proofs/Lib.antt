@@ -12,6 +12,6 @@ mod Single
 pub mod Staged
 mod Stated
 pub mod Stubbed
-mod Waits
+pub mod Waits
 mod WhereSo
 mod Whole

@@ -10,7 +10,7 @@ ghost use Rattle.echo_filed.specs.Filed.{Filed};
 ghost use Rattle.echo_keys.specs.Keys.{StandWhereTold};
 ghost use Rattle.echo_folder_store.specs.Answers.{Answers, HasReadCause, IsAloneOf, IsStoredOf};
 ghost use Rattle.echo_folder_store.specs.Held.{HoldsBase, StandsForBase, StandsForBaseOrWasLeft};
-ghost use Rattle.echo_folder_store.specs.Opened.{IsNamed, IsOpen, held_by, path_of};
+ghost use Rattle.echo_folder_store.specs.Opened.{IsNamed, IsOpen, IsWritten, held_by, path_of};
 
 use crate::alone::{Alone, read_alone};
 use crate::waiting::Waiting;
@@ -128,6 +128,7 @@ impl Folder {
         ensures named { IfOk result IsNamed }
         ensures path { IfOk result (λ folder. path_of folder ≡ path.now) }
         ensures settled { IfOk result (λ folder. folder.told ≡ folder.end.told) }
+        ensures written { IfOk result IsWritten }
         ensures found { Honestly (D.state disk.new) ((bytes : BaseBytes) → StandsFor path.now bytes (D.state disk.old).seen
             → IfOk result (λ folder. held_by (D.state disk.new) folder ≡ bytes)) }
         ensures same { Honestly (D.state disk.new) ((keyed : ℕ → ℕ → List ℕ → ℕ) (base : Base) → StandsForBase keyed path.now base (D.state disk.old).seen

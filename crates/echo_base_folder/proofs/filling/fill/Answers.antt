@@ -41,7 +41,7 @@ returns-in-Ok-clause-any_moment g c = λ honest stands.
     let at : path_of n ≡ c.args.path.now = ap path_of only ∙ c.in_ok-folder.ensures.path in
     let holds = c.in_ok-folder.ensures.same h1 keyed no_messages stands in
     let front = claimed_same keyed g.met.H.Digest.fits d1 f n no_messages (c.in_ok-folder.ensures.opened h1) only c.give_key.ensures.key c.give_key.ensures.kept holds in
-    let first = claimed_committed keyed d1 f n no_messages only c.in_ok-folder.ensures.settled holds in
+    let first = claimed_committed keyed d1 f n no_messages only c.in_ok-folder.ensures.settled c.in_ok-folder.ensures.written holds in
     fill_run keyed c.args.path.now (path_of n) d0 d1 d2 no_messages c.args.base.now at (c.open_base.ensures.any_moment h1 keyed no_messages stands) c.open_base.ensures.outside (c.fill_opened.ensures.any_moment honest no_messages first front)
 
 pub returns-clause-any_moment : goal.returns-clause-any_moment
@@ -57,7 +57,7 @@ returns-clause-any_moment g c = λ honest stands.
     let at : path_of n ≡ c.args.path.now = ap path_of only ∙ c.in_ok-folder.ensures.path in
     let holds = c.in_ok-folder.ensures.same h1 keyed no_messages stands in
     let front = claimed_same keyed g.met.H.Digest.fits d1 f n no_messages (c.in_ok-folder.ensures.opened h1) only c.give_key.ensures.key c.give_key.ensures.kept holds in
-    let first = claimed_committed keyed d1 f n no_messages only c.in_ok-folder.ensures.settled holds in
+    let first = claimed_committed keyed d1 f n no_messages only c.in_ok-folder.ensures.settled c.in_ok-folder.ensures.written holds in
     fill_run keyed c.args.path.now (path_of n) d0 d1 d2 no_messages c.args.base.now at (c.open_base.ensures.any_moment h1 keyed no_messages stands) c.open_base.ensures.outside (c.fill_opened.ensures.any_moment honest no_messages first front)
 
 pub returns-in-Ok-clause-outside : goal.returns-in-Ok-clause-outside

@@ -10,5 +10,5 @@ returns-in-Ok-clause-same g c = λ honest keyed base fits stands.
     let holds = c.in_ok-folder.ensures.same honest keyed base stands in
     record {
       held = claimed_same keyed fits d f n base (c.in_ok-folder.ensures.opened honest) only c.claim_for.ensures.key c.in-Ok.ensures.ours.kept holds;
-      committed = claimed_committed keyed d f n base only c.in_ok-folder.ensures.settled holds;
+      committed = claimed_committed keyed d f n base only c.in_ok-folder.ensures.settled c.in_ok-folder.ensures.written holds;
     }
