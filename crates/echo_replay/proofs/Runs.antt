@@ -58,7 +58,8 @@ posted-run world run i tag draft serial stamp is =
 pub purged-run : (world : WorldState) (run : Run) (i : ℕ) → IsWorldOf world run → IsWorldOf (with_change world i after_purge) (changing run i purging_at)
 purged-run world run i is = changed-run world run i purging_at after_purge (λ s. refl) is
 
-state-taking : (p : Packet) (s : System) → state_of (taking p (length p.messages) s) ≡ after_toss p (state_of s)
+-- a toss of a packet does to a system in a run what it does to its state
+pub state-taking : (p : Packet) (s : System) → state_of (taking p (length p.messages) s) ≡ after_toss p (state_of s)
 state-taking p s =
     ap (λ (ms : List Message). state_of (tossing_at (sender_of s.file p.header) ms s)) (take_all (length p.messages) p.messages whole)
     ∙ tossing-state (sender_of s.file p.header) p.messages s
@@ -239,22 +240,3 @@ led-nowhere world k p to whom none =
     let past : length world.systems ≤ first_at world (destination p) = omega (arith, none, first, length-map world.systems (λ (s : SystemState). s.file.system)) in
     let come : WorldState = record { systems = change (first_at world (destination p)) (after_toss p) world.systems; packets = change k arrived world.packets } in
     sym (cond-false (nat_lt (first_at world (destination p)) (length world.systems)) come world (le-ltb (first_at world (destination p)) (length world.systems) past))
-
--- what is asked of a delivery: a packet that is not there changes nothing, one that is comes to the first system of its destination
-pub delivery-run : (world new : WorldState) (run : Run) (k : ℕ) → IsWorldOf world run → (nth k world.packets ≡ None → new ≡ world)
-    → ((p : Packet) → Fits p → (came : Bool) → nth k world.packets ≡ Some (record { bytes = encoded p; to = destination p; came = came }) → new ≡ world_after world k p)
-    → IsWorldOf new (delivery run k (nth k run.packets))
-delivery-run world new run k is none some = by (nth k run.packets) refl
-  where
-    here : nth k world.packets ≡ option_map (exported_packet run.delivered (0 + k)) (nth k run.packets)
-    here = ap (nth k) is.packets ∙ exported-nth run.delivered 0 k run.packets
-
-    by : (o : Option Packet) → nth k run.packets ≡ o → IsWorldOf new (delivery run k o)
-    by None e =
-        let W : WorldState → Type 0 = λ w. IsWorldOf w run in
-        subst W (sym (none (here ∙ ap (option_map (exported_packet run.delivered (0 + k))) e))) is
-    by (Some p) e =
-        let W : WorldState → Type 0 = λ w. IsWorldOf w (delivery run k (Some p)) in
-        let there = here ∙ ap (option_map (exported_packet run.delivered (0 + k))) e in
-        let fits = subst Fits (read-nth run.packets k p p e) (is.fit k p (within-nth k run.packets p e)) in
-        subst W (sym (some p fits (list_any (λ d. d == 0 + k) run.delivered) there)) (delivered-run world run k p is e)

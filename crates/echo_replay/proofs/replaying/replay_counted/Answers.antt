@@ -8,6 +8,7 @@ use Rattle.echo_replay.specs.Counts.{packet_counts}
 use Rattle.echo_replay.specs.Worlds.{IsWorldOf, LeadsToFirst, WorldState, own_addresses}
 use Rattle.echo_replay.proofs.Counted.{counts-more}
 use Rattle.echo_replay.proofs.Runs.{addresses-first, event-more, first-run}
+use Rattle.echo_replay.proofs.Taken.{run-taken}
 use Rattle.echo_replay.proofs.replaying.replay_counted.Goals as goal
 
 pub events-init : goal.events-init
@@ -32,10 +33,10 @@ events-preserved c =
     record {
       leads = subst A (sym c.in_ok-happen.ensures.addresses) before.leads;
       run = subst R (event-more c.args.files.items c.args.events.now c.events.event-index c.event-item.result c.events-test.true c.event-item.is)
-          (c.in_ok-happen.ensures.run _ before.run);
+          (c.in_ok-happen.ensures.run _ before.run (run-taken c.args.files.items _));
       counts = counts-more c.args.files.items c.args.events.now c.events.event-index c.event-item.result c.events.counts.items c.push.new.self.items c.packets.result
           c.events-test.true c.event-item.is before.counts c.in_ok-push.ensures.items
-          (c.packets.ensures _ (c.in_ok-happen.ensures.run _ before.run));
+          (c.packets.ensures _ (c.in_ok-happen.ensures.run _ before.run (run-taken c.args.files.items _)));
     }
 
 pub returns-clause-world : goal.returns-clause-world
