@@ -1,7 +1,7 @@
 -- What happens to a world happens to its run.
-use Rattle.std.proofs.Common.{◌≡◌, ℕ, zero, suc, ◌+◌, ◌<◌, ◌≤◌, nat_lt, not, Bool, true, false, cond, List, [], ◌∷◌, ◌++◌, length, get_or, take, ◌==◌, map, refl, sym, ap, subst, ◌∙◌, Option, Some, None, arith, inl, inr}
+use Rattle.std.proofs.Common.{◌≡◌, ℕ, zero, suc, ◌+◌, ◌<◌, ◌≤◌, nat_lt, not, Bool, true, false, cond, List, [], ◌∷◌, ◌++◌, length, get_or, take, map, refl, sym, ap, subst, ◌∙◌, Option, Some, None, arith, inl, inr}
 use Rattle.std.specs.Prelude.{option_map}
-use Rattle.std.specs.List.{All, list_any, position_or_len}
+use Rattle.std.specs.List.{All, position_or_len}
 use Rattle.std.proofs.lemmas.List.{append-nil, length-append, length-map, map-append, take_all, take_more}
 use Rattle.std.proofs.lemmas.List.Elements.{All-append}
 use Rattle.std.proofs.lemmas.List.Recursion.{is_position_or_len}
@@ -25,9 +25,9 @@ use Rattle.echo_run.specs.declared.event.Event.{Event}
 use Rattle.echo_run.proofs.LaterSystems.{after-append}
 use Rattle.echo_run.proofs.States.{tossing-state}
 use Rattle.echo_run.specs.Run.{Run, System, after_event, change, changing, coming, delivery, destination, filing, fresh, nth, posting_at, purging_at, receiver, run_of, scanning, scanning_at, start, taking, tossing_at}
-use Rattle.echo_replay.specs.Worlds.{Exported, Fits, IsWorldOf, ScanFits, WorldState, own_addresses, after_posting, after_purge, after_scan, after_toss, arrived, encoded, exported_packet, exported_from, first_at, made, made_by, scanned_world, state_of, with_change, world_after}
+use Rattle.echo_replay.specs.Worlds.{Exported, Fits, IsWorldOf, ScanFits, WorldState, own_addresses, after_posting, after_purge, after_scan, after_toss, arrived, exported_from, first_at, made, made_by, scanned_world, state_of, with_change, world_after}
 use Rattle.echo_replay.proofs.Changes.{read-nth}
-use Rattle.echo_replay.proofs.Exports.{below-with, exported-append, exported-came, exported-made, exported-nth, nth-map, nth-past, nth-within, within-nth}
+use Rattle.echo_replay.proofs.Exports.{below-with, exported-append, exported-came, exported-made, nth-map, nth-past, nth-within, within-nth}
 
 -- filing leaves the history aside
 state-filing : (s : System) (o : Option Filed) → state_of (filing s o) ≡ state_with (state_of s) o

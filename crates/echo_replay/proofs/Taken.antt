@@ -1,10 +1,9 @@
 -- A packet that was delivered brings nothing new: each of its messages is refused or known, and stays so.
-use Rattle.std.proofs.Common.{◌≡◌, ℕ, ◌<◌, ◌||◌, ◌==◌, Bool, true, false, not, List, [], ◌∷◌, ◌++◌, length, map, take, drop, refl, sym, ap, subst, ◌∙◌, Option, Some, None, inl, inr, arith}
+use Rattle.std.proofs.Common.{◌≡◌, ℕ, ◌||◌, Bool, true, false, not, List, [], ◌∷◌, ◌++◌, length, map, take, drop, refl, sym, ap, subst, ◌∙◌, Option, Some, None, inl, inr, arith}
 use Rattle.std.specs.Prelude.{if◌then◌else◌, option_to_list}
 use Rattle.std.specs.List.{list_any, position_or_len}
 use Rattle.std.proofs.lemmas.List.{append-nil, length-append}
 use Rattle.echo_addr.specs.declared.address.Address.{Address}
-use Rattle.echo_graph.specs.Walk.{Among}
 use Rattle.echo_graph.proofs.Members.{Among-append_left, Among-append_right}
 use Rattle.echo_packet.specs.Message.{Message}
 use Rattle.echo_text.specs.declared.fault.TextFault.{TextFault}
@@ -25,7 +24,7 @@ use Rattle.echo_steps.specs.Purging.{purged}
 use Rattle.echo_steps.specs.Scanning.{scanned}
 use Rattle.echo_steps.specs.Stamps.{is_stamp}
 use Rattle.echo_steps.specs.SystemState.{SystemState}
-use Rattle.echo_steps.specs.Tossing.{outcome_after, outcome_of_filed, received, sender_of, toss_outcome, tossed, tossing, where_filed}
+use Rattle.echo_steps.specs.Tossing.{outcome_after, received, sender_of, toss_outcome, tossed, tossing, where_filed}
 use Rattle.echo_run.specs.Event.{RunEvent, Posting, Scanning, Delivery, PartDelivery, Purging}
 use Rattle.echo_run.specs.Run.{Run, System, after_event, after_events, change, changing, coming, delivery, destination, filing, nth, part_delivery, posting_at, purging_at, receiver, run_of, scanning, scanning_at, start, taking, tossing_at}
 use Rattle.echo_run.proofs.Lists as lists
