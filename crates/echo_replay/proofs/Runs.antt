@@ -1,7 +1,7 @@
 -- What happens to a world happens to its run.
-use Rattle.std.proofs.Common.{◌≡◌, ℕ, zero, suc, ◌+◌, ◌<◌, ◌≤◌, nat_lt, not, Bool, true, false, cond, List, [], ◌∷◌, ◌++◌, length, get_or, take, ◌==◌, map, refl, sym, ap, subst, ◌∙◌, Option, Some, None, arith, inl, inr}
+use Rattle.std.proofs.Common.{◌≡◌, ℕ, zero, suc, ◌+◌, ◌<◌, ◌≤◌, nat_lt, not, Bool, true, false, cond, List, [], ◌∷◌, ◌++◌, length, get_or, take, map, refl, sym, ap, subst, ◌∙◌, Option, Some, None, arith, inl, inr}
 use Rattle.std.specs.Prelude.{option_map}
-use Rattle.std.specs.List.{All, list_any, position_or_len}
+use Rattle.std.specs.List.{All, position_or_len}
 use Rattle.std.proofs.lemmas.List.{append-nil, length-append, length-map, map-append, take_all, take_more}
 use Rattle.std.proofs.lemmas.List.Elements.{All-append}
 use Rattle.std.proofs.lemmas.List.Recursion.{is_position_or_len}
@@ -25,9 +25,9 @@ use Rattle.echo_run.specs.declared.event.Event.{Event}
 use Rattle.echo_run.proofs.LaterSystems.{after-append}
 use Rattle.echo_run.proofs.States.{tossing-state}
 use Rattle.echo_run.specs.Run.{Run, System, after_event, change, changing, coming, delivery, destination, filing, fresh, nth, posting_at, purging_at, receiver, run_of, scanning, scanning_at, start, taking, tossing_at}
-use Rattle.echo_replay.specs.Worlds.{Exported, Fits, IsWorldOf, ScanFits, WorldState, own_addresses, after_posting, after_purge, after_scan, after_toss, arrived, encoded, exported_packet, exported_from, first_at, made, made_by, scanned_world, state_of, with_change, world_after}
+use Rattle.echo_replay.specs.Worlds.{Exported, Fits, IsWorldOf, ScanFits, WorldState, own_addresses, after_posting, after_purge, after_scan, after_toss, arrived, exported_from, first_at, made, made_by, scanned_world, state_of, with_change, world_after}
 use Rattle.echo_replay.proofs.Changes.{read-nth}
-use Rattle.echo_replay.proofs.Exports.{below-with, exported-append, exported-came, exported-made, exported-nth, nth-map, nth-past, nth-within, within-nth}
+use Rattle.echo_replay.proofs.Exports.{below-with, exported-append, exported-came, exported-made, nth-map, nth-past, nth-within, within-nth}
 
 -- filing leaves the history aside
 state-filing : (s : System) (o : Option Filed) → state_of (filing s o) ≡ state_with (state_of s) o
@@ -58,7 +58,8 @@ posted-run world run i tag draft serial stamp is =
 pub purged-run : (world : WorldState) (run : Run) (i : ℕ) → IsWorldOf world run → IsWorldOf (with_change world i after_purge) (changing run i purging_at)
 purged-run world run i is = changed-run world run i purging_at after_purge (λ s. refl) is
 
-state-taking : (p : Packet) (s : System) → state_of (taking p (length p.messages) s) ≡ after_toss p (state_of s)
+-- a toss of a packet does to a system in a run what it does to its state
+pub state-taking : (p : Packet) (s : System) → state_of (taking p (length p.messages) s) ≡ after_toss p (state_of s)
 state-taking p s =
     ap (λ (ms : List Message). state_of (tossing_at (sender_of s.file p.header) ms s)) (take_all (length p.messages) p.messages whole)
     ∙ tossing-state (sender_of s.file p.header) p.messages s
@@ -239,22 +240,3 @@ led-nowhere world k p to whom none =
     let past : length world.systems ≤ first_at world (destination p) = omega (arith, none, first, length-map world.systems (λ (s : SystemState). s.file.system)) in
     let come : WorldState = record { systems = change (first_at world (destination p)) (after_toss p) world.systems; packets = change k arrived world.packets } in
     sym (cond-false (nat_lt (first_at world (destination p)) (length world.systems)) come world (le-ltb (first_at world (destination p)) (length world.systems) past))
-
--- what is asked of a delivery: a packet that is not there changes nothing, one that is comes to the first system of its destination
-pub delivery-run : (world new : WorldState) (run : Run) (k : ℕ) → IsWorldOf world run → (nth k world.packets ≡ None → new ≡ world)
-    → ((p : Packet) → Fits p → (came : Bool) → nth k world.packets ≡ Some (record { bytes = encoded p; to = destination p; came = came }) → new ≡ world_after world k p)
-    → IsWorldOf new (delivery run k (nth k run.packets))
-delivery-run world new run k is none some = by (nth k run.packets) refl
-  where
-    here : nth k world.packets ≡ option_map (exported_packet run.delivered (0 + k)) (nth k run.packets)
-    here = ap (nth k) is.packets ∙ exported-nth run.delivered 0 k run.packets
-
-    by : (o : Option Packet) → nth k run.packets ≡ o → IsWorldOf new (delivery run k o)
-    by None e =
-        let W : WorldState → Type 0 = λ w. IsWorldOf w run in
-        subst W (sym (none (here ∙ ap (option_map (exported_packet run.delivered (0 + k))) e))) is
-    by (Some p) e =
-        let W : WorldState → Type 0 = λ w. IsWorldOf w (delivery run k (Some p)) in
-        let there = here ∙ ap (option_map (exported_packet run.delivered (0 + k))) e in
-        let fits = subst Fits (read-nth run.packets k p p e) (is.fit k p (within-nth k run.packets p e)) in
-        subst W (sym (some p fits (list_any (λ d. d == 0 + k) run.delivered) there)) (delivered-run world run k p is e)

@@ -1,3 +1,4 @@
 pub mod Worlds
+pub mod Taken
 pub mod Script
 pub mod Counts

@@ -1,6 +1,6 @@
 //! What one event does to a net.
 
-ghost use Rattle.std.specs.Prelude.{◌≡◌, ◌≢◌, ◌++◌, ◌∷◌, [], ◌<◌, length, map, Bool, List, None, Some, IfOk, OnOk};
+ghost use Rattle.std.specs.Prelude.{◌≡◌, ◌≢◌, ◌++◌, ◌∷◌, [], ◌<◌, length, map, Bool, true, false, List, None, Some, IfOk, OnOk};
 ghost use Rattle.std.specs.List.{All};
 ghost use Rattle.echo_addr.specs.declared.address.Address.{Address};
 ghost use Rattle.echo_steps.specs.declared.fault.PostFault.TheVariants as post_fault;
@@ -8,6 +8,8 @@ ghost use Rattle.echo_run.specs.Event.{run_event};
 ghost use Rattle.echo_run.specs.Run.{Run, after_event, change, destination, nth};
 ghost use Rattle.echo_steps.specs.declared.packet.Packet.{Packet};
 ghost use Rattle.echo_steps.specs.SystemState.{SystemState};
+ghost use Rattle.echo_replay.specs.Taken.{AreTaken};
+ghost use Rattle.echo_replay.specs.Worlds as model;
 ghost use Rattle.echo_replay.specs.Worlds.{Fits, IsWorldOf, LeadsToFirst, ScanFits, own_addresses, after_posting, after_purge, after_scan, after_toss, arrived, encoded, made, made_by, scanned_world, with_change, world_after};
 
 use crate::receivers::Receivers;
@@ -29,7 +31,7 @@ pub(crate) fn happen(
 ) -> Result<(), AllocError>
     requires { LeadsToFirst receivers.now.first.entries (own_addresses world.old.systems) }
     ensures addresses { own_addresses world.new.systems ≡ own_addresses world.old.systems }
-    ensures run { OnOk result ((run : Run) → IsWorldOf world.old run → IsWorldOf world.new (after_event run (run_event event.now))) }
+    ensures run { OnOk result ((run : Run) → IsWorldOf world.old run → AreTaken run → IsWorldOf world.new (after_event run (run_event event.now))) }
 {
     match event {
         Event::Post {
@@ -187,18 +189,23 @@ fn destination_in(header: &Header) -> Address
     }
 }
 
-// A packet comes to the first system of its destination, where there is one.
+// A packet comes to the first system of its destination, where there is one. What came before is
+// refused there or known, and changes nothing.
 fn deliver(receivers: &Receivers, world: &mut World, packet: usize) -> Result<(), AllocError>
     requires { LeadsToFirst receivers.now.first.entries (own_addresses world.old.systems) }
     ensures addresses { own_addresses world.new.systems ≡ own_addresses world.old.systems }
     ensures none { OnOk result (nth packet world.old.packets ≡ None → world.new ≡ world.old) }
-    ensures came { OnOk result ((p : Packet) → Fits p → (came : Bool) → nth packet world.old.packets ≡ Some (record { bytes = encoded p; to = destination p; came = came }) →
+    ensures again { OnOk result ((e : model.Exported) → nth packet world.old.packets ≡ Some e → e.came ≡ true → world.new ≡ world.old) }
+    ensures first { OnOk result ((p : Packet) → Fits p → nth packet world.old.packets ≡ Some (record { bytes = encoded p; to = destination p; came = false }) →
         world.new ≡ world_after world.old packet p) }
 {
     if packet >= world.packets.len() {
         return Ok(());
     }
     let to = world.packets[packet].to;
+    if world.packets[packet].came {
+        return Ok(());
+    }
     match receivers.of(to) {
         Some(system) => arrive(world, packet, system),
         None => Ok(()),

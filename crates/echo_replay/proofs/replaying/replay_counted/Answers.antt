@@ -1,4 +1,4 @@
-use Rattle.std.proofs.Common.{◌∙◌, List, [], map, sym, ap, subst}
+use Rattle.std.proofs.Common.{◌∙◌, List, [], map, take, sym, ap, subst}
 use Rattle.std.proofs.lemmas.List.{take_all}
 use Rattle.echo_addr.specs.declared.address.Address.{Address}
 use Rattle.echo_run.specs.Event.{run_event}
@@ -8,6 +8,7 @@ use Rattle.echo_replay.specs.Counts.{packet_counts}
 use Rattle.echo_replay.specs.Worlds.{IsWorldOf, LeadsToFirst, WorldState, own_addresses}
 use Rattle.echo_replay.proofs.Counted.{counts-more}
 use Rattle.echo_replay.proofs.Runs.{addresses-first, event-more, first-run}
+use Rattle.echo_replay.proofs.Taken.{run-taken}
 use Rattle.echo_replay.proofs.replaying.replay_counted.Goals as goal
 
 pub events-init : goal.events-init
@@ -29,13 +30,14 @@ events-preserved c =
     let before = c.events.invariant in
     let A : List Address → Type 0 = λ all. LeadsToFirst c.in_ok-receivers.receivers.first.entries all in
     let R : Run → Type 0 = λ run. IsWorldOf c.happen.new.world run in
+    let are = run-taken c.args.files.items (map run_event (take c.events.event-index c.args.events.now)) in
     record {
       leads = subst A (sym c.in_ok-happen.ensures.addresses) before.leads;
       run = subst R (event-more c.args.files.items c.args.events.now c.events.event-index c.event-item.result c.events-test.true c.event-item.is)
-          (c.in_ok-happen.ensures.run _ before.run);
+          (c.in_ok-happen.ensures.run _ before.run are);
       counts = counts-more c.args.files.items c.args.events.now c.events.event-index c.event-item.result c.events.counts.items c.push.new.self.items c.packets.result
           c.events-test.true c.event-item.is before.counts c.in_ok-push.ensures.items
-          (c.packets.ensures _ (c.in_ok-happen.ensures.run _ before.run));
+          (c.packets.ensures _ (c.in_ok-happen.ensures.run _ before.run are));
     }
 
 pub returns-clause-world : goal.returns-clause-world
