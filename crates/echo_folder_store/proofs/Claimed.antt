@@ -21,7 +21,7 @@ no_entries : (digest : List ℕ → ℕ) (all : List Stored) → length (keys_fr
 no_entries digest [] none = refl
 no_entries digest (s ∷ later) none = absurd (omega (arith, none, keys_long digest 0 (s ∷ later)))
 
-claimed_open : (d : DiskState) (f : Folder) (mark : Mark) → IsOpen d f → IsOpen d (with_mark f mark)
+pub claimed_open : (d : DiskState) (f : Folder) (mark : Mark) → IsOpen d f → IsOpen d (with_mark f mark)
 claimed_open d f mark was = record {
   names = was.names;
   staged = record {
@@ -41,7 +41,7 @@ claimed_open d f mark was = record {
 }
 
 -- with no message each key serves
-claimed_holds : (keyed : ℕ → ℕ → List ℕ → ℕ) → ((first second : ℕ) (bytes : List ℕ) → keyed first second bytes < 2 ^ 64) → (d : DiskState) (f : Folder) (mark : Mark) (base : Base) → IsOpen d f → IsUnclaimed f
+pub claimed_holds : (keyed : ℕ → ℕ → List ℕ → ℕ) → ((first second : ℕ) (bytes : List ℕ) → keyed first second bytes < 2 ^ 64) → (d : DiskState) (f : Folder) (mark : Mark) (base : Base) → IsOpen d f → IsUnclaimed f
     → HoldsBase keyed (held_by d f) base → HoldsBase keyed (held_by d (with_mark f mark)) base
 claimed_holds keyed fits d f mark base opened free holds =
     let files = holds.files in

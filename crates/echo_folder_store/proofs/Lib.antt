@@ -1,11 +1,11 @@
 mod Bases
-mod Causes
-mod Claimed
+pub mod Causes
+pub mod Claimed
 mod Indexed
-mod Looked
-mod Numbered
+pub mod Looked
+pub mod Numbered
 mod OneMore
-mod Seen
+pub mod Seen
 mod Single
 mod Staged
 mod Stated

@@ -15,3 +15,7 @@ pub record IsUnclaimed (folder : Folder) : Type 0 where
 -- the folder with this mark, which the next commit tells
 abbrev pub with_mark : Folder → Mark → Folder
 with_mark folder mark = record folder { told = record folder.told { mark = mark } }
+
+-- with another owner and the same key
+abbrev pub with_owner : Folder → ℕ → Folder
+with_owner folder owner = with_mark folder (record folder.told.mark { owner = owner })

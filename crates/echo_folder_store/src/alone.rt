@@ -48,7 +48,7 @@ fn load_whole(alloc: Global, whole: &[u8]) -> Result<Alone, StoreError>
 }
 
 /// The message that is stored so.
-pub(crate) fn read_alone(alloc: Global, bytes: &[u8]) -> Result<Alone, StoreError>
+pub fn read_alone(alloc: Global, bytes: &[u8]) -> Result<Alone, StoreError>
     ensures read { (s : Stored) → IsStored Second s → MayStandAlone s → bytes.now ≡ stored_bytes Second s
         → Answers (λ alone. alone.messages ≡ message_in Second s ∷ []) result }
     ensures device { IsErrOf result StoreError.Device → ⊥ }

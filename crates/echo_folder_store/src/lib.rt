@@ -14,7 +14,7 @@ mod laws;
 mod owning;
 mod sought;
 
-pub use alone::{Alone, bytes_alone};
+pub use alone::{Alone, bytes_alone, read_alone};
 pub use folder::Folder;
 pub use folder_store::FolderStore;
 pub use laws::one_message_more;

@@ -1,7 +1,7 @@
 //! Whose a base folder is, and the digests by its key.
 ghost use Rattle.std.specs.Prelude.{◌≡◌, true, false};
 ghost use Rattle.echo_folder_store.specs.Held.{digest_by};
-ghost use Rattle.echo_folder_store.specs.Owned.{IsUnclaimed, owner_of, with_mark};
+ghost use Rattle.echo_folder_store.specs.Owned.{IsUnclaimed, owner_of, with_mark, with_owner};
 
 use crate::folder::Folder;
 use echo_folder::Mark;
@@ -28,6 +28,18 @@ impl Folder {
             return false;
         }
         self.told.mark = mark;
+        true
+    }
+
+    /// Gives it an owner, where it has none, and answers whether it did. Its key stays. Nothing is committed.
+    pub fn adopt(&mut self, owner: u64) -> bool
+        ensures adopted { result ≡ true → (self.old.told.mark.owner ≡ 0) × (self.new ≡ with_owner self.old owner) }
+        ensures refused { result ≡ false → (self.old.told.mark.owner ≡ 0 → ⊥) × (self.new ≡ self.old) }
+    {
+        if self.told.mark.owner != 0 {
+            return false;
+        }
+        self.told.mark.owner = owner;
         true
     }
 

@@ -74,6 +74,7 @@ status_of (fault.Text f) = text_status f
 status_of (fault.Nodelist f) = node_status f
 status_of (fault.Link f) = link_status f
 status_of (fault.Base f) = base_status f
+status_of (fault.NotOwner a) = Refused
 status_of (fault.Post f) = post_status f
 status_of (fault.NotForUs a) = Refused
 status_of fault.TossMemory = Device

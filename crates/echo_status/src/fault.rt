@@ -29,6 +29,9 @@ pub enum Fault<'a> {
     Link(LinkFault),
     #[error("{0}")]
     Base(BaseFault),
+    /// The base folder is that of another system.
+    #[error("F8 NotOwner {0}")]
+    NotOwner(Address),
     #[error("{0}")]
     Post(PostFault),
     /// A packet for this system came to another one.
@@ -152,6 +155,7 @@ impl Fault<'_> {
             | Fault::Nodelist(_)
             | Fault::Link(_)
             | Fault::Base(_)
+            | Fault::NotOwner(_)
             | Fault::Post(_)
             | Fault::NotForUs(_)
             | Fault::Scan(_)

@@ -1,6 +1,7 @@
 //! `export --msg`: messages of a base as files of a folder. The lock of the folder is held from before its names are
 //! read until the last file stands, so that two runs never take the same numbers.
 
+use crate::folders::base_bytes;
 use crate::inputs::{output_fault, read_file};
 use crate::locks::lock_file;
 use echo_addr::Items;
@@ -71,7 +72,7 @@ fn files_given<'a>(
         None => 0,
     };
     let hasher = RandomState::new(rt).map_err(|_| Fault::Base(BaseFault::Read))?;
-    let base = read_file(rt, words.base, usize::MAX)?;
+    let base = base_bytes(rt, words.base)?;
     let locked = locked_folder(rt, folder)?;
     let (greatest, last) = last_stored(rt, folder)?;
     let exported = export_files(

@@ -196,6 +196,7 @@ const LINES: &[(Fault<'static>, &str, u8)] = &[
         2,
     ),
     (Fault::Post(PostFault::Memory), "echonet: B7 Memory\n", 3),
+    (Fault::NotOwner(NODE), "echonet: F8 NotOwner 1:10/2\n", 2),
     (Fault::NotForUs(NODE), "echonet: C1 NotForUs 1:10/2\n", 2),
     (Fault::TossMemory, "echonet: C2 Memory\n", 3),
     (

@@ -1,0 +1,4 @@
+pub mod Files
+pub mod Lookings
+pub mod Openings
+pub mod Wrongs

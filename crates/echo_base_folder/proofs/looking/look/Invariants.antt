@@ -1,0 +1,10 @@
+-- Nothing was changed by the tries so far.
+use Rattle.std.proofs.Common.{◌≤◌}
+use Rattle.echo_disk.specs.Runs.{ChangesNothing}
+use Rattle.echo_base_folder.proofs.looking.look.Given as goal
+
+abbrev pub invariant-tries : goal.invariant-tries
+invariant-tries g l = record {
+  quiet : ChangesNothing (g.D.Disk.state l.fn.disk) (g.D.Disk.state l.disk);
+  cause : g.D.Disk.failures l.fn.disk ≤ g.D.Disk.failures l.disk;
+}

@@ -1,0 +1,50 @@
+-- Why a base folder is not read or opened.
+use Rattle.std.specs.Prelude.{◌≡◌, ◌≤◌, ℕ, Bool, List, Result, IsErrOf}
+use Rattle.echo_base.specs.declared.fault.BaseFault.TheVariants as base
+use Rattle.echo_device.specs.Device.{Failed}
+use Rattle.echo_disk.specs.Disk.{Files, bytes_in}
+use Rattle.echo_disk.specs.declared.disk_error.DiskError.{DiskError}
+use Rattle.echo_disk.specs.declared.disk_error.DiskError.TheVariants as disk
+use Rattle.echo_folder.specs.Names.{log_of}
+use Rattle.echo_folder.specs.declared.log.Told.{Told}
+use Rattle.echo_status.specs.declared.fault.Fault.{Fault}
+use Rattle.echo_status.specs.declared.fault.Fault.TheVariants as fault
+use Rattle.echo_base_folder.specs.Wrong.{IsCutShort, IsNoFolder, IsShort}
+use Rattle.echo_base_folder.specs.declared.unread.Unread.{Unread}
+use Rattle.echo_base_folder.specs.declared.unread.Unread.TheVariants as unread
+
+-- a disk's fault
+abbrev pub unread_cause : DiskError → Unread
+unread_cause disk.Memory = unread.Memory
+unread_cause disk.Device = unread.Device
+
+-- a failure of the device is answered only where its count of failures rose
+pub record HasUnreadCause {T : Type 0} (before now : ℕ) (result : Result T Unread) : Type 0 where
+  pub later : before ≤ now
+  pub failed : IsErrOf result unread.Device → Failed before now
+
+-- how it is reported of the base with this path
+abbrev pub IsToldAs : List ℕ → Unread → Fault → Type 0
+IsToldAs path unread.Memory told = told ≡ fault.OutOfMemory
+IsToldAs path unread.Device (fault.CannotUse shown) = shown.now ≡ path
+IsToldAs path unread.Device _ = ⊥
+IsToldAs path (unread.Wrong why) told = told ≡ fault.Base why
+
+-- the log is that of no base folder, if that is why
+abbrev pub IsWrongLog : Bool → List ℕ → Unread → Type 0
+IsWrongLog strange log (unread.Wrong base.NotBase) = IsNoFolder strange log
+IsWrongLog strange log (unread.Wrong _) = ⊥
+IsWrongLog strange log _ = Unit {0}
+
+-- the files are shorter than the log tells, if that is why
+abbrev pub IsWrongFiles : List ℕ → Files → Told → Unread → Type 0
+IsWrongFiles path files told (unread.Wrong (base.Truncated n)) = IsShort path files told n
+IsWrongFiles path files told (unread.Wrong _) = ⊥
+IsWrongFiles path files told _ = Unit {0}
+
+-- the files are those of no base folder, or of one that is cut short, if that is why
+abbrev pub IsWrong : Bool → List ℕ → Files → Unread → Type 0
+IsWrong strange path files (unread.Wrong base.NotBase) = IsNoFolder strange (bytes_in (files (log_of path)))
+IsWrong strange path files (unread.Wrong (base.Truncated n)) = IsCutShort path files n
+IsWrong strange path files (unread.Wrong _) = ⊥
+IsWrong strange path files _ = Unit {0}

@@ -1,0 +1,40 @@
+-- What is wrong with a folder that is no base folder, or is cut short.
+use Rattle.std.specs.Prelude.{◌≡◌, ◌≤◌, ◌<◌, ◌⊎◌, ℕ, ◌+◌, ◌/◌, ◌%◌, ◌==◌, ◌&&◌, ◌||◌, not, nat_lt, Bool, true, List, length, take}
+use Rattle.echo_disk.specs.Disk.{Files, bytes_in}
+use Rattle.echo_folder.specs.Names.{keys_of, log_of, messages_of}
+use Rattle.echo_folder.specs.Reading.{ReadsAll}
+use Rattle.echo_folder.specs.declared.log.End.{End}
+use Rattle.echo_folder.specs.declared.log.Told.{Told}
+use Rattle.echo_keys.specs.Keys.{place_behind}
+
+-- No base folder has a log of this size whose records end so, whatever a crash left: its files have no digit, its keys are
+-- not sixteen bytes a message, the cursor is behind the last one, or there is more than a closed gate and a record behind.
+abbrev pub is_no_log : ℕ → End → Bool
+is_no_log size end =
+    nat_lt 9 end.told.number || (not (end.told.keys % 16 == 0) || (nat_lt (end.told.keys / 16) end.told.cursor || nat_lt (end.gate + 51) size))
+
+-- it is such a log, or has no record, and the folder has files that no base folder has
+abbrev pub is_foreign : Bool → ℕ → End → Bool
+is_foreign strange size end = is_no_log size end || (strange && (end.gate == 0))
+
+-- the folder with this log is no base folder
+pub record IsNoFolder (strange : Bool) (log : List ℕ) : Type 0 where
+  pub end : End
+  pub reads : ReadsAll log end
+  pub foreign : is_foreign strange (length log) end ≡ true
+
+-- so many messages, from the front, end within the bytes that are there, of all that the log tells, and the next one does not
+pub record AreWhole (keys : List ℕ) (all there n : ℕ) : Type 0 where
+  pub whole : (i : ℕ) (messages : List ℕ) → length messages ≡ all → i < n → place_behind messages keys i ≤ there
+  pub next : (messages : List ℕ) → length messages ≡ all → n < length keys / 16 → there < place_behind messages keys n
+
+-- a file is shorter than the log tells, and so many messages are whole
+pub record IsShort (path : List ℕ) (files : Files) (told : Told) (n : ℕ) : Type 0 where
+  pub short : (length (bytes_in (files (messages_of path told.number))) < told.messages) ⊎ (length (bytes_in (files (keys_of path told.number))) < told.keys)
+  pub whole : AreWhole (take told.keys (bytes_in (files (keys_of path told.number)))) told.messages (length (bytes_in (files (messages_of path told.number)))) n
+
+-- the same of what the folder's own log tells
+pub record IsCutShort (path : List ℕ) (files : Files) (n : ℕ) : Type 0 where
+  pub end : End
+  pub reads : ReadsAll (bytes_in (files (log_of path))) end
+  pub is : IsShort path files end.told n

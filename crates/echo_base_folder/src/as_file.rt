@@ -1,0 +1,115 @@
+//! The base file of the messages of a base folder.
+ghost use Rattle.std.specs.Prelude.{◌≡◌, ◌<◌, ◌/◌, ℕ, List, length, IfErr, IfOk, slice_index_or};
+ghost use Rattle.echo_base.specs.Base.{Base};
+ghost use Rattle.echo_base.specs.BaseFile.{head_bytes, saved_bytes, stored_at};
+ghost use Rattle.echo_filed.specs.Filed.{Filed};
+ghost use Rattle.echo_filed.specs.Stored.{stored_as, stored_bytes};
+ghost use Rattle.echo_filed.specs.declared.stored.Version.TheVariants.{Second};
+ghost use Rattle.echo_folder_store.specs.Answers.{Answers, IsAloneOf};
+ghost use Rattle.echo_folder_store.specs.Held.{HoldsBase};
+ghost use Rattle.echo_keys.specs.Keys.{StandWhereTold};
+ghost use Rattle.echo_base_folder.specs.AsFile.{IsFileFault, IsTooLong};
+ghost use Rattle.echo_base_folder.specs.Looked.{bytes_of};
+
+use crate::looking::Seen;
+use echo_base::BaseFault;
+use echo_device::Watched;
+use echo_filed::{Filed, is_short, is_short_enough, long_bytes, send_message};
+use echo_folder_store::{Alone, read_alone};
+use echo_keys::{end_of, place_of};
+use echo_store::StoreError;
+use std::alloc::{AllocError, Global};
+
+/// The most messages that four bytes count.
+const MOST: usize = 0xffff_ffff;
+
+// What stands before the messages.
+fn head_of(alloc: Global, cursor: u32, number: u32) -> Result<Vec<u8>, AllocError>
+    ensures { IfOk result (λ bytes. bytes.items ≡ head_bytes Second cursor number) }
+{
+    let mut bytes = Vec::from_slice(alloc, b"ECHOBAS2")?;
+    bytes.extend_from_slice(&long_bytes(cursor))?;
+    bytes.extend_from_slice(&long_bytes(number))?;
+    Ok(bytes)
+}
+
+// The message as a base file has it, with tag and id in place of the text or not.
+fn bytes_of(alloc: Global, message: &Filed, short: bool) -> Result<Vec<u8>, BaseFault>
+    ensures bytes { IfOk result (λ bytes. bytes.items ≡ stored_bytes Second (stored_as short message.now)) }
+    ensures fault { IfErr result (IsTooLong (stored_as short message.now)) }
+{
+    if !is_short_enough(alloc, message, short)? {
+        return Err(BaseFault::TooMany);
+    }
+    let mut bytes = Watched::new(Vec::new(alloc));
+    match send_message(alloc, &mut bytes, message, short, &mut 0) {
+        Ok(()) => Ok(bytes.into_inner()),
+        Err(_) => Err(BaseFault::Memory),
+    }
+}
+
+// The same at this place.
+fn bytes_at(
+    alloc: Global,
+    message: &Filed,
+    place: usize,
+    cursor: usize,
+) -> Result<Vec<u8>, BaseFault>
+    ensures bytes { IfOk result (λ bytes. bytes.items ≡ stored_bytes Second (stored_at cursor place message.now)) }
+    ensures fault { IfErr result (IsTooLong (stored_at cursor place message.now)) }
+{
+    bytes_of(alloc, message, is_short(message, place, cursor))
+}
+
+impl Seen {
+    /// The base file of the same messages and the same cursor. It is `Damaged` where a message does not stand as it
+    /// was filed.
+    pub fn as_file(&self, alloc: Global) -> Result<Vec<u8>, BaseFault>
+        ensures file { (keyed : ℕ → ℕ → List ℕ → ℕ) (base : Base) → HoldsBase keyed (bytes_of self.now) base
+            → IfOk result (λ bytes. bytes.items ≡ saved_bytes base.messages base.cursor) }
+        ensures fault { (keyed : ℕ → ℕ → List ℕ → ℕ) (base : Base) → HoldsBase keyed (bytes_of self.now) base → IfErr result (IsFileFault base) }
+    {
+        let count = self.count();
+        if count > MOST || self.cursor > MOST as u64 {
+            return Err(BaseFault::TooMany);
+        }
+        let mut file = head_of(alloc, self.cursor as u32, count as u32)?;
+        'messages: for i in 0..count {
+            let bytes = self.message_at(alloc, i)?;
+            file.extend_from_slice(&bytes)?;
+        }
+        Ok(file)
+    }
+
+    // The message of this number as a base file has it there.
+    fn message_at(&self, alloc: Global, i: usize) -> Result<Vec<u8>, BaseFault>
+        requires { i < length self.now.keys.items / 16 }
+        ensures bytes { (base : List Filed) → StandWhereTold base self.now.messages.items self.now.keys.items → (d : Filed)
+            → IfOk result (λ bytes. bytes.items ≡ stored_bytes Second (stored_at self.now.cursor i (slice_index_or base i d))) }
+        ensures fault { (base : List Filed) → StandWhereTold base self.now.messages.items self.now.keys.items → (d : Filed)
+            → IfErr result (IsTooLong (stored_at self.now.cursor i (slice_index_or base i d))) }
+    {
+        let alone = match self.alone_at(alloc, i) {
+            Ok(alone) => alone,
+            Err(StoreError::Memory) => return Err(BaseFault::Memory),
+            Err(_) => return Err(BaseFault::Damaged { message: i as u64 }),
+        };
+        match alone.message(0) {
+            Some(message) => bytes_at(alloc, message, i, self.cursor as usize),
+            None => Err(BaseFault::Damaged { message: i as u64 }),
+        }
+    }
+
+    // The message of this number, alone in a base of its own.
+    fn alone_at(&self, alloc: Global, i: usize) -> Result<Alone, StoreError>
+        requires { i < length self.now.keys.items / 16 }
+        ensures read { (base : List Filed) → StandWhereTold base self.now.messages.items self.now.keys.items → Answers (IsAloneOf base i) result }
+    {
+        let begins = place_of(&self.keys, i) as usize;
+        let ends = end_of(&self.keys, i, self.messages.len() as u64) as usize;
+        if begins > ends || ends > self.messages.len() {
+            return Err(StoreError::Damaged);
+        }
+        read_alone(alloc, &self.messages[begins..ends])
+    }
+}

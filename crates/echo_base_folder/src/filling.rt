@@ -1,0 +1,94 @@
+//! A base folder filled with the messages of a base.
+ghost use Rattle.std.specs.Prelude.{◌≡◌, ◌≤◌, ℕ, List, OnOk, take, length};
+ghost use Rattle.echo_base.specs.Base.{Base};
+ghost use Rattle.echo_disk.specs.Disk.{Honestly};
+ghost use Rattle.echo_folder_store.specs.Answers.{HasReadCause};
+ghost use Rattle.echo_folder_store.specs.Held.{HoldsBase, digest_by};
+ghost use Rattle.echo_folder_store.specs.Opened.{IsNamed, IsOpen, committed_by, held_by};
+ghost use Rattle.echo_base_folder.specs.Filled.{HoldsFront, HoldsMore};
+
+use echo_base::Base;
+use echo_disk::Disk;
+use echo_filed::{Filed, Key};
+use echo_folder_store::{Folder, bytes_alone};
+use echo_keys::{Digest, bytes_of_key};
+use echo_store::StoreError;
+use std::alloc::Global;
+use std::hash::BuildHasher;
+
+// Adds the message to the folder. The digest is that of the folder's key.
+fn add<D: Disk, H: Digest>(
+    alloc: Global,
+    disk: &mut D,
+    folder: &mut Folder,
+    digest: &H,
+    message: &Filed,
+) -> Result<(), StoreError>
+    requires named { IsNamed folder.old }
+    requires opened { Honestly (D.state disk.old) (IsOpen (D.state disk.old) folder.old) }
+    requires digests { (bytes : List ℕ) → H.digest digest.now bytes ≡ digest_by H.keyed folder.old.told.mark bytes }
+    ensures named { IsNamed folder.new }
+    ensures opened { Honestly (D.state disk.new) (OnOk result (IsOpen (D.state disk.new) folder.new)) }
+    ensures mark { folder.new.told.mark ≡ folder.old.told.mark }
+    ensures added { Honestly (D.state disk.new) (OnOk result (HoldsMore H.keyed (held_by (D.state disk.old) folder.old) (held_by (D.state disk.new) folder.new) message.now)) }
+    ensures cause { HasReadCause (D.failures disk.old) (D.failures disk.new) result }
+{
+    let bytes = bytes_alone(alloc, message)?;
+    let key = Key::of_message(alloc, message)?;
+    let digested = bytes_of_key(alloc, &key)?;
+    folder.stage(disk, &bytes, digest.of(&digested))
+}
+
+// Adds the messages of the base from one number up to another.
+fn add_from<D: Disk, H: Digest, S: BuildHasher>(
+    alloc: Global,
+    disk: &mut D,
+    folder: &mut Folder,
+    digest: &H,
+    base: &Base<S>,
+    from: usize,
+    to: usize,
+) -> Result<(), StoreError>
+    requires named { IsNamed folder.old }
+    requires opened { Honestly (D.state disk.old) (IsOpen (D.state disk.old) folder.old) }
+    requires digests { (bytes : List ℕ) → H.digest digest.now bytes ≡ digest_by H.keyed folder.old.told.mark bytes }
+    requires order { from ≤ to }
+    requires within { to ≤ length base.now.messages }
+    ensures named { IsNamed folder.new }
+    ensures opened { Honestly (D.state disk.new) (OnOk result (IsOpen (D.state disk.new) folder.new)) }
+    ensures mark { folder.new.told.mark ≡ folder.old.told.mark }
+    ensures added { Honestly (D.state disk.new) ((cursor : ℕ) → HoldsFront H.keyed (held_by (D.state disk.old) folder.old) base.now.messages from cursor
+        → OnOk result (HoldsFront H.keyed (held_by (D.state disk.new) folder.new) base.now.messages to cursor)) }
+    ensures cause { HasReadCause (D.failures disk.old) (D.failures disk.new) result }
+{
+    'messages: for i in from..to {
+        if let Some(message) = base.message(i) {
+            add(alloc, disk, folder, digest, message)?;
+        }
+    }
+    Ok(())
+}
+
+/// Adds the messages of the base to an empty folder, of which as many count as scanned, and commits them. The digest is
+/// that of the folder's key. At an error nothing is known but what a crash may leave.
+pub fn fill<D: Disk, H: Digest, S: BuildHasher>(
+    alloc: Global,
+    disk: &mut D,
+    folder: &mut Folder,
+    digest: &H,
+    base: &Base<S>,
+) -> Result<(), StoreError>
+    requires named { IsNamed folder.old }
+    requires opened { Honestly (D.state disk.old) (IsOpen (D.state disk.old) folder.old) }
+    requires digests { (bytes : List ℕ) → H.digest digest.now bytes ≡ digest_by H.keyed folder.old.told.mark bytes }
+    ensures opened { Honestly (D.state disk.new) (OnOk result (IsOpen (D.state disk.new) folder.new)) }
+    ensures committed { Honestly (D.state disk.new) (HoldsFront H.keyed (held_by (D.state disk.old) folder.old) base.now.messages 0 0
+        → OnOk result (HoldsBase H.keyed (committed_by (D.state disk.new) folder.new) base.now)) }
+    ensures cause { HasReadCause (D.failures disk.old) (D.failures disk.new) result }
+{
+    let cursor = base.cursor();
+    add_from(alloc, disk, folder, digest, base, 0, cursor)?;
+    folder.move_to_end();
+    add_from(alloc, disk, folder, digest, base, cursor, base.len())?;
+    folder.commit(disk)
+}

@@ -1,0 +1,111 @@
+//! A base folder read without a change, so that no lock is wanted.
+ghost use Rattle.std.specs.Prelude.{◌≡◌, ◌≤◌, ◌<◌, ◌/◌, length, IfErr, IfOk, OnOk};
+ghost use Rattle.echo_disk.specs.Disk.{Honestly, bytes_in};
+ghost use Rattle.echo_disk.specs.Runs.{ChangesNothing, HasCause};
+ghost use Rattle.echo_folder.specs.Names.{keys_of, messages_of};
+ghost use Rattle.echo_folder.specs.Standing.{BaseBytes, StandsFor, base_at};
+ghost use Rattle.echo_base_folder.specs.Looked.{bytes_of};
+ghost use Rattle.echo_base_folder.specs.Unread.{HasUnreadCause, IsWrong, IsWrongFiles};
+
+use crate::judging::{Outline, cut_in, front_of, outline_of};
+use crate::unread::Unread;
+use echo_base::BaseFault;
+use echo_disk::{Disk, DiskError};
+use echo_folder::{End, Mark, Names};
+use std::alloc::Global;
+
+/// How often a folder is read that purges change meanwhile.
+const TRIES: usize = 1_000;
+
+/// What a base folder holds: its messages as they are stored, their entries, how many of them were scanned, and whose
+/// it is.
+#[derive(Drop)]
+pub struct Seen {
+    pub(crate) messages: Vec<u8>,
+    pub(crate) keys: Vec<u8>,
+    pub(crate) cursor: u64,
+    pub(crate) mark: Mark,
+}
+
+impl Seen {
+    /// How many messages it has.
+    pub fn count(&self) -> usize
+        ensures { result ≡ length self.now.keys.items / 16 }
+    {
+        self.keys.len() / 16
+    }
+}
+
+/// Reads the base folder of this path, which ends in a slash, and changes nothing. Where a purge puts other files in
+/// place meanwhile it is read again. `strange` says that the folder has other files than those of a base folder.
+///
+/// It is `Wrong` where it is no base folder (F1), or one of its files is shorter than its log tells (F2).
+pub fn look<D: Disk>(
+    alloc: Global,
+    disk: &mut D,
+    path: &[u8],
+    strange: bool,
+) -> Result<Seen, Unread>
+    ensures found { Honestly (D.state disk.new) ((base : BaseBytes) → StandsFor path.now base (D.state disk.old).seen
+        → IfOk result (λ seen. bytes_of seen ≡ base)) }
+    ensures wrong { Honestly (D.state disk.new) (IfErr result (IsWrong strange path.now (D.state disk.old).seen)) }
+    ensures quiet { ChangesNothing (D.state disk.old) (D.state disk.new) }
+    ensures cause { HasUnreadCause (D.failures disk.old) (D.failures disk.new) result }
+{
+    'tries: for _try in 0..TRIES {
+        let before = outline_of(alloc, disk, path, strange)?;
+        let seen = seen_of(alloc, disk, path, before.end);
+        let after = outline_of(alloc, disk, path, strange)?;
+        if goes_on(&before, &after) {
+            return seen;
+        }
+    }
+    let Outline { log: _, end } = outline_of(alloc, disk, path, strange)?;
+    seen_of(alloc, disk, path, end)
+}
+
+// Whether the files that held the base then hold it still.
+fn goes_on(before: &Outline, after: &Outline) -> bool
+    requires { before.now.end.gate ≤ length before.now.log.items }
+{
+    let (then, now) = (before.end, after.end);
+    now.told.number == then.told.number && after.log.starts_with(&before.log[..then.gate])
+}
+
+// What the files hold that the log names.
+fn seen_of<D: Disk>(alloc: Global, disk: &mut D, path: &[u8], end: End) -> Result<Seen, Unread>
+    requires { end.told.number < 10 }
+    ensures seen { Honestly (D.state disk.new) (IfOk result (λ seen. bytes_of seen ≡ base_at (D.state disk.old) path.now end.told)) }
+    ensures messages { Honestly (D.state disk.new) (OnOk result (end.told.messages ≤ length (bytes_in ((D.state disk.old).seen (messages_of path.now end.told.number))))) }
+    ensures keys { Honestly (D.state disk.new) (OnOk result (end.told.keys ≤ length (bytes_in ((D.state disk.old).seen (keys_of path.now end.told.number))))) }
+    ensures wrong { Honestly (D.state disk.new) (IfErr result (IsWrongFiles path.now (D.state disk.old).seen end.told)) }
+    ensures quiet { ChangesNothing (D.state disk.old) (D.state disk.new) }
+    ensures cause { HasUnreadCause (D.failures disk.old) (D.failures disk.new) result }
+{
+    if let Some(messages) = cut_in(alloc, disk, path, end)? {
+        return Err(Unread::Wrong(BaseFault::Truncated { messages }));
+    }
+    Ok(files_of(alloc, disk, path, end)?)
+}
+
+// As much of the messages and of their keys as the log tells.
+fn files_of<D: Disk>(alloc: Global, disk: &mut D, path: &[u8], end: End) -> Result<Seen, DiskError>
+    requires { end.told.number < 10 }
+    ensures seen { Honestly (D.state disk.new) (IfOk result (λ seen. bytes_of seen ≡ base_at (D.state disk.old) path.now end.told)) }
+    ensures quiet { ChangesNothing (D.state disk.old) (D.state disk.new) }
+    ensures cause { HasCause (D.failures disk.old) (D.failures disk.new) result }
+{
+    let told = end.told;
+    let names = match Names::new(alloc, path, told.number) {
+        Ok(names) => names,
+        Err(_) => return Err(DiskError::Memory),
+    };
+    let keys = front_of(alloc, disk, &names.keys, told.keys)?;
+    let messages = front_of(alloc, disk, &names.messages, told.messages)?;
+    Ok(Seen {
+        messages,
+        keys,
+        cursor: told.cursor,
+        mark: told.mark,
+    })
+}

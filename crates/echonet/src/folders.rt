@@ -1,0 +1,152 @@
+//! Base folders: which BASE is one, and its files.
+
+use crate::inputs::read_file;
+use crate::stopped::folder_path;
+use echo_addr::Address;
+use echo_base::{Base, BaseFault};
+use echo_base_folder::{Seen, claim_for, fill, log_end, look, open_base};
+use echo_folder::Mark;
+use echo_folder_store::{Folder, FolderStore};
+use echo_keys::{Digest, SipDigest};
+use echo_real_disk::{RealDisk, Unknown};
+use echo_status::Fault;
+use echo_store_changing::Stop;
+use std::collections::hash_map::RandomState;
+use std::hash::{BuildHasher, Hasher};
+use std::{fs, io};
+
+/// The files of the system, as a disk.
+pub type Files<'r> = RealDisk<&'r HostRuntime, Unknown>;
+
+/// A base folder on them.
+pub type BaseFolder<'r> = FolderStore<Files<'r>, SipDigest>;
+
+/// Whether the path is that of a folder.
+pub fn is_folder(rt: &HostRuntime, path: &str) -> bool {
+    match fs::metadata(rt, path) {
+        Ok(found) => found.is_dir(),
+        Err(_) => false,
+    }
+}
+
+/// The files of the system.
+pub fn files(rt: &HostRuntime) -> Files<'_> {
+    RealDisk::new(rt, Unknown)
+}
+
+/// The base folder with this path, opened to be changed by the system with this address.
+pub fn open_own<'a, 'r>(
+    rt: &'r HostRuntime,
+    base: &'a str,
+    own: Address,
+) -> Result<BaseFolder<'r>, Fault<'a>> {
+    let mut disk = files(rt);
+    let mut folder = open_folder(rt, &mut disk, base)?;
+    let (first, second) = drawn_key(rt)?;
+    claim_for(&mut folder, own, first, second)?;
+    Ok(FolderStore::new(rt.alloc(), disk, folder))
+}
+
+/// Fills the base folder with this path, which is empty, with the messages of a base.
+pub fn fill_folder<'a>(
+    rt: &HostRuntime,
+    to: &'a str,
+    base: &Base<RandomState>,
+) -> Result<(), Fault<'a>> {
+    let mut disk = files(rt);
+    let mut folder = open_folder(rt, &mut disk, to)?;
+    let (first, second) = drawn_key(rt)?;
+    folder.claim(Mark {
+        owner: 0,
+        first,
+        second,
+    });
+    let digest = SipDigest::keyed(first, second);
+    match fill(rt.alloc(), &mut disk, &mut folder, &digest, base) {
+        Ok(()) => Ok(()),
+        Err(error) => Err(Stop::Store(error).fault(to)),
+    }
+}
+
+// The base folder with this path, opened.
+fn open_folder<'a>(
+    rt: &HostRuntime,
+    disk: &mut Files<'_>,
+    base: &'a str,
+) -> Result<Folder, Fault<'a>> {
+    let strange = is_strange(rt, base)?;
+    let path = folder_path(rt, base)?;
+    let opened = open_base(rt.alloc(), disk, path.as_bytes(), strange);
+    opened.map_err(|why| why.fault(base))
+}
+
+/// What the base folder with this path holds. Nothing of it is changed.
+pub fn look_into<'a>(rt: &HostRuntime, base: &'a str) -> Result<Seen, Fault<'a>> {
+    let strange = is_strange(rt, base)?;
+    let path = folder_path(rt, base)?;
+    look(rt.alloc(), &mut files(rt), path.as_bytes(), strange).map_err(|why| why.fault(base))
+}
+
+/// The bytes of a base file, or of the base file of the same messages where the base is a folder.
+pub fn base_bytes<'a>(rt: &HostRuntime, base: &'a str) -> Result<Vec<u8>, Fault<'a>> {
+    if !is_folder(rt, base) {
+        return read_file(rt, base, usize::MAX);
+    }
+    Ok(look_into(rt, base)?.as_file(rt.alloc())?)
+}
+
+/// How many messages of the base folder were scanned, as it is now, where that can be read.
+pub fn cursor_there(rt: &HostRuntime, base: &str) -> Option<u32> {
+    let strange = is_strange(rt, base).ok()?;
+    let path = folder_path(rt, base).ok()?;
+    let end = log_end(rt.alloc(), &mut files(rt), path.as_bytes(), strange).ok()?;
+    Some(end.told.cursor as u32)
+}
+
+// A key for digests, as two halves. A seed that cannot be had is a failed read.
+fn drawn_key<'a>(rt: &HostRuntime) -> Result<(u64, u64), Fault<'a>> {
+    let state = RandomState::new(rt).map_err(|_| Fault::Base(BaseFault::Read))?;
+    Ok((half_of(&state, 1), half_of(&state, 2)))
+}
+
+// A half of a key.
+fn half_of(state: &RandomState, number: u8) -> u64 {
+    let mut hasher = state.build_hasher();
+    hasher.write(&[number]);
+    hasher.finish()
+}
+
+/// Whether the folder has other files than those of a base folder.
+pub fn is_strange<'a>(rt: &HostRuntime, base: &'a str) -> Result<bool, Fault<'a>> {
+    let names = fs::read_dir(rt, base).map_err(|error| folder_fault(&error, base))?;
+    for entry in names {
+        match entry {
+            Ok(entry) => {
+                if !is_own(entry.file_name()) {
+                    return Ok(true);
+                }
+            }
+            // A name that is no text is none of a base folder.
+            Err(error) if error.kind() == io::ErrorKind::InvalidFilename => return Ok(true),
+            Err(error) => return Err(folder_fault(&error, base)),
+        }
+    }
+    Ok(false)
+}
+
+fn folder_fault<'a>(error: &io::Error, folder: &'a str) -> Fault<'a> {
+    match error.kind() {
+        io::ErrorKind::OutOfMemory => Fault::OutOfMemory,
+        _ => Fault::CannotUse(folder),
+    }
+}
+
+// Whether a file of a base folder has the name.
+fn is_own(name: &str) -> bool {
+    match name.rsplit_once('.') {
+        Some(("messages" | "keys", digit)) => digit.len() == 1
+            && digit.as_bytes()[0].is_ascii_digit(),
+        Some(_) => false,
+        None => name == "log",
+    }
+}
