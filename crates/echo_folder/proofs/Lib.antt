@@ -7,6 +7,7 @@ pub mod Opened
 pub mod Paths
 pub mod Quiet
 pub mod Reading
+pub mod Removed
 pub mod Renewed
 pub mod Rested
 pub mod Same

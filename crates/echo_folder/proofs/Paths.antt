@@ -2,7 +2,7 @@
 use Rattle.std.proofs.Common.{◌≡◌, ◌≢◌, ℕ, zero, suc, ◌+◌, List, [], ◌∷◌, ◌++◌, get_or, refl, sym, ap, arith, All}
 use Rattle.std.proofs.lemmas.List.{append_cancel_left}
 use Rattle.echo_disk.specs.Disk.{IsIn}
-use Rattle.echo_folder.specs.Names.{log_of, messages_of, keys_of}
+use Rattle.echo_folder.specs.Names.{IsBeside, log_of, messages_of, keys_of}
 use Rattle.echo_folder.specs.declared.names.TheConstants.{LOG, MESSAGES, KEYS}
 
 pub log_not_messages : (path : List ℕ) (n : ℕ) → log_of path ≢ messages_of path n
@@ -67,3 +67,20 @@ messages_in path n = record { name = MESSAGES.now ++ (48 + n) ∷ []; parts = re
 
 pub keys_in : (path : List ℕ) (n : ℕ) → IsIn path (keys_of path n)
 keys_in path n = record { name = KEYS.now ++ (48 + n) ∷ []; parts = refl; plain = plain_keys n }
+
+-- the files of another number do not count
+pub messages_beside : (path : List ℕ) (n number : ℕ) → number ≢ n → IsBeside path n (messages_of path number)
+messages_beside path n number other = record {
+  inside = messages_in path number;
+  not_log = log_not_messages path number;
+  not_messages = λ is. other (sym (messages_of-injective path n number is));
+  not_keys = keys_not_messages path n number;
+}
+
+pub keys_beside : (path : List ℕ) (n number : ℕ) → number ≢ n → IsBeside path n (keys_of path number)
+keys_beside path n number other = record {
+  inside = keys_in path number;
+  not_log = log_not_keys path number;
+  not_messages = messages_not_keys path n number;
+  not_keys = λ is. other (sym (keys_of-injective path n number is));
+}

@@ -1,22 +1,15 @@
 -- A base folder at rest, beside whose files others are made.
-use Rattle.std.proofs.Common.{◌≡◌, ◌≢◌, inl, ℕ, List, take, sym, ◌∙◌, subst}
+use Rattle.std.proofs.Common.{◌≡◌, inl, ℕ, List, Option, take, sym, ◌∙◌, subst}
 use Rattle.echo_disk.specs.Disk.{DiskState, Files, bytes_in, IsIn}
-use Rattle.echo_disk.specs.Steps.{TornMaking, ChangesFile}
+use Rattle.echo_disk.specs.Steps.{ChangesFile}
 use Rattle.echo_disk.specs.Runs.{LeavesOneStepOn, LeavesOnly, Elapses}
 use Rattle.echo_disk.proofs.Moments.{no_call, then_call, weaker_run}
-use Rattle.echo_folder.specs.Names.{log_of, messages_of, keys_of}
+use Rattle.echo_folder.specs.Names.{IsBeside, log_of, messages_of, keys_of}
 use Rattle.echo_folder.specs.Standing.{base_at}
 use Rattle.echo_folder.specs.AtRest.{IsAtRest}
 use Rattle.echo_folder.specs.Moments.{SameOutside, StandsAlone}
 use Rattle.echo_folder.specs.declared.log.End.{End}
 use Rattle.echo_folder.proofs.Rested.{rest_same}
-
--- a path that is none of the files that count
-pub record IsBeside (path : List ℕ) (number : ℕ) (file : List ℕ) : Type 0 where
-  pub inside : IsIn path file
-  pub not_log : log_of path ≢ file
-  pub not_messages : messages_of path number ≢ file
-  pub not_keys : keys_of path number ≢ file
 
 module _ (d0 : DiskState) (path : List ℕ) (end : End) (rest : IsAtRest d0 path end) where
   -- the files that count are as they were, and so is what is outside the folder
@@ -34,10 +27,11 @@ module _ (d0 : DiskState) (path : List ℕ) (end : End) (rest : IsAtRest d0 path
     outside = λ m out named flushed. d0.on_disk m named flushed c left;
   })
 
-  pub alone_made : (d e : DiskState) (file : List ℕ) → IsBeside path end.told.number file → d.is_named file → LeavesOnly d0 d FilesAlone → Elapses d e
-      → LeavesOneStepOn (ChangesFile d file TornMaking) d e → LeavesOnly d0 e FilesAlone
-  alone_made d e file beside named run time crash =
-      then_call d0 d e FilesAlone (ChangesFile d file TornMaking) run time crash
+  -- another file changes
+  pub alone_changed : (step : Option (List ℕ) → Option (List ℕ) → Type 0) (d e : DiskState) (file : List ℕ) → IsBeside path end.told.number file → d.is_named file → LeavesOnly d0 d FilesAlone → Elapses d e
+      → LeavesOneStepOn (ChangesFile d file step) d e → LeavesOnly d0 e FilesAlone
+  alone_changed step d e file beside named run time crash =
+      then_call d0 d e FilesAlone (ChangesFile d file step) run time crash
       (λ a c was changed. record {
         log = changed.beside (log_of path) beside.not_log (inl named) ∙ was.log;
         messages = changed.beside (messages_of path end.told.number) beside.not_messages (inl named) ∙ was.messages;

@@ -1,5 +1,6 @@
 -- The files of a base folder. A folder's path ends in a slash, or is empty.
-use Rattle.std.specs.Prelude.{◌≡◌, ℕ, ◌+◌, List, [], ◌∷◌, ◌++◌}
+use Rattle.std.specs.Prelude.{◌≡◌, ◌≢◌, ℕ, ◌+◌, List, [], ◌∷◌, ◌++◌}
+use Rattle.echo_disk.specs.Disk.{IsIn}
 use Rattle.echo_folder.specs.declared.names.TheConstants.{LOG, MESSAGES, KEYS}
 use Rattle.echo_folder.specs.declared.names.Names.{Names}
 
@@ -21,3 +22,10 @@ pub record AreNames (names : Names) (number : ℕ) : Type 0 where
   pub log : names.log.items ≡ log_of (folder_of names)
   pub messages : names.messages.items ≡ messages_of (folder_of names) number
   pub keys : names.keys.items ≡ keys_of (folder_of names) number
+
+-- a path in the folder that is neither its log nor a file of that number
+pub record IsBeside (path : List ℕ) (number : ℕ) (file : List ℕ) : Type 0 where
+  pub inside : IsIn path file
+  pub not_log : log_of path ≢ file
+  pub not_messages : messages_of path number ≢ file
+  pub not_keys : keys_of path number ≢ file

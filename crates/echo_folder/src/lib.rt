@@ -5,8 +5,8 @@
 //! gate (0) stands behind the last record, on the disk before anything is written behind it.
 //!
 //! Modules in reading order: `names` (the paths of the files), `log` (records, and the last of them), `staging`
-//! (bytes written behind those that count), `anew` (files of another number), `committing` (a record, and its gate), `folder_error`, `making` (the
-//! files of a folder that has none), `mending` (the end of a log),
+//! (bytes written behind those that count), `anew` (files of another number), `committing` (a record, and its gate), `removing` (files that no
+//! longer count), `folder_error`, `making` (the files of a folder that has none), `mending` (the end of a log),
 //! `opening` and `parts` (bytes read from the middle of a file).
 #![tactic(auto)]
 
@@ -19,6 +19,7 @@ mod mending;
 mod names;
 mod opening;
 mod parts;
+mod removing;
 mod staging;
 
 pub use anew::stage_anew;
@@ -28,4 +29,5 @@ pub use log::{End, Mark, Told, last_record};
 pub use names::Names;
 pub use opening::open;
 pub use parts::read_part;
+pub use removing::remove_files;
 pub use staging::{stage_keys, stage_messages, stage_nothing};

@@ -34,3 +34,7 @@ done_both gives (Err e) p q = tt
 pub at_error : {T E P : Type 0} (r : Result T E) → P → OnErr r P
 at_error (Ok x) p = tt
 at_error (Err e) p = p
+
+pub on_ok_from : {T E P : Type 0} (r : Result T E) → P → OnOk r P
+on_ok_from (Ok x) p = p
+on_ok_from (Err e) p = tt

@@ -1,4 +1,5 @@
 mod Bases
+mod Beside
 pub mod Causes
 pub mod Claimed
 mod Indexed
@@ -9,5 +10,6 @@ pub mod Seen
 mod Single
 mod Staged
 mod Stated
+mod Stubbed
 mod WhereSo
 mod Whole

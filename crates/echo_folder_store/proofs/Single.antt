@@ -1,5 +1,5 @@
 -- What is saved of a base with one message stands for that message.
-use Rattle.std.proofs.Common.{◌≡◌, ℕ, suc, ◌<◌, ◌≤◌, ◌&&◌, nat_lt, not, Bool, true, false, List, [], ◌∷◌, ◌++◌, length, map, take, drop, get_or, refl, sym, ap, subst, ◌∙◌, if◌then◌else◌, arith}
+use Rattle.std.proofs.Common.{◌≡◌, ℕ, suc, ◌<◌, ◌≤◌, ◌&&◌, nat_lt, not, Bool, true, false, List, [], ◌∷◌, ◌++◌, length, map, take, drop, get_or, refl, sym, ap, subst, ◌∙◌, if◌then◌else◌, arith, length-append}
 use Rattle.std.specs.List.{flat_map}
 use Rattle.std.proofs.lemmas.Bool.{and_from, and_parts, cond-false, cond-true, ltb-true, or_from, or_parts, true≢false}
 use Rattle.std.proofs.lemmas.List.{append-nil, drop_at}
@@ -87,6 +87,19 @@ saved_alone m cursor holds few =
     let saved = saved_is_base (m ∷ []) cursor holds few in
     let most : cursor ≤ 1 = holds.within in
     one_of m cursor saved.version saved.all (saved_bytes (m ∷ []) cursor) most saved.begins saved.messages (saved_front (m ∷ []) cursor)
+
+-- what stands behind the head where it is saved
+pub saved_left : (m : Filed) (messages : List Filed) (cursor : ℕ) (file : List ℕ) → messages ≡ m ∷ [] → IsBase messages cursor → is_countable messages cursor ≡ true → file ≡ saved_bytes messages cursor → IsStoredAlone m (drop 16 file)
+saved_left m messages cursor file one holds few is =
+    subst (λ (l : List ℕ). IsStoredAlone m (drop 16 l)) (sym (is ∙ ap (λ (l : List Filed). saved_bytes l cursor) one))
+    (saved_alone m cursor (subst (λ (l : List Filed). IsBase l cursor) one holds) (subst (λ (l : List Filed). is_countable l cursor ≡ true) one few))
+
+pub saved_long : (messages : List Filed) (cursor : ℕ) → 16 ≤ length (saved_bytes messages cursor)
+unfolding saved_bytes head_bytes
+saved_long messages cursor =
+    let head : length (head_bytes Second cursor (length messages)) ≡ 16 = refl in
+    let all = length-append (head_bytes Second cursor (length messages)) (flat_map (stored_bytes Second) (stored_from cursor 0 messages)) in
+    omega (arith, head, all)
 
 -- its bytes with the text whole
 pub stored_whole : (m : Filed) → IsFiled m → is_short_enough (stored_as false m) ≡ true → IsStoredAlone m (stored_bytes Second (stored_as false m))

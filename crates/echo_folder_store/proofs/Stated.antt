@@ -64,6 +64,11 @@ went_on d e keyed f g h k (Ok done) named opened same kept = record {
 }
 went_on d e keyed f g h k (Err failed) named opened same kept = tt
 
+-- calls may be made where the folder is still open
+pub usable_after : {T : Type 0} (e : DiskState) (g : Folder) (r : Result T StoreError) → IsNamed g → Honestly e (OnOk r (IsOpen e g)) → OnOk r (IsUsable e g)
+usable_after e g (Ok done) named opened = record { named = named; opened = opened }
+usable_after e g (Err failed) named opened = tt
+
 -- what was held is committed
 pub committed : {T : Type 0} (d e : DiskState) (keyed : ℕ → ℕ → List ℕ → ℕ) (f g : Folder) (h k : Option Base) (r : Result T StoreError) → IsNamed g → Honestly e (OnOk r (IsOpen e g))
     → Honestly e (OnOk r (held_by e g ≡ held_by d f)) → Honestly e (OnOk r (committed_by e g ≡ held_by d f)) → KeepsOutside (path_of f) d e → OnOk r (Commits (state_of d keyed f h) (state_of e keyed g k))
@@ -96,7 +101,7 @@ pub holds_same : (keyed : ℕ → ℕ → List ℕ → ℕ) (now before : BaseBy
 holds_same keyed now before same base is = subst (λ (b : BaseBytes). HoldsBase keyed b base) (sym same) is
 
 -- where a base is held, an answer is not that a message is damaged
-not_damaged : {T : Type 0} (P : T → Type 0) (r : Result T StoreError) → Answers P r → IsErrOf r error.Damaged → ⊥
+pub not_damaged : {T : Type 0} (P : T → Type 0) (r : Result T StoreError) → Answers P r → IsErrOf r error.Damaged → ⊥
 not_damaged P (Ok value) was is = absurd (cc)
 not_damaged P (Err error.Damaged) was is = was
 not_damaged P (Err error.Memory) was is = absurd (cc)

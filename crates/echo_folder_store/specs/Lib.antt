@@ -1,6 +1,7 @@
 pub mod Added
 pub mod Answers
 pub mod Held
+pub mod Left
 pub mod Opened
 pub mod Owned
 pub mod State

@@ -1,18 +1,19 @@
 //! What is added to a base folder, and committed.
-ghost use Rattle.std.specs.Prelude.{◌≡◌, ◌<◌, ◌+◌, ◌^◌, ◌/◌, length, IfOk, OnOk, IsErrOf};
+ghost use Rattle.std.specs.Prelude.{◌≡◌, ◌≢◌, ◌<◌, ◌+◌, ◌^◌, ◌/◌, length, IfOk, OnOk, IsErrOf};
 ghost use Rattle.echo_disk.specs.Disk.{Honestly};
 ghost use Rattle.echo_disk.specs.Runs.{HasCause, LeavesOnly};
-ghost use Rattle.echo_folder.specs.AtRest.{IsStaged};
+ghost use Rattle.echo_folder.specs.AtRest.{IsAtRest, IsStaged};
 ghost use Rattle.echo_folder.specs.Moments.{IsBeforeOrAfter, KeepsOutside, StandsAlone};
 ghost use Rattle.echo_folder.specs.Names.{AreNames, folder_of};
 ghost use Rattle.echo_folder.specs.Standing.{and_keys, and_messages, base_at};
-ghost use Rattle.echo_folder_store.specs.Added.{with_stored};
+ghost use Rattle.echo_folder_store.specs.Added.{SameBesideBoth, with_stored};
 ghost use Rattle.echo_folder_store.specs.Answers.{HasReadCause};
+ghost use Rattle.echo_folder_store.specs.Left.{AreGone};
 ghost use Rattle.echo_folder_store.specs.Opened.{IsNamed, IsOpen, committed_by, held_by, path_of};
 
 use crate::folder::{ENTRY, Folder};
 use echo_disk::{Disk, DiskError};
-use echo_folder::{End, Names, Told, commit, stage_keys, stage_messages};
+use echo_folder::{End, Names, Told, commit, remove_files, stage_keys, stage_messages};
 use echo_keys::entry;
 use echo_store::StoreError;
 
@@ -39,6 +40,7 @@ fn stage_both<D: Disk>(
         ≡ and_keys (and_messages (base_at (D.state disk.old) (folder_of names.now) told) bytes.now) keys.now)) }
     ensures same { Honestly (D.state disk.new) (OnOk result (base_at (D.state disk.new) (folder_of names.now) end.told
         ≡ base_at (D.state disk.old) (folder_of names.now) end.told)) }
+    ensures beside { SameBesideBoth (folder_of names.now) told.number (D.state disk.old).seen (D.state disk.new).seen }
     ensures any_moment { Honestly (D.state disk.new) (LeavesOnly (D.state disk.old) (D.state disk.new)
         (StandsAlone (folder_of names.now) (D.state disk.old) (base_at (D.state disk.old) (folder_of names.now) end.told))) }
     ensures outside { KeepsOutside (folder_of names.now) (D.state disk.old) (D.state disk.new) }
@@ -66,6 +68,9 @@ impl Folder {
         ensures staged { Honestly (D.state disk.new) (OnOk result (held_by (D.state disk.new) self.new ≡ with_stored (held_by (D.state disk.old) self.old) bytes.now digest)) }
         ensures fits { Honestly (D.state disk.new) (OnOk result (length (held_by (D.state disk.new) self.new).messages < 2 ^ 64)) }
         ensures same { Honestly (D.state disk.new) (OnOk result (committed_by (D.state disk.new) self.new ≡ committed_by (D.state disk.old) self.old)) }
+        ensures end { self.new.end ≡ self.old.end }
+        ensures number { self.new.told.number ≡ self.old.told.number }
+        ensures beside { SameBesideBoth (path_of self.old) self.old.told.number (D.state disk.old).seen (D.state disk.new).seen }
 
         // A crash at any moment leaves what was committed, and nothing outside the folder has changed.
         ensures any_moment { Honestly (D.state disk.new) (LeavesOnly (D.state disk.old) (D.state disk.new)
@@ -91,8 +96,8 @@ impl Folder {
         self.told.cursor = self.count() as u64;
     }
 
-    /// Commits what it holds. At `Ok` each crash leaves it; at an error open the folder again.
-    pub fn commit<D: Disk>(&mut self, disk: &mut D) -> Result<(), StoreError>
+    // Writes the record that tells what it holds.
+    fn acknowledge<D: Disk>(&mut self, disk: &mut D) -> Result<(), StoreError>
         requires named { IsNamed self.old }
         requires opened { Honestly (D.state disk.old) (IsOpen (D.state disk.old) self.old) }
         ensures named { IsNamed self.new }
@@ -101,6 +106,8 @@ impl Folder {
         ensures mark { self.new.told.mark ≡ self.old.told.mark }
         ensures same { Honestly (D.state disk.new) (OnOk result (held_by (D.state disk.new) self.new ≡ held_by (D.state disk.old) self.old)) }
         ensures committed { Honestly (D.state disk.new) (OnOk result (committed_by (D.state disk.new) self.new ≡ held_by (D.state disk.old) self.old)) }
+        ensures settled { Honestly (D.state disk.new) (OnOk result (IsAtRest (D.state disk.new) (path_of self.new) self.new.end)) }
+        ensures told { OnOk result (self.new.end.told ≡ self.new.told) }
 
         // A crash at any moment leaves what was committed before, or what was held.
         ensures any_moment { Honestly (D.state disk.new) (LeavesOnly (D.state disk.old) (D.state disk.new)
@@ -115,5 +122,56 @@ impl Folder {
         let end = commit(disk, &self.names, self.end, self.told)?;
         self.end = end;
         Ok(())
+    }
+
+    // Removes the files of a number that no longer counts.
+    fn remove_former<D: Disk>(&self, disk: &mut D, former: u8) -> Result<(), StoreError>
+        requires { Honestly (D.state disk.old) (IsAtRest (D.state disk.old) (path_of self.now) self.now.end) }
+        ensures settled { Honestly (D.state disk.new) (OnOk result (IsAtRest (D.state disk.new) (path_of self.now) self.now.end)) }
+        ensures gone { Honestly (D.state disk.new) (OnOk result (former < 10 → former ≢ self.now.end.told.number → AreGone (D.state disk.new) (path_of self.now) former)) }
+        ensures same { committed_by (D.state disk.new) self.now ≡ committed_by (D.state disk.old) self.now }
+        ensures any_moment { Honestly (D.state disk.new) (LeavesOnly (D.state disk.old) (D.state disk.new)
+            (StandsAlone (path_of self.now) (D.state disk.old) (committed_by (D.state disk.old) self.now))) }
+        ensures outside { KeepsOutside (path_of self.now) (D.state disk.old) (D.state disk.new) }
+        ensures whole { IsErrOf result StoreError.Damaged → ⊥ }
+        ensures cause { HasReadCause (D.failures disk.old) (D.failures disk.new) result }
+    {
+        if former == self.end.told.number || former > 9 {
+            return Ok(());
+        }
+        let alloc = *self.names.folder.allocator();
+        let names = Names::new(alloc, &self.names.folder, former)?;
+        remove_files(disk, &names, self.end, former)?;
+        Ok(())
+    }
+
+    /// Commits what it holds, and removes the files that held it before, where those are others. At `Ok` each crash
+    /// leaves it; at an error open the folder again.
+    pub fn commit<D: Disk>(&mut self, disk: &mut D) -> Result<(), StoreError>
+        requires named { IsNamed self.old }
+        requires opened { Honestly (D.state disk.old) (IsOpen (D.state disk.old) self.old) }
+        ensures named { IsNamed self.new }
+        ensures opened { Honestly (D.state disk.new) (OnOk result (IsOpen (D.state disk.new) self.new)) }
+        ensures path { path_of self.new ≡ path_of self.old }
+        ensures mark { self.new.told.mark ≡ self.old.told.mark }
+        ensures same { Honestly (D.state disk.new) (OnOk result (held_by (D.state disk.new) self.new ≡ held_by (D.state disk.old) self.old)) }
+        ensures committed { Honestly (D.state disk.new) (OnOk result (committed_by (D.state disk.new) self.new ≡ held_by (D.state disk.old) self.old)) }
+        ensures settled { Honestly (D.state disk.new) (OnOk result (IsAtRest (D.state disk.new) (path_of self.new) self.new.end)) }
+        ensures told { OnOk result (self.new.end.told ≡ self.new.told) }
+
+        // The files that held it before are gone, where those that hold it are others.
+        ensures gone { Honestly (D.state disk.new) (OnOk result (self.old.end.told.number < 10 → self.old.end.told.number ≢ self.new.end.told.number
+            → AreGone (D.state disk.new) (path_of self.old) self.old.end.told.number)) }
+
+        // A crash at any moment leaves what was committed before, or what was held.
+        ensures any_moment { Honestly (D.state disk.new) (LeavesOnly (D.state disk.old) (D.state disk.new)
+            (IsBeforeOrAfter (path_of self.old) (D.state disk.old) (committed_by (D.state disk.old) self.old) (held_by (D.state disk.old) self.old))) }
+        ensures outside { KeepsOutside (path_of self.old) (D.state disk.old) (D.state disk.new) }
+        ensures whole { IsErrOf result StoreError.Damaged → ⊥ }
+        ensures cause { HasReadCause (D.failures disk.old) (D.failures disk.new) result }
+    {
+        let former = self.end.told.number;
+        self.acknowledge(disk)?;
+        self.remove_former(disk, former)
     }
 }

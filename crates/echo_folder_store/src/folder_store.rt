@@ -15,7 +15,7 @@ use echo_disk::Disk;
 use echo_filed::{Filed, Key};
 use echo_folder::Mark;
 use echo_keys::{Digest, Index, bytes_of_key};
-use echo_store::{Store, StoreError};
+use echo_store::{PurgedStore, Store, StoreError};
 use std::alloc::Global;
 use std::marker::PhantomData;
 
@@ -147,5 +147,13 @@ impl<D: Disk, H: Digest> Store for FolderStore<D, H> {
 
     fn commit(&mut self) -> Result<(), StoreError> {
         self.folder.commit(&mut self.disk)
+    }
+}
+
+impl<D: Disk, H: Digest> PurgedStore for FolderStore<D, H> {
+    fn purge(&mut self) -> Result<u64, StoreError> {
+        let index = Index::new(self.alloc);
+        self.index = index;
+        self.folder.purge(self.alloc, &mut self.disk)
     }
 }

@@ -2,7 +2,8 @@
 //!
 //! Modules in reading order: `alone` (one message by itself, read and made), `sought` (what is looked for), `folder`
 //! (opened, a message read by its number), `finding` (looked up by digests), `owning` (whose it is), `adding` (added
-//! to and committed), `folder_store` (all of this as a store) and `laws` (what holds of the definitions).
+//! to and committed), `leaving` (what a purge leaves of a message), `purging`, `folder_store` (all of this as a store)
+//! and `laws` (what holds of the definitions).
 #![tactic(auto)]
 
 mod adding;
@@ -11,7 +12,9 @@ mod finding;
 mod folder;
 mod folder_store;
 mod laws;
+mod leaving;
 mod owning;
+mod purging;
 mod sought;
 
 pub use alone::{Alone, bytes_alone, read_alone};

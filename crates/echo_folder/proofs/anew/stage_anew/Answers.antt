@@ -4,10 +4,10 @@ use Rattle.echo_disk.specs.Disk.{bytes_in, IsIn}
 use Rattle.echo_disk.specs.Steps.{TornMaking, ChangesFile}
 use Rattle.echo_disk.specs.Runs.{LeavesOneStepOn}
 use Rattle.echo_disk.proofs.Moments.{then_nothing, left_now}
-use Rattle.echo_folder.specs.Names.{folder_of, log_of, messages_of, keys_of}
+use Rattle.echo_folder.specs.Names.{IsBeside, folder_of, log_of, messages_of, keys_of}
 use Rattle.echo_folder.specs.Standing.{BaseBytes, StandsFor, base_at}
 use Rattle.echo_folder.proofs.Paths.{log_not_messages, log_not_keys, messages_not_keys, keys_not_messages, messages_of-injective, keys_of-injective, messages_in, keys_in}
-use Rattle.echo_folder.proofs.Renewed.{IsBeside, FilesAlone, alone_first, alone_made, alone_stands, alone_run, same_base}
+use Rattle.echo_folder.proofs.Renewed.{FilesAlone, alone_first, alone_changed, alone_stands, alone_run, same_base}
 use Rattle.echo_folder.proofs.anew.stage_anew.Goals as goal
 
 pub returns-in_err-create-clause-any_moment : goal.returns-in_err-create-clause-any_moment
@@ -25,7 +25,7 @@ returns-in_err-create-clause-any_moment g c honest =
     let other_m : messages_of path n ≢ messages_of path number = λ is. c.requires.other (sym (messages_of-injective path n number is)) in
     let crash_1 = subst (λ (l : List ℕ). LeavesOneStepOn (ChangesFile d0 l TornMaking) d0 d1) messages c.create.ensures.crash in
     let beside_m : IsBeside path n (messages_of path number) = record { inside = messages_in path number; not_log = log_not_messages path number; not_messages = other_m; not_keys = keys_not_messages path n number } in
-    let run_1 = alone_made d0 path end rest d0 d1 (messages_of path number) beside_m (rest.log.named (messages_of path number) (messages_in path number)) (alone_first d0 path end rest) c.create.ensures.time crash_1 in
+    let run_1 = alone_changed d0 path end rest TornMaking d0 d1 (messages_of path number) beside_m (rest.log.named (messages_of path number) (messages_in path number)) (alone_first d0 path end rest) c.create.ensures.time crash_1 in
     alone_run d0 path end rest d1 run_1
 
 pub returns-in_err-create-clause-same : goal.returns-in_err-create-clause-same
@@ -43,7 +43,7 @@ returns-in_err-create-clause-same g c honest =
     let other_m : messages_of path n ≢ messages_of path number = λ is. c.requires.other (sym (messages_of-injective path n number is)) in
     let crash_1 = subst (λ (l : List ℕ). LeavesOneStepOn (ChangesFile d0 l TornMaking) d0 d1) messages c.create.ensures.crash in
     let beside_m : IsBeside path n (messages_of path number) = record { inside = messages_in path number; not_log = log_not_messages path number; not_messages = other_m; not_keys = keys_not_messages path n number } in
-    let run_1 = alone_made d0 path end rest d0 d1 (messages_of path number) beside_m (rest.log.named (messages_of path number) (messages_in path number)) (alone_first d0 path end rest) c.create.ensures.time crash_1 in
+    let run_1 = alone_changed d0 path end rest TornMaking d0 d1 (messages_of path number) beside_m (rest.log.named (messages_of path number) (messages_in path number)) (alone_first d0 path end rest) c.create.ensures.time crash_1 in
     let seen_1 : (m : List ℕ) → m ≢ messages_of path number → d1.seen m ≡ d0.seen m = λ m ne. c.create.ensures.beside m (λ is. ne (is ∙ messages)) in
     same_base d0 d1 path end (seen_1 (messages_of path n) other_m) (seen_1 (keys_of path n) (keys_not_messages path n number))
 
@@ -63,14 +63,14 @@ returns-in_err-create-2-clause-any_moment g c honest =
     let other_m : messages_of path n ≢ messages_of path number = λ is. c.requires.other (sym (messages_of-injective path n number is)) in
     let crash_1 = subst (λ (l : List ℕ). LeavesOneStepOn (ChangesFile d0 l TornMaking) d0 d1) messages c.create.ensures.crash in
     let beside_m : IsBeside path n (messages_of path number) = record { inside = messages_in path number; not_log = log_not_messages path number; not_messages = other_m; not_keys = keys_not_messages path n number } in
-    let run_1 = alone_made d0 path end rest d0 d1 (messages_of path number) beside_m (rest.log.named (messages_of path number) (messages_in path number)) (alone_first d0 path end rest) c.create.ensures.time crash_1 in
+    let run_1 = alone_changed d0 path end rest TornMaking d0 d1 (messages_of path number) beside_m (rest.log.named (messages_of path number) (messages_in path number)) (alone_first d0 path end rest) c.create.ensures.time crash_1 in
     let d2 = g.D.Disk.state c.create-2.new.self in
     let keys : c.deref-2.result.now ≡ keys_of path number = c.deref-2.ensures.value ∙ c.requires.names.keys in
     let other_k : keys_of path n ≢ keys_of path number = λ is. c.requires.other (sym (keys_of-injective path n number is)) in
     let crash_2 = subst (λ (l : List ℕ). LeavesOneStepOn (ChangesFile d1 l TornMaking) d1 d2) keys c.create-2.ensures.crash in
     let beside_k : IsBeside path n (keys_of path number) = record { inside = keys_in path number; not_log = log_not_keys path number; not_messages = messages_not_keys path n number; not_keys = other_k } in
     let named_k = c.create.ensures.named (keys_of path number) (λ is. keys_not_messages path number number (is ∙ messages)) (rest.log.named (keys_of path number) (keys_in path number)) in
-    let run_2 = alone_made d0 path end rest d1 d2 (keys_of path number) beside_k named_k run_1 c.create-2.ensures.time crash_2 in
+    let run_2 = alone_changed d0 path end rest TornMaking d1 d2 (keys_of path number) beside_k named_k run_1 c.create-2.ensures.time crash_2 in
     alone_run d0 path end rest d2 run_2
 
 pub returns-in_err-create-2-clause-same : goal.returns-in_err-create-2-clause-same
@@ -89,14 +89,14 @@ returns-in_err-create-2-clause-same g c honest =
     let other_m : messages_of path n ≢ messages_of path number = λ is. c.requires.other (sym (messages_of-injective path n number is)) in
     let crash_1 = subst (λ (l : List ℕ). LeavesOneStepOn (ChangesFile d0 l TornMaking) d0 d1) messages c.create.ensures.crash in
     let beside_m : IsBeside path n (messages_of path number) = record { inside = messages_in path number; not_log = log_not_messages path number; not_messages = other_m; not_keys = keys_not_messages path n number } in
-    let run_1 = alone_made d0 path end rest d0 d1 (messages_of path number) beside_m (rest.log.named (messages_of path number) (messages_in path number)) (alone_first d0 path end rest) c.create.ensures.time crash_1 in
+    let run_1 = alone_changed d0 path end rest TornMaking d0 d1 (messages_of path number) beside_m (rest.log.named (messages_of path number) (messages_in path number)) (alone_first d0 path end rest) c.create.ensures.time crash_1 in
     let d2 = g.D.Disk.state c.create-2.new.self in
     let keys : c.deref-2.result.now ≡ keys_of path number = c.deref-2.ensures.value ∙ c.requires.names.keys in
     let other_k : keys_of path n ≢ keys_of path number = λ is. c.requires.other (sym (keys_of-injective path n number is)) in
     let crash_2 = subst (λ (l : List ℕ). LeavesOneStepOn (ChangesFile d1 l TornMaking) d1 d2) keys c.create-2.ensures.crash in
     let beside_k : IsBeside path n (keys_of path number) = record { inside = keys_in path number; not_log = log_not_keys path number; not_messages = messages_not_keys path n number; not_keys = other_k } in
     let named_k = c.create.ensures.named (keys_of path number) (λ is. keys_not_messages path number number (is ∙ messages)) (rest.log.named (keys_of path number) (keys_in path number)) in
-    let run_2 = alone_made d0 path end rest d1 d2 (keys_of path number) beside_k named_k run_1 c.create-2.ensures.time crash_2 in
+    let run_2 = alone_changed d0 path end rest TornMaking d1 d2 (keys_of path number) beside_k named_k run_1 c.create-2.ensures.time crash_2 in
     let seen_1 : (m : List ℕ) → m ≢ messages_of path number → d1.seen m ≡ d0.seen m = λ m ne. c.create.ensures.beside m (λ is. ne (is ∙ messages)) in
     let seen_2 : (m : List ℕ) → m ≢ keys_of path number → d2.seen m ≡ d1.seen m = λ m ne. c.create-2.ensures.beside m (λ is. ne (is ∙ keys)) in
     same_base d0 d2 path end (seen_2 (messages_of path n) (messages_not_keys path n number) ∙ seen_1 (messages_of path n) other_m) (seen_2 (keys_of path n) other_k ∙ seen_1 (keys_of path n) (keys_not_messages path n number))
@@ -118,14 +118,14 @@ returns-in_err-sync_folder-clause-any_moment g c honest =
     let other_m : messages_of path n ≢ messages_of path number = λ is. c.requires.other (sym (messages_of-injective path n number is)) in
     let crash_1 = subst (λ (l : List ℕ). LeavesOneStepOn (ChangesFile d0 l TornMaking) d0 d1) messages c.create.ensures.crash in
     let beside_m : IsBeside path n (messages_of path number) = record { inside = messages_in path number; not_log = log_not_messages path number; not_messages = other_m; not_keys = keys_not_messages path n number } in
-    let run_1 = alone_made d0 path end rest d0 d1 (messages_of path number) beside_m (rest.log.named (messages_of path number) (messages_in path number)) (alone_first d0 path end rest) c.create.ensures.time crash_1 in
+    let run_1 = alone_changed d0 path end rest TornMaking d0 d1 (messages_of path number) beside_m (rest.log.named (messages_of path number) (messages_in path number)) (alone_first d0 path end rest) c.create.ensures.time crash_1 in
     let d2 = g.D.Disk.state c.create-2.new.self in
     let keys : c.deref-2.result.now ≡ keys_of path number = c.deref-2.ensures.value ∙ c.requires.names.keys in
     let other_k : keys_of path n ≢ keys_of path number = λ is. c.requires.other (sym (keys_of-injective path n number is)) in
     let crash_2 = subst (λ (l : List ℕ). LeavesOneStepOn (ChangesFile d1 l TornMaking) d1 d2) keys c.create-2.ensures.crash in
     let beside_k : IsBeside path n (keys_of path number) = record { inside = keys_in path number; not_log = log_not_keys path number; not_messages = messages_not_keys path n number; not_keys = other_k } in
     let named_k = c.create.ensures.named (keys_of path number) (λ is. keys_not_messages path number number (is ∙ messages)) (rest.log.named (keys_of path number) (keys_in path number)) in
-    let run_2 = alone_made d0 path end rest d1 d2 (keys_of path number) beside_k named_k run_1 c.create-2.ensures.time crash_2 in
+    let run_2 = alone_changed d0 path end rest TornMaking d1 d2 (keys_of path number) beside_k named_k run_1 c.create-2.ensures.time crash_2 in
     let d3 = g.D.Disk.state c.sync_folder.new.self in
     let quiet = c.sync_folder.ensures.quiet in
     let run_3 = then_nothing d0 d2 d3 (FilesAlone d0 path end rest) run_2 quiet in
@@ -148,14 +148,14 @@ returns-in_err-sync_folder-clause-same g c honest =
     let other_m : messages_of path n ≢ messages_of path number = λ is. c.requires.other (sym (messages_of-injective path n number is)) in
     let crash_1 = subst (λ (l : List ℕ). LeavesOneStepOn (ChangesFile d0 l TornMaking) d0 d1) messages c.create.ensures.crash in
     let beside_m : IsBeside path n (messages_of path number) = record { inside = messages_in path number; not_log = log_not_messages path number; not_messages = other_m; not_keys = keys_not_messages path n number } in
-    let run_1 = alone_made d0 path end rest d0 d1 (messages_of path number) beside_m (rest.log.named (messages_of path number) (messages_in path number)) (alone_first d0 path end rest) c.create.ensures.time crash_1 in
+    let run_1 = alone_changed d0 path end rest TornMaking d0 d1 (messages_of path number) beside_m (rest.log.named (messages_of path number) (messages_in path number)) (alone_first d0 path end rest) c.create.ensures.time crash_1 in
     let d2 = g.D.Disk.state c.create-2.new.self in
     let keys : c.deref-2.result.now ≡ keys_of path number = c.deref-2.ensures.value ∙ c.requires.names.keys in
     let other_k : keys_of path n ≢ keys_of path number = λ is. c.requires.other (sym (keys_of-injective path n number is)) in
     let crash_2 = subst (λ (l : List ℕ). LeavesOneStepOn (ChangesFile d1 l TornMaking) d1 d2) keys c.create-2.ensures.crash in
     let beside_k : IsBeside path n (keys_of path number) = record { inside = keys_in path number; not_log = log_not_keys path number; not_messages = messages_not_keys path n number; not_keys = other_k } in
     let named_k = c.create.ensures.named (keys_of path number) (λ is. keys_not_messages path number number (is ∙ messages)) (rest.log.named (keys_of path number) (keys_in path number)) in
-    let run_2 = alone_made d0 path end rest d1 d2 (keys_of path number) beside_k named_k run_1 c.create-2.ensures.time crash_2 in
+    let run_2 = alone_changed d0 path end rest TornMaking d1 d2 (keys_of path number) beside_k named_k run_1 c.create-2.ensures.time crash_2 in
     let d3 = g.D.Disk.state c.sync_folder.new.self in
     let quiet = c.sync_folder.ensures.quiet in
     let run_3 = then_nothing d0 d2 d3 (FilesAlone d0 path end rest) run_2 quiet in
@@ -180,14 +180,14 @@ returns-clause-any_moment g c honest =
     let other_m : messages_of path n ≢ messages_of path number = λ is. c.requires.other (sym (messages_of-injective path n number is)) in
     let crash_1 = subst (λ (l : List ℕ). LeavesOneStepOn (ChangesFile d0 l TornMaking) d0 d1) messages c.create.ensures.crash in
     let beside_m : IsBeside path n (messages_of path number) = record { inside = messages_in path number; not_log = log_not_messages path number; not_messages = other_m; not_keys = keys_not_messages path n number } in
-    let run_1 = alone_made d0 path end rest d0 d1 (messages_of path number) beside_m (rest.log.named (messages_of path number) (messages_in path number)) (alone_first d0 path end rest) c.create.ensures.time crash_1 in
+    let run_1 = alone_changed d0 path end rest TornMaking d0 d1 (messages_of path number) beside_m (rest.log.named (messages_of path number) (messages_in path number)) (alone_first d0 path end rest) c.create.ensures.time crash_1 in
     let d2 = g.D.Disk.state c.create-2.new.self in
     let keys : c.deref-2.result.now ≡ keys_of path number = c.deref-2.ensures.value ∙ c.requires.names.keys in
     let other_k : keys_of path n ≢ keys_of path number = λ is. c.requires.other (sym (keys_of-injective path n number is)) in
     let crash_2 = subst (λ (l : List ℕ). LeavesOneStepOn (ChangesFile d1 l TornMaking) d1 d2) keys c.create-2.ensures.crash in
     let beside_k : IsBeside path n (keys_of path number) = record { inside = keys_in path number; not_log = log_not_keys path number; not_messages = messages_not_keys path n number; not_keys = other_k } in
     let named_k = c.create.ensures.named (keys_of path number) (λ is. keys_not_messages path number number (is ∙ messages)) (rest.log.named (keys_of path number) (keys_in path number)) in
-    let run_2 = alone_made d0 path end rest d1 d2 (keys_of path number) beside_k named_k run_1 c.create-2.ensures.time crash_2 in
+    let run_2 = alone_changed d0 path end rest TornMaking d1 d2 (keys_of path number) beside_k named_k run_1 c.create-2.ensures.time crash_2 in
     let d3 = g.D.Disk.state c.sync_folder.new.self in
     let quiet = c.sync_folder.ensures.quiet in
     let run_3 = then_nothing d0 d2 d3 (FilesAlone d0 path end rest) run_2 quiet in
@@ -210,14 +210,14 @@ returns-clause-same g c honest =
     let other_m : messages_of path n ≢ messages_of path number = λ is. c.requires.other (sym (messages_of-injective path n number is)) in
     let crash_1 = subst (λ (l : List ℕ). LeavesOneStepOn (ChangesFile d0 l TornMaking) d0 d1) messages c.create.ensures.crash in
     let beside_m : IsBeside path n (messages_of path number) = record { inside = messages_in path number; not_log = log_not_messages path number; not_messages = other_m; not_keys = keys_not_messages path n number } in
-    let run_1 = alone_made d0 path end rest d0 d1 (messages_of path number) beside_m (rest.log.named (messages_of path number) (messages_in path number)) (alone_first d0 path end rest) c.create.ensures.time crash_1 in
+    let run_1 = alone_changed d0 path end rest TornMaking d0 d1 (messages_of path number) beside_m (rest.log.named (messages_of path number) (messages_in path number)) (alone_first d0 path end rest) c.create.ensures.time crash_1 in
     let d2 = g.D.Disk.state c.create-2.new.self in
     let keys : c.deref-2.result.now ≡ keys_of path number = c.deref-2.ensures.value ∙ c.requires.names.keys in
     let other_k : keys_of path n ≢ keys_of path number = λ is. c.requires.other (sym (keys_of-injective path n number is)) in
     let crash_2 = subst (λ (l : List ℕ). LeavesOneStepOn (ChangesFile d1 l TornMaking) d1 d2) keys c.create-2.ensures.crash in
     let beside_k : IsBeside path n (keys_of path number) = record { inside = keys_in path number; not_log = log_not_keys path number; not_messages = messages_not_keys path n number; not_keys = other_k } in
     let named_k = c.create.ensures.named (keys_of path number) (λ is. keys_not_messages path number number (is ∙ messages)) (rest.log.named (keys_of path number) (keys_in path number)) in
-    let run_2 = alone_made d0 path end rest d1 d2 (keys_of path number) beside_k named_k run_1 c.create-2.ensures.time crash_2 in
+    let run_2 = alone_changed d0 path end rest TornMaking d1 d2 (keys_of path number) beside_k named_k run_1 c.create-2.ensures.time crash_2 in
     let d3 = g.D.Disk.state c.sync_folder.new.self in
     let quiet = c.sync_folder.ensures.quiet in
     let run_3 = then_nothing d0 d2 d3 (FilesAlone d0 path end rest) run_2 quiet in
@@ -242,14 +242,14 @@ returns-clause-staged g c honest =
     let other_m : messages_of path n ≢ messages_of path number = λ is. c.requires.other (sym (messages_of-injective path n number is)) in
     let crash_1 = subst (λ (l : List ℕ). LeavesOneStepOn (ChangesFile d0 l TornMaking) d0 d1) messages c.create.ensures.crash in
     let beside_m : IsBeside path n (messages_of path number) = record { inside = messages_in path number; not_log = log_not_messages path number; not_messages = other_m; not_keys = keys_not_messages path n number } in
-    let run_1 = alone_made d0 path end rest d0 d1 (messages_of path number) beside_m (rest.log.named (messages_of path number) (messages_in path number)) (alone_first d0 path end rest) c.create.ensures.time crash_1 in
+    let run_1 = alone_changed d0 path end rest TornMaking d0 d1 (messages_of path number) beside_m (rest.log.named (messages_of path number) (messages_in path number)) (alone_first d0 path end rest) c.create.ensures.time crash_1 in
     let d2 = g.D.Disk.state c.create-2.new.self in
     let keys : c.deref-2.result.now ≡ keys_of path number = c.deref-2.ensures.value ∙ c.requires.names.keys in
     let other_k : keys_of path n ≢ keys_of path number = λ is. c.requires.other (sym (keys_of-injective path n number is)) in
     let crash_2 = subst (λ (l : List ℕ). LeavesOneStepOn (ChangesFile d1 l TornMaking) d1 d2) keys c.create-2.ensures.crash in
     let beside_k : IsBeside path n (keys_of path number) = record { inside = keys_in path number; not_log = log_not_keys path number; not_messages = messages_not_keys path n number; not_keys = other_k } in
     let named_k = c.create.ensures.named (keys_of path number) (λ is. keys_not_messages path number number (is ∙ messages)) (rest.log.named (keys_of path number) (keys_in path number)) in
-    let run_2 = alone_made d0 path end rest d1 d2 (keys_of path number) beside_k named_k run_1 c.create-2.ensures.time crash_2 in
+    let run_2 = alone_changed d0 path end rest TornMaking d1 d2 (keys_of path number) beside_k named_k run_1 c.create-2.ensures.time crash_2 in
     let d3 = g.D.Disk.state c.sync_folder.new.self in
     let quiet = c.sync_folder.ensures.quiet in
     let run_3 = then_nothing d0 d2 d3 (FilesAlone d0 path end rest) run_2 quiet in

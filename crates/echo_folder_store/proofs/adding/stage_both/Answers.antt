@@ -1,6 +1,6 @@
 use Rattle.std.proofs.Common.{◌≡◌, ◌+◌, ◌<◌, ◌^◌, ℕ, length, sym, ap, subst, ◌∙◌}
 use Rattle.std.proofs.lemmas.Result.{IfOk-weaker, on_ok_weaker}
-use Rattle.echo_folder.specs.Names.{AreNames, folder_of}
+use Rattle.echo_folder.specs.Names.{AreNames, folder_of, keys_of}
 use Rattle.echo_folder.specs.Standing.{BaseBytes, and_keys, and_messages, base_at}
 use Rattle.echo_folder.specs.declared.log.Told.{Told}
 use Rattle.echo_folder.proofs.Gates.{outside_twice}
@@ -62,3 +62,11 @@ returns-clause-any_moment g c honest =
 pub returns-clause-outside : goal.returns-clause-outside
 returns-clause-outside g c =
     outside_twice (folder_of c.args.names.now) (g.D.Disk.state c.args.disk.now) (g.D.Disk.state c.stage_messages.new.disk) (g.D.Disk.state c.stage_keys.new.disk) c.stage_messages.ensures.outside c.stage_keys.ensures.outside
+
+pub returns-in_err-more-clause-beside : goal.returns-in_err-more-clause-beside
+returns-in_err-more-clause-beside g c = λ m messages keys. c.stage_messages.ensures.beside m messages
+
+pub returns-clause-beside : goal.returns-clause-beside
+returns-clause-beside g c = λ m messages keys.
+    c.stage_keys.ensures.beside m (λ is. keys (is ∙ ap (λ (t : Told). keys_of (folder_of c.args.names.now) t.number) c.in_ok-more.ensures.told))
+    ∙ c.stage_messages.ensures.beside m messages

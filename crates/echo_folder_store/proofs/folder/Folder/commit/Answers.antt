@@ -1,26 +1,68 @@
-use Rattle.std.proofs.Common.{refl}
-use Rattle.echo_folder_store.specs.declared.folder.Folder.{Folder}
-use Rattle.echo_folder_store.proofs.Staged.{committed_held, committed_open, committed_told}
+use Rattle.std.proofs.Common.{◌≢◌, ◌<◌, List, ℕ, subst, ◌∙◌}
+use Rattle.std.proofs.lemmas.Result.{on_ok_weaker}
+use Rattle.echo_disk.specs.Runs.{LeavesOnly}
+use Rattle.echo_folder.specs.AtRest.{IsAtRest}
+use Rattle.echo_folder.specs.Moments.{KeepsOutside, StandsAlone}
+use Rattle.echo_folder.proofs.Gates.{outside_twice}
+use Rattle.echo_folder_store.specs.Left.{AreGone}
+use Rattle.echo_folder_store.specs.Opened.{committed_by, held_by, path_of}
+use Rattle.echo_folder_store.proofs.Beside.{after_commit, rest_held, rest_open}
+use Rattle.echo_folder_store.proofs.Causes.{on_ok_from}
 use Rattle.echo_folder_store.proofs.folder.Folder.commit.Goals as goal
 
 pub returns-clause-opened : goal.returns-clause-opened
 returns-clause-opened g c honest =
-    let h1 = honest in
-    let h0 = c.commit.ensures.outside.honest h1 in
-    let f = c.args.self.now in
-    let now : Folder = record { names = f.names; end = c.in_ok-end.end; told = f.told; keys = f.keys } in
-    committed_open (g.D.Disk.state c.args.disk.now) (g.D.Disk.state c.commit.new.disk) f now (c.requires.opened h0) refl refl refl (c.in_ok-end.ensures.settled h1) c.in_ok-end.ensures.told (c.in_ok-end.ensures.acknowledged h1)
+    let h1 = c.remove_former.ensures.outside.honest honest in
+    let d1 = g.D.Disk.state c.acknowledge.new.disk in
+    let d2 = g.D.Disk.state c.remove_former.new.disk in
+    let f = c.acknowledge.new.self in
+    on_ok_weaker {P = IsAtRest d2 (path_of f) f.end} c.remove_former.result (λ rest. rest_open d1 d2 f (c.in_ok-acknowledge.ensures.opened h1) rest c.in_ok-acknowledge.ensures.told c.remove_former.ensures.same)
+    (c.remove_former.ensures.settled honest)
 
 pub returns-clause-same : goal.returns-clause-same
 returns-clause-same g c honest =
-    let h1 = honest in
-    let f = c.args.self.now in
-    let now : Folder = record { names = f.names; end = c.in_ok-end.end; told = f.told; keys = f.keys } in
-    committed_held (g.D.Disk.state c.args.disk.now) (g.D.Disk.state c.commit.new.disk) f now refl refl c.in_ok-end.ensures.told (c.in_ok-end.ensures.acknowledged h1)
+    let h1 = c.remove_former.ensures.outside.honest honest in
+    let d1 = g.D.Disk.state c.acknowledge.new.disk in
+    let d2 = g.D.Disk.state c.remove_former.new.disk in
+    let f = c.acknowledge.new.self in
+    on_ok_weaker {P = IsAtRest d2 (path_of f) f.end} c.remove_former.result
+    (λ rest. rest_held d2 f c.in_ok-acknowledge.ensures.told ∙ c.remove_former.ensures.same ∙ c.in_ok-acknowledge.ensures.committed h1) (c.remove_former.ensures.settled honest)
 
 pub returns-clause-committed : goal.returns-clause-committed
 returns-clause-committed g c honest =
-    let h1 = honest in
-    let f = c.args.self.now in
-    let now : Folder = record { names = f.names; end = c.in_ok-end.end; told = f.told; keys = f.keys } in
-    committed_told (g.D.Disk.state c.args.disk.now) (g.D.Disk.state c.commit.new.disk) f now refl (c.in_ok-end.ensures.acknowledged h1)
+    let h1 = c.remove_former.ensures.outside.honest honest in
+    let d2 = g.D.Disk.state c.remove_former.new.disk in
+    let f = c.acknowledge.new.self in
+    on_ok_weaker {P = IsAtRest d2 (path_of f) f.end} c.remove_former.result (λ rest. c.remove_former.ensures.same ∙ c.in_ok-acknowledge.ensures.committed h1) (c.remove_former.ensures.settled honest)
+
+pub returns-clause-told : goal.returns-clause-told
+returns-clause-told g c =
+    on_ok_from c.remove_former.result c.in_ok-acknowledge.ensures.told
+
+pub returns-clause-any_moment : goal.returns-clause-any_moment
+returns-clause-any_moment g c honest =
+    let h1 = c.remove_former.ensures.outside.honest honest in
+    let d0 = g.D.Disk.state c.args.disk.now in
+    let d1 = g.D.Disk.state c.acknowledge.new.disk in
+    let d2 = g.D.Disk.state c.remove_former.new.disk in
+    let f0 = c.args.self.now in
+    let f = c.acknowledge.new.self in
+    let run_2 = subst (λ (p : List ℕ). LeavesOnly d1 d2 (StandsAlone p d1 (committed_by d1 f))) c.acknowledge.ensures.path (c.remove_former.ensures.any_moment honest) in
+    after_commit (path_of f0) d0 d1 d2 (committed_by d0 f0) (held_by d0 f0) (committed_by d1 f) (c.acknowledge.ensures.any_moment h1) run_2 c.acknowledge.ensures.outside (c.in_ok-acknowledge.ensures.committed h1)
+
+pub returns-clause-outside : goal.returns-clause-outside
+returns-clause-outside g c =
+    let d0 = g.D.Disk.state c.args.disk.now in
+    let d1 = g.D.Disk.state c.acknowledge.new.disk in
+    let d2 = g.D.Disk.state c.remove_former.new.disk in
+    let f0 = c.args.self.now in
+    outside_twice (path_of f0) d0 d1 d2 c.acknowledge.ensures.outside (subst (λ (p : List ℕ). KeepsOutside p d1 d2) c.acknowledge.ensures.path c.remove_former.ensures.outside)
+
+pub returns-clause-gone : goal.returns-clause-gone
+returns-clause-gone g c honest =
+    let d2 = g.D.Disk.state c.remove_former.new.disk in
+    let f0 = c.args.self.now in
+    let f = c.acknowledge.new.self in
+    let former = f0.end.told.number in
+    on_ok_weaker {P = former < 10 → former ≢ f.end.told.number → AreGone d2 (path_of f) former} c.remove_former.result
+    (λ gone digit other. subst (λ (p : List ℕ). AreGone d2 p former) c.acknowledge.ensures.path (gone digit other)) (c.remove_former.ensures.gone honest)
