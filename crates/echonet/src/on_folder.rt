@@ -286,7 +286,7 @@ fn put_in_place<E: Sink>(
         Ok(own) => own,
         Err(_) => return Fault::OutOfMemory.report(errors),
     };
-    match finish_stopped(rt, own.as_str(), to.folder, to.before, errors) {
+    match finish_stopped(rt, own.as_str(), None, to, errors) {
         Status::Good => {}
         failed => return failed,
     }

@@ -36,7 +36,7 @@ pub fn write_scan<E: Sink>(
     if done.fault.is_some() {
         return write_base(rt, own, done, base, errors);
     }
-    match finish_stopped(rt, own, base, to, errors) {
+    match finish_stopped(rt, own, Some(base), to, errors) {
         Status::Good => {}
         failed => return failed,
     }

@@ -47,11 +47,12 @@ pub fn cursor_of(rt: &HostRuntime, base: &str) -> Option<u32> {
 }
 
 /// Brings scans of the system with this address into the folder that were stopped to their end: where the cursor was
-/// moved a packet gets its name, else it is removed. The base with that cursor is put on the disk before.
+/// moved a packet gets its name, else it is removed. The base file with that cursor is put on the disk before; a base
+/// folder is there once it is open.
 pub fn finish_stopped<E: Sink>(
     rt: &HostRuntime,
     own: &str,
-    base: &str,
+    file: Option<&str>,
     to: Outbound<'_>,
     errors: &mut E,
 ) -> Status {
@@ -62,8 +63,10 @@ pub fn finish_stopped<E: Sink>(
     if found.is_empty() {
         return Status::Good;
     }
-    if let Err(fault) = flush_path(rt.alloc(), rt, base) {
-        return output_fault(fault, base).report(errors);
+    if let Some(file) = file {
+        if let Err(fault) = flush_path(rt.alloc(), rt, file) {
+            return output_fault(fault, file).report(errors);
+        }
     }
     match finish(rt, own, to, &found) {
         Ok(()) => Status::Good,
