@@ -2,6 +2,7 @@
 
 use crate::folders::{base_bytes, files, fill_folder, is_folder, is_strange};
 use crate::inputs::output_fault;
+use crate::locks::locked_folder;
 use crate::placing::BASE_KNOWN_BY;
 use crate::stopped::folder_path;
 use echo_base::{Base, BaseFault};
@@ -10,7 +11,6 @@ use echo_device::{Sink, Watched};
 use echo_files::{NewFile, create_file, flush_folder};
 use echo_status::{Fault, Status, print_rest};
 use std::collections::hash_map::RandomState;
-use std::fs;
 
 /// What stands in the name of the file beside a base that is made, where else the address of a system does.
 const OWN: &str = "base";
@@ -36,18 +36,20 @@ pub fn run_convert<'a, W: Sink>(
     Ok(Status::Good)
 }
 
-// Fills an empty folder, under its lock, so that two runs never fill the same one.
+// Fills an empty folder, under its lock, so that no other run fills it or changes it meanwhile.
 fn fill_empty<'a>(
     rt: &HostRuntime,
     base: &Base<RandomState>,
     to: &'a str,
 ) -> Result<(), Fault<'a>> {
-    let locked = fs::open(rt, to).map_err(|_| Fault::CannotUse(to))?;
-    locked.lock().map_err(|_| Fault::CannotUse(to))?;
-    if !is_empty(rt, to)? {
-        return Err(Fault::CannotUse(to));
-    }
-    fill_folder(rt, to, base)
+    let locked = locked_folder(rt, to)?;
+    let filled = if is_empty(rt, to)? {
+        fill_folder(rt, to, base)
+    } else {
+        Err(Fault::CannotUse(to))
+    };
+    let _ = locked.unlock();
+    filled
 }
 
 // Whether nothing was ever committed in the folder, and it has no other files.

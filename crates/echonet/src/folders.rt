@@ -1,10 +1,12 @@
 //! Base folders: which BASE is one, and its files.
 
-use crate::inputs::read_file;
+use crate::inputs::{output_fault, read_file};
+use crate::locks::folder_fault;
 use crate::stopped::folder_path;
 use echo_addr::Address;
 use echo_base::{Base, BaseFault};
 use echo_base_folder::{Seen, claim_for, fill, log_end, look, open_base};
+use echo_files::flush_path;
 use echo_folder::Mark;
 use echo_folder_store::{Folder, FolderStore};
 use echo_keys::{Digest, SipDigest};
@@ -77,7 +79,17 @@ fn open_folder<'a>(
     let strange = is_strange(rt, base)?;
     let path = folder_path(rt, base)?;
     let opened = open_base(rt.alloc(), disk, path.as_bytes(), strange);
-    opened.map_err(|why| why.fault(base))
+    let folder = opened.map_err(|why| why.fault(base))?;
+    if folder.owner().is_none() {
+        flush_name(rt, base)?;
+    }
+    Ok(folder)
+}
+
+// Flushes the folder in which the base folder stands, since that may have been made just now.
+fn flush_name<'a>(rt: &HostRuntime, base: &'a str) -> Result<(), Fault<'a>> {
+    let name = base.trim_end_matches('/');
+    flush_path(rt.alloc(), rt, name).map_err(|fault| output_fault(fault, base))
 }
 
 /// What the base folder with this path holds. Nothing of it is changed.
@@ -132,13 +144,6 @@ pub fn is_strange<'a>(rt: &HostRuntime, base: &'a str) -> Result<bool, Fault<'a>
         }
     }
     Ok(false)
-}
-
-fn folder_fault<'a>(error: &io::Error, folder: &'a str) -> Fault<'a> {
-    match error.kind() {
-        io::ErrorKind::OutOfMemory => Fault::OutOfMemory,
-        _ => Fault::CannotUse(folder),
-    }
 }
 
 // Whether a file of a base folder has the name.

@@ -1,6 +1,8 @@
-//! The commands that change a base folder: under the lock of the link file, as on a base file.
+//! The commands that change a base folder: under the lock of the link file, as on a base file, and under that of the
+//! folder, so that runs with other link files, or `convert`, do not change it meanwhile.
 
 use crate::folders::{BaseFolder, cursor_there, look_into, open_own};
+use crate::locks::locked_folder;
 use crate::placing::{Outbound, drop_packets, name_packets, packet_paths, stage_packets};
 use crate::station::{Place, Posting, let_go, locked_links, name_of};
 use crate::stopped::finish_stopped;
@@ -34,10 +36,11 @@ pub struct Tossing {
     pub each: bool,
 }
 
-// The link file of a system, locked, what it says, and the base folder, which is that of the system.
+// The link file of a system and its base folder, both locked, what the link file says, and what the folder holds.
 #[derive(Drop)]
 struct Station<'r> {
     locked: File,
+    folder: File,
     links: LinkFile,
     store: BaseFolder<'r>,
 }
@@ -61,11 +64,13 @@ fn station_of<'a, 'r>(
     stopped: Option<Fault<'a>>,
 ) -> Result<Station<'r>, Fault<'a>> {
     let links = LinkFile::read(rt.alloc(), links)?;
+    let folder = locked_folder(rt, base)?;
     let store = open_own(rt, base, links.system())?;
     match stopped {
         Some(fault) => Err(fault),
         None => Ok(Station {
             locked,
+            folder,
             links,
             store,
         }),
@@ -104,6 +109,12 @@ fn ended<'a, E: Sink>(
         Ok(()) => Status::Good,
         Err(stop) => fault_of(rt, base, stop).report(errors),
     };
+    both_let_go(station, status)
+}
+
+// Lets both locks go.
+fn both_let_go(station: Station<'_>, status: Status) -> Status {
+    let _ = station.folder.unlock();
     let_go(station.locked, status)
 }
 
@@ -245,7 +256,7 @@ pub fn toss_there<'a, P: PacketFiles<'a>, W: Sink, E: Sink>(
         Ok(Some(fault)) => fault.report(errors),
         Err(stop) => fault_of(rt, place.base, stop).report(errors),
     };
-    let_go(station.locked, status)
+    both_let_go(station, status)
 }
 
 /// `scan`: the packets stand beside their names before the folder is committed, and get them then.
@@ -270,7 +281,7 @@ pub fn scan_there<'a, W: Sink, E: Sink>(
         Ok(packets) => put_in_place(rt, &mut station, place.base, to, &packets, errors),
         Err(stop) => fault_of(rt, place.base, stop).report(errors),
     };
-    let_go(station.locked, status)
+    both_let_go(station, status)
 }
 
 // Brings stopped scans to their end, stages the packets, commits the folder, and names the packets.

@@ -3,7 +3,7 @@
 
 use crate::folders::base_bytes;
 use crate::inputs::{output_fault, read_file};
-use crate::locks::lock_file;
+use crate::locks::{folder_fault, locked_folder};
 use echo_addr::Items;
 use echo_base::BaseFault;
 use echo_device::Sink;
@@ -85,20 +85,6 @@ fn files_given<'a>(
         hasher,
     )?;
     Ok(Export { locked, exported })
-}
-
-// The folder under its lock.
-fn locked_folder<'a>(rt: &HostRuntime, folder: &'a str) -> Result<File, Fault<'a>> {
-    let file = fs::open(rt, folder).map_err(|error| folder_fault(&error, folder))?;
-    lock_file(rt, &file, folder).map_err(|_| Fault::CannotUse(folder))?;
-    Ok(file)
-}
-
-fn folder_fault<'a>(error: &io::Error, folder: &'a str) -> Fault<'a> {
-    match error.kind() {
-        io::ErrorKind::OutOfMemory => Fault::OutOfMemory,
-        _ => Fault::CannotUse(folder),
-    }
 }
 
 // The greatest number of a stored message in the folder, 0 where it has none, and the bytes of that one.
