@@ -3,7 +3,8 @@
 # a scan that ended with 0 made the packet that stands. Where strace is installed: a file is flushed before
 # it gets its name, and its folder after that. What stands at the name beside, as a link, another's file or
 # what a stopped run left. Modes. Packets that are a pipe, a folder or have no name in UTF-8, lists of
-# packets, and a standard input that is closed or does not end. Word: how many scans of the two stations.
+# packets, and a standard input that is closed or does not end. With base folders the two stations alone.
+# Words: `files` or `folders`, how many scans of the two stations.
 set -eu
 cd "$(dirname "$0")/.."
 . trials/setting.sh
@@ -33,7 +34,7 @@ both=0
 for ((number = 0; number < times; number++)); do
   rm -rf out 1.base 2.base 9.base
   mkdir out
-  for own in 1 2; do cp $own.posted $own.base; done
+  for own in 1 2; do put_base $own.posted $own.base; done
   scan 1.links 1.base out > said.1 2> fault.1 & first=$!
   scan 2.links 2.base out > said.2 2> fault.2 & second=$!
   status=
@@ -45,7 +46,7 @@ for ((number = 0; number < times; number++)); do
   esac
   "$program" list $winner.base > said
   grep -q 'end 1 messages, 0 waiting' said || wrong=$((wrong + 1))
-  cmp -s $loser.base $loser.posted || wrong=$((wrong + 1))
+  base_is $loser.base $loser.posted || wrong=$((wrong + 1))
   [ "$(cat fault.$loser)" = "echonet: cannot use out/1.10.9.0.pkt" ] || wrong=$((wrong + 1))
   "$program" toss 9.links 9.base out/1.10.9.0.pkt > said || wrong=$((wrong + 1))
   make_file ids 9.base > ids
@@ -55,6 +56,10 @@ done
 expect "of two scans into one folder one ends well, not $both times another number" [ $both = 0 ]
 expect "the packet that stands is that of the scan that ended well ($wrong wrong)" [ $wrong = 0 ]
 echo "two stations scanned into one folder $times times"
+if [ $kind = folders ]; then
+  finish beside
+  exit
+fi
 
 # The order of the calls.
 if command -v strace > /dev/null; then

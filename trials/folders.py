@@ -4,15 +4,10 @@ end, the packets that they leave, and, by `convert`, the bases: byte for byte.
 1. Random commands: postings (of mails and stored messages too), answers, tosses (of packets that were tossed before, that
    are cut, that are for another system, that are not there), scans, purges, and those that read; refused ones
    among them.
-2. Each command on a folder killed at each of its calls of the system in turn (where strace is installed): the folder
-   stands for the base from before it or after it, and the command run again ends as if nothing had been; and `convert`
-   likewise.
-3. A folder of which any byte was changed, cut off or added: each command ends by itself, with one fault line where it
-   has a fault.
-4. `list` beside commands that change the folder: each time the base of one moment.
-5. A folder that is another system's, and folders that are no base folders.
+2. `list` and `convert` beside commands that change the folder: each time the base of one moment.
+3. A folder that is another system's, and folders that are no base folders.
 
-Words: how many lists of random commands (40), how many damaged folders (300).
+Word: how many lists of random commands (40).
 """
 import os
 import random
@@ -23,75 +18,8 @@ import sys
 import tempfile
 
 import making
-
-TOP = os.path.dirname(os.path.dirname(os.path.abspath(__file__)))
-PROGRAM = os.path.realpath(os.environ.get("ECHONET", os.path.join(TOP, "bin", "echonet")))
-MOMENT = "2000-01-01T00:00:00"
-AREAS = [("TEST", [making.UPLINK, *making.DOWNLINKS]), ("OTHER", [making.UPLINK])]
-passed = failed = 0
-
-
-def expect(what, held):
-    """Counts what held."""
-    global passed, failed
-    if held:
-        passed += 1
-    else:
-        failed += 1
-        print("failed: " + what, file=sys.stderr, flush=True)
-
-
-def content_of(path):
-    """The bytes of a file, or None."""
-    try:
-        with open(path, "rb") as file:
-            return file.read()
-    except (FileNotFoundError, IsADirectoryError):
-        return None
-
-
-def put(path, content):
-    """Writes a file."""
-    with open(path, "wb") as file:
-        file.write(content)
-
-
-def run(folder, *words, given=b"", before=()):
-    """Runs the program in a folder: status, output, fault."""
-    ended = subprocess.run([*before, PROGRAM, *words], cwd=folder, input=given, capture_output=True, timeout=120,
-                           check=False)
-    return ended.returncode, ended.stdout, ended.stderr
-
-
-def is_orderly(ended):
-    """Whether a run ended by itself, with one fault line where the status tells of a fault."""
-    status, _, fault = ended
-    if status == 0:
-        return fault == b""
-    return status in (2, 3) and fault.startswith(b"echonet: ") and fault.count(b"\n") == 1
-
-
-def packets_in(folder):
-    """The files of a folder and their bytes."""
-    return {name: content_of(os.path.join(folder, name)) for name in sorted(os.listdir(folder))}
-
-
-def converted(folder, base="base"):
-    """The base file that `convert` makes of a base."""
-    made = os.path.join(folder, "made")
-    if os.path.exists(made):
-        os.remove(made)
-    ended = run(folder, "convert", base, "made")
-    return content_of(made) if ended[0] == 0 else ended
-
-
-def new_station(folder):
-    """The files of a station without a base."""
-    os.makedirs(os.path.join(folder, "out"))
-    put(os.path.join(folder, "links"), making.link_file(making.OWN, AREAS, "Alpha"))
-    put(os.path.join(folder, "faulty.links"), b"FOO\n")
-    put(os.path.join(folder, "other.links"), making.link_file(making.UPLINK, [("TEST", [making.OWN])]))
-    return folder
+from folder_station import (AREAS, COMMANDS, MOMENT, PROGRAM, content_of, converted, expect, filled_station, finish,
+                            new_station, packets_in, put, run)
 
 
 class Pair:
@@ -223,156 +151,42 @@ def side_by_side(count, folder):
         shutil.rmtree(os.path.join(folder, "pair%d" % number))
 
 
-def filled_station(folder):
-    """A station whose base folder has messages: some purged, some scanned, some that wait."""
-    new_station(folder)
-    os.mkdir(os.path.join(folder, "base"))
-    for number, first in enumerate((0, 6, 12)):
-        put(os.path.join(folder, "%d.pkt" % number), making.plain_packet(range(first, first + 6), 100))
-    put(os.path.join(folder, "new.pkt"), making.plain_packet(range(14, 24), 100))
-    steps = (("toss", "links", "base", "0.pkt"), ("scan", "--at", MOMENT, "links", "base", "out"),
-             ("purge", "links", "base"), ("toss", "links", "base", "1.pkt"),
-             ("scan", "--at", MOMENT, "links", "base", "out"), ("toss", "links", "base", "2.pkt"))
-    for words in steps:
-        ended = run(folder, *words)
-        expect("%s: %r" % (words, ended), ended[0] == 0)
-    for name in os.listdir(os.path.join(folder, "out")):
-        os.remove(os.path.join(folder, "out", name))
-    return folder
+# What a loop of commands prints of the base that it changes: each posts a message, scans it and purges it.
+CHANGES = """for i in $(seq 100 160); do
+  "$0" post --area TEST --to All --from Ann --subject Hi --serial 00000$i --at %s links base < /dev/null
+  "$0" scan --at %s links base out; "$0" purge links base
+done""" % (MOMENT, MOMENT)
 
 
-COMMANDS = {
-    "post": ("post", "--area", "TEST", "--to", "All", "--from", "Ann", "--subject", "Hi", "--serial", "00000001", "--at",
-             MOMENT, "links", "base"),
-    "reply": ("reply", "--from", "Cid", "--serial", "00000001", "--at", MOMENT, "7", "links", "base"),
-    "toss": ("toss", "links", "base", "new.pkt"),
-    "scan": ("scan", "--at", MOMENT, "links", "base", "out"),
-    "purge": ("purge", "links", "base"),
-}
-
-
-def calls_of(folder, words):
-    """The calls of the system of a command: each a name, and its number among those of the name."""
-    subprocess.run(["strace", "-o", "calls", PROGRAM, *words], cwd=folder, input=b"", capture_output=True, check=False)
-    counts, calls = {}, []
-    with open(os.path.join(folder, "calls"), encoding="utf-8", errors="replace") as file:
-        for line in file:
-            name = re.match(r"([a-z0-9_]+)\(", line)
-            if name:
-                counts[name[1]] = counts.get(name[1], 0) + 1
-                calls.append((name[1], counts[name[1]]))
-    return calls
-
-
-def copy_of(folder, to):
-    """A copy of a station."""
-    shutil.rmtree(to, ignore_errors=True)
-    return shutil.copytree(folder, to)
-
-
-def kill_each(name, words, station, folder):
-    """Kills a command at each of its calls, and runs it again."""
-    before = converted(station)
-    whole = copy_of(station, os.path.join(folder, "whole"))
-    calls = calls_of(copy_of(station, os.path.join(folder, "counted")), words)
-    first = run(whole, *words)
-    after, packets = converted(whole), packets_in(os.path.join(whole, "out"))
-    killed = 0
-    for call, number in calls:
-        what = "%s killed at %s %d" % (name, call, number)
-        place = copy_of(station, os.path.join(folder, "killed"))
-        ended = run(place, *words, before=("strace", "-o", "/dev/null", "-e",
-                                           "inject=%s:signal=SIGKILL:when=%d" % (call, number)))
-        killed += ended[0] in (-9, 137)
-        base = converted(place)
-        expect("%s: the base" % what, base in (before, after))
-        for packet, content in packets_in(os.path.join(place, "out")).items():
-            if packet.endswith(".pkt"):
-                expect("%s: %s" % (what, packet), base == after and content == packets[packet])
-        again = run(place, *words)
-        expect("%s: again %r" % (what, again), is_orderly(again) and (base == after or again == first))
-        expect("%s: the base at the end" % what, converted(place) == after)
-        expect("%s: the packets at the end" % what, packets_in(os.path.join(place, "out")) == packets)
-    expect("%s is killed at all calls but some of memory, not at %d of %d" % (name, killed, len(calls)),
-           killed >= len(calls) - 5)
-    print("%s killed at each of %d calls of the system" % (name, killed), flush=True)
-
-
-def kill_convert(station, folder):
-    """Kills `convert` into a folder at each of its calls, and runs it again."""
-    wanted = converted(station)
-    start = copy_of(station, os.path.join(folder, "start"))
-    os.mkdir(os.path.join(start, "to"))
-    words, killed = ("convert", "base", "to"), 0
-    for call, number in calls_of(copy_of(start, os.path.join(folder, "counted")), words):
-        what = "convert killed at %s %d" % (call, number)
-        place = copy_of(start, os.path.join(folder, "killed"))
-        ended = run(place, *words, before=("strace", "-o", "/dev/null", "-e",
-                                           "inject=%s:signal=SIGKILL:when=%d" % (call, number)))
-        killed += ended[0] in (-9, 137)
-        base = converted(place, "to")
-        expect("%s: made" % what, base in (making.base(0, []), wanted))
-        again = run(place, *words)
-        expect("%s: again %r" % (what, again), again[0] == (3 if base == wanted else 0))
-        expect("%s: at the end" % what, converted(place, "to") == wanted)
-    print("convert killed at each of %d calls of the system" % killed, flush=True)
-
-
-def kills(folder):
-    """Each command killed at each call."""
-    station = filled_station(os.path.join(folder, "station"))
-    for name, words in COMMANDS.items():
-        kill_each(name, words, station, folder)
-    empty = new_station(os.path.join(folder, "empty"))
-    os.mkdir(os.path.join(empty, "base"))
-    kill_each("the first post", COMMANDS["post"], empty, folder)
-    kill_convert(station, folder)
-
-
-def damaged(count, folder):
-    """Folders that are not whole."""
-    chance = random.Random("damaged")
-    station = filled_station(os.path.join(folder, "damaged"))
-    names = sorted(os.listdir(os.path.join(station, "base")))
-    for number in range(count):
-        place = copy_of(station, os.path.join(folder, "place"))
-        name = chance.choice(names)
-        path = os.path.join(place, "base", name)
-        content = bytearray(content_of(path))
-        at = chance.randrange(len(content) + 1)
-        deed = chance.choice(("change", "cut", "add", "remove"))
-        if deed == "change" and content:
-            content[at % len(content)] ^= chance.randrange(1, 256)
-        elif deed == "cut":
-            del content[at:at + chance.choice((1, 16, 1 << 20))]
-        elif deed == "add":
-            content[at:at] = bytes(chance.randrange(256) for _ in range(chance.choice((1, 16, 100))))
-        if deed == "remove":
-            os.remove(path)
-        else:
-            put(path, bytes(content))
-        for words in (("list", "base"), ("export", "base"), ("convert", "base", "made"), *COMMANDS.values(),
-                      ("list", "base")):
-            ended = run(place, *words)
-            expect("%s at %d of %s: %s, %r" % (deed, at, name, words[0], ended), is_orderly(ended))
-    print("%d damaged folders" % count, flush=True)
+def moment_of(base):
+    """How many messages a base file has, how many of them wait, and how many are scanned and not purged; the purged ones
+    stand in front."""
+    cursor, messages = making.read_base(base)
+    purged = [message[0] in (2, 3) for message in messages]
+    expect("the purged ones stand in front", purged == sorted(purged, reverse=True))
+    return len(messages), len(messages) - cursor, cursor - sum(purged)
 
 
 def beside(folder):
-    """`list` beside commands that change the folder."""
+    """`list` and `convert` beside commands that change the folder."""
     station = filled_station(os.path.join(folder, "beside"))
-    with subprocess.Popen(
-            ["bash", "-c", """for i in $(seq 100 140); do
-               "$0" post --area TEST --to All --from Ann --subject Hi --serial 00000$i --at %s links base < /dev/null
-               "$0" scan --at %s links base out; "$0" purge links base
-             done""" % (MOMENT, MOMENT), PROGRAM], cwd=station, stdout=subprocess.DEVNULL) as changes:
+    for name in ("scan", "purge"):
+        expect("a %s first" % name, run(station, *COMMANDS[name])[0] == 0)
+    with subprocess.Popen(["bash", "-c", CHANGES, PROGRAM], cwd=station, stdout=subprocess.DEVNULL) as changes:
         counts = []
         while changes.poll() is None:
             ended = run(station, "list", "base")
             expect("list beside others: %r" % (ended,), ended[0] == 0)
             counts.append(int(re.search(rb"end (\d+) messages", ended[1])[1]) if ended[0] == 0 else 0)
+            base = converted(station)
+            expect("convert beside others: %r" % (base[:3],), isinstance(base, bytes))
+            if isinstance(base, bytes):
+                count, waiting, scanned = moment_of(base)
+                counts.append(count)
+                expect("%d wait and %d are to be purged" % (waiting, scanned),
+                       (waiting, scanned) in ((0, 0), (1, 0), (0, 1)))
     expect("no message is lost meanwhile", counts == sorted(counts))
-    print("%d lists beside others" % len(counts), flush=True)
+    print("%d times read beside others" % len(counts), flush=True)
 
 
 def others(folder):
@@ -398,19 +212,12 @@ def others(folder):
 def main(words):
     """All of it."""
     count = int(words[0]) if words else 40
-    many = int(words[1]) if len(words) > 1 else 300
     with tempfile.TemporaryDirectory(prefix="echonet-trials.") as folder:
         side_by_side(count, folder)
         print("%d lists of commands" % count, flush=True)
-        if shutil.which("strace"):
-            kills(folder)
-        else:
-            print("strace is not installed: no kills")
-        damaged(many, folder)
         beside(folder)
         others(folder)
-    print("folders: %d passed, %d failed" % (passed, failed))
-    return 1 if failed else 0
+    return finish("folders")
 
 
 if __name__ == "__main__":
