@@ -1,6 +1,6 @@
 //! A base folder filled with the messages of a base.
 ghost use Rattle.std.specs.Prelude.{◌≡◌, ◌≤◌, ℕ, List, OnOk, take, length};
-ghost use Rattle.echo_base.specs.Base.{Base};
+ghost use Rattle.echo_base.specs.Base.{Base, IsBase};
 ghost use Rattle.echo_disk.specs.Disk.{Honestly};
 ghost use Rattle.echo_folder_store.specs.Answers.{HasReadCause};
 ghost use Rattle.echo_folder_store.specs.Held.{HoldsBase, digest_by};
@@ -36,7 +36,8 @@ fn add<D: Disk, H: Digest>(
     let bytes = bytes_alone(alloc, message)?;
     let key = Key::of_message(alloc, message)?;
     let digested = bytes_of_key(alloc, &key)?;
-    folder.stage(disk, &bytes, digest.of(&digested))
+    let number = digest.of(&digested);
+    folder.stage(disk, &bytes, number)
 }
 
 // Adds the messages of the base from one number up to another.
@@ -52,6 +53,7 @@ fn add_from<D: Disk, H: Digest, S: BuildHasher>(
     requires named { IsNamed folder.old }
     requires opened { Honestly (D.state disk.old) (IsOpen (D.state disk.old) folder.old) }
     requires digests { (bytes : List ℕ) → H.digest digest.now bytes ≡ digest_by H.keyed folder.old.told.mark bytes }
+    requires base { IsBase base.now.messages base.now.cursor }
     requires order { from ≤ to }
     requires within { to ≤ length base.now.messages }
     ensures named { IsNamed folder.new }

@@ -1,4 +1,4 @@
-mod Bases
+pub mod Bases
 mod Beside
 pub mod Causes
 pub mod Claimed
@@ -10,6 +10,6 @@ pub mod Seen
 mod Single
 mod Staged
 mod Stated
-mod Stubbed
+pub mod Stubbed
 mod WhereSo
 mod Whole
