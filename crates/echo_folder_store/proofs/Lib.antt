@@ -8,7 +8,7 @@ pub mod Numbered
 mod OneMore
 pub mod Seen
 mod Single
-mod Staged
+pub mod Staged
 mod Stated
 pub mod Stubbed
 mod WhereSo
