@@ -1,4 +1,6 @@
+pub mod Empties
 pub mod Files
+pub mod Fillings
 pub mod Lookings
 pub mod Openings
 pub mod Wrongs

@@ -1,10 +1,18 @@
 -- Whose a base folder is: an address as a number.
-use Rattle.std.specs.Prelude.{◌≡◌, ◌≢◌, ℕ, ◌+◌, ◌*◌, ◌/◌, ◌%◌}
+use Rattle.std.specs.Prelude.{◌≡◌, ◌≢◌, ℕ, ◌+◌, ◌*◌, ◌/◌, ◌%◌, Bool, List}
 use Rattle.echo_addr.specs.declared.address.Address.{Address}
+use Rattle.echo_disk.specs.Disk.{DiskState, Files, bytes_in}
+use Rattle.echo_disk.specs.Runs.{ChangesNothing}
+use Rattle.echo_folder.specs.Names.{log_of}
 use Rattle.echo_folder.specs.declared.log.Mark.{Mark}
+use Rattle.echo_folder.specs.declared.log.Told.{Told}
 use Rattle.echo_folder_store.specs.declared.folder.Folder.{Folder}
 use Rattle.echo_status.specs.declared.fault.Fault.{Fault}
 use Rattle.echo_status.specs.declared.fault.Fault.TheVariants.{NotOwner}
+use Rattle.echo_base_folder.specs.Unopened.{IsUnopened}
+use Rattle.echo_base_folder.specs.Wrong.{IsToldBy}
+use Rattle.echo_base_folder.specs.declared.unread.Unread.{Unread}
+use Rattle.echo_base_folder.specs.declared.unread.Unread.TheVariants as unread
 
 -- sixteen bits each of zone, net and node
 abbrev pub number_of : Address → ℕ
@@ -19,13 +27,35 @@ pub record IsOurs (own : Address) (old new : Folder) : Type 0 where
   pub owner : new.told.mark.owner ≡ number_of own
   pub kept : old.told.mark.owner ≢ 0 → new ≡ old
 
--- it is another system's
+-- this mark is another system's
+pub record IsMarkOfOther (own : Address) (mark : Mark) (address : Address) : Type 0 where
+  pub claimed : mark.owner ≢ 0
+  pub other : mark.owner ≢ number_of own
+  pub told : address ≡ address_of mark.owner
+
+-- and so the folder is
 pub record IsOfAnother (own : Address) (folder : Folder) (fault : Fault) : Type 0 where
-  pub claimed : folder.told.mark.owner ≢ 0
-  pub other : folder.told.mark.owner ≢ number_of own
-  pub told : fault ≡ NotOwner (address_of folder.told.mark.owner)
+  pub address : Address
+  pub mark : IsMarkOfOther own folder.told.mark address
+  pub told : fault ≡ NotOwner address
 
 -- the digests are by the same key
 pub record SameKey (old new : Mark) : Type 0 where
   pub first : new.first ≡ old.first
   pub second : new.second ≡ old.second
+
+-- the log tells that the folder is that of the system with this address, which is another one
+pub record IsOfOther (own : Address) (strange : Bool) (path : List ℕ) (files : Files) (address : Address) : Type 0 where
+  pub told : Told
+  pub log : IsToldBy strange (bytes_in (files (log_of path))) told
+  pub mark : IsMarkOfOther own told.mark address
+
+-- nothing was changed, if the folder is said to be another system's
+abbrev pub IsLeftAlone : DiskState → DiskState → Unread → Type 0
+IsLeftAlone old new (unread.NotOwner address) = ChangesNothing old new
+IsLeftAlone old new _ = Unit {0}
+
+-- it is another system's, if that is why, or it is not opened
+abbrev pub IsNotOurs : Address → Bool → List ℕ → Files → Unread → Type 0
+IsNotOurs own strange path files (unread.NotOwner address) = IsOfOther own strange path files address
+IsNotOurs own strange path files why = IsUnopened strange path files why

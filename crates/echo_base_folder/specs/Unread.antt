@@ -29,22 +29,26 @@ IsToldAs path unread.Memory told = told ≡ fault.OutOfMemory
 IsToldAs path unread.Device (fault.CannotUse shown) = shown.now ≡ path
 IsToldAs path unread.Device _ = ⊥
 IsToldAs path (unread.Wrong why) told = told ≡ fault.Base why
+IsToldAs path (unread.NotOwner address) told = told ≡ fault.NotOwner address
 
 -- the log is that of no base folder, if that is why
 abbrev pub IsWrongLog : Bool → List ℕ → Unread → Type 0
 IsWrongLog strange log (unread.Wrong base.NotBase) = IsNoFolder strange log
-IsWrongLog strange log (unread.Wrong _) = ⊥
-IsWrongLog strange log _ = Unit {0}
+IsWrongLog strange log unread.Memory = Unit {0}
+IsWrongLog strange log unread.Device = Unit {0}
+IsWrongLog strange log _ = ⊥
 
 -- the files are shorter than the log tells, if that is why
 abbrev pub IsWrongFiles : List ℕ → Files → Told → Unread → Type 0
 IsWrongFiles path files told (unread.Wrong (base.Truncated n)) = IsShort path files told n
-IsWrongFiles path files told (unread.Wrong _) = ⊥
-IsWrongFiles path files told _ = Unit {0}
+IsWrongFiles path files told unread.Memory = Unit {0}
+IsWrongFiles path files told unread.Device = Unit {0}
+IsWrongFiles path files told _ = ⊥
 
 -- the files are those of no base folder, or of one that is cut short, if that is why
 abbrev pub IsWrong : Bool → List ℕ → Files → Unread → Type 0
 IsWrong strange path files (unread.Wrong base.NotBase) = IsNoFolder strange (bytes_in (files (log_of path)))
-IsWrong strange path files (unread.Wrong (base.Truncated n)) = IsCutShort path files n
-IsWrong strange path files (unread.Wrong _) = ⊥
-IsWrong strange path files _ = Unit {0}
+IsWrong strange path files (unread.Wrong (base.Truncated n)) = IsCutShort strange path files n
+IsWrong strange path files unread.Memory = Unit {0}
+IsWrong strange path files unread.Device = Unit {0}
+IsWrong strange path files _ = ⊥

@@ -1,5 +1,5 @@
 -- What is wrong with a folder that is no base folder, or is cut short.
-use Rattle.std.specs.Prelude.{◌≡◌, ◌≤◌, ◌<◌, ◌⊎◌, ℕ, ◌+◌, ◌/◌, ◌%◌, ◌==◌, ◌&&◌, ◌||◌, not, nat_lt, Bool, true, List, length, take}
+use Rattle.std.specs.Prelude.{◌≡◌, ◌≤◌, ◌<◌, ◌⊎◌, ℕ, ◌+◌, ◌/◌, ◌%◌, ◌==◌, ◌&&◌, ◌||◌, not, nat_lt, Bool, true, false, List, length, take}
 use Rattle.echo_disk.specs.Disk.{Files, bytes_in}
 use Rattle.echo_folder.specs.Names.{keys_of, log_of, messages_of}
 use Rattle.echo_folder.specs.Reading.{ReadsAll}
@@ -23,6 +23,17 @@ pub record IsNoFolder (strange : Bool) (log : List ℕ) : Type 0 where
   pub reads : ReadsAll log end
   pub foreign : is_foreign strange (length log) end ≡ true
 
+-- the folder with this log is a base folder, whose records end so
+pub record IsFolderLog (strange : Bool) (log : List ℕ) (end : End) : Type 0 where
+  pub reads : ReadsAll log end
+  pub own : is_foreign strange (length log) end ≡ false
+
+-- the last of its records tells this
+pub record IsToldBy (strange : Bool) (log : List ℕ) (told : Told) : Type 0 where
+  pub end : End
+  pub log : IsFolderLog strange log end
+  pub is : end.told ≡ told
+
 -- so many messages, from the front, end within the bytes that are there, of all that the log tells, and the next one does not
 pub record AreWhole (keys : List ℕ) (all there n : ℕ) : Type 0 where
   pub whole : (i : ℕ) (messages : List ℕ) → length messages ≡ all → i < n → place_behind messages keys i ≤ there
@@ -34,7 +45,12 @@ pub record IsShort (path : List ℕ) (files : Files) (told : Told) (n : ℕ) : T
   pub whole : AreWhole (take told.keys (bytes_in (files (keys_of path told.number)))) told.messages (length (bytes_in (files (messages_of path told.number)))) n
 
 -- the same of what the folder's own log tells
-pub record IsCutShort (path : List ℕ) (files : Files) (n : ℕ) : Type 0 where
+pub record IsCutShort (strange : Bool) (path : List ℕ) (files : Files) (n : ℕ) : Type 0 where
   pub end : End
-  pub reads : ReadsAll (bytes_in (files (log_of path))) end
+  pub log : IsFolderLog strange (bytes_in (files (log_of path))) end
   pub is : IsShort path files end.told n
+
+-- nothing of that is wrong with it
+pub record IsSound (strange : Bool) (path : List ℕ) (files : Files) : Type 0 where
+  pub folder : IsNoFolder strange (bytes_in (files (log_of path))) → ⊥
+  pub whole : (n : ℕ) → IsCutShort strange path files n → ⊥

@@ -1,14 +1,13 @@
 //! The base file of the messages of a base folder.
-ghost use Rattle.std.specs.Prelude.{◌≡◌, ◌<◌, ◌/◌, ℕ, List, length, IfErr, IfOk, slice_index_or};
+ghost use Rattle.std.specs.Prelude.{◌≡◌, ◌<◌, ◌/◌, ℕ, List, [], ◌∷◌, length, IfErr, IfOk};
 ghost use Rattle.echo_base.specs.Base.{Base};
 ghost use Rattle.echo_base.specs.BaseFile.{head_bytes, saved_bytes, stored_at};
-ghost use Rattle.echo_filed.specs.Filed.{Filed};
-ghost use Rattle.echo_filed.specs.Stored.{stored_as, stored_bytes};
+ghost use Rattle.echo_filed.specs.Stored.{IsStored, Stored, message_in, stored_as, stored_bytes};
 ghost use Rattle.echo_filed.specs.declared.stored.Version.TheVariants.{Second};
-ghost use Rattle.echo_folder_store.specs.Answers.{Answers, IsAloneOf};
+ghost use Rattle.echo_folder_store.specs.Answers.{Answers};
 ghost use Rattle.echo_folder_store.specs.Held.{HoldsBase};
-ghost use Rattle.echo_keys.specs.Keys.{StandWhereTold};
-ghost use Rattle.echo_base_folder.specs.AsFile.{IsFileFault, IsTooLong};
+ghost use Rattle.echo_keys.specs.Keys.{HasBytesOf, MayStandAlone};
+ghost use Rattle.echo_base_folder.specs.AsFile.{IsDamagedIn, IsFileFault, IsTooLong};
 ghost use Rattle.echo_base_folder.specs.Looked.{bytes_of};
 
 use crate::looking::Seen;
@@ -62,12 +61,13 @@ fn bytes_at(
 }
 
 impl Seen {
-    /// The base file of the same messages and the same cursor. It is `Damaged` where a message does not stand as it
-    /// was filed.
+    /// The base file of the same messages and the same cursor. It is `Damaged` where what stands at a number is no
+    /// message.
     pub fn as_file(&self, alloc: Global) -> Result<Vec<u8>, BaseFault>
         ensures file { (keyed : ℕ → ℕ → List ℕ → ℕ) (base : Base) → HoldsBase keyed (bytes_of self.now) base
             → IfOk result (λ bytes. bytes.items ≡ saved_bytes base.messages base.cursor) }
         ensures fault { (keyed : ℕ → ℕ → List ℕ → ℕ) (base : Base) → HoldsBase keyed (bytes_of self.now) base → IfErr result (IsFileFault base) }
+        ensures damaged { IfErr result (IsDamagedIn (bytes_of self.now)) }
     {
         let count = self.count();
         if count > MOST || self.cursor > MOST as u64 {
@@ -84,15 +84,16 @@ impl Seen {
     // The message of this number as a base file has it there.
     fn message_at(&self, alloc: Global, i: usize) -> Result<Vec<u8>, BaseFault>
         requires { i < length self.now.keys.items / 16 }
-        ensures bytes { (base : List Filed) → StandWhereTold base self.now.messages.items self.now.keys.items → (d : Filed)
-            → IfOk result (λ bytes. bytes.items ≡ stored_bytes Second (stored_at self.now.cursor i (slice_index_or base i d))) }
-        ensures fault { (base : List Filed) → StandWhereTold base self.now.messages.items self.now.keys.items → (d : Filed)
-            → IfErr result (IsTooLong (stored_at self.now.cursor i (slice_index_or base i d))) }
+        ensures bytes { (s : Stored) → IsStored Second s → MayStandAlone s → HasBytesOf self.now.messages.items self.now.keys.items i s
+            → IfOk result (λ bytes. bytes.items ≡ stored_bytes Second (stored_at self.now.cursor i (message_in Second s))) }
+        ensures fault { (s : Stored) → IsStored Second s → MayStandAlone s → HasBytesOf self.now.messages.items self.now.keys.items i s
+            → IfErr result (IsTooLong (stored_at self.now.cursor i (message_in Second s))) }
+        ensures damaged { IfErr result (IsDamagedIn (bytes_of self.now)) }
     {
         let alone = match self.alone_at(alloc, i) {
             Ok(alone) => alone,
-            Err(StoreError::Memory) => return Err(BaseFault::Memory),
-            Err(_) => return Err(BaseFault::Damaged { message: i as u64 }),
+            Err(StoreError::Damaged) => return Err(BaseFault::Damaged { message: i as u64 }),
+            Err(_) => return Err(BaseFault::Memory),
         };
         match alone.message(0) {
             Some(message) => bytes_at(alloc, message, i, self.cursor as usize),
@@ -103,7 +104,8 @@ impl Seen {
     // The message of this number, alone in a base of its own.
     fn alone_at(&self, alloc: Global, i: usize) -> Result<Alone, StoreError>
         requires { i < length self.now.keys.items / 16 }
-        ensures read { (base : List Filed) → StandWhereTold base self.now.messages.items self.now.keys.items → Answers (IsAloneOf base i) result }
+        ensures { (s : Stored) → IsStored Second s → MayStandAlone s → HasBytesOf self.now.messages.items self.now.keys.items i s
+            → Answers (λ alone. alone.messages ≡ message_in Second s ∷ []) result }
     {
         let begins = place_of(&self.keys, i) as usize;
         let ends = end_of(&self.keys, i, self.messages.len() as u64) as usize;

@@ -1,11 +1,13 @@
 //! A base folder filled with the messages of a base.
 ghost use Rattle.std.specs.Prelude.{◌≡◌, ◌≤◌, ℕ, List, OnOk, take, length};
-ghost use Rattle.echo_base.specs.Base.{Base};
+ghost use Rattle.echo_base.specs.Base.{Base, IsBase};
 ghost use Rattle.echo_disk.specs.Disk.{Honestly};
+ghost use Rattle.echo_disk.specs.Runs.{LeavesOnly};
+ghost use Rattle.echo_folder.specs.Moments.{KeepsOutside, StandsAlone};
 ghost use Rattle.echo_folder_store.specs.Answers.{HasReadCause};
 ghost use Rattle.echo_folder_store.specs.Held.{HoldsBase, digest_by};
-ghost use Rattle.echo_folder_store.specs.Opened.{IsNamed, IsOpen, committed_by, held_by};
-ghost use Rattle.echo_base_folder.specs.Filled.{HoldsFront, HoldsMore};
+ghost use Rattle.echo_folder_store.specs.Opened.{IsNamed, IsOpen, committed_by, held_by, path_of};
+ghost use Rattle.echo_base_folder.specs.Filled.{HoldsFront, HoldsMore, StandsForOneOf};
 
 use echo_base::Base;
 use echo_disk::Disk;
@@ -29,14 +31,20 @@ fn add<D: Disk, H: Digest>(
     requires digests { (bytes : List ℕ) → H.digest digest.now bytes ≡ digest_by H.keyed folder.old.told.mark bytes }
     ensures named { IsNamed folder.new }
     ensures opened { Honestly (D.state disk.new) (OnOk result (IsOpen (D.state disk.new) folder.new)) }
+    ensures path { path_of folder.new ≡ path_of folder.old }
     ensures mark { folder.new.told.mark ≡ folder.old.told.mark }
     ensures added { Honestly (D.state disk.new) (OnOk result (HoldsMore H.keyed (held_by (D.state disk.old) folder.old) (held_by (D.state disk.new) folder.new) message.now)) }
+    ensures same { Honestly (D.state disk.new) (OnOk result (committed_by (D.state disk.new) folder.new ≡ committed_by (D.state disk.old) folder.old)) }
+    ensures any_moment { Honestly (D.state disk.new) (LeavesOnly (D.state disk.old) (D.state disk.new)
+        (StandsAlone (path_of folder.old) (D.state disk.old) (committed_by (D.state disk.old) folder.old))) }
+    ensures outside { KeepsOutside (path_of folder.old) (D.state disk.old) (D.state disk.new) }
     ensures cause { HasReadCause (D.failures disk.old) (D.failures disk.new) result }
 {
     let bytes = bytes_alone(alloc, message)?;
     let key = Key::of_message(alloc, message)?;
     let digested = bytes_of_key(alloc, &key)?;
-    folder.stage(disk, &bytes, digest.of(&digested))
+    let number = digest.of(&digested);
+    folder.stage(disk, &bytes, number)
 }
 
 // Adds the messages of the base from one number up to another.
@@ -52,13 +60,19 @@ fn add_from<D: Disk, H: Digest, S: BuildHasher>(
     requires named { IsNamed folder.old }
     requires opened { Honestly (D.state disk.old) (IsOpen (D.state disk.old) folder.old) }
     requires digests { (bytes : List ℕ) → H.digest digest.now bytes ≡ digest_by H.keyed folder.old.told.mark bytes }
+    requires base { IsBase base.now.messages base.now.cursor }
     requires order { from ≤ to }
     requires within { to ≤ length base.now.messages }
     ensures named { IsNamed folder.new }
     ensures opened { Honestly (D.state disk.new) (OnOk result (IsOpen (D.state disk.new) folder.new)) }
+    ensures path { path_of folder.new ≡ path_of folder.old }
     ensures mark { folder.new.told.mark ≡ folder.old.told.mark }
     ensures added { Honestly (D.state disk.new) ((cursor : ℕ) → HoldsFront H.keyed (held_by (D.state disk.old) folder.old) base.now.messages from cursor
         → OnOk result (HoldsFront H.keyed (held_by (D.state disk.new) folder.new) base.now.messages to cursor)) }
+    ensures same { Honestly (D.state disk.new) (OnOk result (committed_by (D.state disk.new) folder.new ≡ committed_by (D.state disk.old) folder.old)) }
+    ensures any_moment { Honestly (D.state disk.new) (LeavesOnly (D.state disk.old) (D.state disk.new)
+        (StandsAlone (path_of folder.old) (D.state disk.old) (committed_by (D.state disk.old) folder.old))) }
+    ensures outside { KeepsOutside (path_of folder.old) (D.state disk.old) (D.state disk.new) }
     ensures cause { HasReadCause (D.failures disk.old) (D.failures disk.new) result }
 {
     'messages: for i in from..to {
@@ -84,6 +98,12 @@ pub fn fill<D: Disk, H: Digest, S: BuildHasher>(
     ensures opened { Honestly (D.state disk.new) (OnOk result (IsOpen (D.state disk.new) folder.new)) }
     ensures committed { Honestly (D.state disk.new) (HoldsFront H.keyed (held_by (D.state disk.old) folder.old) base.now.messages 0 0
         → OnOk result (HoldsBase H.keyed (committed_by (D.state disk.new) folder.new) base.now)) }
+
+    // A crash at any moment leaves what was committed before, or all of the base.
+    ensures any_moment { Honestly (D.state disk.new) ((first : Base) → HoldsBase H.keyed (committed_by (D.state disk.old) folder.old) first
+        → HoldsFront H.keyed (held_by (D.state disk.old) folder.old) base.now.messages 0 0
+        → LeavesOnly (D.state disk.old) (D.state disk.new) (StandsForOneOf H.keyed (path_of folder.old) (D.state disk.old) first base.now)) }
+    ensures outside { KeepsOutside (path_of folder.old) (D.state disk.old) (D.state disk.new) }
     ensures cause { HasReadCause (D.failures disk.old) (D.failures disk.new) result }
 {
     let cursor = base.cursor();

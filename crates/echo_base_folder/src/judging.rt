@@ -1,16 +1,15 @@
 //! What the log of a base folder tells, and what is wrong with the folder.
-ghost use Rattle.std.specs.Prelude.{◌≡◌, ◌≤◌, ◌<◌, ◌/◌, ◌+◌, false, length, take, IfErr, IfOk, IfSome, IfNone};
+ghost use Rattle.std.specs.Prelude.{◌≡◌, ◌≤◌, ◌<◌, ◌/◌, ◌+◌, length, take, IfErr, IfOk, IfSome, IfNone, OnOk};
 ghost use Rattle.echo_disk.specs.Disk.{Honestly, bytes_in};
 ghost use Rattle.echo_disk.specs.Runs.{ChangesNothing, HasCause};
 ghost use Rattle.echo_folder.specs.Names.{keys_of, log_of, messages_of};
-ghost use Rattle.echo_folder.specs.Reading.{ReadsAll};
-ghost use Rattle.echo_base_folder.specs.Unread.{HasUnreadCause, IsWrongLog};
-ghost use Rattle.echo_base_folder.specs.Wrong.{AreWhole, IsShort, is_foreign, is_no_log};
+ghost use Rattle.echo_base_folder.specs.Unread.{HasUnreadCause, IsWrong, IsWrongLog};
+ghost use Rattle.echo_base_folder.specs.Wrong.{AreWhole, IsFolderLog, IsShort, IsSound, IsToldBy, is_no_log};
 
 use crate::unread::Unread;
 use echo_base::BaseFault;
 use echo_disk::{Disk, DiskError, read_file};
-use echo_folder::{End, Names, last_record, read_part};
+use echo_folder::{End, Names, Told, last_record, read_part};
 use echo_keys::end_of;
 use std::alloc::Global;
 
@@ -94,10 +93,9 @@ pub(crate) fn outline_of<D: Disk>(
     strange: bool,
 ) -> Result<Outline, Unread>
     ensures log { Honestly (D.state disk.new) (IfOk result (λ o. o.log.items ≡ bytes_in ((D.state disk.old).seen (log_of path.now)))) }
-    ensures reads { IfOk result (λ o. ReadsAll o.log.items o.end) }
+    ensures folder { IfOk result (λ o. IsFolderLog strange o.log.items o.end) }
     ensures within { IfOk result (λ o. o.end.gate ≤ length o.log.items) }
     ensures digit { IfOk result (λ o. o.end.told.number < 10) }
-    ensures own { IfOk result (λ o. is_foreign strange (length o.log.items) o.end ≡ false) }
     ensures wrong { Honestly (D.state disk.new) (IfErr result (IsWrongLog strange (bytes_in ((D.state disk.old).seen (log_of path.now))))) }
     ensures quiet { ChangesNothing (D.state disk.old) (D.state disk.new) }
     ensures cause { HasUnreadCause (D.failures disk.old) (D.failures disk.new) result }
@@ -118,7 +116,7 @@ pub fn log_end<D: Disk>(
     path: &[u8],
     strange: bool,
 ) -> Result<End, Unread>
-    ensures reads { Honestly (D.state disk.new) (IfOk result (ReadsAll (bytes_in ((D.state disk.old).seen (log_of path.now))))) }
+    ensures folder { Honestly (D.state disk.new) (IfOk result (IsFolderLog strange (bytes_in ((D.state disk.old).seen (log_of path.now))))) }
     ensures wrong { Honestly (D.state disk.new) (IfErr result (IsWrongLog strange (bytes_in ((D.state disk.old).seen (log_of path.now))))) }
     ensures quiet { ChangesNothing (D.state disk.old) (D.state disk.new) }
     ensures cause { HasUnreadCause (D.failures disk.old) (D.failures disk.new) result }
@@ -167,4 +165,24 @@ pub(crate) fn cut_in<D: Disk>(
     }
     let keys = front_of(alloc, disk, &names.keys, told.keys)?;
     Ok(Some(whole_in(&keys, told.messages, there)))
+}
+
+/// What the log of a folder tells whose files are as long as that.
+pub(crate) fn judged<D: Disk>(
+    alloc: Global,
+    disk: &mut D,
+    path: &[u8],
+    strange: bool,
+) -> Result<Told, Unread>
+    ensures told { Honestly (D.state disk.new) (IfOk result (IsToldBy strange (bytes_in ((D.state disk.old).seen (log_of path.now))))) }
+    ensures sound { Honestly (D.state disk.new) (OnOk result (IsSound strange path.now (D.state disk.old).seen)) }
+    ensures wrong { Honestly (D.state disk.new) (IfErr result (IsWrong strange path.now (D.state disk.old).seen)) }
+    ensures quiet { ChangesNothing (D.state disk.old) (D.state disk.new) }
+    ensures cause { HasUnreadCause (D.failures disk.old) (D.failures disk.new) result }
+{
+    let Outline { log: _, end } = outline_of(alloc, disk, path, strange)?;
+    if let Some(messages) = cut_in(alloc, disk, path, end)? {
+        return Err(Unread::Wrong(BaseFault::Truncated { messages }));
+    }
+    Ok(end.told)
 }

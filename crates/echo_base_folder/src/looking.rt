@@ -6,6 +6,7 @@ ghost use Rattle.echo_folder.specs.Names.{keys_of, messages_of};
 ghost use Rattle.echo_folder.specs.Standing.{BaseBytes, StandsFor, base_at};
 ghost use Rattle.echo_base_folder.specs.Looked.{bytes_of};
 ghost use Rattle.echo_base_folder.specs.Unread.{HasUnreadCause, IsWrong, IsWrongFiles};
+ghost use Rattle.echo_base_folder.specs.Wrong.{IsSound};
 
 use crate::judging::{Outline, cut_in, front_of, outline_of};
 use crate::unread::Unread;
@@ -48,6 +49,7 @@ pub fn look<D: Disk>(
 ) -> Result<Seen, Unread>
     ensures found { Honestly (D.state disk.new) ((base : BaseBytes) → StandsFor path.now base (D.state disk.old).seen
         → IfOk result (λ seen. bytes_of seen ≡ base)) }
+    ensures sound { Honestly (D.state disk.new) (OnOk result (IsSound strange path.now (D.state disk.old).seen)) }
     ensures wrong { Honestly (D.state disk.new) (IfErr result (IsWrong strange path.now (D.state disk.old).seen)) }
     ensures quiet { ChangesNothing (D.state disk.old) (D.state disk.new) }
     ensures cause { HasUnreadCause (D.failures disk.old) (D.failures disk.new) result }

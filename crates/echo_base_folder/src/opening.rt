@@ -1,22 +1,58 @@
 //! A base folder opened to be changed.
-ghost use Rattle.std.specs.Prelude.{◌≡◌, ℕ, List, IfErr, IfOk};
+ghost use Rattle.std.specs.Prelude.{◌≡◌, ◌⊎◌, ℕ, List, IfErr, IfOk, OnOk};
 ghost use Rattle.echo_base.specs.Base.{Base};
 ghost use Rattle.echo_disk.specs.Disk.{Honestly};
+ghost use Rattle.echo_addr.specs.declared.address.Address.{Address};
 ghost use Rattle.echo_disk.specs.Runs.{LeavesOnly};
 ghost use Rattle.echo_folder.specs.Moments.{KeepsOutside};
 ghost use Rattle.echo_folder.specs.Opening.{AreAlone};
+ghost use Rattle.echo_folder.specs.Standing.{BaseBytes, StandsFor};
 ghost use Rattle.echo_folder_store.specs.Held.{HoldsBase, StandsForBase, StandsForBaseOrWasLeft};
 ghost use Rattle.echo_folder_store.specs.Opened.{IsNamed, IsOpen, held_by, path_of};
-ghost use Rattle.echo_base_folder.specs.Unopened.{IsUnopened};
+ghost use Rattle.echo_base_folder.specs.Ours.{IsLeftAlone, IsNotOurs, IsOfOther, number_of};
+ghost use Rattle.echo_base_folder.specs.Unopened.{HasOpened, HaveRoom, IsBroken, IsUnopened};
 ghost use Rattle.echo_base_folder.specs.Unread.{HasUnreadCause};
+ghost use Rattle.echo_base_folder.specs.Wrong.{IsSound};
 
-use crate::judging::{Outline, cut_in, outline_of};
+use crate::judging::judged;
+use crate::owning::{address_of, claim_for, number_of};
 use crate::unread::Unread;
+use echo_addr::Address;
 use echo_base::BaseFault;
 use echo_disk::Disk;
 use echo_folder::FolderError;
-use echo_folder_store::Folder;
+use echo_folder_store::{Folder, FolderStore};
+use echo_keys::Digest;
+use echo_store::Store;
 use std::alloc::Global;
+
+/// What is said of a folder that cannot be opened, and has files as long as its log tells.
+const BROKEN: Unread = Unread::Wrong(BaseFault::Truncated { messages: 0 });
+
+// Opens the folder, and says why not as that is told of a base.
+fn opened<D: Disk>(alloc: Global, disk: &mut D, path: &[u8]) -> Result<Folder, Unread>
+    requires { Honestly (D.state disk.old) (AreAlone path.now (D.state disk.old)) }
+    ensures opened { Honestly (D.state disk.new) (IfOk result (IsOpen (D.state disk.new))) }
+    ensures named { IfOk result IsNamed }
+    ensures path { IfOk result (λ folder. path_of folder ≡ path.now) }
+    ensures settled { IfOk result (λ folder. folder.told ≡ folder.end.told) }
+    ensures found { Honestly (D.state disk.new) ((bytes : BaseBytes) → StandsFor path.now bytes (D.state disk.old).seen
+        → IfOk result (λ folder. held_by (D.state disk.new) folder ≡ bytes)) }
+    ensures same { Honestly (D.state disk.new) ((keyed : ℕ → ℕ → List ℕ → ℕ) (base : Base) → StandsForBase keyed path.now base (D.state disk.old).seen
+        → IfOk result (λ folder. HoldsBase keyed (held_by (D.state disk.new) folder) base)) }
+    ensures any_moment { Honestly (D.state disk.new) ((keyed : ℕ → ℕ → List ℕ → ℕ) (base : Base) → StandsForBase keyed path.now base (D.state disk.old).seen
+        → LeavesOnly (D.state disk.old) (D.state disk.new) (StandsForBaseOrWasLeft keyed path.now (D.state disk.old) base)) }
+    ensures outside { KeepsOutside path.now (D.state disk.old) (D.state disk.new) }
+    ensures broken { Honestly (D.state disk.new) (IfErr result (IsBroken path.now (D.state disk.old).seen)) }
+    ensures cause { HasUnreadCause (D.failures disk.old) (D.failures disk.new) result }
+{
+    match Folder::open(alloc, disk, path) {
+        Ok(folder) => Ok(folder),
+        Err(FolderError::Memory) => Err(Unread::Memory),
+        Err(FolderError::Device) => Err(Unread::Device),
+        Err(FolderError::Corrupt) => Err(BROKEN),
+    }
+}
 
 /// Opens the base folder of this path, which ends in a slash, as `Folder::open` does, where it is one. `strange` says
 /// that the folder has other files than those of a base folder.
@@ -40,17 +76,109 @@ pub fn open_base<D: Disk>(
     ensures any_moment { Honestly (D.state disk.new) ((keyed : ℕ → ℕ → List ℕ → ℕ) (base : Base) → StandsForBase keyed path.now base (D.state disk.old).seen
         → LeavesOnly (D.state disk.old) (D.state disk.new) (StandsForBaseOrWasLeft keyed path.now (D.state disk.old) base)) }
     ensures outside { KeepsOutside path.now (D.state disk.old) (D.state disk.new) }
+    ensures sound { Honestly (D.state disk.new) (OnOk result (IsSound strange path.now (D.state disk.old).seen)) }
     ensures wrong { Honestly (D.state disk.new) (IfErr result (IsUnopened strange path.now (D.state disk.old).seen)) }
     ensures cause { HasUnreadCause (D.failures disk.old) (D.failures disk.new) result }
 {
-    let Outline { log: _, end } = outline_of(alloc, disk, path, strange)?;
-    if let Some(messages) = cut_in(alloc, disk, path, end)? {
-        return Err(Unread::Wrong(BaseFault::Truncated { messages }));
+    let _told = judged(alloc, disk, path, strange)?;
+    opened(alloc, disk, path)
+}
+
+// The same, where the folder is nobody's or that of the system with this address.
+fn open_ours<D: Disk>(
+    alloc: Global,
+    disk: &mut D,
+    path: &[u8],
+    strange: bool,
+    own: Address,
+) -> Result<Folder, Unread>
+    requires { Honestly (D.state disk.old) (AreAlone path.now (D.state disk.old)) }
+    ensures opened { Honestly (D.state disk.new) (IfOk result (IsOpen (D.state disk.new))) }
+    ensures named { IfOk result IsNamed }
+    ensures path { IfOk result (λ folder. path_of folder ≡ path.now) }
+    ensures settled { IfOk result (λ folder. folder.told ≡ folder.end.told) }
+    ensures same { Honestly (D.state disk.new) ((keyed : ℕ → ℕ → List ℕ → ℕ) (base : Base) → StandsForBase keyed path.now base (D.state disk.old).seen
+        → IfOk result (λ folder. HoldsBase keyed (held_by (D.state disk.new) folder) base)) }
+    ensures any_moment { Honestly (D.state disk.new) ((keyed : ℕ → ℕ → List ℕ → ℕ) (base : Base) → StandsForBase keyed path.now base (D.state disk.old).seen
+        → LeavesOnly (D.state disk.old) (D.state disk.new) (StandsForBaseOrWasLeft keyed path.now (D.state disk.old) base)) }
+    ensures outside { KeepsOutside path.now (D.state disk.old) (D.state disk.new) }
+    ensures sound { Honestly (D.state disk.new) (OnOk result (IsSound strange path.now (D.state disk.old).seen)) }
+    ensures ours { IfOk result (λ folder. (folder.told.mark.owner ≡ 0) ⊎ (folder.told.mark.owner ≡ number_of own)) }
+    ensures other { Honestly (D.state disk.new) ((address : Address) → IsOfOther own strange path.now (D.state disk.old).seen address → OnOk result ⊥) }
+    ensures refused { Honestly (D.state disk.new) (IfErr result (IsLeftAlone (D.state disk.old) (D.state disk.new))) }
+    ensures wrong { Honestly (D.state disk.new) (IfErr result (IsNotOurs own strange path.now (D.state disk.old).seen)) }
+    ensures cause { HasUnreadCause (D.failures disk.old) (D.failures disk.new) result }
+{
+    let told = judged(alloc, disk, path, strange)?;
+    let owner = told.mark.owner;
+    let number = number_of(own);
+    if owner != 0 && owner != number {
+        return Err(Unread::NotOwner(address_of(owner)));
     }
-    match Folder::open(alloc, disk, path) {
-        Ok(folder) => Ok(folder),
-        Err(FolderError::Memory) => Err(Unread::Memory),
-        Err(FolderError::Device) => Err(Unread::Device),
-        Err(FolderError::Corrupt) => Err(Unread::Wrong(BaseFault::Truncated { messages: 0 })),
+    let folder = opened(alloc, disk, path)?;
+    match folder.owner() {
+        Some(other) if other != number => Err(BROKEN),
+        _ => Ok(folder),
     }
+}
+
+/// Opens the base folder for the system with this address: one that nobody has claimed is claimed, and keeps that from
+/// the next commit on. A folder without messages gets the key of these two halves, too.
+///
+/// It is `NotOwner` where the folder is another system's, and then nothing is changed.
+pub fn open_own<D: Disk>(
+    alloc: Global,
+    disk: &mut D,
+    path: &[u8],
+    strange: bool,
+    own: Address,
+    key: (u64, u64),
+) -> Result<Folder, Unread>
+    requires { Honestly (D.state disk.old) (AreAlone path.now (D.state disk.old)) }
+    ensures opened { Honestly (D.state disk.new) (IfOk result (IsOpen (D.state disk.new))) }
+    ensures named { IfOk result IsNamed }
+    ensures path { IfOk result (λ folder. path_of folder ≡ path.now) }
+    ensures same { Honestly (D.state disk.new) ((keyed : ℕ → ℕ → List ℕ → ℕ) (base : Base) → HaveRoom keyed → StandsForBase keyed path.now base (D.state disk.old).seen
+        → IfOk result (HasOpened keyed (D.state disk.new) base)) }
+    ensures any_moment { Honestly (D.state disk.new) ((keyed : ℕ → ℕ → List ℕ → ℕ) (base : Base) → StandsForBase keyed path.now base (D.state disk.old).seen
+        → LeavesOnly (D.state disk.old) (D.state disk.new) (StandsForBaseOrWasLeft keyed path.now (D.state disk.old) base)) }
+    ensures outside { KeepsOutside path.now (D.state disk.old) (D.state disk.new) }
+    ensures sound { Honestly (D.state disk.new) (OnOk result (IsSound strange path.now (D.state disk.old).seen)) }
+
+    // It is this system's, and another system's just where that is the answer; then nothing is changed.
+    ensures ours { IfOk result (λ folder. folder.told.mark.owner ≡ number_of own) }
+    ensures other { Honestly (D.state disk.new) ((address : Address) → IsOfOther own strange path.now (D.state disk.old).seen address → OnOk result ⊥) }
+    ensures refused { Honestly (D.state disk.new) (IfErr result (IsLeftAlone (D.state disk.old) (D.state disk.new))) }
+    ensures wrong { Honestly (D.state disk.new) (IfErr result (IsNotOurs own strange path.now (D.state disk.old).seen)) }
+    ensures cause { HasUnreadCause (D.failures disk.old) (D.failures disk.new) result }
+{
+    let mut folder = open_ours(alloc, disk, path, strange, own)?;
+    match claim_for(&mut folder, own, key.0, key.1) {
+        Ok(()) => Ok(folder),
+        Err(_) => Err(BROKEN),
+    }
+}
+
+/// The same as a store, which may be used. On an honest disk it holds the base for which the files stood.
+pub fn open_for<D: Disk, H: Digest>(
+    alloc: Global,
+    disk: D,
+    path: &[u8],
+    strange: bool,
+    own: Address,
+    key: (u64, u64),
+) -> Result<FolderStore<D, H>, Unread>
+    requires { Honestly (D.state disk) (AreAlone path.now (D.state disk)) }
+    ensures ready { IfOk result (λ store. (⟦<FolderStore<D, H> as Store>⟧.state store).is_ready) }
+    ensures keeps { IfOk result (λ store. Honestly (D.state store.disk) ((base : Base) → StandsForBase H.keyed path.now base (D.state disk).seen
+        → (⟦<FolderStore<D, H> as Store>⟧.state store).keeps base)) }
+    ensures committed { IfOk result (λ store. Honestly (D.state store.disk) ((base : Base) → StandsForBase H.keyed path.now base (D.state disk).seen
+        → (⟦<FolderStore<D, H> as Store>⟧.state store).committed base)) }
+    ensures ours { IfOk result (λ store. store.folder.told.mark.owner ≡ number_of own) }
+    ensures path { IfOk result (λ store. path_of store.folder ≡ path.now) }
+    ensures outside { IfOk result (λ store. KeepsOutside path.now (D.state disk) (D.state store.disk)) }
+{
+    let mut disk = disk;
+    let folder = open_own(alloc, &mut disk, path, strange, own, key)?;
+    Ok(FolderStore::new(alloc, disk, folder))
 }

@@ -1,6 +1,6 @@
 //! Whose a base folder is.
 ghost use Rattle.std.specs.Prelude.{◌≡◌, ◌<◌, length, OnErr, OnOk, IfErr};
-ghost use Rattle.echo_folder_store.specs.Owned.{with_mark};
+ghost use Rattle.echo_folder_store.specs.Owned.{IsUnclaimed, with_mark};
 ghost use Rattle.echo_base_folder.specs.Ours.{IsOfAnother, IsOurs, SameKey, address_of, number_of};
 
 use echo_addr::Address;
@@ -10,13 +10,14 @@ use echo_status::Fault;
 
 /// The number by which a folder knows its system: sixteen bits each of zone, net and node.
 pub fn number_of(own: Address) -> u64
-    ensures { result ≡ number_of own }
+    ensures number { result ≡ number_of own }
+    ensures told { address_of result ≡ own }
 {
     own.zone as u64 * 0x1_0000_0000 + own.net as u64 * 0x1_0000 + own.node as u64
 }
 
-// The address that has this number.
-fn address_of(number: u64) -> Address
+/// The address that has this number.
+pub(crate) fn address_of(number: u64) -> Address
     ensures { result ≡ address_of number }
 {
     Address {
@@ -39,6 +40,7 @@ pub fn claim_for<'a>(
     ensures same { OnErr result (folder.new ≡ folder.old) }
     ensures only { folder.new ≡ with_mark folder.old folder.new.told.mark }
     ensures key { 0 < length folder.old.keys.items → SameKey folder.old.told.mark folder.new.told.mark }
+    ensures drawn { IsUnclaimed folder.old → folder.new.told.mark ≡ record { owner = number_of own; first = first; second = second } }
 {
     let owner = number_of(own);
     let Some(number) = folder.owner() else {

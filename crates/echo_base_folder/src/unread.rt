@@ -1,6 +1,7 @@
 //! Why a base folder is not read or opened.
 ghost use Rattle.echo_base_folder.specs.Unread.{IsToldAs};
 
+use echo_addr::Address;
 use echo_base::BaseFault;
 use echo_disk::DiskError;
 use echo_status::Fault;
@@ -19,6 +20,9 @@ pub enum Unread {
     /// It is no base folder, or it is cut short.
     #[error("{0}")]
     Wrong(BaseFault),
+    /// It is that of the system with this address.
+    #[error("not the own folder, but that of {0}")]
+    NotOwner(Address),
 }
 
 impl From<DiskError> for Unread {
@@ -66,6 +70,7 @@ impl Unread {
             Unread::Memory => Fault::OutOfMemory,
             Unread::Device => Fault::CannotUse(base),
             Unread::Wrong(fault) => Fault::Base(fault),
+            Unread::NotOwner(address) => Fault::NotOwner(address),
         }
     }
 }

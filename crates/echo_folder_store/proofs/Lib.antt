@@ -1,4 +1,4 @@
-mod Bases
+pub mod Bases
 mod Beside
 pub mod Causes
 pub mod Claimed
@@ -8,8 +8,8 @@ pub mod Numbered
 mod OneMore
 pub mod Seen
 mod Single
-mod Staged
+pub mod Staged
 mod Stated
-mod Stubbed
+pub mod Stubbed
 mod WhereSo
 mod Whole

@@ -48,7 +48,7 @@ filed_at (m ∷ base) zero d within each = each.0
 filed_at (m ∷ base) (suc i) d within each = filed_at base i d (omega arith) each.1
 
 -- and its key is that of none before it
-new_at : (earlier base : List Filed) (i : ℕ) (d : Filed) → i < length base → AreNew earlier base → is_known (earlier ++ take i base) (key_of (get_or base i d)) ≡ false
+pub new_at : (earlier base : List Filed) (i : ℕ) (d : Filed) → i < length base → AreNew earlier base → is_known (earlier ++ take i base) (key_of (get_or base i d)) ≡ false
 new_at earlier [] i d within new = absurd (omega (arith, within))
 new_at earlier (m ∷ base) zero d within new = subst (λ (l : List Filed). is_known l (key_of m) ≡ false) (sym (append-nil earlier)) new.0
 new_at earlier (m ∷ base) (suc i) d within new =

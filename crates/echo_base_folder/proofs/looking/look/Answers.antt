@@ -1,10 +1,10 @@
 use Rattle.std.proofs.Common.{◌≡◌, ◌∙◌, ap, ℕ, List, subst}
 use Rattle.echo_disk.specs.Disk.{bytes_in}
 use Rattle.echo_folder.specs.Names.{log_of}
-use Rattle.echo_folder.specs.Reading.{ReadsAll}
 use Rattle.echo_folder.specs.Standing.{base_at}
 use Rattle.echo_base_folder.specs.Looked.{bytes_of}
 use Rattle.echo_base_folder.specs.Unread.{IsWrong, IsWrongFiles}
+use Rattle.echo_base_folder.specs.Wrong.{IsFolderLog}
 use Rattle.echo_base_folder.proofs.Lookings.{if_err, if_ok, seen_is}
 use Rattle.echo_base_folder.proofs.Wrongs.{wrong_files}
 use Rattle.echo_base_folder.proofs.looking.look.Goals as goal
@@ -20,7 +20,7 @@ returns-then-goes_on-clause-found g c honest base stands =
     let h2 = c.seen_of-seen.ensures.quiet.honest h3 in
     let one : (m : List ℕ) → d1.seen m ≡ d0.seen m = c.tries.invariant.quiet.seen in
     let two : (m : List ℕ) → d2.seen m ≡ d0.seen m = λ m. c.outline_of.ensures.quiet.seen m ∙ one m in
-    let is = seen_is path base d0 d1 d2 c.in_ok-before.before.log.items end one two c.in_ok-before.ensures.reads (c.in_ok-before.ensures.log h2) stands in
+    let is = seen_is path base d0 d1 d2 c.in_ok-before.before.log.items end one two c.in_ok-before.ensures.folder.reads (c.in_ok-before.ensures.log h2) stands in
     if_ok (λ seen. bytes_of seen ≡ base_at d2 path end.told) (λ seen. bytes_of seen ≡ base) (λ seen was. was ∙ is) c.seen_of-seen.result (c.seen_of-seen.ensures.seen h3)
 
 pub returns-then-goes_on-clause-wrong : goal.returns-then-goes_on-clause-wrong
@@ -35,9 +35,9 @@ returns-then-goes_on-clause-wrong g c honest =
     let one : (m : List ℕ) → d1.seen m ≡ d0.seen m = c.tries.invariant.quiet.seen in
     let two : (m : List ℕ) → d2.seen m ≡ d0.seen m = λ m. c.outline_of.ensures.quiet.seen m ∙ one m in
     let log : c.in_ok-before.before.log.items ≡ bytes_in (d0.seen (log_of path)) = c.in_ok-before.ensures.log h2 ∙ ap bytes_in (one (log_of path)) in
-    let reads = subst (λ (l : List ℕ). ReadsAll l end) log c.in_ok-before.ensures.reads in
+    let folder = subst (λ (l : List ℕ). IsFolderLog c.args.strange l end) log c.in_ok-before.ensures.folder in
     if_err (IsWrongFiles path d2.seen end.told) (IsWrong c.args.strange path d0.seen)
-    (λ why was. wrong_files c.args.strange path d0.seen d2.seen end why two reads was) c.seen_of-seen.result (c.seen_of-seen.ensures.wrong h3)
+    (λ why was. wrong_files c.args.strange path d0.seen d2.seen end why two folder was) c.seen_of-seen.result (c.seen_of-seen.ensures.wrong h3)
 
 pub returns-clause-found : goal.returns-clause-found
 returns-clause-found g c honest base stands =
@@ -49,5 +49,5 @@ returns-clause-found g c honest base stands =
     let h2 = c.seen_of.ensures.quiet.honest honest in
     let one : (m : List ℕ) → d1.seen m ≡ d0.seen m = c.tries.invariant.quiet.seen in
     let two : (m : List ℕ) → d2.seen m ≡ d0.seen m = λ m. c.outline_of-2.ensures.quiet.seen m ∙ one m in
-    let is = seen_is path base d0 d1 d2 c.in_ok-end.field-0.log.items end one two c.in_ok-end.ensures.reads (c.in_ok-end.ensures.log h2) stands in
+    let is = seen_is path base d0 d1 d2 c.in_ok-end.field-0.log.items end one two c.in_ok-end.ensures.folder.reads (c.in_ok-end.ensures.log h2) stands in
     if_ok (λ seen. bytes_of seen ≡ base_at d2 path end.told) (λ seen. bytes_of seen ≡ base) (λ seen was. was ∙ is) c.seen_of.result (c.seen_of.ensures.seen honest)

@@ -1,0 +1,78 @@
+-- A folder without files.
+use Rattle.std.proofs.Common.{◌≡◌, ◌∙◌, ◌<◌, ◌≤◌, ◌^◌, ℕ, List, [], Option, None, false, inl, refl, sym, ap, subst, arith, lit<}
+use Rattle.echo_addr.specs.declared.address.Address.{Address}
+use Rattle.echo_disk.specs.Disk.{Files, bytes_in}
+use Rattle.echo_folder.specs.Log.{IsLog, no_mark, nothing_told}
+use Rattle.echo_folder.specs.Names.{log_of}
+use Rattle.echo_folder.specs.Reading.{ReadsAll}
+use Rattle.echo_folder.specs.Standing.{BaseBytes, StandsFor}
+use Rattle.echo_folder.specs.declared.log.End.{End}
+use Rattle.echo_folder.specs.declared.log.Told.{Told}
+use Rattle.echo_base.specs.Base.{Base}
+use Rattle.echo_folder_store.specs.Held.{HoldsBase, StandsForBase}
+use Rattle.echo_base_folder.specs.Ours.{IsOfOther}
+use Rattle.echo_base_folder.specs.Unopened.{HaveRoom}
+use Rattle.echo_base_folder.specs.Wrong.{IsFolderLog, IsSound}
+use Rattle.echo_base_folder.proofs.Wrongs.{one_end, sound_by}
+
+no_bytes : BaseBytes
+no_bytes = record { messages = []; keys = []; cursor = 0; mark = no_mark }
+
+no_messages : Base
+no_messages = record { messages = []; cursor = 0 }
+
+no_end : End
+no_end = record { gate = 0; told = nothing_told }
+
+nothing_read : ReadsAll [] no_end
+unfolding no_end
+nothing_read = record {
+  rest = [];
+  reads = record { bodies = []; parts = refl; sizes = tt; gate = refl; told = refl };
+  ends = inl (lit< tt);
+}
+
+nothing_stands : (path : List ℕ) (files : Files) → bytes_in (files (log_of path)) ≡ [] → StandsFor path no_bytes files
+unfolding no_bytes
+nothing_stands path files none = record {
+  bodies = [];
+  log = subst (λ (l : List ℕ). IsLog [] l) (sym none) (record { rest = []; parts = refl; sizes = tt; ends = inl (lit< tt) });
+  there = tt;
+  tells = record { messages_long = refl; keys_long = refl; cursor = refl; mark = refl; digit = lit< tt; messages = refl; keys = refl };
+}
+
+nothing_held : (keyed : ℕ → ℕ → List ℕ → ℕ) → HaveRoom keyed → HoldsBase keyed no_bytes no_messages
+unfolding no_bytes no_messages
+nothing_held keyed fits = record {
+  files = record {
+    all = [];
+    sizes = tt;
+    sound = tt;
+    stored = refl;
+    filed = refl;
+    entries = refl;
+    long = lit< tt;
+    digests = fits 0 0;
+    holds = record { each = tt; new = tt; within = omega arith };
+  };
+  cursor = refl;
+}
+
+pub empty_base : (keyed : ℕ → ℕ → List ℕ → ℕ) (path : List ℕ) (files : Files) → HaveRoom keyed → files (log_of path) ≡ None → StandsForBase keyed path (record { messages = []; cursor = 0 }) files
+unfolding no_messages
+empty_base keyed path files fits none = record { bytes = no_bytes; stands = nothing_stands path files (ap bytes_in none); holds = nothing_held keyed fits }
+
+empty_folder : (log : List ℕ) → log ≡ [] → IsFolderLog false log no_end
+unfolding no_end
+empty_folder log none = subst (λ (l : List ℕ). IsFolderLog false l no_end) (sym none) (record { reads = nothing_read; own = refl })
+
+pub empty_sound : (path : List ℕ) (files : Files) → files (log_of path) ≡ None → IsSound false path files
+unfolding no_end
+empty_sound path files none = sound_by false path files no_end (empty_folder (bytes_in (files (log_of path))) (ap bytes_in none)) (omega arith) (omega arith)
+
+pub empty_nobody : (own address : Address) (path : List ℕ) (files : Files) → files (log_of path) ≡ None → IsOfOther own false path files address → ⊥
+unfolding no_end
+empty_nobody own address path files none of =
+    let log = bytes_in (files (log_of path)) in
+    let end : of.log.end ≡ no_end = one_end log of.log.end no_end of.log.log.reads (empty_folder log (ap bytes_in none)).reads in
+    of.mark.claimed (ap (λ (t : Told). t.mark.owner) (sym of.log.is) ∙ ap (λ (e : End). e.told.mark.owner) end)

@@ -1,0 +1,75 @@
+-- A folder filled with the messages of a base, one after another.
+use Rattle.std.proofs.Common.{◌≡◌, ◌+◌, ℕ, List, [], Some, length, take, false, inl, inr, ⊎_elim, sym, ap, subst, ◌∙◌, arith}
+use Rattle.std.specs.Prelude.{slice_get}
+use Rattle.std.proofs.lemmas.List.{length-take-le, take_all}
+use Rattle.std.proofs.lemmas.Option.{get_or_from_slice_get, slice_get_within}
+use Rattle.echo_disk.specs.Disk.{DiskState, Files}
+use Rattle.echo_disk.specs.Runs.{LeavesOnly}
+use Rattle.echo_disk.proofs.Moments.{then_run, weaker_run}
+use Rattle.echo_folder.specs.Moments.{IsBeforeOrAfter, KeepsOutside, SameOutside, StandsAlone}
+use Rattle.echo_folder.proofs.Gates.{outside_twice}
+use Rattle.echo_filed.specs.Filed.{Filed, key_of}
+use Rattle.echo_folder.specs.Standing.{BaseBytes, StandsFor}
+use Rattle.echo_base.specs.Base.{Base, IsBase, is_known}
+use Rattle.echo_base.proofs.Purges.{front_more}
+use Rattle.echo_folder_store.specs.Held.{HoldsBase}
+use Rattle.echo_folder_store.specs.Opened.{IsOpen, held_by}
+use Rattle.echo_folder_store.specs.declared.folder.Folder.{Folder}
+use Rattle.echo_folder_store.proofs.Seen.{at_end, end_holds}
+use Rattle.echo_folder_store.proofs.Staged.{both_runs}
+use Rattle.echo_folder_store.proofs.Stubbed.{new_at}
+use Rattle.echo_base_folder.specs.Filled.{HoldsFront, HoldsMore, StandsForOneOf}
+
+-- one message more
+pub front_one : (keyed : ℕ → ℕ → List ℕ → ℕ) (old now : BaseBytes) (base : Base) (i cursor : ℕ) (m : Filed) → IsBase base.messages base.cursor → slice_get base.messages i ≡ Some m
+    → HoldsMore keyed old now m → HoldsFront keyed old base.messages i cursor → HoldsFront keyed now base.messages (i + 1) cursor
+front_one keyed old now base i cursor m is at more was =
+    let all = base.messages in
+    let within = slice_get_within all i m at in
+    let unknown : is_known (take i all) (key_of m) ≡ false = subst (λ (x : Filed). is_known (take i all) (key_of x) ≡ false) (get_or_from_slice_get all i m m at) (new_at [] all i m within is.new) in
+    subst (λ (l : List Filed). HoldsBase keyed now (record { messages = l; cursor = cursor })) (sym (front_more all i m at))
+    (more (record { messages = take i all; cursor = cursor }) was unknown)
+
+-- with the cursor at the end of the scanned ones, and these held
+pub front_scanned : (keyed : ℕ → ℕ → List ℕ → ℕ) (d : DiskState) (f : Folder) (base : Base) → IsOpen d f → IsBase base.messages base.cursor
+    → HoldsFront keyed (held_by d f) base.messages base.cursor 0 → HoldsFront keyed (held_by d (at_end f)) base.messages base.cursor base.cursor
+front_scanned keyed d f base opened is was =
+    let within = is.within in
+    let long : length (take base.cursor base.messages) ≡ base.cursor = length-take-le base.cursor base.messages within in
+    subst (λ (n : ℕ). HoldsFront keyed (held_by d (at_end f)) base.messages base.cursor n) long (end_holds keyed d f (record { messages = take base.cursor base.messages; cursor = 0 }) opened was)
+
+-- with all messages it is the base
+pub front_all : (keyed : ℕ → ℕ → List ℕ → ℕ) (bytes : BaseBytes) (base : Base) (n : ℕ) → n ≡ length base.messages → HoldsFront keyed bytes base.messages n base.cursor → HoldsBase keyed bytes base
+front_all keyed bytes base n all was =
+    subst (λ (l : List Filed). HoldsBase keyed bytes (record { messages = l; cursor = base.cursor })) (take_all n base.messages (omega arith)) was
+
+-- until the commit a crash leaves the base from before
+pub fills_before : (keyed : ℕ → ℕ → List ℕ → ℕ) (path : List ℕ) (d e : DiskState) (bytes : BaseBytes) (first next : Base) → HoldsBase keyed bytes first → LeavesOnly d e (StandsAlone path d bytes)
+    → LeavesOnly d e (StandsForOneOf keyed path d first next)
+fills_before keyed path d e bytes first next holds run =
+    weaker_run d e (StandsAlone path d bytes) (StandsForOneOf keyed path d first next) run
+    (λ c left. inl (record { outside = left.outside; stands = record { bytes = bytes; stands = left.stands; holds = holds } }))
+
+-- and in the commit that or the other one
+commits_one : (keyed : ℕ → ℕ → List ℕ → ℕ) (path : List ℕ) (d e : DiskState) (before now : BaseBytes) (first next : Base) → HoldsBase keyed before first → HoldsBase keyed now next → KeepsOutside path d e
+    → (c : Files) → IsBeforeOrAfter path e before now c → StandsForOneOf keyed path d first next c
+commits_one keyed path d e before now first next was is kept c left =
+    let outside : SameOutside path d c = λ m out named flushed. left.outside m out (kept.named m out named) (kept.flushed m out flushed) ∙ kept.seen m out in
+    ⊎_elim
+    (λ (h : StandsFor path before c). inl (record { outside = outside; stands = record { bytes = before; stands = h; holds = was } }))
+    (λ (h : StandsFor path now c). inr (record { outside = outside; stands = record { bytes = now; stands = h; holds = is } })) left.stands
+
+pub fills_run : (keyed : ℕ → ℕ → List ℕ → ℕ) (path : List ℕ) (d e f : DiskState) (bytes before now : BaseBytes) (first next : Base) → HoldsBase keyed bytes first → HoldsBase keyed now next → before ≡ bytes
+    → LeavesOnly d e (StandsAlone path d bytes) → KeepsOutside path d e → LeavesOnly e f (IsBeforeOrAfter path e before now) → LeavesOnly d f (StandsForOneOf keyed path d first next)
+fills_run keyed path d e f bytes before now first next was is same run kept commit =
+    then_run d e f (StandsForOneOf keyed path d first next) (IsBeforeOrAfter path e before now) (fills_before keyed path d e bytes first next was run) commit
+    (commits_one keyed path d e before now first next (subst (λ (b : BaseBytes). HoldsBase keyed b first) (sym same) was) is kept)
+
+-- one run after another, of a folder that keeps its path
+pub adds_run : (path here : List ℕ) (d e f : DiskState) (base now : BaseBytes) → here ≡ path → LeavesOnly d e (StandsAlone path d base) → LeavesOnly e f (StandsAlone here e now) → KeepsOutside path d e → now ≡ base
+    → LeavesOnly d f (StandsAlone path d base)
+adds_run path here d e f base now at one two kept same =
+    both_runs path d e f base now one (subst (λ (p : List ℕ). LeavesOnly e f (StandsAlone p e now)) at two) kept same
+
+pub adds_outside : (path here : List ℕ) (d e f : DiskState) → here ≡ path → KeepsOutside path d e → KeepsOutside here e f → KeepsOutside path d f
+adds_outside path here d e f at one two = outside_twice path d e f one (subst (λ (p : List ℕ). KeepsOutside p e f) at two)
