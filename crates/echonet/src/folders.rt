@@ -5,13 +5,14 @@ use crate::locks::folder_fault;
 use crate::stopped::folder_path;
 use echo_addr::Address;
 use echo_base::{Base, BaseFault};
-use echo_base_folder::{Seen, claim_for, fill, log_end, look, open_base};
+use echo_base_folder::{Seen, fill, log_end, look, open_base, open_for};
 use echo_files::flush_path;
 use echo_folder::Mark;
-use echo_folder_store::{Folder, FolderStore};
+use echo_folder_store::FolderStore;
 use echo_keys::{Digest, SipDigest};
 use echo_real_disk::{RealDisk, Unknown};
 use echo_status::Fault;
+use echo_store::Store;
 use echo_store_changing::Stop;
 use std::collections::hash_map::RandomState;
 use std::hash::{BuildHasher, Hasher};
@@ -42,11 +43,15 @@ pub fn open_own<'a, 'r>(
     base: &'a str,
     own: Address,
 ) -> Result<BaseFolder<'r>, Fault<'a>> {
-    let mut disk = files(rt);
-    let mut folder = open_folder(rt, &mut disk, base)?;
-    let (first, second) = drawn_key(rt)?;
-    claim_for(&mut folder, own, first, second)?;
-    Ok(FolderStore::new(rt.alloc(), disk, folder))
+    let strange = is_strange(rt, base)?;
+    let path = folder_path(rt, base)?;
+    let key = drawn_key(rt)?;
+    let opened = open_for(rt.alloc(), files(rt), path.as_bytes(), strange, own, key);
+    let store = opened.map_err(|why| why.fault(base))?;
+    if store.len() == 0 {
+        flush_name(rt, base)?;
+    }
+    Ok(store)
 }
 
 /// Fills the base folder with this path, which is empty, with the messages of a base.
@@ -56,34 +61,25 @@ pub fn fill_folder<'a>(
     base: &Base<RandomState>,
 ) -> Result<(), Fault<'a>> {
     let mut disk = files(rt);
-    let mut folder = open_folder(rt, &mut disk, to)?;
+    let strange = is_strange(rt, to)?;
+    let path = folder_path(rt, to)?;
+    let opened = open_base(rt.alloc(), &mut disk, path.as_bytes(), strange);
+    let mut folder = opened.map_err(|why| why.fault(to))?;
+    flush_name(rt, to)?;
     let (first, second) = drawn_key(rt)?;
-    folder.claim(Mark {
+    let mark = Mark {
         owner: 0,
         first,
         second,
-    });
+    };
+    if !folder.claim(mark) {
+        return Err(Fault::CannotUse(to));
+    }
     let digest = SipDigest::keyed(first, second);
     match fill(rt.alloc(), &mut disk, &mut folder, &digest, base) {
         Ok(()) => Ok(()),
         Err(error) => Err(Stop::Store(error).fault(to)),
     }
-}
-
-// The base folder with this path, opened.
-fn open_folder<'a>(
-    rt: &HostRuntime,
-    disk: &mut Files<'_>,
-    base: &'a str,
-) -> Result<Folder, Fault<'a>> {
-    let strange = is_strange(rt, base)?;
-    let path = folder_path(rt, base)?;
-    let opened = open_base(rt.alloc(), disk, path.as_bytes(), strange);
-    let folder = opened.map_err(|why| why.fault(base))?;
-    if folder.owner().is_none() {
-        flush_name(rt, base)?;
-    }
-    Ok(folder)
 }
 
 // Flushes the folder in which the base folder stands, since that may have been made just now.
