@@ -160,7 +160,7 @@ pub fn open_own<D: Disk>(
 }
 
 /// The same as a store, which may be used. On an honest disk it holds the base for which the files stood.
-pub fn open_for<D: Disk, H: Digest>(
+pub fn open_for<D: Disk + Drop, H: Digest>(
     alloc: Global,
     disk: D,
     path: &[u8],

@@ -104,11 +104,11 @@ pub fn base_bytes<'a>(rt: &HostRuntime, base: &'a str) -> Result<Vec<u8>, Fault<
 }
 
 /// How many messages of the base folder were scanned, as it is now, where that can be read.
-pub fn cursor_there(rt: &HostRuntime, base: &str) -> Option<u32> {
+pub fn cursor_there(rt: &HostRuntime, base: &str) -> Option<u64> {
     let strange = is_strange(rt, base).ok()?;
     let path = folder_path(rt, base).ok()?;
     let end = log_end(rt.alloc(), &mut files(rt), path.as_bytes(), strange).ok()?;
-    Some(end.told.cursor as u32)
+    Some(end.told.cursor)
 }
 
 // A key for digests, as two halves. A seed that cannot be had is a failed read.

@@ -274,7 +274,7 @@ pub fn scan_there<'a, W: Sink, E: Sink>(
     };
     let to = Outbound {
         folder,
-        before: station.store.cursor() as u32,
+        before: station.store.cursor() as u64,
     };
     let Station { links, store, .. } = &mut station;
     let status = match scan_on(rt.alloc(), stamp, links, store, out) {

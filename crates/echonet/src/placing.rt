@@ -19,7 +19,7 @@ const PACKET_KNOWN_BY: usize = 4;
 #[derive(Clone, Copy)]
 pub struct Outbound<'a> {
     pub folder: &'a str,
-    pub before: u32,
+    pub before: u64,
 }
 
 /// Puts a scan in place: its packets beside their names, then the base, then each packet gets its name. Wherever it
@@ -64,7 +64,7 @@ pub fn drop_packets(
     rt: &HostRuntime,
     own: &str,
     to: Outbound<'_>,
-    now: Option<u32>,
+    now: Option<u64>,
     paths: &[String],
 ) {
     if now == Some(to.before) {

@@ -17,24 +17,24 @@ const CURSOR: usize = 8;
 #[derive(Drop)]
 struct Left {
     path: String,
-    before: u32,
+    before: u64,
 }
 
 /// How many messages of a base file were scanned; none where there is no file.
-pub fn cursor_in(base: Option<&[u8]>) -> u32 {
+pub fn cursor_in(base: Option<&[u8]>) -> u64 {
     match base {
-        Some(bytes) if bytes.len() >= CURSOR + 4 => u32::from_le_bytes([
+        Some(bytes) if bytes.len() >= CURSOR + 4 => u64::from(u32::from_le_bytes([
             bytes[CURSOR],
             bytes[CURSOR + 1],
             bytes[CURSOR + 2],
             bytes[CURSOR + 3],
-        ]),
+        ])),
         _ => 0,
     }
 }
 
 /// The same of the base file with this path, as it is now, where that can be read.
-pub fn cursor_of(rt: &HostRuntime, base: &str) -> Option<u32> {
+pub fn cursor_of(rt: &HostRuntime, base: &str) -> Option<u64> {
     match fs::open(rt, base) {
         Ok(file) => {
             let mut front = [0u8; CURSOR + 4];
@@ -133,10 +133,10 @@ fn listing_fault<'a>(error: &io::Error, folder: &'a str) -> Fault<'a> {
 }
 
 // What stands before `.pkt` in the name of a packet beside its own, and the number at its end.
-fn packet_beside<'n>(name: &'n str, ending: &str) -> Option<(&'n str, u32)> {
+fn packet_beside<'n>(name: &'n str, ending: &str) -> Option<(&'n str, u64)> {
     let front = name.strip_suffix(ending)?;
     let (_, number) = front.rsplit_once('.')?;
-    let before = number.parse::<u32>().ok()?;
+    let before = number.parse::<u64>().ok()?;
     Some((front, before))
 }
 
