@@ -1,12 +1,10 @@
 //! `convert`: the base file or the base folder of the messages that another base has.
 
-use crate::folders::{base_bytes, files, fill_folder, is_folder, is_strange};
+use crate::folders::{base_bytes, fill_folder, is_empty, is_folder};
 use crate::inputs::output_fault;
 use crate::locks::locked_folder;
 use crate::placing::BASE_KNOWN_BY;
-use crate::stopped::folder_path;
 use echo_base::{Base, BaseFault};
-use echo_base_folder::{Unread, log_end};
 use echo_device::{Sink, Watched};
 use echo_files::{NewFile, create_file, flush_folder};
 use echo_status::{Fault, Status, print_rest};
@@ -50,17 +48,6 @@ fn fill_empty<'a>(
     };
     let _ = locked.unlock();
     filled
-}
-
-// Whether nothing was ever committed in the folder, and it has no other files.
-fn is_empty<'a>(rt: &HostRuntime, to: &'a str) -> Result<bool, Fault<'a>> {
-    let strange = is_strange(rt, to)?;
-    let path = folder_path(rt, to)?;
-    match log_end(rt.alloc(), &mut files(rt), path.as_bytes(), strange) {
-        Ok(end) => Ok(end.gate == 0),
-        Err(Unread::Wrong(_)) => Ok(false),
-        Err(why) => Err(why.fault(to)),
-    }
 }
 
 // Makes a base file, where nothing is there.

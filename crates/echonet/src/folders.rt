@@ -5,7 +5,7 @@ use crate::locks::folder_fault;
 use crate::stopped::folder_path;
 use echo_addr::Address;
 use echo_base::{Base, BaseFault};
-use echo_base_folder::{Seen, fill, log_end, look, open_base, open_for};
+use echo_base_folder::{Seen, Unread, fill, log_end, look, open_base, open_for};
 use echo_files::flush_path;
 use echo_folder::Mark;
 use echo_folder_store::FolderStore;
@@ -18,11 +18,8 @@ use std::collections::hash_map::RandomState;
 use std::hash::{BuildHasher, Hasher};
 use std::{fs, io};
 
-/// The files of the system, as a disk.
-pub type Files<'r> = RealDisk<&'r HostRuntime, Unknown>;
-
-/// A base folder on them.
-pub type BaseFolder<'r> = FolderStore<Files<'r>, SipDigest>;
+/// A base folder on the files of the system.
+pub type BaseFolder<'r> = FolderStore<RealDisk<&'r HostRuntime, Unknown>, SipDigest>;
 
 /// Whether the path is that of a folder.
 pub fn is_folder(rt: &HostRuntime, path: &str) -> bool {
@@ -30,11 +27,6 @@ pub fn is_folder(rt: &HostRuntime, path: &str) -> bool {
         Ok(found) => found.is_dir(),
         Err(_) => false,
     }
-}
-
-/// The files of the system.
-pub fn files(rt: &HostRuntime) -> Files<'_> {
-    RealDisk::new(rt, Unknown)
 }
 
 /// The base folder with this path, opened to be changed by the system with this address.
@@ -46,7 +38,8 @@ pub fn open_own<'a, 'r>(
     let strange = is_strange(rt, base)?;
     let path = folder_path(rt, base)?;
     let key = drawn_key(rt)?;
-    let opened = open_for(rt.alloc(), files(rt), path.as_bytes(), strange, own, key);
+    let disk = RealDisk::new(rt, Unknown);
+    let opened = open_for(rt.alloc(), disk, path.as_bytes(), strange, own, key);
     let store = opened.map_err(|why| why.fault(base))?;
     if store.len() == 0 {
         flush_name(rt, base)?;
@@ -60,9 +53,9 @@ pub fn fill_folder<'a>(
     to: &'a str,
     base: &Base<RandomState>,
 ) -> Result<(), Fault<'a>> {
-    let mut disk = files(rt);
     let strange = is_strange(rt, to)?;
     let path = folder_path(rt, to)?;
+    let mut disk = RealDisk::new(rt, Unknown);
     let opened = open_base(rt.alloc(), &mut disk, path.as_bytes(), strange);
     let mut folder = opened.map_err(|why| why.fault(to))?;
     flush_name(rt, to)?;
@@ -92,7 +85,8 @@ fn flush_name<'a>(rt: &HostRuntime, base: &'a str) -> Result<(), Fault<'a>> {
 pub fn look_into<'a>(rt: &HostRuntime, base: &'a str) -> Result<Seen, Fault<'a>> {
     let strange = is_strange(rt, base)?;
     let path = folder_path(rt, base)?;
-    look(rt.alloc(), &mut files(rt), path.as_bytes(), strange).map_err(|why| why.fault(base))
+    let mut disk = RealDisk::new(rt, Unknown);
+    look(rt.alloc(), &mut disk, path.as_bytes(), strange).map_err(|why| why.fault(base))
 }
 
 /// The bytes of a base file, or of the base file of the same messages where the base is a folder.
@@ -103,11 +97,24 @@ pub fn base_bytes<'a>(rt: &HostRuntime, base: &'a str) -> Result<Vec<u8>, Fault<
     Ok(look_into(rt, base)?.as_file(rt.alloc())?)
 }
 
+/// Whether nothing was ever committed in the folder, and it has no other files than those of a base folder.
+pub fn is_empty<'a>(rt: &HostRuntime, base: &'a str) -> Result<bool, Fault<'a>> {
+    let strange = is_strange(rt, base)?;
+    let path = folder_path(rt, base)?;
+    let mut disk = RealDisk::new(rt, Unknown);
+    match log_end(rt.alloc(), &mut disk, path.as_bytes(), strange) {
+        Ok(end) => Ok(end.gate == 0),
+        Err(Unread::Wrong(_)) => Ok(false),
+        Err(why) => Err(why.fault(base)),
+    }
+}
+
 /// How many messages of the base folder were scanned, as it is now, where that can be read.
 pub fn cursor_there(rt: &HostRuntime, base: &str) -> Option<u64> {
     let strange = is_strange(rt, base).ok()?;
     let path = folder_path(rt, base).ok()?;
-    let end = log_end(rt.alloc(), &mut files(rt), path.as_bytes(), strange).ok()?;
+    let mut disk = RealDisk::new(rt, Unknown);
+    let end = log_end(rt.alloc(), &mut disk, path.as_bytes(), strange).ok()?;
     Some(end.told.cursor)
 }
 
@@ -124,8 +131,8 @@ fn half_of(state: &RandomState, number: u8) -> u64 {
     hasher.finish()
 }
 
-/// Whether the folder has other files than those of a base folder.
-pub fn is_strange<'a>(rt: &HostRuntime, base: &'a str) -> Result<bool, Fault<'a>> {
+// Whether the folder has other files than those of a base folder.
+fn is_strange<'a>(rt: &HostRuntime, base: &'a str) -> Result<bool, Fault<'a>> {
     let names = fs::read_dir(rt, base).map_err(|error| folder_fault(&error, base))?;
     for entry in names {
         match entry {
