@@ -376,12 +376,7 @@ def try_base(chance, place, count):
 def main():
     """Bases of a hundred messages."""
     count = int(sys.argv[1]) if len(sys.argv) > 1 else 1000
-    seed = int(os.environ.get("SEED", random.randrange(2 ** 32)))
-    print("seed %d" % seed)
-    chance = random.Random(seed)
-    for _ in range(0, count, 100):
-        with tempfile.TemporaryDirectory() as place:
-            try_base(chance, place, max(2, min(count, 100)))
+    chance = making.try_hundreds(max(2, count), try_base)
     with tempfile.TemporaryDirectory() as place:
         try_kills(chance, place, 20)
     told = "there is no CrashMail here"

@@ -4,13 +4,27 @@ A number of messages that all trials share, the plain ones, comes from 1:10/2 to
 them on to 1:10/3 and 1:10/4. What the program is to make of them is worked out here too: the base of
 1:10/1 after the toss, the packets of its scan, and the bases of those who get these.
 """
+import os
+import random
 import struct
+import tempfile
 
 DATE = b"03 Jul 26  12:34:56\0"
 STAMP = "2026-07-03T12:34:56"
 MOMENT = (2026, 6, 3, 12, 34, 56)
 OWN, UPLINK, DOWNLINKS = (1, 10, 1), (1, 10, 2), ((1, 10, 3), (1, 10, 4))
 LONGEST_LINE = 79
+
+
+def try_hundreds(count, try_base):
+    """Tries bases of a hundred messages, each in a folder of its own. The seed is printed: SEED makes the same again."""
+    seed = int(os.environ.get("SEED", random.randrange(2 ** 32)))
+    print("seed %d" % seed)
+    chance = random.Random(seed)
+    for _ in range(0, count, 100):
+        with tempfile.TemporaryDirectory() as place:
+            try_base(chance, place, min(count, 100))
+    return chance
 
 
 def shown(address):

@@ -5,11 +5,9 @@ and without an origin line. They are exported at once, in pieces, and after a ru
 each time, and each is read as what was put into the base. Words: how many messages.
 """
 import os
-import random
 import struct
 import subprocess
 import sys
-import tempfile
 
 import export
 import making
@@ -125,12 +123,7 @@ def try_base(chance, place, count):
 def main():
     """Bases of a hundred messages."""
     count = int(sys.argv[1]) if len(sys.argv) > 1 else 1000
-    seed = int(os.environ.get("SEED", random.randrange(2 ** 32)))
-    print("seed %d" % seed)
-    chance = random.Random(seed)
-    for _ in range(0, count, 100):
-        with tempfile.TemporaryDirectory() as place:
-            try_base(chance, place, min(count, 100))
+    making.try_hundreds(count, try_base)
     print("stored.py: %d messages exported as files, each read as what it is" % count)
 
 

@@ -1,5 +1,5 @@
-//! Tests of base folders: on a disk in memory a crash before each call, with what was not synced torn in several ways,
-//! and what is found then, of their files and as stores; and on files of the system.
+//! Tests of the files of a base folder: on a disk in memory a crash before each call, with what was not synced torn
+//! in several ways, and what is found then; and on files of the system.
 #![tactic(auto)]
 
 #[cfg(test)]
@@ -12,7 +12,3 @@ mod files;
 mod on_real_files;
 #[cfg(test)]
 mod random;
-#[cfg(test)]
-mod steps;
-#[cfg(test)]
-mod stores;

@@ -1,5 +1,5 @@
 -- What is written of a number, and what is read from that.
-use Rattle.std.proofs.Common.{◌≡◌, ℕ, ◌^◌, ◌+◌, ◌/◌, ◌%◌, ◌<◌, ◌≤◌, ◌&&◌, nat_le, true, List, [], ◌∷◌, length, ap, ◌∙◌, arith, Some}
+use Rattle.std.proofs.Common.{◌≡◌, ℕ, ◌^◌, ◌+◌, ◌/◌, ◌%◌, ◌<◌, ◌≤◌, ◌&&◌, nat_le, true, List, [], ◌∷◌, ◌++◌, length, ap, ◌∙◌, arith, Some}
 use Rattle.std.specs.Int.{IsInRange}
 use Rattle.std.specs.Fmt.{decimal}
 use Rattle.std.specs.List.{AllByRecursion}
@@ -7,7 +7,6 @@ use Rattle.std.specs.Str.{all_ascii_digits}
 use Rattle.std.specs.Str.Parse.{AllDigits, digits_value, IsNumeral}
 use Rattle.std.proofs.lemmas.Str.Parse.{IsNumeralModel, numerals_by_value, tells_all_ascii_digits, digit_from_value}
 use Rattle.std.proofs.lemmas.Fmt.{decimal_is_IsNumeral, decimal_digit, decimal_step}
-use Rattle.std.proofs.lemmas.List.{length-append}
 use Rattle.std.proofs.lemmas.Bool.{lt-ltb, le-leb, and_from, cond-true}
 use Rattle.echo_addr.specs.Digits.{Writes, is_number, number_within}
 use Rattle.echo_addr.specs.Entries.{part_of}
@@ -43,22 +42,37 @@ writes_decimal n small = record { numeral = (decimal_is_IsNumeral n small).0; va
 pub part_of-decimal : (n : ℕ) → n < 2 ^ 16 → part_of (decimal n) ≡ Some n
 part_of-decimal n small = number_within-writes 65535 (decimal n) n (writes_decimal n (omega arith)) (omega arith)
 
--- how many digits a number has
-pub length-decimal-1 : (n : ℕ) → n < 10 → length (decimal n) ≡ 1
-length-decimal-1 n small = ap length (decimal_digit n small)
+-- the digits of a number are those of its tenth, and its last one
+digits_more : (n : ℕ) (front : List ℕ) → 10 ≤ n → n < 2 ^ 16 → decimal (n / 10) ≡ front → decimal n ≡ front ++ (48 + n % 10) ∷ []
+digits_more n front low small e = decimal_step n low (omega arith) ∙ ap (λ f. f ++ (48 + n % 10) ∷ []) e
 
-pub length-decimal-more : (n k : ℕ) → 10 ≤ n → n < 2 ^ 16 → length (decimal (n / 10)) ≡ k → length (decimal n) ≡ k + 1
-length-decimal-more n k large small e =
-    ap length (decimal_step n large (omega arith)) ∙ length-append (decimal (n / 10)) ((48 + n % 10) ∷ []) ∙ ap (λ m. m + 1) e
+pub one_digit : (n : ℕ) → n < 10 → decimal n ≡ (48 + n % 10) ∷ []
+one_digit n small =
+    let last : n ≡ n % 10 = omega arith in
+    decimal_digit n small ∙ ap (λ d. (48 + d) ∷ []) last
 
-pub length-decimal-2 : (n : ℕ) → 10 ≤ n → n < 100 → length (decimal n) ≡ 2
-length-decimal-2 n low high = length-decimal-more n 1 low (omega arith) (length-decimal-1 (n / 10) (omega arith))
+pub two_digits : (n : ℕ) → 10 ≤ n → n < 100 → decimal n ≡ (48 + n / 10 % 10) ∷ (48 + n % 10) ∷ []
+two_digits n low high = digits_more n ((48 + n / 10 % 10) ∷ []) low (omega arith) (one_digit (n / 10) (omega arith))
 
-pub length-decimal-3 : (n : ℕ) → 100 ≤ n → n < 1000 → length (decimal n) ≡ 3
-length-decimal-3 n low high = length-decimal-more n 2 (omega arith) (omega arith) (length-decimal-2 (n / 10) (omega arith) (omega arith))
+pub three_digits : (n : ℕ) → 100 ≤ n → n < 1000 → decimal n ≡ (48 + n / 100 % 10) ∷ (48 + n / 10 % 10) ∷ (48 + n % 10) ∷ []
+three_digits n low high =
+    let hundreds : n / 10 / 10 ≡ n / 100 = omega arith in
+    digits_more n ((48 + n / 100 % 10) ∷ (48 + n / 10 % 10) ∷ []) (omega arith) (omega arith)
+    (two_digits (n / 10) (omega arith) (omega arith) ∙ ap (λ m. (48 + m % 10) ∷ (48 + n / 10 % 10) ∷ []) hundreds)
 
-pub length-decimal-4 : (n : ℕ) → 1000 ≤ n → n < 10000 → length (decimal n) ≡ 4
-length-decimal-4 n low high = length-decimal-more n 3 (omega arith) (omega arith) (length-decimal-3 (n / 10) (omega arith) (omega arith))
+pub four_digits : (n : ℕ) → 1000 ≤ n → n < 10000
+    → decimal n ≡ (48 + n / 1000 % 10) ∷ (48 + n / 100 % 10) ∷ (48 + n / 10 % 10) ∷ (48 + n % 10) ∷ []
+four_digits n low high =
+    let hundreds : n / 10 / 10 ≡ n / 100 = omega arith in
+    let thousands : n / 10 / 100 ≡ n / 1000 = omega arith in
+    digits_more n ((48 + n / 1000 % 10) ∷ (48 + n / 100 % 10) ∷ (48 + n / 10 % 10) ∷ []) (omega arith) (omega arith)
+    (three_digits (n / 10) (omega arith) (omega arith) ∙ rw (hundreds, thousands))
 
-pub length-decimal-5 : (n : ℕ) → 10000 ≤ n → n < 2 ^ 16 → length (decimal n) ≡ 5
-length-decimal-5 n low high = length-decimal-more n 4 (omega arith) (omega arith) (length-decimal-4 (n / 10) (omega arith) (omega arith))
+pub five_digits : (n : ℕ) → 10000 ≤ n → n < 2 ^ 16
+    → decimal n ≡ (48 + n / 10000 % 10) ∷ (48 + n / 1000 % 10) ∷ (48 + n / 100 % 10) ∷ (48 + n / 10 % 10) ∷ (48 + n % 10) ∷ []
+five_digits n low high =
+    let hundreds : n / 10 / 10 ≡ n / 100 = omega arith in
+    let thousands : n / 10 / 100 ≡ n / 1000 = omega arith in
+    let most : n / 10 / 1000 ≡ n / 10000 = omega arith in
+    digits_more n ((48 + n / 10000 % 10) ∷ (48 + n / 1000 % 10) ∷ (48 + n / 100 % 10) ∷ (48 + n / 10 % 10) ∷ []) (omega arith) (omega arith)
+    (four_digits (n / 10) (omega arith) (omega arith) ∙ rw (hundreds, thousands, most))

@@ -1,5 +1,4 @@
-ghost use Rattle.std.specs.Prelude.{◌≡◌, ◌+◌, ◌<◌, ◌≤◌, ◌++◌, length, take, decimal, AllPairs, IfOk, OnOk};
-ghost use Rattle.std.specs.String.{string_bytes};
+ghost use Rattle.std.specs.Prelude.{◌≡◌, ◌+◌, ◌%◌, ◌<◌, ◌≤◌, ◌++◌, length, take, decimal, AllPairs, IfOk, OnOk};
 ghost use Rattle.echo_addr.specs.ShortLines.{ComesBefore, ShortLines, entries_text, entry_text, line_of, path_prefix, seen_prefix, shows_net};
 
 use crate::address::NetNode;
@@ -8,30 +7,31 @@ use std::alloc::{AllocError, Global};
 /// The most bytes of a line before its 0D.
 const LINE_ROOM: usize = 79;
 
+/// How many bytes an entry takes in most lists, with its part of what its line begins with.
+const ENTRY_ROOM: usize = 6;
+
 /// The SEEN-BY lines of the entries (FTS-0004), each with its 0D. The entries ascend by net and node,
 /// without repeats.
 pub fn write_seen(alloc: Global, entries: &[NetNode]) -> Result<Vec<u8>, AllocError>
     requires { AllPairs ComesBefore entries.now }
     ensures { IfOk result (λ v. ShortLines seen_prefix entries.now v.items) }
 {
-    let lines = write_lines(alloc, "SEEN-BY:", entries)?;
-    Ok(lines.into_bytes())
+    write_lines(alloc, b"SEEN-BY:", entries)
 }
 
 /// The PATH lines of the entries (FTS-0004), each with its 01 and 0D.
 pub fn write_path(alloc: Global, entries: &[NetNode]) -> Result<Vec<u8>, AllocError>
     ensures { IfOk result (λ v. ShortLines path_prefix entries.now v.items) }
 {
-    let lines = write_lines(alloc, "\x01PATH:", entries)?;
-    Ok(lines.into_bytes())
+    write_lines(alloc, b"\x01PATH:", entries)
 }
 
 /// A line for each run of entries that one line has room for.
-fn write_lines(alloc: Global, prefix: &str, entries: &[NetNode]) -> Result<String, AllocError>
+fn write_lines(alloc: Global, prefix: &[u8], entries: &[NetNode]) -> Result<Vec<u8>, AllocError>
     requires { length prefix.now ≤ 8 }
-    ensures { IfOk result (λ s. ShortLines prefix.now entries.now (string_bytes s)) }
+    ensures { IfOk result (λ v. ShortLines prefix.now entries.now v.items) }
 {
-    let mut lines = String::new(alloc);
+    let mut lines = Vec::with_capacity(alloc, entries.len().saturating_mul(ENTRY_ROOM))?;
     let mut rest = entries;
     'runs: while !rest.is_empty() {
         let (run, after) = rest.split_at(run_len(LINE_ROOM - prefix.len(), rest));
@@ -96,17 +96,18 @@ fn decimal_len(n: u16) -> usize
 }
 
 /// Writes a line with its 0D.
-fn push_line(lines: &mut String, prefix: &str, run: &[NetNode]) -> Result<(), AllocError>
-    ensures { OnOk result (string_bytes lines.new ≡ string_bytes lines.old ++ line_of prefix.now (entries_text None run.now)) }
+fn push_line(lines: &mut Vec<u8>, prefix: &[u8], run: &[NetNode]) -> Result<(), AllocError>
+    ensures { OnOk result (lines.new.items ≡ lines.old.items ++ line_of prefix.now (entries_text None run.now)) }
 {
-    lines.push_str(prefix)?;
+    lines.extend_from_slice(prefix)?;
     push_run(lines, run)?;
-    lines.push_str("\r")
+    lines.push(b'\r')?;
+    Ok(())
 }
 
 /// Writes the entries of a line.
-fn push_run(line: &mut String, run: &[NetNode]) -> Result<(), AllocError>
-    ensures { OnOk result (string_bytes line.new ≡ string_bytes line.old ++ entries_text None run.now) }
+fn push_run(line: &mut Vec<u8>, run: &[NetNode]) -> Result<(), AllocError>
+    ensures { OnOk result (line.new.items ≡ line.old.items ++ entries_text None run.now) }
 {
     let mut before = None;
     for entry in run {
@@ -117,13 +118,38 @@ fn push_run(line: &mut String, run: &[NetNode]) -> Result<(), AllocError>
 }
 
 /// Writes an entry after a blank.
-fn push_entry(line: &mut String, before: Option<u16>, entry: NetNode) -> Result<(), AllocError>
-    ensures { OnOk result (string_bytes line.new ≡ string_bytes line.old ++ entry_text before entry) }
+fn push_entry(line: &mut Vec<u8>, before: Option<u16>, entry: NetNode) -> Result<(), AllocError>
+    ensures { OnOk result (line.new.items ≡ line.old.items ++ entry_text before entry) }
 {
+    line.push(b' ')?;
     if shows_net(before, entry.net) {
-        write!(line, " {entry}")
-    } else {
-        let node = entry.node;
-        write!(line, " {node}")
+        push_number(line, entry.net)?;
+        line.push(b'/')?;
     }
+    push_number(line, entry.node)
+}
+
+/// Writes a number.
+#[tactic(auto, using(crate::proofs::Decimals::one_digit, crate::proofs::Decimals::two_digits, crate::proofs::Decimals::three_digits, crate::proofs::Decimals::four_digits, crate::proofs::Decimals::five_digits))]
+fn push_number(line: &mut Vec<u8>, n: u16) -> Result<(), AllocError>
+    ensures { OnOk result (line.new.items ≡ line.old.items ++ decimal n) }
+{
+    let ones = last_digit(n);
+    let tens = last_digit(n / 10);
+    let hundreds = last_digit(n / 100);
+    let thousands = last_digit(n / 1000);
+    match n {
+        0..=9 => line.extend_from_slice(&[ones]),
+        10..=99 => line.extend_from_slice(&[tens, ones]),
+        100..=999 => line.extend_from_slice(&[hundreds, tens, ones]),
+        1000..=9999 => line.extend_from_slice(&[thousands, hundreds, tens, ones]),
+        _ => line.extend_from_slice(&[last_digit(n / 10000), thousands, hundreds, tens, ones]),
+    }
+}
+
+/// The last digit of a number.
+fn last_digit(n: u16) -> u8
+    ensures { result ≡ 48 + n % 10 }
+{
+    b'0' + (n % 10) as u8
 }

@@ -25,11 +25,17 @@ pub message_there : (all : List Filed) (i : ℕ) → i < length all → Filed
 message_there all i within = get_or all i (some_message all i within)
 
 pub there : (all : List Filed) (i : ℕ) (within : i < length all) → slice_get all i ≡ Some (message_there all i within)
+unfolding message_there
 there all i within = slice_get-get_or all i (some_message all i within) within
+
+pub there_is : (all : List Filed) (i : ℕ) (within : i < length all) (m : Filed) → ((d : Filed) → get_or all i d ≡ m) → message_there all i within ≡ m
+unfolding message_there
+there_is all i within m is = is (some_message all i within)
 
 -- the bytes of one message more
 pub stored_more : (cursor i : ℕ) (all : List Filed) (head file bytes : List ℕ) → i < length all → file ≡ head ++ stored_all cursor (take i all)
     → ((d : Filed) → bytes ≡ stored_bytes Second (stored_at cursor i (get_or all i d))) → file ++ bytes ≡ head ++ stored_all cursor (take (i + 1) all)
+unfolding message_there
 stored_more cursor i all head file bytes within before is =
     let here = is (some_message all i within) in
     ap (λ (l : List ℕ). l ++ bytes) before

@@ -73,3 +73,6 @@ adds_run path here d e f base now at one two kept same =
 
 pub adds_outside : (path here : List ℕ) (d e f : DiskState) → here ≡ path → KeepsOutside path d e → KeepsOutside here e f → KeepsOutside path d f
 adds_outside path here d e f at one two = outside_twice path d e f one (subst (λ (p : List ℕ). KeepsOutside p e f) at two)
+
+pub commits_run : (path here : List ℕ) (d e : DiskState) (before now : BaseBytes) → here ≡ path → LeavesOnly d e (IsBeforeOrAfter here d before now) → LeavesOnly d e (IsBeforeOrAfter path d before now)
+commits_run path here d e before now at run = subst (λ (p : List ℕ). LeavesOnly d e (IsBeforeOrAfter p d before now)) at run

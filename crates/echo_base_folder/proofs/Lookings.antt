@@ -1,6 +1,7 @@
 -- What is seen of a folder is what its files stand for.
-use Rattle.std.proofs.Common.{◌≡◌, ◌∙◌, ap, ℕ, List, Result, Ok, Err}
-use Rattle.std.specs.Result.{IfErr, IfOk}
+use Rattle.std.proofs.Common.{◌≡◌, ◌∙◌, ap, ℕ, List, Option, Some, None, Result, Ok, Err, refl, sym, subst}
+use Rattle.std.specs.Prelude.{IfNone}
+use Rattle.std.specs.Result.{IfErr, IfOk, IsErrAnd}
 use Rattle.echo_disk.specs.Disk.{DiskState, bytes_in}
 use Rattle.echo_folder.specs.Names.{keys_of, log_of, messages_of}
 use Rattle.echo_folder.specs.Reading.{ReadsAll}
@@ -22,3 +23,12 @@ pub seen_is : (path : List ℕ) (base : BaseBytes) (d0 d1 d2 : DiskState) (log :
 seen_is path base d0 d1 d2 log end one two reads is stands =
     base_found path base d0.seen stands log end reads (is ∙ ap bytes_in (one (log_of path))) d2
     (ap bytes_in (two (messages_of path end.told.number))) (ap bytes_in (two (keys_of path end.told.number)))
+
+-- an error that was handed on as it is
+pub err_is : {T E : Type 0} (P : E → Type 0) (e : E) (r : Result T E) → IsErrAnd r (λ x. x ≡ e) → P e → IfErr r P
+err_is P e (Ok x) same is = absurd same
+err_is P e (Err x) same is = subst P (sym same) is
+
+pub at_none : {T P : Type 0} (o : Option T) → IfNone o P → ((x : T) → o ≡ Some x → ⊥) → P
+at_none None is other = is
+at_none (Some x) is other = absurd (other x refl)

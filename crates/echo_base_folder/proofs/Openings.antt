@@ -1,19 +1,30 @@
 -- A folder that is opened after looks that change nothing.
-use Rattle.std.proofs.Common.{◌≡◌, ◌≢◌, ◌≤◌, ◌<◌, ◌∙◌, ℕ, List, length, inl, inr, ⊎_elim, sym, ap, subst, arith}
-use Rattle.std.proofs.lemmas.Bool.{cases_lt}
+use Rattle.std.proofs.Common.{◌≡◌, ◌≢◌, ◌≤◌, ◌<◌, ◌∙◌, ℕ, zero, suc, nat_eq, Bool, List, Option, Some, None, length, inl, inr, ⊎_elim, refl, sym, ap, subst, arith, if◌then◌else◌}
+use Rattle.std.specs.Prelude.{◌⊎◌, unwrap_or}
+use Rattle.echo_addr.specs.declared.address.Address.{Address}
+use Rattle.std.proofs.lemmas.Bool.{cases_lt, cond-false, ne_eqb}
 use Rattle.echo_base.specs.Base.{Base}
-use Rattle.echo_disk.specs.Disk.{DiskState, Files}
+use Rattle.echo_disk.specs.Disk.{DiskState, Files, bytes_in}
 use Rattle.echo_disk.specs.Runs.{ChangesNothing, LeavesOnly}
 use Rattle.echo_disk.proofs.Moments.{then_run, weaker_run}
-use Rattle.echo_folder.specs.Standing.{BaseBytes, base_at}
+use Rattle.echo_folder.specs.Names.{log_of}
+use Rattle.echo_folder.specs.Standing.{BaseBytes, StandsFor, base_at}
+use Rattle.echo_folder.specs.declared.log.End.{End}
+use Rattle.echo_folder.specs.declared.log.Mark.{Mark}
+use Rattle.echo_folder.specs.declared.log.Told.{Told}
+use Rattle.echo_folder.proofs.Opened.{end_tells}
 use Rattle.echo_keys.specs.Keys.{FolderStandsFor}
 use Rattle.echo_folder_store.specs.Held.{HoldsBase, StandsForBase, StandsForBaseOrWasLeft, digest_by}
 use Rattle.echo_folder_store.specs.Opened.{IsOpen, committed_by, held_by, path_of}
 use Rattle.echo_folder_store.specs.Owned.{with_mark}
 use Rattle.echo_folder_store.specs.declared.folder.Folder.{Folder}
 use Rattle.echo_folder_store.proofs.Claimed.{claimed_holds, claimed_open}
-use Rattle.echo_base_folder.specs.Ours.{SameKey}
-use Rattle.echo_base_folder.specs.Unopened.{HaveRoom}
+use Rattle.echo_base_folder.specs.Ours.{IsMarkOfOther, IsNotOurs, IsOfOther, SameKey, number_of}
+use Rattle.echo_base_folder.specs.Unopened.{HaveRoom, IsBroken, StandsForNone}
+use Rattle.echo_base_folder.specs.Wrong.{IsToldBy}
+use Rattle.echo_base_folder.proofs.Wrongs.{one_end}
+use Rattle.echo_base_folder.specs.declared.unread.Unread.{Unread}
+use Rattle.echo_base_folder.specs.declared.unread.Unread.TheVariants as unread
 
 -- the files stand for the same base
 pub stands_since : (keyed : ℕ → ℕ → List ℕ → ℕ) (path : List ℕ) (d e : DiskState) (base : Base) → ChangesNothing d e → StandsForBase keyed path base d.seen → StandsForBase keyed path base e.seen
@@ -64,3 +75,52 @@ claimed_committed keyed d f g base only settled holds =
     let same : committed_by d g ≡ committed_by d f = ap (λ (x : Folder). committed_by d x) only in
     let last : held_by d f ≡ committed_by d f = λ i. base_at d (path_of f) (settled i) in
     subst (λ (b : BaseBytes). HoldsBase keyed b base) (last ∙ sym same) holds
+
+-- the files that stand for none stood for none before looks
+pub broken_since : (path : List ℕ) (d e : DiskState) (why : Unread) → ChangesNothing d e → IsBroken path e.seen why → IsBroken path d.seen why
+broken_since path d e why quiet was =
+    let same : e.seen ≡ d.seen = λ i m. quiet.seen m i in
+    subst (λ (f : Files). IsBroken path f why) same was
+
+-- a log tells one thing
+pub one_told : (strange : Bool) (log : List ℕ) (a b : Told) → IsToldBy strange log a → IsToldBy strange log b → a ≡ b
+one_told strange log a b one other = sym one.is ∙ ap (λ (e : End). e.told) (one_end log one.end other.end one.log.reads other.log.reads) ∙ other.is
+
+-- and so the mark of the base for which the files stand
+mark_told : (strange : Bool) (path : List ℕ) (files : Files) (told : Told) (bytes : BaseBytes) → IsToldBy strange (bytes_in (files (log_of path))) told → StandsFor path bytes files → bytes.mark ≡ told.mark
+mark_told strange path files told bytes by stands =
+    let tells = end_tells path bytes files stands (bytes_in (files (log_of path))) by.end by.log.reads refl in
+    sym tells.mark ∙ ap (λ (t : Told). t.mark) by.is
+
+-- files from which another owner is opened than their log tells stand for no base
+pub other_opened : (strange : Bool) (path : List ℕ) (d e : DiskState) (told : Told) (mark : Mark) → ChangesNothing d e → IsToldBy strange (bytes_in (d.seen (log_of path))) told
+    → ((bytes : BaseBytes) → StandsFor path bytes e.seen → mark ≡ bytes.mark) → mark.owner ≢ told.mark.owner → StandsForNone path d.seen
+other_opened strange path d e told mark quiet by found other keyed base stands =
+    let since = stands_since keyed path d e base quiet stands in
+    let same : e.seen ≡ d.seen = λ i m. quiet.seen m i in
+    let was : StandsFor path since.bytes d.seen = subst (λ (f : Files). StandsFor path since.bytes f) same since.stands in
+    other (ap (λ (m : Mark). m.owner) (found since.bytes since.stands ∙ mark_told strange path d.seen told since.bytes by was))
+
+-- the owner as a number
+pub owner_is : (n : ℕ) → unwrap_or (if nat_eq n 0 then None else Some n) 0 ≡ n
+owner_is zero = refl
+owner_is (suc n) = ap (λ (o : Option ℕ). unwrap_or o 0) (cond-false (nat_eq (suc n) 0) None (Some (suc n)) (ne_eqb (suc n) 0 (λ none. omega (arith, none))))
+
+-- a folder that is nobody's or this system's is no other's
+pub not_other : (own : Address) (mark : Mark) (address : Address) → (mark.owner ≡ 0) ⊎ (mark.owner ≡ number_of own) → IsMarkOfOther own mark address → ⊥
+not_other own mark address (inl none) other = other.claimed none
+not_other own mark address (inr ours) other = other.other ours
+
+-- a log tells of this owner that it is another system's, or not
+pub told_other : (own : Address) (strange : Bool) (path : List ℕ) (files : Files) (told : Told) (address : Address) → IsToldBy strange (bytes_in (files (log_of path))) told → (told.mark.owner ≡ 0) ⊎ (told.mark.owner ≡ number_of own)
+    → IsOfOther own strange path files address → ⊥
+told_other own strange path files told address by ours other =
+    let same = one_told strange (bytes_in (files (log_of path))) other.told told other.log by in
+    not_other own told.mark address ours (subst (λ (t : Told). IsMarkOfOther own t.mark address) same other.mark)
+
+-- a folder that cannot be opened is not opened for this system
+pub broken_not_ours : (own : Address) (strange : Bool) (path : List ℕ) (files : Files) (why : Unread) → IsBroken path files why → IsNotOurs own strange path files why
+broken_not_ours own strange path files (unread.NotOwner address) was = absurd was
+broken_not_ours own strange path files (unread.Wrong fault) was = inr was
+broken_not_ours own strange path files unread.Memory was = inr was
+broken_not_ours own strange path files unread.Device was = inr was

@@ -76,6 +76,14 @@ sound_by strange path files end log messages keys =
           (λ (h : length (bytes_in (files (keys_of path end.told.number))) < end.told.keys). omega arith) is.short;
     }
 
+-- the same, of a disk as it was before looks that changed nothing
+pub sound_since : (strange : Bool) (path : List ℕ) (a b : Files) (end : End) → ((m : List ℕ) → b m ≡ a m) → IsFolderLog strange (bytes_in (a (log_of path))) end
+    → end.told.messages ≤ length (bytes_in (b (messages_of path end.told.number))) → end.told.keys ≤ length (bytes_in (b (keys_of path end.told.number))) → IsSound strange path a
+sound_since strange path a b end same log messages keys =
+    sound_by strange path a end log
+    (subst (λ (f : Option (List ℕ)). end.told.messages ≤ length (bytes_in f)) (same (messages_of path end.told.number)) messages)
+    (subst (λ (f : Option (List ℕ)). end.told.keys ≤ length (bytes_in f)) (same (keys_of path end.told.number)) keys)
+
 -- files that are the same have nothing wrong
 pub sound_same : (strange : Bool) (path : List ℕ) (a b : Files) → ((m : List ℕ) → b m ≡ a m) → IsSound strange path b → IsSound strange path a
 sound_same strange path a b same was = let is : b ≡ a = λ i m. same m i in subst (λ (f : Files). IsSound strange path f) is was

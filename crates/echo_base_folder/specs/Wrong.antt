@@ -28,10 +28,10 @@ pub record IsFolderLog (strange : Bool) (log : List ℕ) (end : End) : Type 0 wh
   pub reads : ReadsAll log end
   pub own : is_foreign strange (length log) end ≡ false
 
--- the last of its records tells this
-pub record IsToldBy (strange : Bool) (log : List ℕ) (told : Told) : Type 0 where
+-- and the last of its records tells this
+pub record IsToldBy (strange : Bool) (bytes : List ℕ) (told : Told) : Type 0 where
   pub end : End
-  pub log : IsFolderLog strange log end
+  pub log : IsFolderLog strange bytes end
   pub is : end.told ≡ told
 
 -- so many messages, from the front, end within the bytes that are there, of all that the log tells, and the next one does not

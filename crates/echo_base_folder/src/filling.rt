@@ -1,6 +1,7 @@
 //! A base folder filled with the messages of a base.
-ghost use Rattle.std.specs.Prelude.{◌≡◌, ◌≤◌, ℕ, List, OnOk, take, length};
-ghost use Rattle.echo_base.specs.Base.{Base, IsBase};
+ghost use Rattle.std.specs.Prelude.{◌≡◌, ◌≤◌, ◌<◌, ◌+◌, ℕ, List, OnOk, length};
+ghost use Rattle.echo_base.specs.Base as model;
+ghost use Rattle.echo_base.specs.Base.{IsBase};
 ghost use Rattle.echo_disk.specs.Disk.{Honestly};
 ghost use Rattle.echo_disk.specs.Runs.{LeavesOnly};
 ghost use Rattle.echo_folder.specs.Moments.{KeepsOutside, StandsAlone};
@@ -47,7 +48,39 @@ fn add<D: Disk, H: Digest>(
     folder.stage(disk, &bytes, number)
 }
 
-// Adds the messages of the base from one number up to another.
+// Adds the message of this number.
+fn add_next<D: Disk, H: Digest, S: BuildHasher>(
+    alloc: Global,
+    disk: &mut D,
+    folder: &mut Folder,
+    digest: &H,
+    base: &Base<S>,
+    place: usize,
+) -> Result<(), StoreError>
+    requires named { IsNamed folder.old }
+    requires opened { Honestly (D.state disk.old) (IsOpen (D.state disk.old) folder.old) }
+    requires digests { (bytes : List ℕ) → H.digest digest.now bytes ≡ digest_by H.keyed folder.old.told.mark bytes }
+    requires base { IsBase base.now.messages base.now.cursor }
+    requires within { place < length base.now.messages }
+    ensures named { IsNamed folder.new }
+    ensures opened { Honestly (D.state disk.new) (OnOk result (IsOpen (D.state disk.new) folder.new)) }
+    ensures path { path_of folder.new ≡ path_of folder.old }
+    ensures mark { folder.new.told.mark ≡ folder.old.told.mark }
+    ensures added { Honestly (D.state disk.new) ((cursor : ℕ) → HoldsFront H.keyed (held_by (D.state disk.old) folder.old) base.now.messages place cursor
+        → OnOk result (HoldsFront H.keyed (held_by (D.state disk.new) folder.new) base.now.messages (place + 1) cursor)) }
+    ensures same { Honestly (D.state disk.new) (OnOk result (committed_by (D.state disk.new) folder.new ≡ committed_by (D.state disk.old) folder.old)) }
+    ensures any_moment { Honestly (D.state disk.new) (LeavesOnly (D.state disk.old) (D.state disk.new)
+        (StandsAlone (path_of folder.old) (D.state disk.old) (committed_by (D.state disk.old) folder.old))) }
+    ensures outside { KeepsOutside (path_of folder.old) (D.state disk.old) (D.state disk.new) }
+    ensures cause { HasReadCause (D.failures disk.old) (D.failures disk.new) result }
+{
+    match base.message(place) {
+        Some(message) => add(alloc, disk, folder, digest, message),
+        None => Ok(()),
+    }
+}
+
+// Adds the messages from one number up to another.
 fn add_from<D: Disk, H: Digest, S: BuildHasher>(
     alloc: Global,
     disk: &mut D,
@@ -76,11 +109,64 @@ fn add_from<D: Disk, H: Digest, S: BuildHasher>(
     ensures cause { HasReadCause (D.failures disk.old) (D.failures disk.new) result }
 {
     'messages: for i in from..to {
-        if let Some(message) = base.message(i) {
-            add(alloc, disk, folder, digest, message)?;
-        }
+        add_next(alloc, disk, folder, digest, base, i)?;
     }
     Ok(())
+}
+
+// Adds the messages that were scanned, to a folder without messages, and moves the cursor behind them.
+fn add_scanned<D: Disk, H: Digest, S: BuildHasher>(
+    alloc: Global,
+    disk: &mut D,
+    folder: &mut Folder,
+    digest: &H,
+    base: &Base<S>,
+) -> Result<(), StoreError>
+    requires named { IsNamed folder.old }
+    requires opened { Honestly (D.state disk.old) (IsOpen (D.state disk.old) folder.old) }
+    requires digests { (bytes : List ℕ) → H.digest digest.now bytes ≡ digest_by H.keyed folder.old.told.mark bytes }
+    ensures named { IsNamed folder.new }
+    ensures opened { Honestly (D.state disk.new) (OnOk result (IsOpen (D.state disk.new) folder.new)) }
+    ensures path { path_of folder.new ≡ path_of folder.old }
+    ensures mark { folder.new.told.mark ≡ folder.old.told.mark }
+    ensures added { Honestly (D.state disk.new) (HoldsFront H.keyed (held_by (D.state disk.old) folder.old) base.now.messages 0 0
+        → OnOk result (HoldsFront H.keyed (held_by (D.state disk.new) folder.new) base.now.messages base.now.cursor base.now.cursor)) }
+    ensures same { Honestly (D.state disk.new) (OnOk result (committed_by (D.state disk.new) folder.new ≡ committed_by (D.state disk.old) folder.old)) }
+    ensures any_moment { Honestly (D.state disk.new) (LeavesOnly (D.state disk.old) (D.state disk.new)
+        (StandsAlone (path_of folder.old) (D.state disk.old) (committed_by (D.state disk.old) folder.old))) }
+    ensures outside { KeepsOutside (path_of folder.old) (D.state disk.old) (D.state disk.new) }
+    ensures cause { HasReadCause (D.failures disk.old) (D.failures disk.new) result }
+{
+    add_from(alloc, disk, folder, digest, base, 0, base.cursor())?;
+    folder.move_to_end();
+    Ok(())
+}
+
+// Adds all messages to a folder without messages, of which as many count as scanned.
+fn add_all<D: Disk, H: Digest, S: BuildHasher>(
+    alloc: Global,
+    disk: &mut D,
+    folder: &mut Folder,
+    digest: &H,
+    base: &Base<S>,
+) -> Result<(), StoreError>
+    requires named { IsNamed folder.old }
+    requires opened { Honestly (D.state disk.old) (IsOpen (D.state disk.old) folder.old) }
+    requires digests { (bytes : List ℕ) → H.digest digest.now bytes ≡ digest_by H.keyed folder.old.told.mark bytes }
+    ensures named { IsNamed folder.new }
+    ensures opened { Honestly (D.state disk.new) (OnOk result (IsOpen (D.state disk.new) folder.new)) }
+    ensures path { path_of folder.new ≡ path_of folder.old }
+    ensures mark { folder.new.told.mark ≡ folder.old.told.mark }
+    ensures added { Honestly (D.state disk.new) (HoldsFront H.keyed (held_by (D.state disk.old) folder.old) base.now.messages 0 0
+        → OnOk result (HoldsBase H.keyed (held_by (D.state disk.new) folder.new) base.now)) }
+    ensures same { Honestly (D.state disk.new) (OnOk result (committed_by (D.state disk.new) folder.new ≡ committed_by (D.state disk.old) folder.old)) }
+    ensures any_moment { Honestly (D.state disk.new) (LeavesOnly (D.state disk.old) (D.state disk.new)
+        (StandsAlone (path_of folder.old) (D.state disk.old) (committed_by (D.state disk.old) folder.old))) }
+    ensures outside { KeepsOutside (path_of folder.old) (D.state disk.old) (D.state disk.new) }
+    ensures cause { HasReadCause (D.failures disk.old) (D.failures disk.new) result }
+{
+    add_scanned(alloc, disk, folder, digest, base)?;
+    add_from(alloc, disk, folder, digest, base, base.cursor(), base.len())
 }
 
 /// Adds the messages of the base to an empty folder, of which as many count as scanned, and commits them. The digest is
@@ -96,19 +182,17 @@ pub fn fill<D: Disk, H: Digest, S: BuildHasher>(
     requires opened { Honestly (D.state disk.old) (IsOpen (D.state disk.old) folder.old) }
     requires digests { (bytes : List ℕ) → H.digest digest.now bytes ≡ digest_by H.keyed folder.old.told.mark bytes }
     ensures opened { Honestly (D.state disk.new) (OnOk result (IsOpen (D.state disk.new) folder.new)) }
+    ensures path { path_of folder.new ≡ path_of folder.old }
     ensures committed { Honestly (D.state disk.new) (HoldsFront H.keyed (held_by (D.state disk.old) folder.old) base.now.messages 0 0
         → OnOk result (HoldsBase H.keyed (committed_by (D.state disk.new) folder.new) base.now)) }
 
     // A crash at any moment leaves what was committed before, or all of the base.
-    ensures any_moment { Honestly (D.state disk.new) ((first : Base) → HoldsBase H.keyed (committed_by (D.state disk.old) folder.old) first
+    ensures any_moment { Honestly (D.state disk.new) ((first : model.Base) → HoldsBase H.keyed (committed_by (D.state disk.old) folder.old) first
         → HoldsFront H.keyed (held_by (D.state disk.old) folder.old) base.now.messages 0 0
         → LeavesOnly (D.state disk.old) (D.state disk.new) (StandsForOneOf H.keyed (path_of folder.old) (D.state disk.old) first base.now)) }
     ensures outside { KeepsOutside (path_of folder.old) (D.state disk.old) (D.state disk.new) }
     ensures cause { HasReadCause (D.failures disk.old) (D.failures disk.new) result }
 {
-    let cursor = base.cursor();
-    add_from(alloc, disk, folder, digest, base, 0, cursor)?;
-    folder.move_to_end();
-    add_from(alloc, disk, folder, digest, base, cursor, base.len())?;
+    add_all(alloc, disk, folder, digest, base)?;
     folder.commit(disk)
 }

@@ -80,7 +80,7 @@ pub fn open_base<D: Disk>(
     ensures wrong { Honestly (D.state disk.new) (IfErr result (IsUnopened strange path.now (D.state disk.old).seen)) }
     ensures cause { HasUnreadCause (D.failures disk.old) (D.failures disk.new) result }
 {
-    let _told = judged(alloc, disk, path, strange)?;
+    judged(alloc, disk, path, strange)?;
     opened(alloc, disk, path)
 }
 
@@ -116,10 +116,10 @@ fn open_ours<D: Disk>(
         return Err(Unread::NotOwner(address_of(owner)));
     }
     let folder = opened(alloc, disk, path)?;
-    match folder.owner() {
-        Some(other) if other != number => Err(BROKEN),
-        _ => Ok(folder),
+    if folder.owner().unwrap_or(0) != owner {
+        return Err(BROKEN);
     }
+    Ok(folder)
 }
 
 /// Opens the base folder for the system with this address: one that nobody has claimed is claimed, and keeps that from

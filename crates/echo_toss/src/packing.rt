@@ -111,7 +111,8 @@ fn packet_to(
     requires { is_stamp stamp ≡ true }
     ensures { IfOk result (λ packet. packet ≡ packet_ready links.now stamp ready.now address) }
 {
-    let mut messages = Vec::new(alloc);
+    let copies = ready.iter().filter(|one| goes_to(*one, address)).count();
+    let mut messages = Vec::with_capacity(alloc, copies)?;
     'ready: for one in ready {
         push_copy(alloc, address, one, &mut messages)?;
     }

@@ -1,62 +1,45 @@
-use Rattle.std.proofs.Common.{Err, ap, inr}
-use Rattle.echo_folder.specs.declared.folder_error.FolderError.{FolderError}
-use Rattle.echo_disk.proofs.Moments.{nothing_twice}
 use Rattle.echo_folder.proofs.Gates.{outside_quiet, outside_twice}
-use Rattle.echo_base_folder.proofs.Openings.{opened_run_since, stands_since}
+use Rattle.std.proofs.lemmas.Result.{on_ok_weaker}
+use Rattle.std.proofs.Common.{inl, inr}
+use Rattle.echo_base_folder.specs.Unopened.{IsBroken, IsUnopened}
+use Rattle.echo_base_folder.specs.Unread.{IsWrong}
+use Rattle.echo_folder_store.proofs.Causes.{on_ok_from}
+use Rattle.echo_base_folder.proofs.Lookings.{if_err}
+use Rattle.echo_base_folder.proofs.Openings.{broken_since, looked_run, opened_run_since, stands_since}
 use Rattle.echo_base_folder.proofs.opening.open_base.Goals as goal
 
-pub returns-in-Ok-clause-same : goal.returns-in-Ok-clause-same
-returns-in-Ok-clause-same g c honest keyed base stands =
+pub returns-clause-same : goal.returns-clause-same
+returns-clause-same g c honest keyed base stands =
     let d0 = g.D.Disk.state c.args.disk.now in
-    let d1 = g.D.Disk.state c.outline_of.new.disk in
-    let d2 = g.D.Disk.state c.cut_in.new.disk in
-    let quiet = nothing_twice d0 d1 d2 c.outline_of.ensures.quiet c.cut_in.ensures.quiet in
-    c.in-Ok.ensures.same honest keyed base (stands_since keyed c.args.path.now d0 d2 base quiet stands)
+    let d1 = g.D.Disk.state c.judged.new.disk in
+    c.opened.ensures.same honest keyed base (stands_since keyed c.args.path.now d0 d1 base c.judged.ensures.quiet stands)
 
-pub returns-in-Ok-clause-any_moment : goal.returns-in-Ok-clause-any_moment
-returns-in-Ok-clause-any_moment g c honest keyed base stands =
-    let d0 = g.D.Disk.state c.args.disk.now in
-    let d1 = g.D.Disk.state c.outline_of.new.disk in
-    let d2 = g.D.Disk.state c.cut_in.new.disk in
-    let quiet = nothing_twice d0 d1 d2 c.outline_of.ensures.quiet c.cut_in.ensures.quiet in
-    opened_run_since keyed c.args.path.now d0 d2 (g.D.Disk.state c.open.new.disk) base quiet (c.open.ensures.any_moment honest keyed base (stands_since keyed c.args.path.now d0 d2 base quiet stands))
+pub returns-in_err-judged-clause-any_moment : goal.returns-in_err-judged-clause-any_moment
+returns-in_err-judged-clause-any_moment g c honest keyed base stands =
+    looked_run keyed c.args.path.now (g.D.Disk.state c.args.disk.now) (g.D.Disk.state c.judged.new.disk) base c.judged.ensures.quiet
 
-pub returns-in-Ok-clause-outside : goal.returns-in-Ok-clause-outside
-returns-in-Ok-clause-outside g c =
+pub returns-clause-any_moment : goal.returns-clause-any_moment
+returns-clause-any_moment g c honest keyed base stands =
     let d0 = g.D.Disk.state c.args.disk.now in
-    let d1 = g.D.Disk.state c.outline_of.new.disk in
-    let d2 = g.D.Disk.state c.cut_in.new.disk in
-    let quiet = nothing_twice d0 d1 d2 c.outline_of.ensures.quiet c.cut_in.ensures.quiet in
-    outside_twice c.args.path.now d0 d2 (g.D.Disk.state c.open.new.disk) (outside_quiet c.args.path.now d0 d2 quiet) c.open.ensures.outside
+    let d1 = g.D.Disk.state c.judged.new.disk in
+    let quiet = c.judged.ensures.quiet in
+    opened_run_since keyed c.args.path.now d0 d1 (g.D.Disk.state c.opened.new.disk) base quiet (c.opened.ensures.any_moment honest keyed base (stands_since keyed c.args.path.now d0 d1 base quiet stands))
 
-pub returns-in-Err-Memory-clause-any_moment : goal.returns-in-Err-Memory-clause-any_moment
-returns-in-Err-Memory-clause-any_moment g c honest keyed base stands =
-    let d0 = g.D.Disk.state c.args.disk.now in
-    let d1 = g.D.Disk.state c.outline_of.new.disk in
-    let d2 = g.D.Disk.state c.cut_in.new.disk in
-    let quiet = nothing_twice d0 d1 d2 c.outline_of.ensures.quiet c.cut_in.ensures.quiet in
-    opened_run_since keyed c.args.path.now d0 d2 (g.D.Disk.state c.open.new.disk) base quiet (c.open.ensures.any_moment honest keyed base (stands_since keyed c.args.path.now d0 d2 base quiet stands))
+pub returns-in_err-judged-clause-outside : goal.returns-in_err-judged-clause-outside
+returns-in_err-judged-clause-outside g c = outside_quiet c.args.path.now (g.D.Disk.state c.args.disk.now) (g.D.Disk.state c.judged.new.disk) c.judged.ensures.quiet
 
-pub returns-in-Err-Device-clause-any_moment : goal.returns-in-Err-Device-clause-any_moment
-returns-in-Err-Device-clause-any_moment g c honest keyed base stands =
+pub returns-clause-outside : goal.returns-clause-outside
+returns-clause-outside g c =
     let d0 = g.D.Disk.state c.args.disk.now in
-    let d1 = g.D.Disk.state c.outline_of.new.disk in
-    let d2 = g.D.Disk.state c.cut_in.new.disk in
-    let quiet = nothing_twice d0 d1 d2 c.outline_of.ensures.quiet c.cut_in.ensures.quiet in
-    opened_run_since keyed c.args.path.now d0 d2 (g.D.Disk.state c.open.new.disk) base quiet (c.open.ensures.any_moment honest keyed base (stands_since keyed c.args.path.now d0 d2 base quiet stands))
+    let d1 = g.D.Disk.state c.judged.new.disk in
+    outside_twice c.args.path.now d0 d1 (g.D.Disk.state c.opened.new.disk) (outside_quiet c.args.path.now d0 d1 c.judged.ensures.quiet) c.opened.ensures.outside
 
-pub returns-in-Err-Corrupt-clause-any_moment : goal.returns-in-Err-Corrupt-clause-any_moment
-returns-in-Err-Corrupt-clause-any_moment g c honest keyed base stands =
-    let d0 = g.D.Disk.state c.args.disk.now in
-    let d1 = g.D.Disk.state c.outline_of.new.disk in
-    let d2 = g.D.Disk.state c.cut_in.new.disk in
-    let quiet = nothing_twice d0 d1 d2 c.outline_of.ensures.quiet c.cut_in.ensures.quiet in
-    opened_run_since keyed c.args.path.now d0 d2 (g.D.Disk.state c.open.new.disk) base quiet (c.open.ensures.any_moment honest keyed base (stands_since keyed c.args.path.now d0 d2 base quiet stands))
+pub returns-clause-sound : goal.returns-clause-sound
+returns-clause-sound g c honest = on_ok_from c.opened.result (c.in_ok-judged.ensures.sound (c.opened.ensures.outside.honest honest))
 
-pub returns-in-Err-Corrupt-clause-wrong : goal.returns-in-Err-Corrupt-clause-wrong
-returns-in-Err-Corrupt-clause-wrong g c honest =
+pub returns-clause-wrong : goal.returns-clause-wrong
+returns-clause-wrong g c honest =
+    let path = c.args.path.now in
     let d0 = g.D.Disk.state c.args.disk.now in
-    let d1 = g.D.Disk.state c.outline_of.new.disk in
-    let d2 = g.D.Disk.state c.cut_in.new.disk in
-    let quiet = nothing_twice d0 d1 d2 c.outline_of.ensures.quiet c.cut_in.ensures.quiet in
-    inr (λ keyed base stands. c.in-Err-Corrupt.ensures.corrupt honest (ap (λ (e : FolderError). Err e) c.in-Err-Corrupt.field-0-is) keyed base (stands_since keyed c.args.path.now d0 d2 base quiet stands))
+    let d1 = g.D.Disk.state c.judged.new.disk in
+    if_err (IsBroken path d1.seen) (IsUnopened c.args.strange path d0.seen) (λ why was. inr (broken_since path d0 d1 why c.judged.ensures.quiet was)) c.opened.result (c.opened.ensures.broken honest)
