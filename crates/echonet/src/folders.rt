@@ -1,4 +1,7 @@
 //! Base folders: which BASE is one, and its files.
+ghost use Rattle.std.specs.Prelude.{IfOk};
+ghost use Rattle.echo_disk.specs.Disk.{Honestly};
+ghost use Rattle.echo_folder_store.specs.Opened.{IsNamed, IsOpen};
 
 use crate::inputs::{output_fault, read_file};
 use crate::locks::folder_fault;
@@ -6,14 +9,16 @@ use crate::stopped::folder_path;
 use echo_addr::Address;
 use echo_base::{Base, BaseFault};
 use echo_base_folder::{Seen, Unread, fill, log_end, look, open_base, open_for};
+use echo_disk::Disk;
 use echo_files::flush_path;
 use echo_folder::Mark;
-use echo_folder_store::FolderStore;
+use echo_folder_store::{Folder, FolderStore};
 use echo_keys::{Digest, SipDigest};
 use echo_real_disk::{RealDisk, Unknown};
 use echo_status::Fault;
-use echo_store::Store;
+use echo_store::{Store, StoreError};
 use echo_store_changing::Stop;
+use std::alloc::Global;
 use std::collections::hash_map::RandomState;
 use std::hash::{BuildHasher, Hasher};
 use std::{fs, io};
@@ -34,17 +39,20 @@ pub fn open_own<'a, 'r>(
     rt: &'r HostRuntime,
     base: &'a str,
     own: Address,
-) -> Result<BaseFolder<'r>, Fault<'a>> {
+) -> Result<BaseFolder<'r>, Fault<'a>>
+    ensures { IfOk result (λ store. (⟦<BaseFolder<'r> as Store>⟧.state store).is_ready) }
+{
     let strange = is_strange(rt, base)?;
     let path = folder_path(rt, base)?;
     let key = drawn_key(rt)?;
     let disk = RealDisk::new(rt, Unknown);
-    let opened = open_for(rt.alloc(), disk, path.as_bytes(), strange, own, key);
-    let store = opened.map_err(|why| why.fault(base))?;
-    if store.len() == 0 {
-        flush_name(rt, base)?;
+    match open_for(rt.alloc(), disk, path.as_bytes(), strange, own, key) {
+        Ok(store) => {
+            flush_name(rt, base, store.len())?;
+            Ok(store)
+        }
+        Err(why) => Err(why.fault(base)),
     }
-    Ok(store)
 }
 
 /// Fills the base folder with this path, which is empty, with the messages of a base.
@@ -58,25 +66,44 @@ pub fn fill_folder<'a>(
     let mut disk = RealDisk::new(rt, Unknown);
     let opened = open_base(rt.alloc(), &mut disk, path.as_bytes(), strange);
     let mut folder = opened.map_err(|why| why.fault(to))?;
-    flush_name(rt, to)?;
+    flush_name(rt, to, 0)?;
     let (first, second) = drawn_key(rt)?;
     let mark = Mark {
         owner: 0,
         first,
         second,
     };
-    if !folder.claim(mark) {
-        return Err(Fault::CannotUse(to));
-    }
-    let digest = SipDigest::keyed(first, second);
-    match fill(rt.alloc(), &mut disk, &mut folder, &digest, base) {
-        Ok(()) => Ok(()),
+    match fill_by::<_, SipDigest>(rt.alloc(), &mut disk, &mut folder, mark, base) {
+        Ok(true) => Ok(()),
+        Ok(false) => Err(Fault::CannotUse(to)),
         Err(error) => Err(Stop::Store(error).fault(to)),
     }
 }
 
-// Flushes the folder in which the base folder stands, since that may have been made just now.
-fn flush_name<'a>(rt: &HostRuntime, base: &'a str) -> Result<(), Fault<'a>> {
+// Fills a folder that nobody has claimed, with digests by the key of this mark, and answers whether it did.
+fn fill_by<D: Disk, H: Digest>(
+    alloc: Global,
+    disk: &mut D,
+    folder: &mut Folder,
+    mark: Mark,
+    base: &Base<RandomState>,
+) -> Result<bool, StoreError>
+    requires named { IsNamed folder.old }
+    requires opened { Honestly (D.state disk.old) (IsOpen (D.state disk.old) folder.old) }
+{
+    if !folder.claim(mark) {
+        return Ok(false);
+    }
+    let digest = H::keyed(mark.first, mark.second);
+    fill(alloc, disk, folder, &digest, base)?;
+    Ok(true)
+}
+
+// Flushes the folder in which a base folder of so many messages stands: one without any may have been made just now.
+fn flush_name<'a>(rt: &HostRuntime, base: &'a str, messages: usize) -> Result<(), Fault<'a>> {
+    if messages > 0 {
+        return Ok(());
+    }
     let name = base.trim_end_matches('/');
     flush_path(rt.alloc(), rt, name).map_err(|fault| output_fault(fault, base))
 }

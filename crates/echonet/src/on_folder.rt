@@ -1,5 +1,6 @@
 //! The commands that change a base folder: under the lock of the link file, as on a base file, and under that of the
 //! folder, so that runs with other link files, or `convert`, do not change it meanwhile.
+ghost use Rattle.std.specs.Prelude.{IfOk};
 
 use crate::folders::{BaseFolder, cursor_there, look_into, open_own};
 use crate::locks::locked_folder;
@@ -50,7 +51,9 @@ fn open_station<'a, 'r>(
     rt: &'r HostRuntime,
     place: Place<'a>,
     stopped: Option<Fault<'a>>,
-) -> Result<Station<'r>, Fault<'a>> {
+) -> Result<Station<'r>, Fault<'a>>
+    ensures { IfOk result (λ station. (⟦<BaseFolder<'r> as Store>⟧.state station.store).is_ready) }
+{
     let (locked, bytes) = locked_links(rt, place.links)?;
     station_of(rt, locked, &bytes, place.base, stopped)
 }
@@ -62,7 +65,9 @@ fn station_of<'a, 'r>(
     links: &[u8],
     base: &'a str,
     stopped: Option<Fault<'a>>,
-) -> Result<Station<'r>, Fault<'a>> {
+) -> Result<Station<'r>, Fault<'a>>
+    ensures { IfOk result (λ station. (⟦<BaseFolder<'r> as Store>⟧.state station.store).is_ready) }
+{
     let links = LinkFile::read(rt.alloc(), links)?;
     let folder = locked_folder(rt, base)?;
     let store = open_own(rt, base, links.system())?;
@@ -137,12 +142,14 @@ pub fn post_there<'a, W: Sink, E: Sink>(
 }
 
 // Posts at the system.
-fn post_in<'a, W: Sink>(
+fn post_in<'a, 'r, W: Sink>(
     rt: &HostRuntime,
-    station: &mut Station<'_>,
+    station: &mut Station<'r>,
     asked: Posting<'_>,
     out: &mut W,
-) -> Result<(), Stop<'a>> {
+) -> Result<(), Stop<'a>>
+    requires { (⟦<BaseFolder<'r> as Store>⟧.state station.old.store).is_ready }
+{
     let Posting { words, free, body } = asked;
     let Station { links, store, .. } = station;
     if free {
@@ -285,14 +292,16 @@ pub fn scan_there<'a, W: Sink, E: Sink>(
 }
 
 // Brings stopped scans to their end, stages the packets, commits the folder, and names the packets.
-fn put_in_place<E: Sink>(
+fn put_in_place<'r, E: Sink>(
     rt: &HostRuntime,
-    station: &mut Station<'_>,
+    station: &mut Station<'r>,
     base: &str,
     to: Outbound<'_>,
     packets: &Items<PacketFile>,
     errors: &mut E,
-) -> Status {
+) -> Status
+    requires { (⟦<BaseFolder<'r> as Store>⟧.state station.old.store).is_ready }
+{
     let own = match name_of(rt, station.links.system()) {
         Ok(own) => own,
         Err(_) => return Fault::OutOfMemory.report(errors),
