@@ -3,7 +3,7 @@
 //!
 //! Modules in reading order: `unread` (why it is not read or opened), `judging` (what the log tells, and what is wrong
 //! with the folder), `opening` (to be changed), `owning` (whose it is), `looking` (read without a change), `as_file`
-//! (the base file of the same messages) and `filling` (with the messages of another base).
+//! (the base file of the same messages), `filling` (with the messages of another base) and `laws`.
 #![tactic(auto)]
 
 mod as_file;

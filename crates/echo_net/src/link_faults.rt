@@ -43,7 +43,8 @@ pub fn link_fault(
     if let Some(link) = unknown_link(links, carriers) {
         return Ok(Some(NetFault::Unknown(link.from, link.to)));
     }
-    if let Some(link) = one_sided_link(links) {
+    let one_sided = one_sided_link(alloc, links, carriers)?;
+    if let Some(link) = one_sided {
         return Ok(Some(NetFault::OneSided(link.from, link.to)));
     }
     let twins = same_net_node(alloc, carriers)?;

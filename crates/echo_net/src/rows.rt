@@ -9,7 +9,7 @@ ghost use Rattle.echo_net.specs.Rows.{AreRows};
 
 use crate::carriers::is_before;
 use crate::link::Link;
-use crate::searching::place;
+use crate::searching::place_near;
 use echo_addr::{Address, put_in_order};
 use echo_graph::Links;
 use std::alloc::{AllocError, Global};
@@ -50,9 +50,13 @@ fn row(alloc: Global, carriers: &[Address], links: &[Link]) -> Result<Vec<usize>
     ensures members { IfOk result (λ row. (j : ℕ) → Contains row.items j ↔
         ((l : Link) × Contains links.now l × IsAt carriers.now j l.to)) }
 {
-    let mut row = Vec::new(alloc);
+    let mut row = Vec::with_capacity(alloc, links.len())?;
+    // The links ascend, so the next one may lead to the next carrier.
+    let mut next = 0usize;
     'links: for link in links {
-        row.push(place(carriers, &link.to).unwrap())?;
+        let place = place_near(carriers, next, &link.to).unwrap();
+        row.push(place)?;
+        next = place + 1;
     }
     put_in_order(&mut row);
     Ok(row)

@@ -1,18 +1,18 @@
-use Rattle.std.proofs.Common.{◌≡◌, arith, true, false}
+use Rattle.std.proofs.Common.{arith}
 use Rattle.std.specs.Prelude.{Contains}
 use Rattle.echo_net.proofs.Ascending.{at_place}
 use Rattle.echo_net.proofs.FirstOf.{all_there, first_here, one_more}
 use Rattle.echo_net.proofs.first_links.unknown_link.Goals as goal
 
-pub returns-then-not-holds : goal.returns-then-not-holds
-returns-then-not-holds c =
+pub returns-in_default : goal.returns-in_default
+returns-in_default c =
     first_here c.args.links.now c.requires.links (λ l. ¬ Contains c.args.carriers.now l.to) c.links.link-index _ (at_place _ _ _ c.links-test.true)
-    (λ there. let yes : c.holds.result ≡ true = c.holds.ensures.1 there in let no : c.holds.result ≡ false = c.if-not-holds.true in cc)
-    (λ k d lt wrong. wrong (c.links.invariant k d lt))
+    c.in_default.ensures (λ k d lt wrong. wrong (c.links.invariant k d lt))
 
 pub links-preserved : goal.links-preserved
 links-preserved c =
-    one_more c.args.links.now (λ l. Contains c.args.carriers.now l.to) c.links.link-index _ c.links-test.true (c.holds.ensures.0 c.if-not-holds.false) c.links.invariant
+    one_more c.args.links.now (λ l. Contains c.args.carriers.now l.to) c.links.link-index _ c.links-test.true
+    (c.in-Some.place, c.in-Some.ensures.0, c.in-Some.ensures.1) c.links.invariant
 
 pub returns : goal.returns
 returns c =

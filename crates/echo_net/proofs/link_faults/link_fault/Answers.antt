@@ -1,4 +1,4 @@
-use Rattle.std.proofs.Common.{◌∙◌, subst, List, MatchOption, Option}
+use Rattle.std.proofs.Common.{subst, MatchOption, Option}
 use Rattle.std.proofs.lemmas.Option.{MatchOption-at_some}
 use Rattle.echo_addr.specs.declared.address.Address.{Address}
 use Rattle.echo_graph.specs.Walk.{Different}
@@ -30,11 +30,11 @@ returns-in-Some-unknown_link c =
     let one_file = at_none (Different (net.systems c.args.files.now)) (IsSmallest (StandsTwice (net.systems c.args.files.now))) c.args.shared c.in_default.not-Some c.requires.shared in
     (some, one_file, none_lists_itself c.args.files.now c.args.tag.now c.args.carriers.now c.args.links.now c.requires.members c.requires.listed c.in_default-self_link.ensures, unknown c.args.files.now c.args.tag.now c.args.carriers.now c.args.links.now c.requires.members c.requires.listed c.in-Some-unknown_link.link c.in-Some-unknown_link.ensures)
 
-pub returns-in-Some-one_sided_link : goal.returns-in-Some-one_sided_link
-returns-in-Some-one_sided_link c =
+pub returns-in-Some-one_sided : goal.returns-in-Some-one_sided
+returns-in-Some-one_sided c =
     let some = is_carried c.args.files.now c.args.tag.now c.args.carriers.now c.args.links.now c.requires.members c.requires.listed c.is_empty.result c.is_empty.ensures c.if-is_empty.false in
     let one_file = at_none (Different (net.systems c.args.files.now)) (IsSmallest (StandsTwice (net.systems c.args.files.now))) c.args.shared c.in_default.not-Some c.requires.shared in
-    (some, one_file, none_lists_itself c.args.files.now c.args.tag.now c.args.carriers.now c.args.links.now c.requires.members c.requires.listed c.in_default-self_link.ensures, all_known c.args.files.now c.args.tag.now c.args.carriers.now c.args.links.now c.requires.members c.requires.listed c.in_default-unknown_link.ensures, one_sided c.args.files.now c.args.tag.now c.args.carriers.now c.args.links.now c.requires.members c.requires.listed c.in-Some-one_sided_link.link c.in-Some-one_sided_link.ensures)
+    (some, one_file, none_lists_itself c.args.files.now c.args.tag.now c.args.carriers.now c.args.links.now c.requires.members c.requires.listed c.in_default-self_link.ensures, all_known c.args.files.now c.args.tag.now c.args.carriers.now c.args.links.now c.requires.members c.requires.listed c.in_default-unknown_link.ensures, one_sided c.args.files.now c.args.tag.now c.args.carriers.now c.args.links.now c.requires.members c.requires.listed c.in-Some-one_sided.link (MatchOption-at_some _ _ c.in-Some-one_sided.link c.in-Some-one_sided.is c.in_ok-one_sided.ensures))
 
 pub returns-in-Some-twins : goal.returns-in-Some-twins
 returns-in-Some-twins c =
@@ -42,7 +42,7 @@ returns-in-Some-twins c =
     let one_file = at_none (Different (net.systems c.args.files.now)) (IsSmallest (StandsTwice (net.systems c.args.files.now))) c.args.shared c.in_default.not-Some c.requires.shared in
     let twins = MatchOption-at_some ((a b : Address) → ¬ HasTwin (Contains c.args.carriers.now) a b) (λ (pair : Link). IsSmallestPair (HasTwin (Contains c.args.carriers.now)) pair.from pair.to)
     c.in-Some-twins.pair c.in-Some-twins.is c.in_ok-twins.ensures in
-    (some, one_file, none_lists_itself c.args.files.now c.args.tag.now c.args.carriers.now c.args.links.now c.requires.members c.requires.listed c.in_default-self_link.ensures, all_known c.args.files.now c.args.tag.now c.args.carriers.now c.args.links.now c.requires.members c.requires.listed c.in_default-unknown_link.ensures, all_answered c.args.files.now c.args.tag.now c.args.carriers.now c.args.links.now c.requires.members c.requires.listed c.in_default-one_sided_link.ensures, same_net_node c.args.files.now c.args.tag.now c.args.carriers.now c.args.links.now c.requires.members c.requires.listed c.in-Some-twins.pair.from c.in-Some-twins.pair.to twins)
+    (some, one_file, none_lists_itself c.args.files.now c.args.tag.now c.args.carriers.now c.args.links.now c.requires.members c.requires.listed c.in_default-self_link.ensures, all_known c.args.files.now c.args.tag.now c.args.carriers.now c.args.links.now c.requires.members c.requires.listed c.in_default-unknown_link.ensures, all_answered c.args.files.now c.args.tag.now c.args.carriers.now c.args.links.now c.requires.members c.requires.listed (at_none _ _ _ c.in_default-one_sided.not-Some c.in_ok-one_sided.ensures), same_net_node c.args.files.now c.args.tag.now c.args.carriers.now c.args.links.now c.requires.members c.requires.listed c.in-Some-twins.pair.from c.in-Some-twins.pair.to twins)
 
 pub returns-in-None : goal.returns-in-None
 returns-in-None c =
@@ -55,6 +55,6 @@ returns-in-None c =
       one_file = one_file;
       no_self = none_lists_itself c.args.files.now c.args.tag.now c.args.carriers.now c.args.links.now c.requires.members c.requires.listed c.in_default-self_link.ensures;
       known = all_known c.args.files.now c.args.tag.now c.args.carriers.now c.args.links.now c.requires.members c.requires.listed c.in_default-unknown_link.ensures;
-      both = all_answered c.args.files.now c.args.tag.now c.args.carriers.now c.args.links.now c.requires.members c.requires.listed c.in_default-one_sided_link.ensures;
+      both = all_answered c.args.files.now c.args.tag.now c.args.carriers.now c.args.links.now c.requires.members c.requires.listed (at_none _ _ _ c.in_default-one_sided.not-Some c.in_ok-one_sided.ensures);
       apart = net_nodes_differ c.args.files.now c.args.tag.now c.args.carriers.now c.args.links.now c.requires.members c.requires.listed none;
     }

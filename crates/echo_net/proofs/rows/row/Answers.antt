@@ -10,10 +10,10 @@ use Rattle.echo_graph.specs.Walk.{IsAt}
 use Rattle.echo_net.proofs.Runs.{row_ascends, row_members, zip_push}
 use Rattle.echo_net.proofs.rows.row.Goals as goal
 
-pub unwrap-requires : goal.unwrap-requires
-unwrap-requires c =
+pub unwrap-place-requires : goal.unwrap-place-requires
+unwrap-place-requires c =
     let links : List Link = c.args.links.now in
-    some_since _ _ _ c.place.ensures (λ none. none (c.requires.known _ (Contains-get_or links c.links.link-index _ c.links-test.true)))
+    some_since _ _ _ c.place_near.ensures (λ none. none (c.requires.known _ (Contains-get_or links c.links.link-index _ c.links-test.true)))
 
 pub links-preserved : goal.links-preserved
 links-preserved c =
@@ -23,9 +23,9 @@ links-preserved c =
     let Pairs : Link → ℕ → Type 0 = λ l j. IsAt carriers j l.to in
     let last = take_more links i _ c.links-test.true in
     subst (AllZip Pairs (take (i + 1) links)) (sym c.in_ok-push.ensures.items)
-    (subst (λ (ls : List Link). AllZip Pairs ls (c.links.row.items ++ c.unwrap.result ∷ [])) (sym last)
-    (zip_push Pairs (take i links) c.links.row.items _ c.unwrap.result c.links.invariant
-    (MatchOption-at_some _ _ c.unwrap.result c.unwrap.ensures c.place.ensures)))
+    (subst (λ (ls : List Link). AllZip Pairs ls (c.links.row.items ++ c.unwrap-place.result ∷ [])) (sym last)
+    (zip_push Pairs (take i links) c.links.row.items _ c.unwrap-place.result c.links.invariant
+    (MatchOption-at_some _ _ c.unwrap-place.result c.unwrap-place.ensures c.place_near.ensures)))
 
 pub returns-clause-ascending : goal.returns-clause-ascending
 returns-clause-ascending c = row_ascends c.put_in_order.new.values.items c.put_in_order.ensures.ascending
