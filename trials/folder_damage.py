@@ -1,8 +1,9 @@
 """Spoils base folders, and runs each command on them.
 
 1. A small folder, with a purged message, a scanned one and one that waits, of which each byte of each file is changed in
-   turn, in three ways: `list` and `convert` answer or end with one fault line, and what they read has no message under a
-   key that was not there. Then a command that changes it does so or ends with one fault line.
+   turn, in three ways: `list` and `convert` answer or end with one fault line. What they read of a folder whose log or keys
+   were changed has no message under a key that was not there; a message whose own bytes were changed is read as it
+   stands. Then a command that changes the folder does so or ends with one fault line.
 2. Folders of which a byte was changed by chance, some cut off or added, or a file removed: each command ends so.
 
 Words: each how many-th byte is changed (1), how many folders are spoiled by chance (300).
@@ -49,13 +50,14 @@ def keys_in(base):
     return keys
 
 
-def read_spoiled(what, place, keys):
-    """Reads a spoiled folder: what is read has no other key. Answers whether it could be read."""
+def read_spoiled(what, place, name, keys):
+    """Reads a folder of which a file was spoiled: what is read has no other key, unless that file has the messages.
+    Answers whether it could be read."""
     ended = run(place, "list", "base")
     expect("%s: list, %r" % (what, ended), is_orderly(ended))
     base = converted(place)
     if isinstance(base, bytes):
-        others = [key for key in keys_in(base) if key not in keys]
+        others = [key for key in keys_in(base) if key not in keys and not name.startswith("messages.")]
         expect("%s: under other keys %r" % (what, others), not others)
     else:
         expect("%s: convert, %r" % (what, base), is_orderly(base) and base[0] == ended[0])
@@ -81,7 +83,7 @@ def each_byte(step, folder):
                 what = "byte %d of %s changed by %02x" % (at, name, change)
                 place = copy_of(station, os.path.join(folder, "place"))
                 put(os.path.join(place, "base", name), content[:at] + bytes([content[at] ^ change]) + content[at + 1:])
-                answers += read_spoiled(what, place, keys)
+                answers += read_spoiled(what, place, name, keys)
                 change_spoiled(what, place, [commands[number % len(commands)]])
                 number += 1
     print("%d bytes changed, each in three ways, and %d folders read" % (number // 3, answers), flush=True)
@@ -111,7 +113,7 @@ def by_chance(count, folder):
         else:
             put(path, bytes(content))
         what = "%s at %d of %s" % (deed, at, name)
-        read_spoiled(what, place, keys)
+        read_spoiled(what, place, name, keys)
         change_spoiled(what, place, [("export", "base"), *COMMANDS.values()])
     print("%d folders spoiled by chance" % count, flush=True)
 
