@@ -1,5 +1,5 @@
 -- A folder without files.
-use Rattle.std.proofs.Common.{◌≡◌, ◌∙◌, ◌<◌, ◌≤◌, ◌^◌, ℕ, List, [], Option, None, false, inl, refl, sym, ap, subst, arith, lit<}
+use Rattle.std.proofs.Common.{◌≡◌, ◌∙◌, ℕ, List, [], None, false, inl, refl, sym, ap, subst, arith, lit<}
 use Rattle.echo_addr.specs.declared.address.Address.{Address}
 use Rattle.echo_disk.specs.Disk.{Files, bytes_in}
 use Rattle.echo_folder.specs.Log.{IsLog, no_mark, nothing_told}

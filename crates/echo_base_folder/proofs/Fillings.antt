@@ -1,24 +1,30 @@
 -- A folder filled with the messages of a base, one after another.
-use Rattle.std.proofs.Common.{◌≡◌, ◌+◌, ℕ, List, [], Some, length, take, false, inl, inr, ⊎_elim, sym, ap, subst, ◌∙◌, arith}
+use Rattle.std.proofs.Common.{◌≡◌, ◌+◌, ℕ, List, [], Some, length, take, false, inl, inr, ⊎_elim, Bool, refl, sym, subst, ◌∙◌, arith}
 use Rattle.std.specs.Prelude.{slice_get}
 use Rattle.std.proofs.lemmas.List.{length-take-le, take_all}
 use Rattle.std.proofs.lemmas.Option.{get_or_from_slice_get, slice_get_within}
 use Rattle.echo_disk.specs.Disk.{DiskState, Files}
 use Rattle.echo_disk.specs.Runs.{LeavesOnly}
 use Rattle.echo_disk.proofs.Moments.{then_run, weaker_run}
+use Rattle.echo_folder.specs.AtRest.{IsAtRest}
 use Rattle.echo_folder.specs.Moments.{IsBeforeOrAfter, KeepsOutside, SameOutside, StandsAlone}
 use Rattle.echo_folder.proofs.Gates.{outside_twice}
+use Rattle.echo_folder.proofs.Rested.{rest_same, rest_stands}
 use Rattle.echo_filed.specs.Filed.{Filed, key_of}
 use Rattle.echo_folder.specs.Standing.{BaseBytes, StandsFor}
 use Rattle.echo_base.specs.Base.{Base, IsBase, is_known}
 use Rattle.echo_base.proofs.Purges.{front_more}
-use Rattle.echo_folder_store.specs.Held.{HoldsBase}
-use Rattle.echo_folder_store.specs.Opened.{IsOpen, held_by}
+use Rattle.echo_folder_store.specs.Held.{HoldsBase, StandsForBaseAlone, StandsForBaseOrWasLeft}
+use Rattle.echo_folder_store.specs.Opened.{IsOpen, committed_by, held_by, path_of}
 use Rattle.echo_folder_store.specs.declared.folder.Folder.{Folder}
 use Rattle.echo_folder_store.proofs.Seen.{at_end, end_holds}
 use Rattle.echo_folder_store.proofs.Staged.{both_runs}
 use Rattle.echo_folder_store.proofs.Stubbed.{new_at}
-use Rattle.echo_base_folder.specs.Filled.{HoldsFront, HoldsMore, StandsForOneOf}
+use Rattle.echo_base.specs.declared.fault.BaseFault.TheVariants as fault
+use Rattle.echo_base_folder.specs.Filled.{HoldsFront, HoldsMore, IsKept, IsUnfilled, StandsForOneOf, StandsForOneOfOrWasLeft}
+use Rattle.echo_base_folder.specs.Unopened.{IsUnopened}
+use Rattle.echo_base_folder.specs.declared.unread.Unread.{Unread}
+use Rattle.echo_base_folder.specs.declared.unread.Unread.TheVariants as unread
 
 -- one message more
 pub front_one : (keyed : ℕ → ℕ → List ℕ → ℕ) (old now : BaseBytes) (base : Base) (i cursor : ℕ) (m : Filed) → IsBase base.messages base.cursor → slice_get base.messages i ≡ Some m
@@ -76,3 +82,44 @@ adds_outside path here d e f at one two = outside_twice path d e f one (subst (�
 
 pub commits_run : (path here : List ℕ) (d e : DiskState) (before now : BaseBytes) → here ≡ path → LeavesOnly d e (IsBeforeOrAfter here d before now) → LeavesOnly d e (IsBeforeOrAfter path d before now)
 commits_run path here d e before now at run = subst (λ (p : List ℕ). LeavesOnly d e (IsBeforeOrAfter p d before now)) at run
+
+-- a folder at rest keeps the base that was committed
+pub filled_is_kept : (keyed : ℕ → ℕ → List ℕ → ℕ) (path : List ℕ) (d : DiskState) (f : Folder) (base : Base) → path_of f ≡ path → IsAtRest d (path_of f) f.end → HoldsBase keyed (committed_by d f) base → IsKept keyed path d base
+filled_is_kept keyed path d f base at rest holds =
+    subst (λ (p : List ℕ). IsKept keyed p d base) at
+    (record {
+      seen = record { bytes = committed_by d f; stands = rest_same d (path_of f) f.end rest d.seen refl refl refl; holds = holds };
+      stays = λ c left. record { bytes = committed_by d f; stands = rest_stands d (path_of f) f.end rest c left; holds = holds };
+    })
+
+-- what a crash leaves of a folder that was opened, and of one that was filled then
+pub opened_run : (keyed : ℕ → ℕ → List ℕ → ℕ) (path : List ℕ) (d e : DiskState) (first next : Base) → LeavesOnly d e (StandsForBaseOrWasLeft keyed path d first) → LeavesOnly d e (StandsForOneOfOrWasLeft keyed path d first next)
+opened_run keyed path d e first next run =
+    weaker_run d e (StandsForBaseOrWasLeft keyed path d first) (StandsForOneOfOrWasLeft keyed path d first next) run
+    (λ c or. ⊎_elim (λ (alone : StandsForBaseAlone keyed path d first c). inl (inl alone)) (λ (left : d.may_leave c). inr left) or)
+
+alone_since : (keyed : ℕ → ℕ → List ℕ → ℕ) (path : List ℕ) (d e : DiskState) (base : Base) → KeepsOutside path d e → (c : Files) → StandsForBaseAlone keyed path e base c → StandsForBaseAlone keyed path d base c
+alone_since keyed path d e base kept c left = record { outside = λ m out named flushed. left.outside m out (kept.named m out named) (kept.flushed m out flushed) ∙ kept.seen m out; stands = left.stands }
+
+pub fill_run : (keyed : ℕ → ℕ → List ℕ → ℕ) (path here : List ℕ) (d e f : DiskState) (first next : Base) → here ≡ path → LeavesOnly d e (StandsForBaseOrWasLeft keyed path d first) → KeepsOutside path d e
+    → LeavesOnly e f (StandsForOneOf keyed here e first next) → LeavesOnly d f (StandsForOneOfOrWasLeft keyed path d first next)
+fill_run keyed path here d e f first next at opening kept filling =
+    then_run d e f (StandsForOneOfOrWasLeft keyed path d first next) (StandsForOneOf keyed path e first next) (opened_run keyed path d e first next opening)
+    (subst (λ (p : List ℕ). LeavesOnly e f (StandsForOneOf keyed p e first next)) at filling)
+    (λ c or. inl
+    (⊎_elim
+    (λ (one : StandsForBaseAlone keyed path e first c). inl (alone_since keyed path d e first kept c one))
+    (λ (one : StandsForBaseAlone keyed path e next c). inr (alone_since keyed path d e next kept c one)) or))
+
+-- a folder that is not opened is not filled
+pub unfilled_where_unopened : (strange : Bool) (path : List ℕ) (files : Files) (why : Unread) → IsUnopened strange path files why → IsUnfilled strange path files why
+unfilled_where_unopened strange path files (unread.Wrong fault.TooMany) was = tt
+unfilled_where_unopened strange path files (unread.Wrong fault.NotBase) was = was
+unfilled_where_unopened strange path files (unread.Wrong (fault.Truncated n)) was = was
+unfilled_where_unopened strange path files (unread.Wrong (fault.Damaged n)) was = was
+unfilled_where_unopened strange path files (unread.Wrong fault.Read) was = was
+unfilled_where_unopened strange path files (unread.Wrong (fault.Write n)) was = was
+unfilled_where_unopened strange path files (unread.Wrong fault.Memory) was = was
+unfilled_where_unopened strange path files unread.Memory was = was
+unfilled_where_unopened strange path files unread.Device was = was
+unfilled_where_unopened strange path files (unread.NotOwner address) was = was

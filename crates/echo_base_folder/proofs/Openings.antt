@@ -15,7 +15,7 @@ use Rattle.echo_folder.specs.declared.log.Told.{Told}
 use Rattle.echo_folder.proofs.Opened.{end_tells}
 use Rattle.echo_keys.specs.Keys.{FolderStandsFor}
 use Rattle.echo_folder_store.specs.Held.{HoldsBase, StandsForBase, StandsForBaseOrWasLeft, digest_by}
-use Rattle.echo_folder_store.specs.Opened.{IsOpen, committed_by, held_by, path_of}
+use Rattle.echo_folder_store.specs.Opened.{IsNamed, IsOpen, committed_by, held_by, path_of}
 use Rattle.echo_folder_store.specs.Owned.{with_mark}
 use Rattle.echo_folder_store.specs.declared.folder.Folder.{Folder}
 use Rattle.echo_folder_store.proofs.Claimed.{claimed_holds, claimed_open}
@@ -124,3 +124,6 @@ broken_not_ours own strange path files (unread.NotOwner address) was = absurd wa
 broken_not_ours own strange path files (unread.Wrong fault) was = inr was
 broken_not_ours own strange path files unread.Memory was = inr was
 broken_not_ours own strange path files unread.Device was = inr was
+
+pub claimed_named : (f g : Folder) → g ≡ with_mark f g.told.mark → IsNamed f → IsNamed g
+claimed_named f g only named = subst (λ (x : Folder). IsNamed x) (sym only) named

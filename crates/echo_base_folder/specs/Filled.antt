@@ -1,11 +1,17 @@
 -- A base folder that is filled with messages.
-use Rattle.std.specs.Prelude.{◌≡◌, ◌⊎◌, ℕ, List, false, take}
+use Rattle.std.specs.Prelude.{◌≡◌, ◌⊎◌, ℕ, Bool, List, [], false, take}
 use Rattle.echo_base.specs.Base.{Base, is_known}
 use Rattle.echo_filed.specs.Filed.{Filed, key_of}
 use Rattle.echo_folder.specs.Standing.{BaseBytes}
 use Rattle.echo_disk.specs.Disk.{DiskState, Files}
-use Rattle.echo_folder_store.specs.Held.{HoldsBase, StandsForBaseAlone}
+use Rattle.echo_folder_store.specs.Held.{HoldsBase, StandsForBase, StandsForBaseAlone}
+use Rattle.echo_base.specs.declared.fault.BaseFault.TheVariants as fault
 use Rattle.echo_store.specs.Store.{with_message}
+use Rattle.echo_store.specs.declared.store_error.StoreError.{StoreError}
+use Rattle.echo_store.specs.declared.store_error.StoreError.TheVariants as error
+use Rattle.echo_base_folder.specs.Unopened.{IsUnopened}
+use Rattle.echo_base_folder.specs.declared.unread.Unread.{Unread}
+use Rattle.echo_base_folder.specs.declared.unread.Unread.TheVariants as unread
 
 -- each base that was held, and does not know the message, is held with it at its end
 abbrev pub HoldsMore : (ℕ → ℕ → List ℕ → ℕ) → BaseBytes → BaseBytes → Filed → Type 0
@@ -18,3 +24,28 @@ HoldsFront keyed bytes messages n cursor = HoldsBase keyed bytes (record { messa
 -- the files stand for the base from before or for the other one, and nothing outside the folder has changed
 abbrev pub StandsForOneOf : (ℕ → ℕ → List ℕ → ℕ) → List ℕ → DiskState → Base → Base → Files → Type 0
 StandsForOneOf keyed path old first next c = StandsForBaseAlone keyed path old first c ⊎ StandsForBaseAlone keyed path old next c
+
+-- or it is what a crash might have left before
+abbrev pub StandsForOneOfOrWasLeft : (ℕ → ℕ → List ℕ → ℕ) → List ℕ → DiskState → Base → Base → Files → Type 0
+StandsForOneOfOrWasLeft keyed path old first next c = StandsForOneOf keyed path old first next c ⊎ old.may_leave c
+
+-- a base without messages
+abbrev pub no_messages : Base
+no_messages = record { messages = []; cursor = 0 }
+
+-- the files stand for this base, and each crash leaves files that do
+pub record IsKept (keyed : ℕ → ℕ → List ℕ → ℕ) (path : List ℕ) (disk : DiskState) (base : Base) : Type 0 where
+  pub seen : StandsForBase keyed path base disk.seen
+  pub stays : (c : Files) → disk.may_leave c → StandsForBase keyed path base c
+
+-- a fault of the store, as one of the folder
+abbrev pub unfilled_cause : StoreError → Unread
+unfilled_cause error.Memory = unread.Memory
+unfilled_cause error.Device = unread.Device
+unfilled_cause error.Damaged = unread.Memory
+unfilled_cause error.TooMany = unread.Wrong fault.TooMany
+
+-- four bytes do not count what it is to be filled with, or it is not opened
+abbrev pub IsUnfilled : Bool → List ℕ → Files → Unread → Type 0
+IsUnfilled strange path files (unread.Wrong fault.TooMany) = Unit {0}
+IsUnfilled strange path files why = IsUnopened strange path files why

@@ -1,35 +1,41 @@
 //! A base folder filled with the messages of a base.
-ghost use Rattle.std.specs.Prelude.{◌≡◌, ◌≤◌, ◌<◌, ◌+◌, ℕ, List, OnOk, length};
+ghost use Rattle.std.specs.Prelude.{◌≡◌, ◌≢◌, ◌≤◌, ◌<◌, ◌+◌, ℕ, List, IfErr, OnOk, length};
 ghost use Rattle.echo_base.specs.Base as model;
 ghost use Rattle.echo_base.specs.Base.{IsBase};
 ghost use Rattle.echo_disk.specs.Disk.{Honestly};
 ghost use Rattle.echo_disk.specs.Runs.{LeavesOnly};
+ghost use Rattle.echo_folder.specs.AtRest.{IsAtRest};
 ghost use Rattle.echo_folder.specs.Moments.{KeepsOutside, StandsAlone};
+ghost use Rattle.echo_folder.specs.Opening.{AreAlone};
 ghost use Rattle.echo_folder_store.specs.Answers.{HasReadCause};
-ghost use Rattle.echo_folder_store.specs.Held.{HoldsBase, digest_by};
+ghost use Rattle.echo_folder_store.specs.Held.{HoldsBase, StandsForBase};
 ghost use Rattle.echo_folder_store.specs.Opened.{IsNamed, IsOpen, committed_by, held_by, path_of};
-ghost use Rattle.echo_base_folder.specs.Filled.{HoldsFront, HoldsMore, StandsForOneOf};
+ghost use Rattle.echo_folder_store.specs.Owned.{with_mark};
+ghost use Rattle.echo_base_folder.specs.Filled.{HoldsFront, HoldsMore, IsKept, IsUnfilled, StandsForOneOf, StandsForOneOfOrWasLeft, no_messages, unfilled_cause};
+ghost use Rattle.echo_base_folder.specs.Ours.{SameKey};
+ghost use Rattle.echo_base_folder.specs.Unread.{HasUnreadCause};
 
-use echo_base::Base;
+use crate::opening::open_base;
+use crate::unread::Unread;
+use echo_base::{Base, BaseFault};
 use echo_disk::Disk;
 use echo_filed::{Filed, Key};
+use echo_folder::Mark;
 use echo_folder_store::{Folder, bytes_alone};
 use echo_keys::{Digest, bytes_of_key};
 use echo_store::StoreError;
 use std::alloc::Global;
 use std::hash::BuildHasher;
 
-// Adds the message to the folder. The digest is that of the folder's key.
+// Adds the message to the folder, with its digest by the folder's key.
 fn add<D: Disk, H: Digest>(
     alloc: Global,
     disk: &mut D,
     folder: &mut Folder,
-    digest: &H,
     message: &Filed,
 ) -> Result<(), StoreError>
     requires named { IsNamed folder.old }
     requires opened { Honestly (D.state disk.old) (IsOpen (D.state disk.old) folder.old) }
-    requires digests { (bytes : List ℕ) → H.digest digest.now bytes ≡ digest_by H.keyed folder.old.told.mark bytes }
     ensures named { IsNamed folder.new }
     ensures opened { Honestly (D.state disk.new) (OnOk result (IsOpen (D.state disk.new) folder.new)) }
     ensures path { path_of folder.new ≡ path_of folder.old }
@@ -44,7 +50,7 @@ fn add<D: Disk, H: Digest>(
     let bytes = bytes_alone(alloc, message)?;
     let key = Key::of_message(alloc, message)?;
     let digested = bytes_of_key(alloc, &key)?;
-    let number = digest.of(&digested);
+    let number = folder.digest::<H>(&digested);
     folder.stage(disk, &bytes, number)
 }
 
@@ -53,13 +59,11 @@ fn add_next<D: Disk, H: Digest, S: BuildHasher>(
     alloc: Global,
     disk: &mut D,
     folder: &mut Folder,
-    digest: &H,
     base: &Base<S>,
     place: usize,
 ) -> Result<(), StoreError>
     requires named { IsNamed folder.old }
     requires opened { Honestly (D.state disk.old) (IsOpen (D.state disk.old) folder.old) }
-    requires digests { (bytes : List ℕ) → H.digest digest.now bytes ≡ digest_by H.keyed folder.old.told.mark bytes }
     requires base { IsBase base.now.messages base.now.cursor }
     requires within { place < length base.now.messages }
     ensures named { IsNamed folder.new }
@@ -75,7 +79,7 @@ fn add_next<D: Disk, H: Digest, S: BuildHasher>(
     ensures cause { HasReadCause (D.failures disk.old) (D.failures disk.new) result }
 {
     match base.message(place) {
-        Some(message) => add(alloc, disk, folder, digest, message),
+        Some(message) => add::<D, H>(alloc, disk, folder, message),
         None => Ok(()),
     }
 }
@@ -85,14 +89,12 @@ fn add_from<D: Disk, H: Digest, S: BuildHasher>(
     alloc: Global,
     disk: &mut D,
     folder: &mut Folder,
-    digest: &H,
     base: &Base<S>,
     from: usize,
     to: usize,
 ) -> Result<(), StoreError>
     requires named { IsNamed folder.old }
     requires opened { Honestly (D.state disk.old) (IsOpen (D.state disk.old) folder.old) }
-    requires digests { (bytes : List ℕ) → H.digest digest.now bytes ≡ digest_by H.keyed folder.old.told.mark bytes }
     requires base { IsBase base.now.messages base.now.cursor }
     requires order { from ≤ to }
     requires within { to ≤ length base.now.messages }
@@ -109,7 +111,7 @@ fn add_from<D: Disk, H: Digest, S: BuildHasher>(
     ensures cause { HasReadCause (D.failures disk.old) (D.failures disk.new) result }
 {
     'messages: for i in from..to {
-        add_next(alloc, disk, folder, digest, base, i)?;
+        add_next::<D, H, S>(alloc, disk, folder, base, i)?;
     }
     Ok(())
 }
@@ -119,12 +121,10 @@ fn add_scanned<D: Disk, H: Digest, S: BuildHasher>(
     alloc: Global,
     disk: &mut D,
     folder: &mut Folder,
-    digest: &H,
     base: &Base<S>,
 ) -> Result<(), StoreError>
     requires named { IsNamed folder.old }
     requires opened { Honestly (D.state disk.old) (IsOpen (D.state disk.old) folder.old) }
-    requires digests { (bytes : List ℕ) → H.digest digest.now bytes ≡ digest_by H.keyed folder.old.told.mark bytes }
     ensures named { IsNamed folder.new }
     ensures opened { Honestly (D.state disk.new) (OnOk result (IsOpen (D.state disk.new) folder.new)) }
     ensures path { path_of folder.new ≡ path_of folder.old }
@@ -137,7 +137,7 @@ fn add_scanned<D: Disk, H: Digest, S: BuildHasher>(
     ensures outside { KeepsOutside (path_of folder.old) (D.state disk.old) (D.state disk.new) }
     ensures cause { HasReadCause (D.failures disk.old) (D.failures disk.new) result }
 {
-    add_from(alloc, disk, folder, digest, base, 0, base.cursor())?;
+    add_from::<D, H, S>(alloc, disk, folder, base, 0, base.cursor())?;
     folder.move_to_end();
     Ok(())
 }
@@ -147,12 +147,10 @@ fn add_all<D: Disk, H: Digest, S: BuildHasher>(
     alloc: Global,
     disk: &mut D,
     folder: &mut Folder,
-    digest: &H,
     base: &Base<S>,
 ) -> Result<(), StoreError>
     requires named { IsNamed folder.old }
     requires opened { Honestly (D.state disk.old) (IsOpen (D.state disk.old) folder.old) }
-    requires digests { (bytes : List ℕ) → H.digest digest.now bytes ≡ digest_by H.keyed folder.old.told.mark bytes }
     ensures named { IsNamed folder.new }
     ensures opened { Honestly (D.state disk.new) (OnOk result (IsOpen (D.state disk.new) folder.new)) }
     ensures path { path_of folder.new ≡ path_of folder.old }
@@ -165,24 +163,22 @@ fn add_all<D: Disk, H: Digest, S: BuildHasher>(
     ensures outside { KeepsOutside (path_of folder.old) (D.state disk.old) (D.state disk.new) }
     ensures cause { HasReadCause (D.failures disk.old) (D.failures disk.new) result }
 {
-    add_scanned(alloc, disk, folder, digest, base)?;
-    add_from(alloc, disk, folder, digest, base, base.cursor(), base.len())
+    add_scanned::<D, H, S>(alloc, disk, folder, base)?;
+    add_from::<D, H, S>(alloc, disk, folder, base, base.cursor(), base.len())
 }
 
-/// Adds the messages of the base to an empty folder, of which as many count as scanned, and commits them. The digest is
-/// that of the folder's key. At an error nothing is known but what a crash may leave.
-pub fn fill<D: Disk, H: Digest, S: BuildHasher>(
+// Adds the messages of the base to a folder without messages, of which as many count as scanned, and commits them.
+fn fill_opened<D: Disk, H: Digest, S: BuildHasher>(
     alloc: Global,
     disk: &mut D,
     folder: &mut Folder,
-    digest: &H,
     base: &Base<S>,
 ) -> Result<(), StoreError>
     requires named { IsNamed folder.old }
     requires opened { Honestly (D.state disk.old) (IsOpen (D.state disk.old) folder.old) }
-    requires digests { (bytes : List ℕ) → H.digest digest.now bytes ≡ digest_by H.keyed folder.old.told.mark bytes }
     ensures opened { Honestly (D.state disk.new) (OnOk result (IsOpen (D.state disk.new) folder.new)) }
     ensures path { path_of folder.new ≡ path_of folder.old }
+    ensures settled { Honestly (D.state disk.new) (OnOk result (IsAtRest (D.state disk.new) (path_of folder.new) folder.new.end)) }
     ensures committed { Honestly (D.state disk.new) (HoldsFront H.keyed (held_by (D.state disk.old) folder.old) base.now.messages 0 0
         → OnOk result (HoldsBase H.keyed (committed_by (D.state disk.new) folder.new) base.now)) }
 
@@ -193,6 +189,63 @@ pub fn fill<D: Disk, H: Digest, S: BuildHasher>(
     ensures outside { KeepsOutside (path_of folder.old) (D.state disk.old) (D.state disk.new) }
     ensures cause { HasReadCause (D.failures disk.old) (D.failures disk.new) result }
 {
-    add_all(alloc, disk, folder, digest, base)?;
+    add_all::<D, H, S>(alloc, disk, folder, base)?;
     folder.commit(disk)
+}
+
+// Gives the key of these two halves to a folder that has none and no message.
+fn give_key(folder: &mut Folder, first: u64, second: u64)
+    ensures only { folder.new ≡ with_mark folder.old folder.new.told.mark }
+    ensures key { 0 < length folder.old.keys.items → SameKey folder.old.told.mark folder.new.told.mark }
+    ensures kept { folder.old.told.mark.owner ≢ 0 → folder.new ≡ folder.old }
+{
+    let owner = 0;
+    let _given = folder.claim(Mark {
+        owner,
+        first,
+        second,
+    });
+}
+
+// Why it is not filled. No message is read, so that none is damaged.
+fn unfilled_by(error: StoreError) -> Unread
+    ensures { result ≡ unfilled_cause error }
+{
+    match error {
+        StoreError::Memory | StoreError::Damaged => Unread::Memory,
+        StoreError::Device => Unread::Device,
+        StoreError::TooMany => Unread::Wrong(BaseFault::TooMany),
+    }
+}
+
+/// Fills the base folder of this path, which ends in a slash, and has no message, with the messages of the base, of which
+/// as many count as scanned. It gets the key of these two halves, and stays nobody's. `strange` says that it has other
+/// files than those of a base folder.
+///
+/// Besides what `open_base` answers it is `Wrong` where four bytes do not count a message (F7).
+pub fn fill<D: Disk, H: Digest, S: BuildHasher>(
+    alloc: Global,
+    disk: &mut D,
+    path: &[u8],
+    strange: bool,
+    key: (u64, u64),
+    base: &Base<S>,
+) -> Result<(), Unread>
+    requires { Honestly (D.state disk.old) (AreAlone path.now (D.state disk.old)) }
+    ensures filled { Honestly (D.state disk.new) (StandsForBase H.keyed path.now no_messages (D.state disk.old).seen
+        → OnOk result (IsKept H.keyed path.now (D.state disk.new) base.now)) }
+
+    // A crash at any moment leaves no message or all of the base, or what a crash might have left before.
+    ensures any_moment { Honestly (D.state disk.new) (StandsForBase H.keyed path.now no_messages (D.state disk.old).seen
+        → LeavesOnly (D.state disk.old) (D.state disk.new) (StandsForOneOfOrWasLeft H.keyed path.now (D.state disk.old) no_messages base.now)) }
+    ensures outside { KeepsOutside path.now (D.state disk.old) (D.state disk.new) }
+    ensures wrong { Honestly (D.state disk.new) (IfErr result (IsUnfilled strange path.now (D.state disk.old).seen)) }
+    ensures cause { HasUnreadCause (D.failures disk.old) (D.failures disk.new) result }
+{
+    let mut folder = open_base(alloc, disk, path, strange)?;
+    give_key(&mut folder, key.0, key.1);
+    match fill_opened::<D, H, S>(alloc, disk, &mut folder, base) {
+        Ok(()) => Ok(()),
+        Err(error) => Err(unfilled_by(error)),
+    }
 }

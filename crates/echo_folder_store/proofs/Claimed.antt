@@ -70,7 +70,7 @@ pub record IsClaim (f g : Folder) (mark : Mark) (result : Bool) : Type 0 where
   pub refused : result ≡ false → (IsUnclaimed f → ⊥) × (g ≡ f)
 
 -- what is so of the folder as it was and of one that was unclaimed, with the mark
-by_claim : (P : Folder → Type 0) (f g : Folder) (mark : Mark) (result : Bool) → IsClaim f g mark result → P f → (IsUnclaimed f → P (with_mark f mark)) → P g
+pub by_claim : (P : Folder → Type 0) (f g : Folder) (mark : Mark) (result : Bool) → IsClaim f g mark result → P f → (IsUnclaimed f → P (with_mark f mark)) → P g
 by_claim P f g mark true claim was is = let c = claim.claimed refl in subst P (sym c.1) (is c.0)
 by_claim P f g mark false claim was is = subst P (sym (claim.refused refl).1) was
 

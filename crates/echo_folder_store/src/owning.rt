@@ -43,8 +43,8 @@ impl Folder {
         true
     }
 
-    // The digest by its key.
-    pub(crate) fn digest<H: Digest>(&self, bytes: &[u8]) -> u64
+    /// The digest by its key.
+    pub fn digest<H: Digest>(&self, bytes: &[u8]) -> u64
         ensures { result ≡ digest_by H.keyed self.now.told.mark bytes.now }
     {
         H::keyed(self.told.mark.first, self.told.mark.second).of(bytes)

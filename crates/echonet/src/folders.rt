@@ -1,24 +1,18 @@
 //! Base folders: which BASE is one, and its files.
 ghost use Rattle.std.specs.Prelude.{IfOk};
-ghost use Rattle.echo_disk.specs.Disk.{Honestly};
-ghost use Rattle.echo_folder_store.specs.Opened.{IsNamed, IsOpen};
 
 use crate::inputs::{output_fault, read_file};
 use crate::locks::folder_fault;
 use crate::stopped::folder_path;
 use echo_addr::Address;
 use echo_base::{Base, BaseFault};
-use echo_base_folder::{Seen, Unread, fill, log_end, look, open_base, open_for};
-use echo_disk::Disk;
+use echo_base_folder::{Seen, Unread, fill, log_end, look, open_for};
 use echo_files::flush_path;
-use echo_folder::Mark;
-use echo_folder_store::{Folder, FolderStore};
-use echo_keys::{Digest, SipDigest};
+use echo_folder_store::FolderStore;
+use echo_keys::SipDigest;
 use echo_real_disk::{RealDisk, Unknown};
 use echo_status::Fault;
-use echo_store::{Store, StoreError};
-use echo_store_changing::Stop;
-use std::alloc::Global;
+use echo_store::Store;
 use std::collections::hash_map::RandomState;
 use std::hash::{BuildHasher, Hasher};
 use std::{fs, io};
@@ -61,42 +55,15 @@ pub fn fill_folder<'a>(
     to: &'a str,
     base: &Base<RandomState>,
 ) -> Result<(), Fault<'a>> {
+    flush_name(rt, to, 0)?;
     let strange = is_strange(rt, to)?;
     let path = folder_path(rt, to)?;
+    let key = drawn_key(rt)?;
     let mut disk = RealDisk::new(rt, Unknown);
-    let opened = open_base(rt.alloc(), &mut disk, path.as_bytes(), strange);
-    let mut folder = opened.map_err(|why| why.fault(to))?;
-    flush_name(rt, to, 0)?;
-    let (first, second) = drawn_key(rt)?;
-    let mark = Mark {
-        owner: 0,
-        first,
-        second,
-    };
-    match fill_by::<_, SipDigest>(rt.alloc(), &mut disk, &mut folder, mark, base) {
-        Ok(true) => Ok(()),
-        Ok(false) => Err(Fault::CannotUse(to)),
-        Err(error) => Err(Stop::Store(error).fault(to)),
+    match fill::<_, SipDigest, _>(rt.alloc(), &mut disk, path.as_bytes(), strange, key, base) {
+        Ok(()) => Ok(()),
+        Err(why) => Err(why.fault(to)),
     }
-}
-
-// Fills a folder that nobody has claimed, with digests by the key of this mark, and answers whether it did.
-fn fill_by<D: Disk, H: Digest>(
-    alloc: Global,
-    disk: &mut D,
-    folder: &mut Folder,
-    mark: Mark,
-    base: &Base<RandomState>,
-) -> Result<bool, StoreError>
-    requires named { IsNamed folder.old }
-    requires opened { Honestly (D.state disk.old) (IsOpen (D.state disk.old) folder.old) }
-{
-    if !folder.claim(mark) {
-        return Ok(false);
-    }
-    let digest = H::keyed(mark.first, mark.second);
-    fill(alloc, disk, folder, &digest, base)?;
-    Ok(true)
 }
 
 // Flushes the folder in which a base folder of so many messages stands: one without any may have been made just now.

@@ -14,6 +14,6 @@ returns-clause-added g c = λ honest.
     let before = held_by (g.D.Disk.state c.args.disk.now) c.args.folder.now in
     let after = held_by (g.D.Disk.state c.stage.new.disk) c.stage.new.self in
     let stored = subst (λ (l : List ℕ). IsStoredAlone m l) (sym c.deref-2.ensures.value) c.in_ok-bytes.ensures.stored in
-    done_both (λ staged fits base holds unknown. filed_more keyed after before base m (key_of m) c.deref-2.result.now c.deref.result.now c.of-number.result staged fits holds stored c.in_ok-bytes.ensures.filed refl unknown
-    (c.deref.ensures.value ∙ c.in_ok-digested.ensures ∙ ap digested_key c.in_ok-key.ensures) (c.of-number.ensures ∙ c.requires.digests c.deref.result.now))
+    done_both (λ staged fits base holds unknown. filed_more keyed after before base m (key_of m) c.deref-2.result.now c.deref.result.now c.digest-number.result staged fits holds stored c.in_ok-bytes.ensures.filed refl unknown
+    (c.deref.ensures.value ∙ c.in_ok-digested.ensures ∙ ap digested_key c.in_ok-key.ensures) c.digest-number.ensures)
     c.stage.result (c.stage.ensures.staged honest) (c.stage.ensures.fits honest)

@@ -1,6 +1,6 @@
-use Rattle.std.proofs.Common.{◌≡◌, ◌≤◌, ◌∙◌, List, ℕ, length, subst}
+use Rattle.std.proofs.Common.{◌≤◌, List, ℕ, length, subst}
 use Rattle.echo_disk.specs.Disk.{bytes_in}
-use Rattle.echo_folder.specs.Names.{keys_of, log_of, messages_of}
+use Rattle.echo_folder.specs.Names.{keys_of, messages_of}
 use Rattle.echo_base_folder.specs.Wrong.{IsFolderLog}
 use Rattle.echo_base_folder.proofs.Lookings.{at_none}
 use Rattle.echo_base_folder.proofs.Wrongs.{sound_since}

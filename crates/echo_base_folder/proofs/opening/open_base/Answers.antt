@@ -1,8 +1,6 @@
 use Rattle.echo_folder.proofs.Gates.{outside_quiet, outside_twice}
-use Rattle.std.proofs.lemmas.Result.{on_ok_weaker}
-use Rattle.std.proofs.Common.{inl, inr}
+use Rattle.std.proofs.Common.{inr}
 use Rattle.echo_base_folder.specs.Unopened.{IsBroken, IsUnopened}
-use Rattle.echo_base_folder.specs.Unread.{IsWrong}
 use Rattle.echo_folder_store.proofs.Causes.{on_ok_from}
 use Rattle.echo_base_folder.proofs.Lookings.{if_err}
 use Rattle.echo_base_folder.proofs.Openings.{broken_since, looked_run, opened_run_since, stands_since}

@@ -1,4 +1,4 @@
-use Rattle.std.proofs.Common.{◌≡◌, ◌∙◌, ℕ, Option, inl, inr, ap}
+use Rattle.std.proofs.Common.{◌∙◌, ℕ, Option, inl, inr, ap}
 use Rattle.std.specs.Prelude.{unwrap_or}
 use Rattle.echo_folder.specs.Standing.{BaseBytes}
 use Rattle.echo_base_folder.specs.Ours.{IsNotOurs}

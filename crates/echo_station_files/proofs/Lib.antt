@@ -1,0 +1,2 @@
+pub mod BesidePaths
+pub mod Sizes

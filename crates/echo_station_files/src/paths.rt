@@ -1,0 +1,54 @@
+//! The paths of files beside others.
+ghost use Rattle.std.specs.Prelude.{◌≡◌, ◌≢◌, All, IfErr, IfOk};
+ghost use Rattle.echo_disk.specs.Disk.{IsIn};
+ghost use Rattle.echo_status.specs.declared.fault.Fault.TheVariants.{OutOfMemory};
+ghost use Rattle.echo_station_files.specs.Paths.{IsOwnName, dotted, path_beside};
+
+use echo_addr::Address;
+use echo_links::{LinkFault, LinkFile};
+use echo_status::Fault;
+use std::alloc::{AllocError, Global};
+
+/// The folder of a path: all of it up to its last slash.
+pub(crate) fn folder_of(path: &[u8]) -> &[u8]
+    ensures { IsIn result.now path.now }
+{
+    let mut end = path.len();
+    'bytes: while end > 0 && path[end - 1] != b'/' {
+        end -= 1;
+    }
+    &path[..end]
+}
+
+/// The path beside a path that the system of this name writes.
+pub(crate) fn path_beside(alloc: Global, path: &[u8], own: &[u8]) -> Result<Vec<u8>, AllocError>
+    ensures { IfOk result (λ beside. beside.items ≡ path_beside path.now own.now) }
+{
+    let mut beside = Vec::from_slice(alloc, path)?;
+    beside.extend_from_slice(b".~")?;
+    beside.extend_from_slice(own)?;
+    beside.extend_from_slice(b"~.new")?;
+    Ok(beside)
+}
+
+/// The own system of a link file, as names of files have it.
+pub(crate) fn own_name<'a>(alloc: Global, links: &[u8]) -> Result<Vec<u8>, Fault<'a>>
+    ensures own { IfOk result (λ own. IsOwnName links.now own.items) }
+    ensures plain { IfOk result (λ own. All (λ b. b ≢ 47) own.items) }
+    ensures err { IfErr result (λ fault. fault ≡ OutOfMemory) }
+{
+    match LinkFile::read(alloc, links) {
+        Ok(file) => Ok(dotted(alloc, file.system())?),
+        Err(LinkFault::Memory) => Err(Fault::OutOfMemory),
+        Err(_) => Ok(Vec::new(alloc)),
+    }
+}
+
+// A system in the name of a file.
+fn dotted(alloc: Global, address: Address) -> Result<Vec<u8>, AllocError>
+    ensures { IfOk result (λ name. name.items ≡ dotted address) }
+{
+    let Address { zone, net, node } = address;
+    let name = format!(in alloc; "{zone}.{net}.{node}")?;
+    Ok(name.into_bytes())
+}
