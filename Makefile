@@ -73,6 +73,7 @@ story: $(program)
 
 net-test: $(program)
 	scripts/net-test.sh $(program)
+	scripts/net-test.sh $(program) folders
 
 manual-test: $(program)
 	scripts/manual.sh docs/echonet.1 $(program)

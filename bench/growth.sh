@@ -5,12 +5,15 @@
 # waiting for the disk is the processor time. Each is run three times on the same base, and the middle one
 # by its processor time is told. Words: the sizes; with none, 1,000 to 1,000,000 messages of 1.2 kB. With
 # `purged` before the sizes, the bases have purged messages alone; then the largest with no words is
-# 10,000,000.
+# 10,000,000. With `folders` before all of that the bases are folders; a posting that is filed has a row of its own then,
+# and so has `list` of the last ten messages.
 set -eu
 cd "$(dirname "$0")/.."
 program=${ECHONET:-$PWD/bin/echonet}
 top=$PWD
+kind=files
 purged=no
+if [ "${1:-}" = folders ]; then kind=folders; shift; fi
 if [ "${1:-}" = purged ]; then purged=yes; shift; fi
 if [ $# = 0 ]; then
   set -- 1000 10000 100000 1000000
@@ -47,19 +50,35 @@ tell() {
     printf "\n" }'
 }
 
+# Puts the base in place that was made.
+put_base() {
+  rm -rf out base
+  mkdir out
+  if [ $kind = files ]; then cp made base; else cp -r made.folder base; fi
+}
+
 make_file links 1:10/1 TEST 1:10/2 1:10/3 1:10/4 > links
 for many in "$@"; do
   if [ $purged = yes ]; then make_file purged 0 "$many" > made; else make_file base 0 "$many" $size "$many" > made; fi
   make_file packet "$many" $few $size > new.pkt
+  if [ $kind = folders ]; then
+    rm -rf made.folder
+    mkdir made.folder
+    "$program" convert made made.folder > /dev/null
+  fi
   for _ in $(seq $rounds); do
-    rm -rf out
-    mkdir out
-    cp made base
+    put_base
     measure load 2 post --area NONE --to x --from x --subject x --serial 00000001 --at $stamp links base
+    if [ $kind = folders ]; then
+      measure post 0 post --area TEST --to x --from x --subject x --serial 00000001 --at $stamp links base
+      measure list 0 list --from $((many - 10)) base
+    fi
     measure toss 0 toss links base new.pkt
     measure scan 0 scan --at $stamp links base out
     measure purge 0 purge links base
     measure again 2 post --area NONE --to x --from x --subject x --serial 00000001 --at $stamp links base
   done
-  for name in load toss scan purge again; do tell $name "$many"; done
+  for name in load post list toss scan purge again; do
+    if [ -e "now.$name" ]; then tell $name "$many"; fi
+  done
 done

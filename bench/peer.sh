@@ -2,7 +2,8 @@
 # How fast packets are tossed here and by CrashMail II, where that is installed (Debian's package
 # crashmail): the same packets on the same disk, alternating. Each row has the messages a second of both
 # and their ratio, from the middle one of the rounds by time, and how long echonet waited for the disk to
-# take its files (fsync), which CrashMail never asks for; that is told where strace is installed.
+# take its files (fsync), which CrashMail never asks for; that is told where strace is installed. The rows that end in
+# `folder` are those of a base folder here, the others of a base file.
 # Words: how many messages, how many rounds, the folder to work in.
 set -eu
 cd "$(dirname "$0")/.."
@@ -13,7 +14,7 @@ rounds=${2:-5}
 work=$(mktemp -d "${3:-${TMPDIR:-/tmp}}/echonet-peer.XXXXXX")
 trap 'rm -rf "$work"' EXIT
 command -v crashmail > /dev/null || { echo "crashmail is not installed"; exit 1; }
-size=1050 few=100 areas=100
+size=1050 few=100 areas=100 kind=file
 known=$((count < 60000 ? count : 60000))
 stamp=2026-07-03T12:34:56
 make_file() { python3 "$top/trials/make.py" "$@"; }
@@ -60,6 +61,7 @@ configure_own() {
   shift
   rm -rf own
   mkdir -p own/out
+  if [ $kind = folder ]; then mkdir own/base; fi
   echo "SYSTEM 1:10/1" > own/links
   for area in "$@"; do echo "AREA $area $links" >> own/links; done
 }
@@ -73,7 +75,15 @@ peer_count() {
 }
 
 # How many messages the base of echonet has.
-own_count() { make_file ids own/base | wc -l; }
+own_count() {
+  local base=own/base
+  if [ -d own/base ]; then
+    rm -f own/base.file
+    "$program" convert own/base own/base.file > /dev/null
+    base=own/base.file
+  fi
+  make_file ids $base | wc -l
+}
 
 want_count() { [ "$1" = "$2" ] || { echo "$3 has $1 messages in place of $2" >&2; exit 1; }; }
 
@@ -114,7 +124,9 @@ middle() { sort -n "$1" | sed -n "$((($(wc -l < "$1") + 1) / 2))p"; }
 
 # Prints a row from the times of both. Words: the name, how many messages a time is for.
 row() {
-  echo "$2 $(middle peer.times) $(middle own.times)" | awk -v name="$1" '{
+  local name=$1
+  if [ $kind = folder ]; then name="$1, folder"; fi
+  echo "$2 $(middle peer.times) $(middle own.times)" | awk -v name="$name" '{
     printf "%-44s %9.0f /s  CrashMail %8.0f /s  ratio %7.1f  without fsync %9.0f /s  ratio %7.1f\n",
       name, $1 * 1e9 / $3, $1 * 1e9 / $2, $2 / $3, $1 * 1e9 / ($3 - $4), $2 / ($3 - $4) }'
   rm -f peer.times own.times
@@ -206,4 +218,10 @@ new_messages "new, JAM, to one link" JAM "1:10/2 1:10/3"
 new_messages "new, *.MSG" MSG 1:10/2
 known_messages "known, *.MSG" MSG
 new_messages "new, *.MSG, to one link" MSG "1:10/2 1:10/3"
+small_packets
+kind=folder
+new_messages "new, JAM" JAM 1:10/2
+known_messages "known, JAM" JAM
+new_messages "new, JAM, to one link" JAM "1:10/2 1:10/3"
+rm -rf peer.kept own.kept
 small_packets

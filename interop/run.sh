@@ -31,6 +31,8 @@ make_stations() {
   for station in $stations; do
     mkdir -p $station/{inbound,outbound,strangers,partly,packets,kept}
   done
+  # Alpha has a base folder, Gamma a base file; Beta gets a folder when it moves.
+  mkdir one/base
   links_text 1 Alpha > one/links
   links_text 2 Beta > two/links
   links_text 3 Gamma > three/links
@@ -105,11 +107,18 @@ post_crashmail() {
     "$work/two/prefs" "$work/two/write" > /dev/null
 }
 
+# The messages of a station with a base folder, from the base file that `convert` makes of it.
+converted_messages() {
+  rm -f converted
+  "$program" convert "$1/base" converted > converted.txt
+  perl "$here/mail.pl" base converted
+}
+
 # All messages of a station.
 messages_of() {
   case $1 in
     two) perl "$here/mail.pl" msg two/msg/{middle,leaf,all} ;;
-    *) if [ -e "$1/base" ]; then perl "$here/mail.pl" base "$1/base"; fi ;;
+    *) if [ -d "$1/base" ]; then converted_messages "$1"; elif [ -e "$1/base" ]; then perl "$here/mail.pl" base "$1/base"; fi ;;
   esac
 }
 

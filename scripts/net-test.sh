@@ -1,10 +1,12 @@
 #!/usr/bin/env bash
 # Tries the scripts of examples/net on a net of three whose mailer is `mv`: stopped scans, packets that are
-# cut or for others or not filed, flow files that are held, runs at the same moment. Word: the program.
+# cut or for others or not filed, flow files that are held, runs at the same moment. Words: the program, and whether
+# the bases are `files` or `folders`; the last station has one of the other kind.
 set -eu
 cd "$(dirname "$0")/.."
 . scripts/checks.sh
 program=$(realpath "${1:-bin/echonet}")
+kind=${2:-files}
 scripts=$PWD/examples/net
 export ECHONET=$program
 place=$(mktemp -d)
@@ -17,7 +19,19 @@ scan() { "$scripts/scan-outbound.sh" "$1"; }
 toss() { "$scripts/toss-inbound.sh" "$1"; }
 
 # The cursor of a base, and how many messages it has.
-counts() { od -An -v -tu4 -j8 -N8 "$1/base" | tr -s ' ' | sed 's/^ //'; }
+counts() {
+  local file=$1/base
+  if [ -d "$file" ]; then
+    rm -f converted
+    "$program" convert "$file" converted > /dev/null
+    file=converted
+  fi
+  od -An -v -tu4 -j8 -N8 "$file" | tr -s ' ' | sed 's/^ //'
+}
+
+# Keeps the base of Beta, and puts it back.
+keep_base() { rm -rf two.base && cp -r two/base two.base; }
+put_back() { rm -rf two/base && cp -r two.base two/base; }
 
 # Does what the mailer does with a flow file. Words: from which station, the flow file, to which station.
 carry() {
@@ -29,7 +43,8 @@ carry() {
 }
 to_two=000a0002
 to_three=000a0003
-mkdir -p two/inbound three/inbound
+mkdir -p two/inbound three/inbound four
+if [ "$kind" = folders ]; then mkdir {one,two,three}/base; else mkdir four/base; fi
 
 # A posting, and how its packet is handed over. Its text: 10 + 24 + 14 + 12 + 26 + 16 + 12 = 114; the packet:
 # 58 + 14 + 20 + 4 + 4 + 6 + 115 + 2.
@@ -88,21 +103,23 @@ toss two > /dev/null 2> fault.txt || status=$?
 same "a faulty link file" "2 echonet: L1 UnknownWord line 5" "$status $(cat fault.txt)"
 same "the packet stays" "kept.pkt 00000001.name 00000001.pkt" "$(cat two/tossing/*.name) $(ls two/tossing | xargs)"
 cp two.links two/links
-cp two/base two.base
+keep_base
+rm -rf two/base
 echo x > two/base
 status=0
 toss two > /dev/null 2> fault.txt || status=$?
 same "a faulty base" "2 echonet: F1 NotBase" "$status $(cat fault.txt)"
 same "the packet stays again" "00000001.name 00000001.pkt" "$(ls two/tossing | xargs)"
-cp two.base two/base
+put_back
 toss two > /dev/null
+keep_base
 
 # A scan that was stopped before its base was written: it is made anew, with what has come since.
 before=$(counts two)
 mkdir -p two/scanned
 "$program" scan --at 2026-07-03T12:34:56 two/links two/base two/scanned > /dev/null
 mv two/scanned/1.10.3.0.pkt two/scanned/1.10.3.0.pkt.~1.10.2~.new
-cp two.base two/base
+put_back
 same "the stopped scan left its packet" 1.10.3.0.pkt.~1.10.2~.new "$(ls two/scanned)"
 same "and its cursor stood" "$before" "$(counts two)"
 post two Bob Third > /dev/null
@@ -182,7 +199,6 @@ toss two > /dev/null
 same "all has come, once" "7 42" "$(counts two)"
 
 # A serial that is looked for: those of the coming seconds are taken.
-mkdir four
 cp one/links four/
 second=$(date +%s)
 for number in $(seq 0 19); do

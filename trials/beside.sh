@@ -1,9 +1,10 @@
 #!/usr/bin/env bash
 # Files on a disk that others use too. Two stations scan into one folder at the same moment, over and over:
-# a scan that ended with 0 made the packet that stands. Where strace is installed: a file is flushed before
+# a scan that ended with 0 made the packet that stands, and the other is refused, or its packet waits for the next scan. Where strace is installed: a file is flushed before
 # it gets its name, and its folder after that. What stands at the name beside, as a link, another's file or
 # what a stopped run left. Modes. Packets that are a pipe, a folder or have no name in UTF-8, lists of
-# packets, and a standard input that is closed or does not end. Word: how many scans of the two stations.
+# packets, and a standard input that is closed or does not end. With base folders the two stations alone.
+# Words: `files` or `folders`, how many scans of the two stations.
 set -eu
 cd "$(dirname "$0")/.."
 . trials/setting.sh
@@ -30,10 +31,18 @@ make_file links 1:10/9 TEST 1:10/1 1:10/2 > 9.links
 for own in 1 2; do post 0000000$own $own.links $own.posted > said; done
 wrong=0
 both=0
+late=0
+
+# What the link gets of the packet that stands. Word: the number of the station that made it.
+tosses_of() {
+  "$program" toss 9.links 9.base out/1.10.9.0.pkt > said || return 1
+  make_file ids 9.base | tail -n 1 > ids
+  [ "$(cat ids) $(ls out | head -n 1)" = "1:10/$1 0000000$1 1.10.9.0.pkt" ]
+}
 for ((number = 0; number < times; number++)); do
   rm -rf out 1.base 2.base 9.base
   mkdir out
-  for own in 1 2; do cp $own.posted $own.base; done
+  for own in 1 2; do put_base $own.posted $own.base; done
   scan 1.links 1.base out > said.1 2> fault.1 & first=$!
   scan 2.links 2.base out > said.2 2> fault.2 & second=$!
   status=
@@ -45,16 +54,26 @@ for ((number = 0; number < times; number++)); do
   esac
   "$program" list $winner.base > said
   grep -q 'end 1 messages, 0 waiting' said || wrong=$((wrong + 1))
-  cmp -s $loser.base $loser.posted || wrong=$((wrong + 1))
   [ "$(cat fault.$loser)" = "echonet: cannot use out/1.10.9.0.pkt" ] || wrong=$((wrong + 1))
-  "$program" toss 9.links 9.base out/1.10.9.0.pkt > said || wrong=$((wrong + 1))
-  make_file ids 9.base > ids
-  [ "$(cat ids)" = "1:10/$winner 0000000$winner" ] || wrong=$((wrong + 1))
-  [ "$(ls out)" = 1.10.9.0.pkt ] || wrong=$((wrong + 1))
+  tosses_of $winner || wrong=$((wrong + 1))
+  rm out/1.10.9.0.pkt
+  case $(ls out) in
+    "") base_is $loser.base $loser.posted || wrong=$((wrong + 1)) ;;
+    *)
+      # Its name was taken once its base was written: the next scan gives it the name.
+      late=$((late + 1))
+      scan $loser.links $loser.base out > said && tosses_of $loser || wrong=$((wrong + 1))
+      [ "$(ls out)" = 1.10.9.0.pkt ] || wrong=$((wrong + 1))
+      ;;
+  esac
 done
 expect "of two scans into one folder one ends well, not $both times another number" [ $both = 0 ]
-expect "the packet that stands is that of the scan that ended well ($wrong wrong)" [ $wrong = 0 ]
-echo "two stations scanned into one folder $times times"
+expect "the packet that stands is that of the scan that ended well, and the other waits ($wrong wrong)" [ $wrong = 0 ]
+echo "two stations scanned into one folder $times times; $late times the name was taken behind the other's base"
+if [ $kind = folders ]; then
+  finish beside
+  exit
+fi
 
 # The order of the calls.
 if command -v strace > /dev/null; then
@@ -69,7 +88,7 @@ if command -v strace > /dev/null; then
   }
   run strace -o calls -s 16 "$program" scan --at $stamp 1.links 1.base out
   expect "a scan's calls: $(order)" [ "$(order)" = \
-    "line make flush link unlink flush make owner owner mode flush rename flush end" ]
+    "line make flush flush make owner owner mode flush rename flush link flush unlink flush end" ]
   expect "files beside are made for the owner alone" [ "$(grep -c 'O_EXCL.*0600)' calls)" = 2 ]
 else
   echo "strace is not installed: no order of calls"

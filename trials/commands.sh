@@ -34,7 +34,7 @@ words_of() {
 start() {
   rm -rf out base base.*.new
   mkdir out
-  case $1 in scan) cp tossed.base base ;; *) cp old.base base ;; esac
+  case $1 in scan) put_base tossed.base base ;; *) put_base old.base base ;; esac
 }
 
 # Makes what is loaded in front of the C library of trials/NAME.c. Without a C compiler the trial ends.
@@ -57,7 +57,8 @@ keep_wanted() {
   wanted=$status
   rm -rf want
   mkdir want
-  cp -r said base out want
+  cp -r said out want
+  cp "$(file_of base)" want/base
 }
 
 # Whether the folder of packets holds whole ones alone.
@@ -70,7 +71,7 @@ whole_packets() {
 }
 
 # Whether all is as without a failure.
-all_done() { cmp -s said want/said && cmp -s base want/base && diff -rq out want/out > /dev/null; }
+all_done() { cmp -s said want/said && base_is base want/base && diff -rq out want/out > /dev/null; }
 
 # How a run is to have ended. A toss that met a failure inside a packet leaves the base with the messages
 # before it: `parts` names such bases. Words: the command, what it met.
@@ -85,7 +86,7 @@ judge() {
   else
     refused=$((refused + 1))
     expect "$call: status and line" ended_with_fault $status 3 fault "echonet: "
-    expect "$call: the base" is_one_of base $before want/base
+    expect "$call: the base" base_is base $before want/base
   fi
   expect "$call: packets" whole_packets
 }

@@ -2,7 +2,7 @@
 # Many runs on one system at the same moment. First two hundred postings from twenty processes: all are
 # there, each serial once, and a scan exports each once. Then postings, tosses, scans and purges at once:
 # the base of the system and what a link gets hold each message once.
-# Words: how many processes, how many postings each.
+# Words: `files` or `folders`, how many processes, how many postings each.
 set -eu
 cd "$(dirname "$0")/.."
 . trials/setting.sh
@@ -43,12 +43,13 @@ tossed_ids() {
   for number in $(seq "$1" $(($1 + $2 - 1))); do printf '1:10/2 %08x\n' "$number"; done
 }
 
-ids_are() { make_file ids "$1" | sort | cmp -s - "$2"; }
+ids_are() { make_file ids "$(file_of "$1")" | sort | cmp -s - "$2"; }
 
 make_file links 1:10/1 TEST 1:10/2 1:10/3 1:10/4 > one.links
 make_file links 1:10/3 TEST 1:10/1 > 3.links
 
 # Postings alone.
+put_empty base
 started=
 for process in $(seq "$processes"); do post_some "$process" & started="$started $!"; done
 expect "no posting is refused" wait_for $started
@@ -62,7 +63,8 @@ expect "each is there once" ids_are 3.base want
 echo "$((processes * each)) postings from $processes processes"
 
 # All commands at once. Each scan has a folder of its own.
-rm -rf base 3.base out
+rm -rf 3.base out
+put_empty base
 toss_some() {
   make_file packet $(($1 * 1000)) 50 200 > "$1.pkt"
   "$program" toss one.links base "$1.pkt" "$1.pkt" > /dev/null

@@ -1,7 +1,9 @@
 #!/usr/bin/env bash
 # Every command where a file may not grow, where the disk is full, and where standard output is: one
 # fault line, status 3, the old base whole or the new one, no packet in part, nothing left beside. The
-# small disk is a tmpfs, for which one has to be root. Word: how many limits of a file's size are tried.
+# small disk is a tmpfs, for which one has to be root; on folders each command is tried with one page more left on
+# it until it has enough, and then once more with the disk emptied.
+# Words: `files` or `folders`, how many limits of a file's size are tried.
 set -eu
 cd "$(dirname "$0")/.."
 . trials/setting.sh
@@ -35,19 +37,28 @@ run_command() {
 }
 
 # The files as they are before a command.
-start() { rm -rf out base base.*.new; mkdir out; cp "$1.before" base; }
+start() { rm -rf out base base.*.new; mkdir out; put_base "$1.before" base; }
 
 # What holds of the files after a command, whatever its status. Words: the command, the status.
 look_at_files() {
   local packet
   case $2 in
-    0) expect "$1 done: the new base" cmp -s base "$1.after" ;;
-    *) expect "$1 failed: the old base" cmp -s base "$1.before" ;;
+    0) expect "$1 done: the new base" base_is base "$1.after" ;;
+    *) expect "$1 failed: the old base" base_is base "$1.before" ;;
   esac
   for packet in out/*.pkt; do
     [ -e "$packet" ] || continue
     expect "$1: a whole packet" cmp -s "$packet" "$(basename "$packet")"
   done
+}
+
+# How many bytes the largest file has that a command makes or adds to.
+most_of() {
+  if [ "$kind $1" = "folders scan" ]; then
+    cat 1.10.4.400.pkt | wc -c
+  else
+    cat "$1.after" | wc -c
+  fi
 }
 
 # A command where no file may have more than so many blocks of 1,024 bytes.
@@ -56,7 +67,7 @@ limit() {
   start "$1"
   ( trap '' XFSZ; ulimit -f "$2"; run_command "$1" 2>&1 > /dev/null ) | cat > fault
   status=${PIPESTATUS[0]}
-  most=$(cat "$1.after" | wc -c)
+  most=$(most_of "$1")
   look_at_files "$1" "$status"
   if [ "$most" -gt $(($2 * 1024)) ]; then
     expect "$1 at $2 blocks: one line and 3" ended_with_fault "$status" 3 fault "echonet: cannot use "
@@ -73,6 +84,13 @@ limit() {
 
 # What a stopped run left is in nobody's way: the command run again does all.
 start_again() {
+  if [ $kind = folders ]; then
+    if base_is base "$1.before"; then
+      expect "$1 again" eval "run_command $1 > /dev/null 2> fault"
+      look_at_files "$1" 0
+    fi
+    return
+  fi
   if compgen -G "base.*.new" > list || [ -n "$(ls out)" ]; then
     rm -f out/*.pkt
     cp "$1.before" base
@@ -84,22 +102,43 @@ start_again() {
 
 # A command on a disk on which so many kilobytes are left.
 fill() {
-  local status=0 left
+  local left
   rm -rf "$work"/disk/*
   cp one.links new.pkt disk
   mkdir disk/out
-  cp "$1.before" disk/base
+  put_base "$1.before" disk/base
   left=$(df --output=avail disk | tail -1)
   head -c $(((left - $2) * 1024)) /dev/zero > disk/other
   ( cd disk; run_command "$1" 2>&1 > /dev/null ) | cat > fault
   status=${PIPESTATUS[0]}
+  if [ "$kind $status" = "folders 0" ]; then
+    expect "$1 with $2 kB left on the disk: the new base" base_is disk/base "$1.after"
+    return
+  fi
   expect "$1 with $2 kB left on the disk: one line and 3" ended_with_fault "$status" 3 fault "echonet: cannot use "
-  expect "$1: the old base" cmp -s disk/base "$1.before"
+  expect "$1: the old base" base_is disk/base "$1.before"
   expect "$1: nothing left beside" is_none disk/base.*.new disk/out/*.new
   for packet in disk/out/*.pkt; do
     [ -e "$packet" ] || continue
     expect "$1: a whole packet" cmp -s "$packet" "$(basename "$packet")"
   done
+  if [ $kind = folders ]; then
+    rm disk/other
+    expect "$1 on the emptied disk" eval "( cd disk; run_command $1 ) > /dev/null"
+    expect "$1: the new base at last" base_is disk/base "$1.after"
+  fi
+}
+
+# With a page more each time, until a command on folders has room enough.
+fill_pages() {
+  local left=0
+  status=3
+  while [ $status != 0 ] && [ $left -lt 4000 ]; do
+    fill "$1" $left
+    left=$((left + 4))
+  done
+  expect "$1 has room at last" [ $status = 0 ]
+  echo "$1 on a disk with $left kB left and with less"
 }
 
 # Every command with a standard output that takes nothing.
@@ -119,7 +158,7 @@ echo "$((4 * limits)) runs with a limit, $killed of as many ended by its signal 
 for command in post toss scan purge; do
   start $command
   no_output $command "run_command $command"
-  expect "$command: a whole base" is_one_of base $command.before $command.after
+  expect "$command: a whole base" base_is base $command.before $command.after
 done
 nets=$top/examples/nets
 no_output show "'$program' show $top/examples/packets/02-short.pkt"
@@ -131,8 +170,12 @@ no_output replay "'$program' replay $top/examples/scripts/chain.script $nets/cha
 mkdir disk
 if mount -t tmpfs -o size=4m tmpfs disk 2> /dev/null; then
   trap 'umount "$work/disk"; rm -rf "$work"' EXIT
-  for left in 0 8 16; do
-    for command in post toss scan purge; do fill $command $left; done
+  for command in post toss scan purge; do
+    if [ $kind = folders ]; then
+      fill_pages $command
+    else
+      for left in 0 8 16; do fill $command $left; done
+    fi
   done
 else
   echo "no tmpfs could be mounted: no run on a full disk"

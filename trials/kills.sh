@@ -2,7 +2,7 @@
 # Kills `toss` and `scan` at many moments on a large base, and then at each of their calls of the system
 # on a small one (where strace is installed). After each the base is the old one or the new one, no
 # packet stands in part or before the cursor was moved, and the story run to its end files everything once. All files are compared with
-# those that trials/make.py works out. Words: how many moments, how many messages the base has.
+# those that trials/make.py works out. Words: `files` or `folders`, how many moments, how many messages the base has.
 set -eu
 cd "$(dirname "$0")/.."
 . trials/setting.sh
@@ -29,18 +29,18 @@ make_story() {
 toss() { "$program" toss one.links base new.pkt; }
 scan() { "$program" scan --at $stamp one.links base out; }
 
-before_toss() { rm -rf out base*; mkdir out; cp old.base base; }
-before_scan() { rm -rf out base* 3.base 4.base; mkdir out; cp tossed.base base; }
+before_toss() { rm -rf out base*; mkdir out; put_base old.base base; }
+before_scan() { rm -rf out base* 3.base 4.base; mkdir out; put_base tossed.base base; }
 
 # What is to hold after a toss was killed, and at the end of the story.
 after_toss() {
   local known="filed 0 known ${counts#* }" filed="filed ${counts#* } known 0" want
-  expect "base after a killed toss" is_one_of base old.base tossed.base
+  expect "base after a killed toss" base_is base old.base tossed.base
   want=$filed
-  if cmp -s base tossed.base; then want=$known; fi
+  if base_is base tossed.base; then want=$known; fi
   expect "the toss again" eval "toss > said 2> fault"
   expect "its tally" [ "$(cat said)" = "$want notecho 0 badtag 0 noarea 0 notlinked 0" ]
-  expect "the base at the end" cmp -s base tossed.base
+  expect "the base at the end" base_is base tossed.base
   expect "nothing beside it" is_none base.*.new
 }
 
@@ -48,14 +48,14 @@ after_toss() {
 # of that scan, or makes them anew.
 after_scan() {
   local link packet
-  expect "base after a killed scan" is_one_of base tossed.base scanned.base
+  expect "base after a killed scan" base_is base tossed.base scanned.base
   for packet in out/*.pkt; do
     [ -e "$packet" ] || continue
     expect "a whole packet" cmp -s "$packet" "$(basename "$packet" .pkt).want"
-    expect "the cursor was moved before" cmp -s base scanned.base
+    expect "the cursor was moved before" base_is base scanned.base
   done
   expect "the scan again" eval "scan > said 2> fault"
-  expect "the base at the end" cmp -s base scanned.base
+  expect "the base at the end" base_is base scanned.base
   expect "nothing beside it" is_none base.*.new out/*.new
   expect "each packet once" [ "$(ls out | wc -l)" = 2 ]
   for link in 3 4; do

@@ -1,5 +1,5 @@
 # What the trials that are shell scripts share: the program, a folder of their own that is removed at
-# the end, and counts of what held.
+# the end, counts of what held, and bases, which are `files` or, with that as the first word, `folders`.
 program=${ECHONET:-$PWD/bin/echonet}
 [ -x "$program" ] || { echo "$0: there is no $program: run make first" >&2; exit 1; }
 top=$PWD
@@ -8,6 +8,12 @@ trap 'rm -rf "$work"' EXIT
 stamp=2026-07-03T12:34:56
 passed=0
 failed=0
+kind=files
+case ${1:-} in files | folders)
+  kind=$1
+  shift
+  ;;
+esac
 
 make_file() { python3 "$top/trials/make.py" "$@"; }
 
@@ -33,6 +39,46 @@ is_one_of() {
   return 1
 }
 
+# Puts the messages of a base file in place as a base. Words: the file, the path.
+put_base() {
+  rm -rf "$2"
+  if [ $kind = files ]; then
+    cp "$1" "$2"
+    return
+  fi
+  if [ ! "$1.folder" -nt "$1" ]; then
+    rm -rf "$1.folder"
+    mkdir "$1.folder"
+    "$program" convert "$1" "$1.folder" > "$work/converted"
+  fi
+  cp -r "$1.folder" "$2"
+}
+
+# Puts a base without messages in place.
+put_empty() {
+  rm -rf "$1"
+  if [ $kind = folders ]; then mkdir "$1"; fi
+}
+
+# The base file of the messages of a base.
+file_of() {
+  if [ -d "$1" ]; then
+    rm -f "$work/read.base"
+    "$program" convert "$1" "$work/read.base" > "$work/converted" 2>&1
+    echo "$work/read.base"
+  else
+    echo "$1"
+  fi
+}
+
+# Whether a base has the messages of one of the base files.
+base_is() {
+  local file
+  file=$(file_of "$1")
+  shift
+  is_one_of "$file" "$@"
+}
+
 # Whether no file of these names is there.
 is_none() {
   local file
@@ -48,6 +94,7 @@ ended_with_fault() {
 
 # The last line, which tells the counts, and the status.
 finish() {
+  if [ $kind = folders ]; then set -- "$1 on folders"; fi
   echo "$1: $passed passed, $failed failed"
   [ $failed = 0 ]
 }

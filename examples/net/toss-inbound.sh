@@ -120,7 +120,7 @@ take_in
 set -- "$station"/tossing/*.pkt
 if [ ! -e "$1" ] && [ ! -L "$1" ]; then exit 0; fi
 
-# All at once, since each toss reads and writes the base once; where anything is amiss, one by one.
+# All at once, since each toss opens the base once; where anything is amiss, one by one.
 printf '%s\0' "$@" > "$list"
 if toss "$list" && all_filed; then
   cat "$told"

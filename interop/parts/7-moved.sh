@@ -1,7 +1,7 @@
 # Beta moves from CrashMail to echonet, with its messages, as docs/OPERATORS.md tells it
 
 stop_daemon two
-mkdir -p moved/{inbound,packets,rescanned}
+mkdir -p moved/{base,inbound,packets,rescanned}
 # The old tosser, under an address that no system has, writes all it has for Beta.
 sed -e 's,^AKA 1:10/2,AKA 1:10/30000,; s,^\(AREA.*\) 1:10/2 ,\1 1:10/30000 ,; s,^EXPORT.*,EXPORT 1:10/2,' \
   -e 's,^\(NETMAIL.*\) 1:10/2 ,\1 1:10/30000 ,; s,^NODE 1:10/1,NODE 1:10/2,; /^NODE 1:10\/3/d' \

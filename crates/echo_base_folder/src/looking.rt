@@ -15,6 +15,11 @@ use echo_disk::{Disk, DiskError};
 use echo_folder::{End, Mark, Names};
 use std::alloc::Global;
 
+/// How many bytes a record of the log has, and where in it the number of the files stands.
+const RECORD: usize = 50;
+
+const NUMBER_AT: usize = 25;
+
 /// How often a folder is read that purges change meanwhile.
 const TRIES: usize = 1_000;
 
@@ -66,12 +71,26 @@ pub fn look<D: Disk>(
     seen_of(alloc, disk, path, end)
 }
 
-// Whether the files that held the base then hold it still.
+// Whether the files that held the base then hold it still: the log goes on from what it was, and no record since then
+// names other files, as two purges do.
 fn goes_on(before: &Outline, after: &Outline) -> bool
-    requires { before.now.end.gate ≤ length before.now.log.items }
+    requires before { before.now.end.gate ≤ length before.now.log.items }
+    requires after { after.now.end.gate ≤ length after.now.log.items }
 {
     let (then, now) = (before.end, after.end);
-    now.told.number == then.told.number && after.log.starts_with(&before.log[..then.gate])
+    then.gate <= now.gate
+        && after.log.starts_with(&before.log[..then.gate])
+        && name_only(&after.log[then.gate..now.gate], then.told.number)
+}
+
+// Whether each of the records names the files of this number.
+fn name_only(records: &[u8], number: u8) -> bool {
+    'records: for i in 0..records.len() / RECORD {
+        if records[RECORD * i + NUMBER_AT] != number {
+            return false;
+        }
+    }
+    true
 }
 
 // What the files hold that the log names.

@@ -65,7 +65,7 @@ const LINKS: Word = Word("LINKS", Form::One, "The link file of the system");
 const BASE: Word = Word(
     "BASE",
     Form::One,
-    "The base of the system, which need not exist yet",
+    "The base of the system: a file, which need not exist yet, or a folder",
 );
 
 const SERIAL: Word = Word(
@@ -346,6 +346,19 @@ const READING: &[Entry] = &[
                 "Adds each message to this JAM base, PATH.jhr and so on, which is made where there is none",
             ),
             Word("BASE", Form::One, "The base of the system"),
+        ],
+    ),
+    Entry(
+        "convert",
+        "Makes a base file of a base folder, or a base folder of a base file",
+        ending!("mkdir new && echonet convert base new"),
+        &[
+            Word("FROM", Form::One, "The base that is read"),
+            Word(
+                "TO",
+                Form::One,
+                "The base that is made: a folder that is there and empty, or a file that is not there",
+            ),
         ],
     ),
     Entry(

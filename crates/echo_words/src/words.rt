@@ -40,6 +40,10 @@ pub enum Words<'a> {
         base: &'a str,
     },
     Export(ExportWords<'a>),
+    Convert {
+        from: &'a str,
+        to: &'a str,
+    },
     Post(PostWords<'a>),
     PostMail(PostMailWords<'a>),
     PostStored(PostStoredWords<'a>),
@@ -319,6 +323,13 @@ fn export_words<'a>(matches: &ArgMatches<'a>) -> Option<Words<'a>> {
     }))
 }
 
+fn convert_words<'a>(matches: &ArgMatches<'a>) -> Option<Words<'a>> {
+    Some(Words::Convert {
+        from: matches.get_str("FROM")?,
+        to: matches.get_str("TO")?,
+    })
+}
+
 fn replay_words<'a>(matches: &ArgMatches<'a>, links: Paths<'a>) -> Option<Words<'a>> {
     Some(Words::Replay {
         script: matches.get_str("SCRIPT")?,
@@ -363,6 +374,7 @@ fn words_of<'a>(alloc: Global, matches: &ArgMatches<'a>) -> Result<Option<Words<
         Some(("purge", given)) => purge_words(given),
         Some(("list", given)) => list_words(given),
         Some(("export", given)) => export_words(given),
+        Some(("convert", given)) => convert_words(given),
         Some(("replay", given)) => replay_words(given, links(alloc, given)?),
         _ => None,
     })

@@ -6,7 +6,8 @@
 //! left behind the last of them is seen by nobody; only the number of active messages may be too small, until the next run.
 
 use crate::clock::created_now;
-use crate::inputs::{input_fault, output_fault, read_file};
+use crate::folders::base_bytes;
+use crate::inputs::{input_fault, output_fault};
 use crate::locks::lock_file;
 use echo_base::BaseFault;
 use echo_device::{Sink, Watched};
@@ -88,7 +89,7 @@ fn jam_given<'a>(
         None => 0,
     };
     let hasher = RandomState::new(rt).map_err(|_| Fault::Base(BaseFault::Read))?;
-    let base = read_file(rt, words.base, usize::MAX)?;
+    let base = base_bytes(rt, words.base)?;
     let files = jam_files(rt, path)?;
     let jam = JamBase {
         headers: files.found.as_slice(),

@@ -1,15 +1,18 @@
 //! The program `echonet`: it reads the files that the command line names (`paths`, `inputs`), calls the
 //! commands (`judging`: `links`, which goes on where a file cannot be used), and puts what they leave in place
-//! (`station`, `packets`, `placing`, `stopped`, `stored` for files of one message each, and `jam` for JAM bases), under
-//! `locks`. `clock` gives the moment and the serial that words leave to it, `progress` tells a terminal how far a
-//! command is.
+//! (`station`, `packets`, `placing`, `stopped`, `stored` for files of one message each, and `jam` for JAM bases;
+//! `folders` and `on_folder` where a base is a folder, and `converting`), under `locks`. `clock` gives the moment and
+//! the serial that words leave to it, `progress` tells a terminal how far a command is.
 #![tactic(auto)]
 
 mod clock;
+mod converting;
+mod folders;
 mod inputs;
 mod jam;
 mod judging;
 mod locks;
+mod on_folder;
 mod packets;
 mod paths;
 mod placing;
@@ -18,6 +21,7 @@ mod station;
 mod stopped;
 mod stored;
 
+use converting::run_convert;
 use echo_base::BaseFault;
 use echo_checking::{check, check_all, picture};
 use echo_device::{Sink, Watched};
@@ -26,6 +30,7 @@ use echo_reading::{export, list, nodelist, show, tell_lost};
 use echo_rehearsing::{picture_why, replay, why};
 use echo_status::{Fault, Status, ended, number_of, wanted};
 use echo_words::{CheckWords, Ending, ExportWords, Words, explain, parse};
+use folders::base_bytes;
 use inputs::{MAX_INPUT, read_file, read_given, read_if_given, read_links, read_script};
 use jam::run_export_jam;
 use judging::run_links;
@@ -132,7 +137,7 @@ fn run_list<'a, W: Sink>(
         None => 0,
     };
     let hasher = RandomState::new(rt).map_err(|_| Fault::Base(BaseFault::Read))?;
-    let bytes = read_file(rt, base, usize::MAX)?;
+    let bytes = base_bytes(rt, base)?;
     let area = area.map(|tag| tag.as_bytes());
     list(rt.alloc(), area, first, &bytes, hasher, out)
 }
@@ -148,7 +153,7 @@ fn export_given<'a, W: Sink>(
         None => 0,
     };
     let hasher = RandomState::new(rt).map_err(|_| Fault::Base(BaseFault::Read))?;
-    let bytes = read_file(rt, words.base, usize::MAX)?;
+    let bytes = base_bytes(rt, words.base)?;
     let form = if words.json {
         Form::Json
     } else {
@@ -243,6 +248,7 @@ fn run_words<W: Sink, E: Sink>(
             (None, Some(path)) => run_export_jam(rt, words, path, out, errors),
             (None, None) => run_export(rt, words, out, errors),
         },
+        Words::Convert { from, to } => ended(run_convert(rt, *from, *to, out), errors),
         Words::Replay { script, links } => {
             ended(run_replay(rt, *script, &names_of(rt, links), out), errors)
         }

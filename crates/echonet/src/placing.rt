@@ -10,7 +10,7 @@ use std::alloc::AllocError;
 use std::str;
 
 /// How many bytes show that a file is a base: `ECHOBAS`.
-const BASE_KNOWN_BY: usize = 7;
+pub const BASE_KNOWN_BY: usize = 7;
 
 /// How many bytes show that a file is a packet of these two systems: their nodes.
 const PACKET_KNOWN_BY: usize = 4;
@@ -19,7 +19,7 @@ const PACKET_KNOWN_BY: usize = 4;
 #[derive(Clone, Copy)]
 pub struct Outbound<'a> {
     pub folder: &'a str,
-    pub before: u32,
+    pub before: u64,
 }
 
 /// Puts a scan in place: its packets beside their names, then the base, then each packet gets its name. Wherever it
@@ -36,7 +36,7 @@ pub fn write_scan<E: Sink>(
     if done.fault.is_some() {
         return write_base(rt, own, done, base, errors);
     }
-    match finish_stopped(rt, own, base, to, errors) {
+    match finish_stopped(rt, own, Some(base), to, errors) {
         Status::Good => {}
         failed => return failed,
     }
@@ -52,23 +52,30 @@ pub fn write_scan<E: Sink>(
     match write_base(rt, own, done, base, errors) {
         Status::Good => name_packets(rt, own, to.folder, &paths, errors),
         failed => {
-            drop_packets(rt, own, to, base, &paths);
+            drop_packets(rt, own, to, cursor_of(rt, base), &paths);
             failed
         }
     }
 }
 
-// Removes the packets beside their names, where the base is the old one. Else they are named by the next scan.
-fn drop_packets(rt: &HostRuntime, own: &str, to: Outbound<'_>, base: &str, paths: &[String]) {
-    if cursor_of(rt, base) == Some(to.before) {
+/// Removes the packets beside their names, where the base is the old one: `now` is how many messages of it were scanned,
+/// where that can be read. Else they are named by the next scan.
+pub fn drop_packets(
+    rt: &HostRuntime,
+    own: &str,
+    to: Outbound<'_>,
+    now: Option<u64>,
+    paths: &[String],
+) {
+    if now == Some(to.before) {
         for path in paths {
             let _ = drop_staged(rt.alloc(), rt, path.as_str(), own);
         }
     }
 }
 
-// The paths of the packets: the folder, and their names, which are ASCII.
-fn packet_paths(
+/// The paths of the packets: the folder, and their names, which are ASCII.
+pub fn packet_paths(
     rt: &HostRuntime,
     folder: &str,
     packets: &[PacketFile],
@@ -82,8 +89,8 @@ fn packet_paths(
     Ok(paths)
 }
 
-// Writes each packet beside its name, and flushes the folder. Where one cannot be written, those before it are removed.
-fn stage_packets<E: Sink>(
+/// Writes each packet beside its name, and flushes the folder. Where one cannot be written, those before it are removed.
+pub fn stage_packets<E: Sink>(
     rt: &HostRuntime,
     own: &str,
     folder: &str,
@@ -119,9 +126,9 @@ fn stage_packet<'p>(
     stage_file(rt.alloc(), rt, new).map_err(|fault| output_fault(fault, path))
 }
 
-// Gives each packet its name, and takes it from beside that once the names are on the disk. One whose name was taken
-// meanwhile stays beside it for the next scan, and is reported once the others have theirs.
-fn name_packets<E: Sink>(
+/// Gives each packet its name, and takes it from beside that once the names are on the disk. One whose name was taken
+/// meanwhile stays beside it for the next scan, and is reported once the others have theirs.
+pub fn name_packets<E: Sink>(
     rt: &HostRuntime,
     own: &str,
     folder: &str,

@@ -2,8 +2,13 @@
 //! read until their last file stands, and wait where another run holds it.
 
 use crate::clock::{moment_of, serial_from};
+use crate::folders::is_folder;
 use crate::inputs::{MAX_TEXT_FILE, input_fault, read_base, read_file, read_standard_input};
 use crate::locks::lock_file;
+use crate::on_folder::{
+    Replying, Tossing, post_mail_there, post_there, purge_there, reply_there, scan_there,
+    toss_there,
+};
 use crate::packets::PacketPaths;
 use crate::paths::{PathNames, names_of};
 use crate::placing::{Outbound, write_base, write_scan};
@@ -25,9 +30,17 @@ use echo_status::{Fault, LIMITS, Status, limits_for, number_of};
 use echo_steps::Stamp;
 use echo_stored::{StoredFault, read_stored};
 use echo_words::{PostMailWords, PostStoredWords, PostWords, ReplyWords, TossWords};
+use std::alloc::AllocError;
 use std::collections::hash_map::RandomState;
 use std::fs::File;
 use std::{fs, io};
+
+/// The paths of the link file and of the base of a system.
+#[derive(Clone, Copy)]
+pub struct Place<'a> {
+    pub links: &'a str,
+    pub base: &'a str,
+}
 
 // The link file of a system, locked, the own address as names of files have it, and what is read of the
 // link file and of the base.
@@ -38,8 +51,8 @@ struct Station<'a> {
     given: Given<'a, RandomState>,
 }
 
-// The link file under its lock.
-fn locked_links<'a>(rt: &HostRuntime, path: &'a str) -> Result<(File, Vec<u8>), Fault<'a>> {
+/// The link file under its lock.
+pub fn locked_links<'a>(rt: &HostRuntime, path: &'a str) -> Result<(File, Vec<u8>), Fault<'a>> {
     let file = fs::open(rt, path).map_err(|error| open_fault(&error, path))?;
     lock_file(rt, &file, path).map_err(|_| Fault::CannotUse(path))?;
     let bytes = read_whole(rt.alloc(), &mut Watched::new(&file), MAX_TEXT_FILE);
@@ -57,15 +70,11 @@ fn open_fault<'a>(error: &io::Error, path: &'a str) -> Fault<'a> {
 }
 
 // Reads the files of a system. A seed for the hasher that cannot be had is a failed read.
-fn read_station<'a>(
-    rt: &HostRuntime,
-    links: &'a str,
-    base: &'a str,
-) -> Result<Station<'a>, Fault<'a>> {
-    let (locked, links) = locked_links(rt, links)?;
+fn read_station<'a>(rt: &HostRuntime, place: Place<'a>) -> Result<Station<'a>, Fault<'a>> {
+    let (locked, links) = locked_links(rt, place.links)?;
     let own = own_name(rt, &links)?;
     let hasher = RandomState::new(rt).map_err(|_| Fault::Base(BaseFault::Read))?;
-    let (base, stopped) = match read_base(rt, base) {
+    let (base, stopped) = match read_base(rt, place.base) {
         Ok(found) => (found.map(|bytes| Items::new(bytes)), None),
         Err(fault) => (None, Some(fault)),
     };
@@ -81,13 +90,16 @@ fn read_station<'a>(
 // The own address, as `1.10.2`. A faulty link file has none, and then nothing is written.
 fn own_name<'a>(rt: &HostRuntime, links: &[u8]) -> Result<String, Fault<'a>> {
     match LinkFile::read(rt.alloc(), links) {
-        Ok(read) => {
-            let Address { zone, net, node } = read.system();
-            Ok(format!(in rt.alloc(); "{zone}.{net}.{node}")?)
-        }
+        Ok(read) => Ok(name_of(rt, read.system())?),
         Err(LinkFault::Memory) => Err(Fault::OutOfMemory),
         Err(_) => Ok(String::new(rt.alloc())),
     }
+}
+
+/// An address as names of files have it.
+pub fn name_of(rt: &HostRuntime, own: Address) -> Result<String, AllocError> {
+    let Address { zone, net, node } = own;
+    format!(in rt.alloc(); "{zone}.{net}.{node}")
 }
 
 // What is given, where reading stopped for this reason too.
@@ -112,17 +124,50 @@ pub fn run_post<W: Sink, E: Sink>(
         Err(fault) => return fault.report(errors),
     };
     let (body, stopped) = read_body(rt);
-    let Station { locked, own, given } = match read_station(rt, words.links, words.base) {
+    let place = Place {
+        links: words.links,
+        base: words.base,
+    };
+    let asked = Posting {
+        words: posting,
+        free,
+        body: &body,
+    };
+    post_at(rt, place, asked, stopped, out, errors)
+}
+
+/// What is to be posted, whether its serial is the first free one from that on, and the body.
+#[derive(Clone, Copy)]
+pub struct Posting<'a> {
+    pub words: NewMessage<'a>,
+    pub free: bool,
+    pub body: &'a [u8],
+}
+
+// Posts at a system. What stopped reading before comes behind the faults of its files.
+fn post_at<'a, W: Sink, E: Sink>(
+    rt: &HostRuntime,
+    place: Place<'a>,
+    asked: Posting<'_>,
+    stopped: Option<Fault<'a>>,
+    out: &mut W,
+    errors: &mut E,
+) -> Status {
+    if is_folder(rt, place.base) {
+        return post_there(rt, place, asked, stopped, out, errors);
+    }
+    let Station { locked, own, given } = match read_station(rt, place) {
         Ok(station) => station,
         Err(fault) => return fault.report(errors),
     };
     let given = stopped_by(given, stopped);
+    let Posting { words, free, body } = asked;
     let done = if free {
-        post_free(rt.alloc(), posting, given, &body, out)
+        post_free(rt.alloc(), words, given, body, out)
     } else {
-        post(rt.alloc(), posting, given, &body, out)
+        post(rt.alloc(), words, given, body, out)
     };
-    let status = write_base(rt, own.as_str(), done, words.base, errors);
+    let status = write_base(rt, own.as_str(), done, place.base, errors);
     let_go(locked, status)
 }
 
@@ -168,12 +213,19 @@ pub fn run_post_mail<W: Sink, E: Sink>(
         Ok(asked) => asked,
         Err(fault) => return fault.report(errors),
     };
-    let Station { locked, own, given } = match read_station(rt, words.links, words.base) {
+    let place = Place {
+        links: words.links,
+        base: words.base,
+    };
+    if is_folder(rt, place.base) {
+        return post_mail_there(rt, place, asked, &mail, out, errors);
+    }
+    let Station { locked, own, given } = match read_station(rt, place) {
         Ok(station) => station,
         Err(fault) => return fault.report(errors),
     };
     let status = match post_mail(rt.alloc(), &mail, asked, given, out) {
-        Ok(done) => write_base(rt, own.as_str(), done, words.base, errors),
+        Ok(done) => write_base(rt, own.as_str(), done, place.base, errors),
         Err(fault) => fault.report(errors),
     };
     let_go(locked, status)
@@ -216,13 +268,25 @@ pub fn run_reply<W: Sink, E: Sink>(
         Err(fault) => return fault.report(errors),
     };
     let (body, stopped) = read_body(rt);
-    let Station { locked, own, given } = match read_station(rt, words.links, words.base) {
+    let place = Place {
+        links: words.links,
+        base: words.base,
+    };
+    if is_folder(rt, place.base) {
+        let asked = Replying {
+            index,
+            answer,
+            body: &body,
+        };
+        return reply_there(rt, place, asked, stopped, out, errors);
+    }
+    let Station { locked, own, given } = match read_station(rt, place) {
         Ok(station) => station,
         Err(fault) => return fault.report(errors),
     };
     let given = stopped_by(given, stopped);
     let done = reply(rt.alloc(), index, answer, given, &body, out);
-    let status = write_base(rt, own.as_str(), done, words.base, errors);
+    let status = write_base(rt, own.as_str(), done, place.base, errors);
     let_go(locked, status)
 }
 
@@ -256,10 +320,6 @@ pub fn run_post_stored<W: Sink, E: Sink>(
         Err(StoredFault::BadMessage) => return refuse_message(rt.alloc(), errors),
         Err(StoredFault::Memory) => return Fault::OutOfMemory.report(errors),
     };
-    let Station { locked, own, given } = match read_station(rt, words.links, words.base) {
-        Ok(station) => station,
-        Err(fault) => return fault.report(errors),
-    };
     let posting = NewMessage {
         tag: words.area.as_bytes(),
         to_name: draft.to_name,
@@ -269,14 +329,16 @@ pub fn run_post_stored<W: Sink, E: Sink>(
         serial,
         stamp,
     };
-    let body = draft.body.as_slice();
-    let done = if free {
-        post_free(rt.alloc(), posting, given, body, out)
-    } else {
-        post(rt.alloc(), posting, given, body, out)
+    let place = Place {
+        links: words.links,
+        base: words.base,
     };
-    let status = write_base(rt, own.as_str(), done, words.base, errors);
-    let_go(locked, status)
+    let asked = Posting {
+        words: posting,
+        free,
+        body: draft.body.as_slice(),
+    };
+    post_at(rt, place, asked, None, out, errors)
 }
 
 // The serial, whether it is the first free one from that on, the stamp, and the bytes of the stored message.
@@ -298,7 +360,14 @@ pub fn run_purge<W: Sink, E: Sink>(
     out: &mut W,
     errors: &mut E,
 ) -> Status {
-    let Station { locked, own, given } = match read_station(rt, links, base_path) {
+    let place = Place {
+        links,
+        base: base_path,
+    };
+    if is_folder(rt, base_path) {
+        return purge_there(rt, place, out, errors);
+    }
+    let Station { locked, own, given } = match read_station(rt, place) {
         Ok(station) => station,
         Err(fault) => return fault.report(errors),
     };
@@ -321,7 +390,14 @@ pub fn run_scan<'a, W: Sink, E: Sink>(
         Ok(stamp) => stamp,
         Err(fault) => return fault.report(errors),
     };
-    let Station { locked, own, given } = match read_station(rt, links, base_path) {
+    let place = Place {
+        links,
+        base: base_path,
+    };
+    if is_folder(rt, base_path) {
+        return scan_there(rt, place, stamp, folder, out, errors);
+    }
+    let Station { locked, own, given } = match read_station(rt, place) {
         Ok(station) => station,
         Err(fault) => return fault.report(errors),
     };
@@ -346,23 +422,34 @@ pub fn run_toss<W: Sink, E: Sink>(
         Err(fault) => return fault.report(errors),
     };
     let PathNames { names, stopped } = names_of(rt, &words.packets);
-    let Station { locked, own, given } = match read_station(rt, words.links, words.base) {
-        Ok(station) => station,
-        Err(fault) => return fault.report(errors),
-    };
-    let given = stopped_by(given, stopped);
     let mut packets = PacketPaths {
         rt,
         names: names.as_slice(),
         packets: names.len(),
         progress,
     };
+    let place = Place {
+        links: words.links,
+        base: words.base,
+    };
+    if is_folder(rt, place.base) {
+        let by = Tossing {
+            limits,
+            each: words.each,
+        };
+        return toss_there(rt, place, by, stopped, &mut packets, out, errors);
+    }
+    let Station { locked, own, given } = match read_station(rt, place) {
+        Ok(station) => station,
+        Err(fault) => return fault.report(errors),
+    };
+    let given = stopped_by(given, stopped);
     let done = if words.each {
         toss_each(rt.alloc(), given, limits, &mut packets, out)
     } else {
         toss(rt.alloc(), given, limits, &mut packets, out)
     };
-    let status = write_base(rt, own.as_str(), done, words.base, errors);
+    let status = write_base(rt, own.as_str(), done, place.base, errors);
     let_go(locked, status)
 }
 
@@ -374,8 +461,8 @@ fn toss_limits<'a>(text_limit: Option<&str>) -> Result<Limits, Fault<'a>> {
     }
 }
 
-// Lets the lock go; the end of the program would, too.
-fn let_go(locked: File, status: Status) -> Status {
+/// Lets the lock go; the end of the program would, too.
+pub fn let_go(locked: File, status: Status) -> Status {
     let _ = locked.unlock();
     status
 }

@@ -17,24 +17,24 @@ const CURSOR: usize = 8;
 #[derive(Drop)]
 struct Left {
     path: String,
-    before: u32,
+    before: u64,
 }
 
 /// How many messages of a base file were scanned; none where there is no file.
-pub fn cursor_in(base: Option<&[u8]>) -> u32 {
+pub fn cursor_in(base: Option<&[u8]>) -> u64 {
     match base {
-        Some(bytes) if bytes.len() >= CURSOR + 4 => u32::from_le_bytes([
+        Some(bytes) if bytes.len() >= CURSOR + 4 => u64::from(u32::from_le_bytes([
             bytes[CURSOR],
             bytes[CURSOR + 1],
             bytes[CURSOR + 2],
             bytes[CURSOR + 3],
-        ]),
+        ])),
         _ => 0,
     }
 }
 
 /// The same of the base file with this path, as it is now, where that can be read.
-pub fn cursor_of(rt: &HostRuntime, base: &str) -> Option<u32> {
+pub fn cursor_of(rt: &HostRuntime, base: &str) -> Option<u64> {
     match fs::open(rt, base) {
         Ok(file) => {
             let mut front = [0u8; CURSOR + 4];
@@ -47,11 +47,12 @@ pub fn cursor_of(rt: &HostRuntime, base: &str) -> Option<u32> {
 }
 
 /// Brings scans of the system with this address into the folder that were stopped to their end: where the cursor was
-/// moved a packet gets its name, else it is removed. The base with that cursor is put on the disk before.
+/// moved a packet gets its name, else it is removed. The base file with that cursor is put on the disk before; a base
+/// folder is there once it is open.
 pub fn finish_stopped<E: Sink>(
     rt: &HostRuntime,
     own: &str,
-    base: &str,
+    file: Option<&str>,
     to: Outbound<'_>,
     errors: &mut E,
 ) -> Status {
@@ -62,8 +63,10 @@ pub fn finish_stopped<E: Sink>(
     if found.is_empty() {
         return Status::Good;
     }
-    if let Err(fault) = flush_path(rt.alloc(), rt, base) {
-        return output_fault(fault, base).report(errors);
+    if let Some(file) = file {
+        if let Err(fault) = flush_path(rt.alloc(), rt, file) {
+            return output_fault(fault, file).report(errors);
+        }
     }
     match finish(rt, own, to, &found) {
         Ok(()) => Status::Good,
@@ -130,10 +133,10 @@ fn listing_fault<'a>(error: &io::Error, folder: &'a str) -> Fault<'a> {
 }
 
 // What stands before `.pkt` in the name of a packet beside its own, and the number at its end.
-fn packet_beside<'n>(name: &'n str, ending: &str) -> Option<(&'n str, u32)> {
+fn packet_beside<'n>(name: &'n str, ending: &str) -> Option<(&'n str, u64)> {
     let front = name.strip_suffix(ending)?;
     let (_, number) = front.rsplit_once('.')?;
-    let before = number.parse::<u32>().ok()?;
+    let before = number.parse::<u64>().ok()?;
     Some((front, before))
 }
 

@@ -1,8 +1,9 @@
 //! `export --msg`: messages of a base as files of a folder. The lock of the folder is held from before its names are
 //! read until the last file stands, so that two runs never take the same numbers.
 
+use crate::folders::base_bytes;
 use crate::inputs::{output_fault, read_file};
-use crate::locks::lock_file;
+use crate::locks::{folder_fault, locked_folder};
 use echo_addr::Items;
 use echo_base::BaseFault;
 use echo_device::Sink;
@@ -71,7 +72,7 @@ fn files_given<'a>(
         None => 0,
     };
     let hasher = RandomState::new(rt).map_err(|_| Fault::Base(BaseFault::Read))?;
-    let base = read_file(rt, words.base, usize::MAX)?;
+    let base = base_bytes(rt, words.base)?;
     let locked = locked_folder(rt, folder)?;
     let (greatest, last) = last_stored(rt, folder)?;
     let exported = export_files(
@@ -84,20 +85,6 @@ fn files_given<'a>(
         hasher,
     )?;
     Ok(Export { locked, exported })
-}
-
-// The folder under its lock.
-fn locked_folder<'a>(rt: &HostRuntime, folder: &'a str) -> Result<File, Fault<'a>> {
-    let file = fs::open(rt, folder).map_err(|error| folder_fault(&error, folder))?;
-    lock_file(rt, &file, folder).map_err(|_| Fault::CannotUse(folder))?;
-    Ok(file)
-}
-
-fn folder_fault<'a>(error: &io::Error, folder: &'a str) -> Fault<'a> {
-    match error.kind() {
-        io::ErrorKind::OutOfMemory => Fault::OutOfMemory,
-        _ => Fault::CannotUse(folder),
-    }
 }
 
 // The greatest number of a stored message in the folder, 0 where it has none, and the bytes of that one.

@@ -1,0 +1,132 @@
+"""Spoils base folders, and runs each command on them.
+
+1. A small folder, with a purged message, a scanned one and one that waits, of which each byte of each file is changed in
+   turn, in three ways: `list` and `convert` answer or end with one fault line. What they read of a folder whose log or keys
+   were changed has no message under a key that was not there; a message whose own bytes were changed is read as it
+   stands. Then a command that changes the folder does so or ends with one fault line.
+2. Folders of which a byte was changed by chance, some cut off or added, or a file removed: each command ends so.
+
+Words: each how many-th byte is changed (1), how many folders are spoiled by chance (300).
+"""
+import os
+import random
+import sys
+import tempfile
+
+import making
+from folder_station import (COMMANDS, MOMENT, content_of, converted, copy_of, expect, filled_station, finish, is_orderly,
+                            new_station, put, run)
+
+
+def small_station(folder):
+    """A station whose base folder has three messages: a purged one, a scanned one, and one that waits, without an id."""
+    new_station(folder)
+    os.mkdir(os.path.join(folder, "base"))
+    scan = ("scan", "--at", MOMENT, "links", "base", "out")
+    plain = making.text(b"TEST", [b"No id", b" * Origin: Two (1:10/2)"], [(10, 1), (10, 2)], [(10, 2)])
+    put(os.path.join(folder, "last.pkt"), making.packet(
+        making.UPLINK, making.OWN, [making.packed(making.UPLINK, making.OWN, plain)]))
+    for number in (0, 1):
+        put(os.path.join(folder, "%d.pkt" % number), making.plain_packet([number], 20))
+    put(os.path.join(folder, "new.pkt"), making.plain_packet(range(1, 4), 20))
+    for words in (("toss", "links", "base", "0.pkt"), scan, ("purge", "links", "base"), ("toss", "links", "base", "1.pkt"),
+                  scan, ("toss", "links", "base", "last.pkt")):
+        ended = run(folder, *words)
+        expect("%s: %r" % (words, ended), ended[0] == 0)
+    return folder
+
+
+def keys_in(base):
+    """What tells the messages of a base file apart: tag and id, or else all but SEEN-BY and PATH."""
+    keys = []
+    for first, _, names, tag, body in making.read_base(base)[1]:
+        if first in (2, 3):
+            keys.append((tag, body))
+            continue
+        lines = body.split(b"\r")
+        ids = [line[len(b"\x01MSGID: "):] for line in lines if line.startswith(b"\x01MSGID: ")]
+        kept = [line for line in lines[1:] if not line.startswith((b"SEEN-BY:", b"\x01PATH:"))]
+        keys.append((lines[0][len(b"AREA:"):], ids[0] if ids else (tuple(names), tuple(kept))))
+    return keys
+
+
+def read_spoiled(what, place, name, keys):
+    """Reads a folder of which a file was spoiled: what is read has no other key, unless that file has the messages.
+    Answers whether it could be read."""
+    ended = run(place, "list", "base")
+    expect("%s: list, %r" % (what, ended), is_orderly(ended))
+    base = converted(place)
+    if isinstance(base, bytes):
+        others = [key for key in keys_in(base) if key not in keys and not name.startswith("messages.")]
+        expect("%s: under other keys %r" % (what, others), not others)
+    else:
+        expect("%s: convert, %r" % (what, base), is_orderly(base) and base[0] == ended[0])
+    return ended[0] == 0
+
+
+def change_spoiled(what, place, commands):
+    """Runs commands on a spoiled folder."""
+    for words in (*commands, ("list", "base")):
+        ended = run(place, *words)
+        expect("%s: %s, %r" % (what, words[0], ended), is_orderly(ended))
+
+
+def each_byte(step, folder):
+    """Changes each byte of a small folder."""
+    station = small_station(os.path.join(folder, "small"))
+    keys, commands = keys_in(converted(station)), list(COMMANDS.values())
+    number = answers = 0
+    for name in sorted(os.listdir(os.path.join(station, "base"))):
+        content = content_of(os.path.join(station, "base", name))
+        for at in range(0, len(content), step):
+            for change in (0x01, 0x20, 0xff):
+                what = "byte %d of %s changed by %02x" % (at, name, change)
+                place = copy_of(station, os.path.join(folder, "place"))
+                put(os.path.join(place, "base", name), content[:at] + bytes([content[at] ^ change]) + content[at + 1:])
+                answers += read_spoiled(what, place, name, keys)
+                change_spoiled(what, place, [commands[number % len(commands)]])
+                number += 1
+    print("%d bytes changed, each in three ways, and %d folders read" % (number // 3, answers), flush=True)
+
+
+def by_chance(count, folder):
+    """Spoils folders by chance."""
+    chance = random.Random("damaged")
+    station = filled_station(os.path.join(folder, "damaged"))
+    keys = keys_in(converted(station))
+    names = sorted(os.listdir(os.path.join(station, "base")))
+    for _ in range(count):
+        place = copy_of(station, os.path.join(folder, "place"))
+        name = chance.choice(names)
+        path = os.path.join(place, "base", name)
+        content = bytearray(content_of(path))
+        at = chance.randrange(len(content) + 1)
+        deed = chance.choice(("change", "cut", "add", "remove"))
+        if deed == "change" and content:
+            content[at % len(content)] ^= chance.randrange(1, 256)
+        elif deed == "cut":
+            del content[at:at + chance.choice((1, 16, 1 << 20))]
+        elif deed == "add":
+            content[at:at] = bytes(chance.randrange(256) for _ in range(chance.choice((1, 16, 100))))
+        if deed == "remove":
+            os.remove(path)
+        else:
+            put(path, bytes(content))
+        what = "%s at %d of %s" % (deed, at, name)
+        read_spoiled(what, place, name, keys)
+        change_spoiled(what, place, [("export", "base"), *COMMANDS.values()])
+    print("%d folders spoiled by chance" % count, flush=True)
+
+
+def main(words):
+    """All of it."""
+    step = int(words[0]) if words else 1
+    count = int(words[1]) if len(words) > 1 else 300
+    with tempfile.TemporaryDirectory(prefix="echonet-trials.") as folder:
+        each_byte(step, folder)
+        by_chance(count, folder)
+    return finish("folder_damage")
+
+
+if __name__ == "__main__":
+    sys.exit(main(sys.argv[1:]))
