@@ -1,9 +1,9 @@
 """Spoils base folders, and runs each command on them.
 
 1. A small folder, with a purged message, a scanned one and one that waits, of which each byte of each file is changed in
-   turn, in three ways: `list` and `convert` answer or end with one fault line. What they read of a folder whose log or keys
-   were changed has no message under a key that was not there; a message whose own bytes were changed is read as it
-   stands. Then a command that changes the folder does so or ends with one fault line.
+   turn, in three ways: `list` and `convert` answer or end with one fault line. What they read has no message under a key
+   that was not there, but for the tag of a message whose own bytes were changed. Then a command that changes the folder
+   does so or ends with one fault line.
 2. Folders of which a byte was changed by chance, some cut off or added, or a file removed: each command ends so.
 
 Words: each how many-th byte is changed (1), how many folders are spoiled by chance (300).
@@ -50,17 +50,26 @@ def keys_in(base):
     return keys
 
 
+def listed_ids(ended):
+    """The ids of the messages that `list` printed."""
+    return [line[len(b"line \\x01MSGID: "):] for line in ended[1].split(b"\n") if line.startswith(b"line \\x01MSGID: ")]
+
+
 def read_spoiled(what, place, name, keys):
-    """Reads a folder of which a file was spoiled: what is read has no other key, unless that file has the messages.
-    Answers whether it could be read."""
+    """Reads a folder of which a file was spoiled: what is read has no other key, but for a tag where that file has the
+    messages. Answers whether it could be read."""
+    known = {key[1] for key in keys}
     ended = run(place, "list", "base")
     expect("%s: list, %r" % (what, ended), is_orderly(ended))
+    strange = [line for line in listed_ids(ended) if line not in known]
+    expect("%s: listed under other ids %r" % (what, strange), not strange)
     base = converted(place)
     if isinstance(base, bytes):
-        others = [key for key in keys_in(base) if key not in keys and not name.startswith("messages.")]
+        others = [key for key in keys_in(base) if key not in keys and not (name.startswith("messages.") and key[1] in known)]
         expect("%s: under other keys %r" % (what, others), not others)
     else:
-        expect("%s: convert, %r" % (what, base), is_orderly(base) and base[0] == ended[0])
+        # Each message by itself may be in order where all of them are not.
+        expect("%s: convert, %r" % (what, base), is_orderly(base) and ended[0] in (0, base[0]))
     return ended[0] == 0
 
 

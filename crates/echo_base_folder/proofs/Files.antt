@@ -1,9 +1,10 @@
 -- The base file of a folder, message by message.
-use Rattle.std.proofs.Common.{◌≡◌, ◌∙◌, ◌<◌, ◌≤◌, ◌/◌, ◌^◌, ◌++◌, ◌⊎◌, inl, inr, nat_lt, false, ℕ, ◌+◌, List, Some, length, take, drop, sym, ap, arith, get_or}
+use Rattle.std.proofs.Common.{◌≡◌, ◌∙◌, ◌<◌, ◌≤◌, ◌/◌, ◌^◌, ◌++◌, ◌⊎◌, inl, inr, nat_lt, false, ℕ, ◌+◌, ◌-◌, List, Some, length, take, drop, sym, ap, arith, get_or}
 use Rattle.std.specs.List.{list_all}
 use Rattle.std.proofs.lemmas.Bool.{and_right}
-use Rattle.std.proofs.lemmas.List.{append-nil, append_assoc, take_all}
+use Rattle.std.proofs.lemmas.List.{append-nil, append_assoc, drop-drop, take_all}
 use Rattle.std.proofs.lemmas.Option.{slice_get-get_or}
+use Rattle.std.proofs.lemmas.Slice.{between_is}
 use Rattle.std.specs.Prelude.{slice_get}
 use Rattle.echo_filed.specs.Filed.{Filed}
 use Rattle.echo_filed.specs.declared.stored.Version.TheVariants.{Second}
@@ -13,12 +14,9 @@ use Rattle.echo_base.specs.BaseFile.{head_bytes, is_countable, saved_bytes, stor
 use Rattle.echo_base.specs.declared.fault.BaseFault.{BaseFault}
 use Rattle.echo_base.specs.declared.fault.BaseFault.TheVariants as fault
 use Rattle.echo_base.proofs.SavedMessages.{all_more, not_countable, saved_parts, stored_all, too_long_here}
-use Rattle.echo_folder.specs.Standing.{BaseBytes}
-use Rattle.echo_keys.specs.Keys.{HasBytesOf, place_at, place_behind}
-use Rattle.echo_folder_store.specs.Held.{HoldsBase}
-use Rattle.echo_folder_store.proofs.Bases.{told_where}
 use Rattle.echo_folder_store.proofs.Looked.{some_message}
 use Rattle.echo_base_folder.specs.AsFile.{IsDamagedIn, IsFileFault, IsTooLong}
+use Rattle.echo_base_folder.specs.declared.looking.Seen.{Seen}
 
 -- the message of this number
 pub message_there : (all : List Filed) (i : ℕ) → i < length all → Filed
@@ -72,37 +70,28 @@ file_fault base i within (fault.Damaged n) is = absurd is
 file_fault base i within fault.Read is = absurd is
 file_fault base i within (fault.Write n) is = absurd is
 
--- what is known of the base that these bytes hold
-module _ (keyed : ℕ → ℕ → List ℕ → ℕ) (bytes : BaseBytes) (base : Base) (holds : HoldsBase keyed bytes base) where
-  pub count_is : length bytes.keys / 16 ≡ length base.messages
-  count_is = let many = (told_where keyed bytes base holds).many in omega (arith, many)
-
-  pub few : length bytes.keys / 16 < 2 ^ 32 → base.cursor < 2 ^ 32
-  few less = let within = holds.files.holds.within in let many = count_is in omega (arith, within, many, less)
-
-  pub too_great : (2 ^ 32 ≤ length bytes.keys / 16) ⊎ (2 ^ 32 ≤ bytes.cursor) → is_countable base.messages base.cursor ≡ false
-  too_great (inl many) = let count = count_is in too_many base.cursor base.messages (omega (arith, count, many))
-  too_great (inr past) = let within = holds.files.holds.within in let at = holds.cursor in too_many base.cursor base.messages (omega (arith, within, at, past))
-
-  pub inside : (i : ℕ) → i < length bytes.keys / 16 → i < length base.messages
-  inside i h = let count = count_is in omega (arith, count, h)
+-- and one of which the messages, or the cursor, are
+pub too_great : (base : Base) (count cursor : ℕ) → count ≡ length base.messages → cursor ≡ base.cursor → base.cursor ≤ length base.messages → (2 ^ 32 ≤ count) ⊎ (2 ^ 32 ≤ cursor) → is_countable base.messages base.cursor ≡ false
+too_great base count cursor many at within (inl past) = too_many base.cursor base.messages (omega (arith, many, past))
+too_great base count cursor many at within (inr past) = too_many base.cursor base.messages (omega (arith, within, at, past))
 
 -- a message that is too long is there
-pub long_not_damaged : (bytes : BaseBytes) (s : Stored) (e : BaseFault) → IsTooLong s e → IsDamagedIn bytes e
-long_not_damaged bytes s fault.Memory is = tt
-long_not_damaged bytes s fault.TooMany is = tt
-long_not_damaged bytes s fault.NotBase is = tt
-long_not_damaged bytes s (fault.Truncated n) is = tt
-long_not_damaged bytes s (fault.Damaged n) is = absurd is
-long_not_damaged bytes s fault.Read is = tt
-long_not_damaged bytes s (fault.Write n) is = tt
+pub long_not_damaged : (keyed : ℕ → ℕ → List ℕ → ℕ) (seen : Seen) (s : Stored) (e : BaseFault) → IsTooLong s e → IsDamagedIn keyed seen e
+long_not_damaged keyed seen s fault.Memory is = tt
+long_not_damaged keyed seen s fault.TooMany is = tt
+long_not_damaged keyed seen s fault.NotBase is = tt
+long_not_damaged keyed seen s (fault.Truncated n) is = tt
+long_not_damaged keyed seen s (fault.Damaged n) is = absurd is
+long_not_damaged keyed seen s fault.Read is = tt
+long_not_damaged keyed seen s (fault.Write n) is = tt
 
--- the bytes of a message, between two places that its entry tells
-pub bytes_between : (messages keys : List ℕ) (i begins ends : ℕ) (s : Stored) → begins ≡ place_at keys i → ends ≡ place_behind messages keys i → HasBytesOf messages keys i s
-    → drop begins (take ends messages) ≡ stored_bytes Second s
-bytes_between messages keys i begins ends s at behind has = (λ k. drop (at k) (take (behind k) messages)) ∙ has.bytes
-
--- no message stands between places that are in another order, or behind the end
-pub not_between : (messages keys : List ℕ) (i begins ends : ℕ) (s : Stored) → begins ≡ place_at keys i → ends ≡ place_behind messages keys i → HasBytesOf messages keys i s → (ends < begins) ⊎ (length messages < ends) → ⊥
-not_between messages keys i begins ends s at behind has (inl order) = let first = has.begins in omega (arith, at, behind, first, order)
-not_between messages keys i begins ends s at behind has (inr past) = let last = has.ends in omega (arith, at, behind, last, past)
+-- a part of some bytes, from a place on, between two places of all
+pub part_is : (all part : List ℕ) (before begins ends : ℕ) → part ≡ drop before all → before ≤ begins → begins ≤ ends
+    → take ((ends - before) - (begins - before)) (drop (begins - before) part) ≡ drop begins (take ends all)
+part_is all part before begins ends is from order =
+    let many : (ends - before) - (begins - before) ≡ ends - begins = omega (arith, from, order) in
+    let place : before + (begins - before) ≡ begins = omega (arith, from) in
+    ap (λ (l : List ℕ). take ((ends - before) - (begins - before)) (drop (begins - before) l)) is
+    ∙ ap (λ (l : List ℕ). take ((ends - before) - (begins - before)) l) (drop-drop (begins - before) before all)
+    ∙ (λ k. take (many k) (drop (place k) all))
+    ∙ between_is all begins ends

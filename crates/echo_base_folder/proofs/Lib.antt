@@ -3,4 +3,5 @@ pub mod Files
 pub mod Fillings
 pub mod Lookings
 pub mod Openings
+pub mod Readings
 pub mod Wrongs

@@ -1,13 +1,12 @@
 -- The base file of the messages of a base folder.
-use Rattle.std.specs.Prelude.{◌≡◌, ℕ, false}
+use Rattle.std.specs.Prelude.{◌≡◌, ℕ, List, false}
 use Rattle.echo_base.specs.Base.{Base}
 use Rattle.echo_base.specs.BaseFile.{is_countable}
 use Rattle.echo_base.specs.declared.fault.BaseFault.{BaseFault}
 use Rattle.echo_base.specs.declared.fault.BaseFault.TheVariants as fault
-use Rattle.echo_filed.specs.Stored.{IsStored, Stored, is_short_enough}
-use Rattle.echo_filed.specs.declared.stored.Version.TheVariants.{Second}
-use Rattle.echo_folder.specs.Standing.{BaseBytes}
-use Rattle.echo_keys.specs.Keys.{HasBytesOf, MayStandAlone}
+use Rattle.echo_filed.specs.Stored.{Stored, is_short_enough}
+use Rattle.echo_base_folder.specs.Reading.{HasNone}
+use Rattle.echo_base_folder.specs.declared.looking.Seen.{Seen}
 
 -- no memory, or four bytes do not count what is to be saved of the base
 abbrev pub IsFileFault : Base → BaseFault → Type 0
@@ -21,11 +20,7 @@ IsTooLong s fault.Memory = Unit {0}
 IsTooLong s fault.TooMany = is_short_enough s ≡ false
 IsTooLong s _ = ⊥
 
--- no message stands where the entry of this number tells
-abbrev pub IsNoMessage : BaseBytes → ℕ → Type 0
-IsNoMessage bytes n = (s : Stored) → IsStored Second s → MayStandAlone s → HasBytesOf bytes.messages bytes.keys n s → ⊥
-
--- it is the number of no message, if one is said to be damaged
-abbrev pub IsDamagedIn : BaseBytes → BaseFault → Type 0
-IsDamagedIn bytes (fault.Damaged n) = IsNoMessage bytes n
-IsDamagedIn bytes _ = Unit {0}
+-- none with the digest of its entry was read under this number, if one is said to be damaged
+abbrev pub IsDamagedIn : (ℕ → ℕ → List ℕ → ℕ) → Seen → BaseFault → Type 0
+IsDamagedIn keyed seen (fault.Damaged n) = HasNone keyed seen n
+IsDamagedIn keyed seen _ = Unit {0}

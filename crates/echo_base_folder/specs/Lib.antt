@@ -2,6 +2,7 @@ pub mod AsFile
 pub mod Filled
 pub mod Looked
 pub mod Ours
+pub mod Reading
 pub mod Unopened
 pub mod Unread
 pub mod Wrong

@@ -1,21 +1,19 @@
 //! The base file of the messages of a base folder.
-ghost use Rattle.std.specs.Prelude.{◌≡◌, ◌<◌, ◌/◌, ℕ, List, [], ◌∷◌, length, IfErr, IfOk};
+ghost use Rattle.std.specs.Prelude.{◌≡◌, ◌<◌, ◌/◌, ℕ, length, IfErr, IfOk, OnOk};
 ghost use Rattle.echo_base.specs.Base.{Base};
 ghost use Rattle.echo_base.specs.BaseFile.{head_bytes, saved_bytes, stored_at};
-ghost use Rattle.echo_filed.specs.Stored.{IsStored, Stored, message_in, stored_as, stored_bytes};
+ghost use Rattle.echo_filed.specs.Stored.{Stored, message_in, stored_as, stored_bytes};
 ghost use Rattle.echo_filed.specs.declared.stored.Version.TheVariants.{Second};
-ghost use Rattle.echo_folder_store.specs.Answers.{Answers};
-ghost use Rattle.echo_folder_store.specs.Held.{HoldsBase};
-ghost use Rattle.echo_keys.specs.Keys.{HasBytesOf, MayStandAlone};
+ghost use Rattle.echo_folder.specs.Standing.{BaseBytes};
 ghost use Rattle.echo_base_folder.specs.AsFile.{IsDamagedIn, IsFileFault, IsTooLong};
-ghost use Rattle.echo_base_folder.specs.Looked.{bytes_of};
+ghost use Rattle.echo_base_folder.specs.Looked.{SeesBase};
+ghost use Rattle.echo_base_folder.specs.Reading.{HasDigest, IsThere, IsVouched};
 
 use crate::looking::Seen;
 use echo_base::BaseFault;
 use echo_device::Watched;
 use echo_filed::{Filed, is_short, is_short_enough, long_bytes, send_message};
-use echo_folder_store::{Alone, read_alone};
-use echo_keys::{end_of, place_of};
+use echo_keys::Digest;
 use echo_store::StoreError;
 use std::alloc::{AllocError, Global};
 
@@ -61,13 +59,13 @@ fn bytes_at(
 }
 
 impl Seen {
-    /// The base file of the same messages and the same cursor. It is `Damaged` where what stands at a number is no
-    /// message.
-    pub fn as_file(&self, alloc: Global) -> Result<Vec<u8>, BaseFault>
-        ensures file { (keyed : ℕ → ℕ → List ℕ → ℕ) (base : Base) → HoldsBase keyed (bytes_of self.now) base
-            → IfOk result (λ bytes. bytes.items ≡ saved_bytes base.messages base.cursor) }
-        ensures fault { (keyed : ℕ → ℕ → List ℕ → ℕ) (base : Base) → HoldsBase keyed (bytes_of self.now) base → IfErr result (IsFileFault base) }
-        ensures damaged { IfErr result (IsDamagedIn (bytes_of self.now)) }
+    /// The base file of the same messages and the same cursor, where all were read. It is `Damaged` where what stands at a
+    /// number is no message, or its digest is another than its entry has.
+    pub fn as_file<H: Digest>(&self, alloc: Global) -> Result<Vec<u8>, BaseFault>
+        ensures file { (base : Base) → SeesBase H.keyed 0 base self.now → IfOk result (λ bytes. bytes.items ≡ saved_bytes base.messages base.cursor) }
+        ensures fault { (base : Base) → SeesBase H.keyed 0 base self.now → IfErr result (IsFileFault base) }
+        ensures damaged { IfErr result (IsDamagedIn H.keyed self.now) }
+        ensures vouched { OnOk result ((i : ℕ) → i < length self.now.keys.items / 16 → IsVouched H.keyed self.now i) }
     {
         let count = self.count();
         if count > MOST || self.cursor > MOST as u64 {
@@ -75,22 +73,23 @@ impl Seen {
         }
         let mut file = head_of(alloc, self.cursor as u32, count as u32)?;
         'messages: for i in 0..count {
-            let bytes = self.message_at(alloc, i)?;
+            let bytes = self.stored_at::<H>(alloc, i)?;
             file.extend_from_slice(&bytes)?;
         }
         Ok(file)
     }
 
     // The message of this number as a base file has it there.
-    fn message_at(&self, alloc: Global, i: usize) -> Result<Vec<u8>, BaseFault>
+    fn stored_at<H: Digest>(&self, alloc: Global, i: usize) -> Result<Vec<u8>, BaseFault>
         requires { i < length self.now.keys.items / 16 }
-        ensures bytes { (s : Stored) → IsStored Second s → MayStandAlone s → HasBytesOf self.now.messages.items self.now.keys.items i s
-            → IfOk result (λ bytes. bytes.items ≡ stored_bytes Second (stored_at self.now.cursor i (message_in Second s))) }
-        ensures fault { (s : Stored) → IsStored Second s → MayStandAlone s → HasBytesOf self.now.messages.items self.now.keys.items i s
+        ensures bytes { (bytes : BaseBytes) (s : Stored) → IsThere self.now bytes i s → HasDigest H.keyed bytes i s
+            → IfOk result (λ file. file.items ≡ stored_bytes Second (stored_at self.now.cursor i (message_in Second s))) }
+        ensures fault { (bytes : BaseBytes) (s : Stored) → IsThere self.now bytes i s → HasDigest H.keyed bytes i s
             → IfErr result (IsTooLong (stored_at self.now.cursor i (message_in Second s))) }
-        ensures damaged { IfErr result (IsDamagedIn (bytes_of self.now)) }
+        ensures damaged { IfErr result (IsDamagedIn H.keyed self.now) }
+        ensures vouched { OnOk result (IsVouched H.keyed self.now i) }
     {
-        let alone = match self.alone_at(alloc, i) {
+        let alone = match self.message_at::<H>(alloc, i) {
             Ok(alone) => alone,
             Err(StoreError::Damaged) => return Err(BaseFault::Damaged { message: i as u64 }),
             Err(_) => return Err(BaseFault::Memory),
@@ -99,19 +98,5 @@ impl Seen {
             Some(message) => bytes_at(alloc, message, i, self.cursor as usize),
             None => Err(BaseFault::Damaged { message: i as u64 }),
         }
-    }
-
-    // The message of this number, alone in a base of its own.
-    fn alone_at(&self, alloc: Global, i: usize) -> Result<Alone, StoreError>
-        requires { i < length self.now.keys.items / 16 }
-        ensures { (s : Stored) → IsStored Second s → MayStandAlone s → HasBytesOf self.now.messages.items self.now.keys.items i s
-            → Answers (λ alone. alone.messages ≡ message_in Second s ∷ []) result }
-    {
-        let begins = place_of(&self.keys, i) as usize;
-        let ends = end_of(&self.keys, i, self.messages.len() as u64) as usize;
-        if begins > ends || ends > self.messages.len() {
-            return Err(StoreError::Damaged);
-        }
-        read_alone(alloc, &self.messages[begins..ends])
     }
 }

@@ -1,5 +1,5 @@
 //! What the log of a base folder tells, and what is wrong with the folder.
-ghost use Rattle.std.specs.Prelude.{◌≡◌, ◌≤◌, ◌<◌, ◌/◌, ◌+◌, length, take, IfErr, IfOk, IfSome, IfNone, OnOk};
+ghost use Rattle.std.specs.Prelude.{◌≡◌, ◌≤◌, ◌<◌, ◌/◌, ◌+◌, length, take, drop, IfErr, IfOk, IfSome, IfNone, OnOk};
 ghost use Rattle.echo_disk.specs.Disk.{Honestly, bytes_in};
 ghost use Rattle.echo_disk.specs.Runs.{ChangesNothing, HasCause};
 ghost use Rattle.echo_folder.specs.Names.{keys_of, log_of, messages_of};
@@ -54,14 +54,15 @@ pub(crate) fn len_of<D: Disk>(disk: &mut D, path: &[u8]) -> Result<usize, DiskEr
     }
 }
 
-/// The bytes of a file up to a place: fewer where it ends before that, none where there is no file.
-pub(crate) fn front_of<D: Disk>(
+/// The bytes of a file between two places: fewer where it ends before the second one, none where there is no file.
+pub(crate) fn part_of<D: Disk>(
     alloc: Global,
     disk: &mut D,
     path: &[u8],
+    from: usize,
     most: usize,
 ) -> Result<Vec<u8>, DiskError>
-    ensures bytes { Honestly (D.state disk.new) (IfOk result (λ bytes. bytes.items ≡ take most (bytes_in ((D.state disk.old).seen path.now)))) }
+    ensures bytes { Honestly (D.state disk.new) (IfOk result (λ bytes. bytes.items ≡ drop from (take most (bytes_in ((D.state disk.old).seen path.now))))) }
     ensures quiet { ChangesNothing (D.state disk.old) (D.state disk.new) }
     ensures cause { HasCause (D.failures disk.old) (D.failures disk.new) result }
 {
@@ -70,7 +71,10 @@ pub(crate) fn front_of<D: Disk>(
     }
     let len = disk.len(path)?;
     let end = if len < most { len } else { most };
-    read_part(alloc, disk, path, 0, end)
+    if from >= end {
+        return Ok(Vec::new(alloc));
+    }
+    read_part(alloc, disk, path, from, end)
 }
 
 // Whether no base folder has a log of this size whose records end so.
@@ -163,7 +167,7 @@ pub(crate) fn cut_in<D: Disk>(
     if there >= told.messages && len_of(disk, &names.keys)? >= told.keys {
         return Ok(None);
     }
-    let keys = front_of(alloc, disk, &names.keys, told.keys)?;
+    let keys = part_of(alloc, disk, &names.keys, 0, told.keys)?;
     Ok(Some(whole_in(&keys, told.messages, there)))
 }
 

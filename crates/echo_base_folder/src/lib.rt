@@ -2,8 +2,8 @@
 //! messages, and filled with the messages of another base. What is wrong with it is told as that of a base file is.
 //!
 //! Modules in reading order: `unread` (why it is not read or opened), `judging` (what the log tells, and what is wrong
-//! with the folder), `opening` (to be changed), `owning` (whose it is), `looking` (read without a change), `as_file`
-//! (the base file of the same messages), `filling` (with the messages of another base) and `laws`.
+//! with the folder), `opening` (to be changed), `owning` (whose it is), `looking` (read without a change), `reading`
+//! (a message of it), `as_file` (the base file of the same messages), `filling` (with the messages of another base) and `laws`.
 #![tactic(auto)]
 
 mod as_file;
@@ -13,6 +13,7 @@ mod laws;
 mod looking;
 mod opening;
 mod owning;
+mod reading;
 mod unread;
 
 pub use filling::fill;

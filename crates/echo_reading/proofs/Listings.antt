@@ -19,7 +19,7 @@ use Rattle.echo_reading.proofs.Entries.{range_more}
 use Rattle.echo_reading.proofs.Pushed.{added, begun_within}
 
 -- one message more
-messages_more : (area : Option (List ℕ)) (first : ℕ) (base : List Filed) (cursor n : ℕ)
+pub messages_more : (area : Option (List ℕ)) (first : ℕ) (base : List Filed) (cursor n : ℕ)
     → messages_text area first base cursor (n + 1) ≡ messages_text area first base cursor n ++ asked_text area first cursor n (slice_get base n)
 messages_more area first base cursor n =
     let text : ℕ → List ℕ = λ i. asked_text area first cursor i (slice_get base i) in

@@ -25,6 +25,6 @@ mod showing;
 pub use exporting::{export, tell_lost};
 pub use laws::one_printing;
 pub use linking::{NamedFile, links};
-pub use listing::list;
+pub use listing::{list, print_message, raised};
 pub use nodelists::nodelist;
 pub use showing::show;

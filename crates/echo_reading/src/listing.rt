@@ -52,7 +52,7 @@ pub(crate) fn base_read<'a, S: BuildHasher + Drop>(
 }
 
 /// The tag in capital letters, if one is given.
-pub(crate) fn raised(alloc: Global, area: Option<&[u8]>) -> Result<Option<Items<u8>>, AllocError>
+pub fn raised(alloc: Global, area: Option<&[u8]>) -> Result<Option<Items<u8>>, AllocError>
     ensures { IfOk result (λ raised. raised ≡ option_map upper (option_copied area.entry)) }
 {
     match area {
@@ -81,8 +81,8 @@ fn print_messages<'a, S: BuildHasher, W: Sink>(
     Ok(())
 }
 
-// Prints the lines of the message of this number, if it is asked for.
-fn print_message<'a, W: Sink>(
+/// Prints the lines of the message of this number, if it is asked for, behind those that were kept back.
+pub fn print_message<'a, W: Sink>(
     area: Option<&Items<u8>>,
     first: u64,
     cursor: usize,

@@ -75,12 +75,12 @@ fn flush_name<'a>(rt: &HostRuntime, base: &'a str, messages: usize) -> Result<()
     flush_path(rt.alloc(), rt, name).map_err(|fault| output_fault(fault, base))
 }
 
-/// What the base folder with this path holds. Nothing of it is changed.
-pub fn look_into<'a>(rt: &HostRuntime, base: &'a str) -> Result<Seen, Fault<'a>> {
+/// What the base folder with this path holds, of its messages those from this number on. Nothing of it is changed.
+pub fn look_into<'a>(rt: &HostRuntime, base: &'a str, first: u64) -> Result<Seen, Fault<'a>> {
     let strange = is_strange(rt, base)?;
     let path = folder_path(rt, base)?;
     let mut disk = RealDisk::new(rt, Unknown);
-    look(rt.alloc(), &mut disk, path.as_bytes(), strange).map_err(|why| why.fault(base))
+    look(rt.alloc(), &mut disk, path.as_bytes(), strange, first).map_err(|why| why.fault(base))
 }
 
 /// The bytes of a base file, or of the base file of the same messages where the base is a folder.
@@ -88,7 +88,7 @@ pub fn base_bytes<'a>(rt: &HostRuntime, base: &'a str) -> Result<Vec<u8>, Fault<
     if !is_folder(rt, base) {
         return read_file(rt, base, usize::MAX);
     }
-    Ok(look_into(rt, base)?.as_file(rt.alloc())?)
+    Ok(look_into(rt, base, 0)?.as_file::<SipDigest>(rt.alloc())?)
 }
 
 /// Whether nothing was ever committed in the folder, and it has no other files than those of a base folder.

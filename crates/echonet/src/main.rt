@@ -26,11 +26,13 @@ use echo_base::BaseFault;
 use echo_checking::{check, check_all, picture};
 use echo_device::{Sink, Watched};
 use echo_export::Form;
+use echo_folder_reading::list_seen;
+use echo_keys::SipDigest;
 use echo_reading::{export, list, nodelist, show, tell_lost};
 use echo_rehearsing::{picture_why, replay, why};
 use echo_status::{Fault, Status, ended, number_of, wanted};
 use echo_words::{CheckWords, Ending, ExportWords, Words, explain, parse};
-use folders::base_bytes;
+use folders::{base_bytes, is_folder, look_into};
 use inputs::{MAX_INPUT, read_file, read_given, read_if_given, read_links, read_script};
 use jam::run_export_jam;
 use judging::run_links;
@@ -123,8 +125,8 @@ fn run_picture<'a, W: Sink>(
     }
 }
 
-// `list [--area TAG] [--from I] BASE`: the number is judged first, then the base. A seed for the hasher that
-// cannot be had is a failed read.
+// `list [--area TAG] [--from I] BASE`: the number is judged first, then the base, of a folder what is asked for. A seed
+// for the hasher that cannot be had is a failed read.
 fn run_list<'a, W: Sink>(
     rt: &HostRuntime,
     area: Option<&'a str>,
@@ -136,9 +138,13 @@ fn run_list<'a, W: Sink>(
         Some(word) => number_of(word)?,
         None => 0,
     };
+    let area = area.map(|tag| tag.as_bytes());
+    if is_folder(rt, base) {
+        let seen = look_into(rt, base, first)?;
+        return list_seen::<SipDigest, W>(rt.alloc(), area, first, &seen, out);
+    }
     let hasher = RandomState::new(rt).map_err(|_| Fault::Base(BaseFault::Read))?;
     let bytes = base_bytes(rt, base)?;
-    let area = area.map(|tag| tag.as_bytes());
     list(rt.alloc(), area, first, &bytes, hasher, out)
 }
 

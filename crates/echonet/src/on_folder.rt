@@ -11,6 +11,7 @@ use echo_addr::Items;
 use echo_base::BaseFault;
 use echo_changing::{Answer, NewMessage, PacketFile, PacketFiles};
 use echo_device::Sink;
+use echo_keys::SipDigest;
 use echo_links::LinkFile;
 use echo_mailing::{Letter, MailWords, letter_in};
 use echo_packet::Limits;
@@ -92,8 +93,8 @@ fn fault_of<'a>(rt: &HostRuntime, base: &'a str, stop: Stop<'a>) -> Fault<'a> {
 
 // What is wrong with a base folder that has a damaged message.
 fn damaged_in<'a>(rt: &HostRuntime, base: &'a str) -> Fault<'a> {
-    match look_into(rt, base) {
-        Ok(seen) => match seen.as_file(rt.alloc()) {
+    match look_into(rt, base, 0) {
+        Ok(seen) => match seen.as_file::<SipDigest>(rt.alloc()) {
             Ok(_) => Fault::CannotUse(base),
             Err(BaseFault::Memory) => Fault::OutOfMemory,
             Err(fault) => Fault::Base(fault),

@@ -1,9 +1,9 @@
 use Rattle.std.proofs.Common.{◌≡◌, ◌∙◌, ap, ℕ, List, subst}
 use Rattle.echo_disk.specs.Disk.{bytes_in}
 use Rattle.echo_folder.specs.Names.{log_of}
-use Rattle.echo_folder.specs.Standing.{base_at}
+use Rattle.echo_folder.specs.Standing.{BaseBytes, base_at}
 use Rattle.echo_folder_store.proofs.Causes.{done_both}
-use Rattle.echo_base_folder.specs.Looked.{bytes_of}
+use Rattle.echo_base_folder.specs.Looked.{IsSeenFrom}
 use Rattle.echo_base_folder.specs.Unread.{IsWrong, IsWrongFiles}
 use Rattle.echo_base_folder.specs.Wrong.{IsFolderLog}
 use Rattle.echo_base_folder.proofs.Lookings.{if_err, if_ok, seen_is}
@@ -22,7 +22,7 @@ returns-then-goes_on-clause-found g c honest base stands =
     let one : (m : List ℕ) → d1.seen m ≡ d0.seen m = c.tries.invariant.quiet.seen in
     let two : (m : List ℕ) → d2.seen m ≡ d0.seen m = λ m. c.outline_of.ensures.quiet.seen m ∙ one m in
     let is = seen_is path base d0 d1 d2 c.in_ok-before.before.log.items end one two c.in_ok-before.ensures.folder.reads (c.in_ok-before.ensures.log h2) stands in
-    if_ok (λ seen. bytes_of seen ≡ base_at d2 path end.told) (λ seen. bytes_of seen ≡ base) (λ seen was. was ∙ is) c.seen_of-seen.result (c.seen_of-seen.ensures.seen h3)
+    if_ok (IsSeenFrom c.args.first (base_at d2 path end.told)) (IsSeenFrom c.args.first base) (λ seen was. subst (λ (b : BaseBytes). IsSeenFrom c.args.first b seen) is was) c.seen_of-seen.result (c.seen_of-seen.ensures.seen h3)
 
 pub returns-then-goes_on-clause-wrong : goal.returns-then-goes_on-clause-wrong
 returns-then-goes_on-clause-wrong g c honest =
@@ -51,7 +51,7 @@ returns-clause-found g c honest base stands =
     let one : (m : List ℕ) → d1.seen m ≡ d0.seen m = c.tries.invariant.quiet.seen in
     let two : (m : List ℕ) → d2.seen m ≡ d0.seen m = λ m. c.outline_of-2.ensures.quiet.seen m ∙ one m in
     let is = seen_is path base d0 d1 d2 c.in_ok-end.field-0.log.items end one two c.in_ok-end.ensures.folder.reads (c.in_ok-end.ensures.log h2) stands in
-    if_ok (λ seen. bytes_of seen ≡ base_at d2 path end.told) (λ seen. bytes_of seen ≡ base) (λ seen was. was ∙ is) c.seen_of.result (c.seen_of.ensures.seen honest)
+    if_ok (IsSeenFrom c.args.first (base_at d2 path end.told)) (IsSeenFrom c.args.first base) (λ seen was. subst (λ (b : BaseBytes). IsSeenFrom c.args.first b seen) is was) c.seen_of.result (c.seen_of.ensures.seen honest)
 
 pub returns-then-goes_on-clause-sound : goal.returns-then-goes_on-clause-sound
 returns-then-goes_on-clause-sound g c honest =

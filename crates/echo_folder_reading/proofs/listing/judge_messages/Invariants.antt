@@ -1,0 +1,10 @@
+-- Each message so far has the digest of its entry.
+use Rattle.std.proofs.Common.{◌≤◌, ◌<◌, ℕ}
+use Rattle.echo_base_folder.specs.Reading.{IsVouched}
+use Rattle.echo_folder_reading.proofs.listing.judge_messages.Given as goal
+
+abbrev pub invariant-messages : goal.invariant-messages
+invariant-messages g l = record {
+  from : l.i < l.count → l.first ≤ l.i;
+  vouched : (j : ℕ) → l.first ≤ j → j < l.i → IsVouched g.H.Digest.keyed l.seen j;
+}

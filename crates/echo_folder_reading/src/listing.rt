@@ -1,0 +1,111 @@
+//! The command `list` of a base folder.
+ghost use Rattle.std.specs.Prelude.{◌≡◌, ◌≤◌, ◌<◌, ◌/◌, ◌++◌, ℕ, List, Some, IfErr, IfOk, OnErr, OnOk, length, option_copied};
+ghost use Rattle.echo_base.specs.Base as model;
+ghost use Rattle.echo_base_folder.specs.Looked.{SeesBase};
+ghost use Rattle.echo_base_folder.specs.Reading.{IsVouched};
+ghost use Rattle.echo_folder_store.specs.Answers.{IsAloneOf};
+ghost use Rattle.echo_print.specs.BaseListed.{messages_text};
+ghost use Rattle.echo_reading.specs.Listing.{ListAnswers};
+ghost use Rattle.echo_status.specs.Devices.{output_of};
+ghost use Rattle.echo_status.specs.Ended.{IsOutOfMemory, Stops};
+ghost use Rattle.echo_status.specs.Inputs.{IsBaseGiven};
+ghost use Rattle.echo_status.specs.Lines.{PassesOn, WritesFront};
+
+use echo_addr::Items;
+use echo_base::BaseFault;
+use echo_base_folder::Seen;
+use echo_device::Sink;
+use echo_folder_store::Alone;
+use echo_keys::Digest;
+use echo_print::push_base_total;
+use echo_reading::{print_message, raised};
+use echo_status::{Fault, Status, print_rest};
+use echo_store::StoreError;
+use std::alloc::Global;
+
+/// `list [--area TAG] [--from I] BASE` of a base folder, of which the messages from the number `first` on were read:
+/// prints what `list` prints of a base file of the same messages. Where one of them is damaged nothing is printed.
+pub fn list_seen<'a, H: Digest, W: Sink>(
+    alloc: Global,
+    area: Option<&[u8]>,
+    first: u64,
+    seen: &Seen,
+    out: &mut W,
+) -> Result<Status, Fault<'a>>
+    ensures answers { (base : model.Base) (file : List ℕ) → SeesBase H.keyed first base seen.now → IsBaseGiven (Some file) base.messages base.cursor
+        → ListAnswers (option_copied area.entry) first file (output_of W.contents W.failures W.holds out.old) (output_of W.contents W.failures W.holds out.new) result }
+    ensures vouched { OnOk result ((i : ℕ) → first ≤ i → i < length seen.now.keys.items / 16 → IsVouched H.keyed seen.now i) }
+{
+    judge_messages::<H>(alloc, first, seen)?;
+    let area = raised(alloc, area)?;
+    let mut lines = Vec::new(alloc);
+    print_messages::<H, W>(alloc, area.as_ref(), first, seen, &mut lines, out)?;
+    let count = seen.count();
+    let scanned = seen.cursor() as usize;
+    push_base_total(&mut lines, count, count.saturating_sub(scanned))?;
+    print_rest(&mut lines, out)?;
+    Ok(Status::Good)
+}
+
+// The message of this number. A damaged one is F3.
+fn message_of<'a, H: Digest>(alloc: Global, seen: &Seen, i: usize) -> Result<Alone, Fault<'a>>
+    requires { i < length seen.now.keys.items / 16 }
+    ensures message { (first : ℕ) (base : model.Base) → SeesBase H.keyed first base seen.now → first ≤ i → IfOk result (IsAloneOf base.messages i) }
+    ensures fault { (first : ℕ) (base : model.Base) → SeesBase H.keyed first base seen.now → first ≤ i → IfErr result IsOutOfMemory }
+    ensures vouched { OnOk result (IsVouched H.keyed seen.now i) }
+{
+    match seen.message_at::<H>(alloc, i) {
+        Ok(alone) => Ok(alone),
+        Err(StoreError::Damaged) => Err(Fault::Base(BaseFault::Damaged { message: i as u64 })),
+        Err(_) => Err(Fault::OutOfMemory),
+    }
+}
+
+// The first number from this one on, of so many messages, or behind the last of them.
+fn begin_at(first: u64, count: usize) -> usize
+    ensures within { first < count → result ≡ first }
+    ensures behind { count ≤ first → result ≡ count }
+{
+    if first < count as u64 {
+        first as usize
+    } else {
+        count
+    }
+}
+
+// Reads each message from this number on, so that of a damaged one nothing is printed before it.
+fn judge_messages<'a, H: Digest>(alloc: Global, first: u64, seen: &Seen) -> Result<(), Fault<'a>>
+    ensures fault { (base : model.Base) → SeesBase H.keyed first base seen.now → IfErr result IsOutOfMemory }
+    ensures vouched { OnOk result ((i : ℕ) → first ≤ i → i < length seen.now.keys.items / 16 → IsVouched H.keyed seen.now i) }
+{
+    let count = seen.count();
+    'messages: for i in begin_at(first, count)..count {
+        message_of::<H>(alloc, seen, i)?;
+    }
+    Ok(())
+}
+
+// Prints the lines of the messages that are asked for; the last ones stay in `lines`.
+fn print_messages<'a, H: Digest, W: Sink>(
+    alloc: Global,
+    area: Option<&Items<u8>>,
+    first: u64,
+    seen: &Seen,
+    lines: &mut Vec<u8>,
+    out: &mut W,
+) -> Result<(), Fault<'a>>
+    ensures lines { (base : model.Base) → SeesBase H.keyed first base seen.now
+        → OnOk result (PassesOn (lines.old.items ++ messages_text (option_copied area.entry) first base.messages base.cursor (length base.messages)) lines.new.items (W.contents out.old) (W.contents out.new)) }
+    ensures begun { (base : model.Base) → SeesBase H.keyed first base seen.now
+        → OnErr result (WritesFront (lines.old.items ++ messages_text (option_copied area.entry) first base.messages base.cursor (length base.messages)) (W.contents out.old) (W.contents out.new)) }
+    ensures ok { OnOk result (W.failures out.new ≡ W.failures out.old) }
+    ensures err { (base : model.Base) → SeesBase H.keyed first base seen.now → IfErr result (Stops (W.failures out.old) (W.failures out.new)) }
+{
+    let count = seen.count();
+    let cursor = seen.cursor() as usize;
+    'messages: for i in begin_at(first, count)..count {
+        let alone = message_of::<H>(alloc, seen, i)?;
+        print_message(area, first, cursor, i, alone.message(0), lines, out)?;
+    }
+    Ok(())
+}
