@@ -1,16 +1,19 @@
 //! The program `echonet`: it reads the files that the command line names (`paths`, `inputs`), calls the
 //! commands (`judging`: `links`, which goes on where a file cannot be used), and puts what they leave in place
 //! (`station`, `packets`, `placing`, `stopped`, `stored` for files of one message each, and `jam` for JAM bases;
-//! `folders` and `on_folder` where a base is a folder, and `converting`), under `locks`. `clock` gives the moment and
-//! the serial that words leave to it, `progress` tells a terminal how far a command is.
+//! `folders` and `on_folder` where a base is a folder, and `converting`; `front` reads the front of a base file), under
+//! `locks`. `clock` gives the moment and the serial that words leave to it, `progress` tells a terminal how far a
+//! command is, and `loading` how far the reading of a base file is.
 #![tactic(auto)]
 
 mod clock;
 mod converting;
 mod folders;
+mod front;
 mod inputs;
 mod jam;
 mod judging;
+mod loading;
 mod locks;
 mod on_folder;
 mod packets;
@@ -34,6 +37,7 @@ use folders::base_bytes;
 use inputs::{MAX_INPUT, read_file, read_given, read_if_given, read_links, read_script};
 use jam::run_export_jam;
 use judging::run_links;
+use loading::Counting;
 use paths::{PathNames, names_of};
 use progress::{Cleared, Progress};
 use station::{run_post, run_post_mail, run_post_stored, run_purge, run_reply, run_scan, run_toss};
@@ -130,14 +134,16 @@ fn run_list<'a, W: Sink>(
     area: Option<&'a str>,
     from: Option<&'a str>,
     base: &'a str,
+    progress: &Progress<'_>,
     out: &mut W,
 ) -> Result<Status, Fault<'a>> {
     let first = match from {
         Some(word) => number_of(word)?,
         None => 0,
     };
-    let hasher = RandomState::new(rt).map_err(|_| Fault::Base(BaseFault::Read))?;
+    let keys = RandomState::new(rt).map_err(|_| Fault::Base(BaseFault::Read))?;
     let bytes = base_bytes(rt, base)?;
+    let hasher = Counting::new(keys, Some(progress), Some(&bytes));
     let area = area.map(|tag| tag.as_bytes());
     list(rt.alloc(), area, first, &bytes, hasher, out)
 }
@@ -240,9 +246,12 @@ fn run_words<W: Sink, E: Sink>(
             links,
             base,
             folder,
-        } => run_scan(rt, *at, *links, *base, *folder, out, errors),
+        } => run_scan(rt, *at, *links, *base, *folder, progress, out, errors),
         Words::Purge { links, base } => run_purge(rt, *links, *base, out, errors),
-        Words::List { area, from, base } => ended(run_list(rt, *area, *from, *base, out), errors),
+        Words::List { area, from, base } => ended(
+            run_list(rt, *area, *from, *base, progress, out),
+            errors,
+        ),
         Words::Export(words) => match (words.msg, words.jam) {
             (Some(folder), _) => run_export_stored(rt, words, folder, out, errors),
             (None, Some(path)) => run_export_jam(rt, words, path, out, errors),

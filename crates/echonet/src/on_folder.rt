@@ -5,6 +5,7 @@ ghost use Rattle.std.specs.Prelude.{IfOk};
 use crate::folders::{BaseFolder, cursor_there, look_into, open_own};
 use crate::locks::locked_folder;
 use crate::placing::{Outbound, drop_packets, name_packets, packet_paths, stage_packets};
+use crate::progress::Progress;
 use crate::station::{Place, Posting, let_go, locked_links, name_of};
 use crate::stopped::finish_stopped;
 use echo_addr::Items;
@@ -272,6 +273,7 @@ pub fn scan_there<'a, W: Sink, E: Sink>(
     place: Place<'a>,
     stamp: Stamp,
     folder: &'a str,
+    progress: &'a Progress<'a>,
     out: &mut W,
     errors: &mut E,
 ) -> Status {
@@ -282,6 +284,7 @@ pub fn scan_there<'a, W: Sink, E: Sink>(
     let to = Outbound {
         folder,
         before: station.store.cursor() as u64,
+        progress,
     };
     let Station { links, store, .. } = &mut station;
     let status = match scan_on(rt.alloc(), stamp, links, store, out) {
@@ -315,7 +318,7 @@ fn put_in_place<'r, E: Sink>(
         Ok(paths) => paths,
         Err(_) => return Fault::OutOfMemory.report(errors),
     };
-    match stage_packets(rt, own.as_str(), to.folder, packets, &paths, errors) {
+    match stage_packets(rt, own.as_str(), to, packets, &paths, errors) {
         Status::Good => {}
         failed => return failed,
     }

@@ -1,6 +1,7 @@
 //! What a command leaves, put in place.
 
 use crate::inputs::output_fault;
+use crate::progress::Progress;
 use crate::stopped::{cursor_of, finish_stopped, folder_path};
 use echo_changing::{Done, PacketFile};
 use echo_device::Sink;
@@ -15,11 +16,13 @@ pub const BASE_KNOWN_BY: usize = 7;
 /// How many bytes show that a file is a packet of these two systems: their nodes.
 const PACKET_KNOWN_BY: usize = 4;
 
-/// What a scan writes beside its base: the folder of its packets, and how many messages were scanned before it.
+/// What a scan writes beside its base: the folder of its packets, how many messages were scanned before it, and who is told
+/// how far it is.
 #[derive(Clone, Copy)]
 pub struct Outbound<'a> {
     pub folder: &'a str,
     pub before: u64,
+    pub progress: &'a Progress<'a>,
 }
 
 /// Puts a scan in place: its packets beside their names, then the base, then each packet gets its name. Wherever it
@@ -45,7 +48,7 @@ pub fn write_scan<E: Sink>(
         Err(_) => return Fault::OutOfMemory.report(errors),
     };
     let packets = done.files.packets.as_slice();
-    match stage_packets(rt, own, to.folder, packets, &paths, errors) {
+    match stage_packets(rt, own, to, packets, &paths, errors) {
         Status::Good => {}
         failed => return failed,
     }
@@ -93,12 +96,15 @@ pub fn packet_paths(
 pub fn stage_packets<E: Sink>(
     rt: &HostRuntime,
     own: &str,
-    folder: &str,
+    to: Outbound<'_>,
     packets: &[PacketFile],
     paths: &[String],
     errors: &mut E,
 ) -> Status {
     for (i, (packet, path)) in packets.iter().zip(paths).enumerate() {
+        if to.progress.is_due() {
+            to.progress.tell_written(i.saturating_add(1), packets.len());
+        }
         if let Err(fault) = stage_packet(rt, own, packet, path.as_str()) {
             for staged in paths.iter().take(i) {
                 let _ = drop_staged(rt.alloc(), rt, staged.as_str(), own);
@@ -106,7 +112,7 @@ pub fn stage_packets<E: Sink>(
             return fault.report(errors);
         }
     }
-    flushed(rt, folder, paths, errors)
+    flushed(rt, to.folder, paths, errors)
 }
 
 // Writes a packet beside its name. Its bytes are held no longer than that takes.
