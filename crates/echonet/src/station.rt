@@ -423,10 +423,10 @@ pub fn run_scan<'a, W: Sink, E: Sink>(
 
 /// `toss`: the limit of a text is judged first, and a list of packets is read before the lock is taken; each
 /// packet file is opened when its turn comes.
-pub fn run_toss<W: Sink, E: Sink>(
-    rt: &HostRuntime,
-    words: &TossWords<'_>,
-    progress: &Progress<'_>,
+pub fn run_toss<'a, W: Sink, E: Sink>(
+    rt: &'a HostRuntime,
+    words: &'a TossWords<'a>,
+    progress: &'a Progress<'a>,
     out: &mut W,
     errors: &mut E,
 ) -> Status {
