@@ -11,20 +11,20 @@ use std::hash::{BuildHasher, DefaultHasher};
 
 /// The hasher of a base, which tells how many of its messages were looked up, until that is as many as it has.
 #[derive(Drop)]
-pub struct Counting<'r> {
+pub struct Counting<'p, 'r> {
     keys: RandomState,
-    progress: Option<&'r Progress<'r>>,
+    progress: Option<&'p Progress<'r>>,
     messages: u64,
     found: Cell<u64>,
 }
 
-impl<'r> Counting<'r> {
+impl<'p, 'r> Counting<'p, 'r> {
     /// For the base file with these bytes, if there is one. Where no progress is given nothing is told.
     pub fn new(
         keys: RandomState,
-        progress: Option<&'r Progress<'r>>,
+        progress: Option<&'p Progress<'r>>,
         base: Option<&[u8]>,
-    ) -> Counting<'r> {
+    ) -> Counting<'p, 'r> {
         Counting {
             keys,
             progress,
@@ -45,7 +45,7 @@ impl<'r> Counting<'r> {
     }
 }
 
-impl BuildHasher for Counting<'_> {
+impl BuildHasher for Counting<'_, '_> {
     type Hasher = DefaultHasher;
 
     ghost build_hasher = { λ s. initial_hasher s.keys };

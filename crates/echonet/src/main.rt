@@ -216,10 +216,10 @@ fn run_replay<'a, W: Sink>(
 }
 
 // The words are lent, so that no case has to be proved to drop what another one has.
-fn run_words<'a, W: Sink, E: Sink>(
-    rt: &'a HostRuntime,
-    words: &'a Words<'a>,
-    progress: &'a Progress<'a>,
+fn run_words<W: Sink, E: Sink>(
+    rt: &HostRuntime,
+    words: &Words<'_>,
+    progress: &Progress<'_>,
     out: &mut W,
     errors: &mut E,
 ) -> Status {

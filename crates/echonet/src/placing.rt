@@ -16,13 +16,11 @@ pub const BASE_KNOWN_BY: usize = 7;
 /// How many bytes show that a file is a packet of these two systems: their nodes.
 const PACKET_KNOWN_BY: usize = 4;
 
-/// What a scan writes beside its base: the folder of its packets, how many messages were scanned before it, and who is told
-/// how far it is.
+/// What a scan writes beside its base: the folder of its packets, and how many messages were scanned before it.
 #[derive(Clone, Copy)]
 pub struct Outbound<'a> {
     pub folder: &'a str,
     pub before: u64,
-    pub progress: &'a Progress<'a>,
 }
 
 /// Puts a scan in place: its packets beside their names, then the base, then each packet gets its name. Wherever it
@@ -34,6 +32,7 @@ pub fn write_scan<E: Sink>(
     to: Outbound<'_>,
     done: Done<'_>,
     base: &str,
+    progress: &Progress<'_>,
     errors: &mut E,
 ) -> Status {
     if done.fault.is_some() {
@@ -48,7 +47,7 @@ pub fn write_scan<E: Sink>(
         Err(_) => return Fault::OutOfMemory.report(errors),
     };
     let packets = done.files.packets.as_slice();
-    match stage_packets(rt, own, to, packets, &paths, errors) {
+    match stage_packets(rt, own, to.folder, packets, &paths, progress, errors) {
         Status::Good => {}
         failed => return failed,
     }
@@ -96,14 +95,15 @@ pub fn packet_paths(
 pub fn stage_packets<E: Sink>(
     rt: &HostRuntime,
     own: &str,
-    to: Outbound<'_>,
+    folder: &str,
     packets: &[PacketFile],
     paths: &[String],
+    progress: &Progress<'_>,
     errors: &mut E,
 ) -> Status {
     for (i, (packet, path)) in packets.iter().zip(paths).enumerate() {
-        if to.progress.is_due() {
-            to.progress.tell_written(i.saturating_add(1), packets.len());
+        if progress.is_due() {
+            progress.tell_written(i.saturating_add(1), packets.len());
         }
         if let Err(fault) = stage_packet(rt, own, packet, path.as_str()) {
             for staged in paths.iter().take(i) {
@@ -112,7 +112,7 @@ pub fn stage_packets<E: Sink>(
             return fault.report(errors);
         }
     }
-    flushed(rt, to.folder, paths, errors)
+    flushed(rt, folder, paths, errors)
 }
 
 // Writes a packet beside its name. Its bytes are held no longer than that takes.

@@ -46,10 +46,10 @@ pub struct Place<'a> {
 // The link file of a system, locked, the own address as names of files have it, and what is read of the
 // link file and of the base.
 #[derive(Drop)]
-struct Station<'a, 'r> {
+struct Station<'a, 'p, 'r> {
     locked: File,
     own: String,
-    given: Given<'a, Counting<'r>>,
+    given: Given<'a, Counting<'p, 'r>>,
 }
 
 /// The link file under its lock.
@@ -72,11 +72,11 @@ fn open_fault<'a>(error: &io::Error, path: &'a str) -> Fault<'a> {
 
 // Reads the files of a system. A seed for the hasher that cannot be had is a failed read. Where a progress is given it
 // is told how many messages of the base were read.
-fn read_station<'a, 'r>(
+fn read_station<'a, 'p, 'r>(
     rt: &HostRuntime,
     place: Place<'a>,
-    progress: Option<&'r Progress<'r>>,
-) -> Result<Station<'a, 'r>, Fault<'a>> {
+    progress: Option<&'p Progress<'r>>,
+) -> Result<Station<'a, 'p, 'r>, Fault<'a>> {
     let (locked, links) = locked_links(rt, place.links)?;
     let own = own_name(rt, &links)?;
     let keys = RandomState::new(rt).map_err(|_| Fault::Base(BaseFault::Read))?;
@@ -111,10 +111,10 @@ pub fn name_of(rt: &HostRuntime, own: Address) -> Result<String, AllocError> {
 }
 
 // What is given, where reading stopped for this reason too.
-fn stopped_by<'a, 'r>(
-    given: Given<'a, Counting<'r>>,
+fn stopped_by<'a, 'p, 'r>(
+    given: Given<'a, Counting<'p, 'r>>,
     stopped: Option<Fault<'a>>,
-) -> Given<'a, Counting<'r>> {
+) -> Given<'a, Counting<'p, 'r>> {
     let stopped = given.stopped.or(stopped);
     Given { stopped, ..given }
 }
@@ -391,7 +391,7 @@ pub fn run_scan<'a, W: Sink, E: Sink>(
     links: &'a str,
     base_path: &'a str,
     folder: &'a str,
-    progress: &'a Progress<'a>,
+    progress: &Progress<'_>,
     out: &mut W,
     errors: &mut E,
 ) -> Status {
@@ -412,21 +412,17 @@ pub fn run_scan<'a, W: Sink, E: Sink>(
     };
     let before = cursor_in(given.base.as_ref().map(|bytes| bytes.as_slice()));
     let done = scan(rt.alloc(), stamp, given, out);
-    let to = Outbound {
-        folder,
-        before,
-        progress,
-    };
-    let status = write_scan(rt, own.as_str(), to, done, base_path, errors);
+    let to = Outbound { folder, before };
+    let status = write_scan(rt, own.as_str(), to, done, base_path, progress, errors);
     let_go(locked, status)
 }
 
 /// `toss`: the limit of a text is judged first, and a list of packets is read before the lock is taken; each
 /// packet file is opened when its turn comes.
-pub fn run_toss<'a, W: Sink, E: Sink>(
-    rt: &'a HostRuntime,
-    words: &'a TossWords<'a>,
-    progress: &'a Progress<'a>,
+pub fn run_toss<W: Sink, E: Sink>(
+    rt: &HostRuntime,
+    words: &TossWords<'_>,
+    progress: &Progress<'_>,
     out: &mut W,
     errors: &mut E,
 ) -> Status {
