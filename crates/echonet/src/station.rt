@@ -18,7 +18,7 @@ use crate::progress::Progress;
 use echo_addr::{Address, Items};
 use echo_base::BaseFault;
 use echo_changing::{
-    Answer, Given, NewMessage, post, post_free, purge, reply, scan, toss, toss_each,
+    Answer, Given, NewMessage, PacketFiles, post, post_free, purge, reply, scan, toss, toss_each,
 };
 use echo_charset::Charset;
 use echo_device::{Sink, Watched};
@@ -441,22 +441,36 @@ pub fn run_toss<W: Sink, E: Sink>(
         links: words.links,
         base: words.base,
     };
+    let by = Tossing {
+        limits,
+        each: words.each,
+    };
     if is_folder(rt, place.base) {
-        let by = Tossing {
-            limits,
-            each: words.each,
-        };
         return toss_there(rt, place, by, stopped, &mut packets, out, errors);
     }
+    toss_at(rt, place, by, stopped, &mut packets, progress, out, errors)
+}
+
+// Tosses at a system whose base is a file.
+fn toss_at<'a, P: PacketFiles<'a>, W: Sink, E: Sink>(
+    rt: &HostRuntime,
+    place: Place<'a>,
+    by: Tossing,
+    stopped: Option<Fault<'a>>,
+    packets: &mut P,
+    progress: &Progress<'_>,
+    out: &mut W,
+    errors: &mut E,
+) -> Status {
     let Station { locked, own, given } = match read_station(rt, place, Some(progress)) {
         Ok(station) => station,
         Err(fault) => return fault.report(errors),
     };
     let given = stopped_by(given, stopped);
-    let done = if words.each {
-        toss_each(rt.alloc(), given, limits, &mut packets, out)
+    let done = if by.each {
+        toss_each(rt.alloc(), given, by.limits, packets, out)
     } else {
-        toss(rt.alloc(), given, limits, &mut packets, out)
+        toss(rt.alloc(), given, by.limits, packets, out)
     };
     let status = write_base(rt, own.as_str(), done, place.base, errors);
     let_go(locked, status)
