@@ -253,9 +253,39 @@ def links_fault(files):
     return None
 
 
+def listed_links(path, content):
+    """What `links --areas` prints of a link file."""
+    _, faults = reading.judge_links(content)
+    if faults:
+        return b"".join(b"%s:%d: %s '%s'\n" % (path.encode(), number, fault.encode(), escaped(word))
+                        for number, fault, word in faults)
+    own, areas = reading.read_links(content)
+    front = "%s: %s %d areas %d links\n" % (path, making.shown(own), len(areas), sum(map(len, areas.values())))
+    return front.encode() + b"".join(
+        b"%s: area %s %d links\n" % (path.encode(), tag, len(links)) for tag, links in areas.items())
+
+
+def escaped(content):
+    """Bytes as they are printed."""
+    return b"".join(b"\\\\" if byte == 0x5C else bytes([byte]) if 0x20 <= byte <= 0x7E else b"\\x%02x" % byte for byte in content)
+
+
+def check_all_areas(trial, paths, files):
+    """`check --all` prints what `check` prints of each area, in order of their tags."""
+    tags = sorted({tag for content in files for tag in reading.read_links(content)[1]})
+    each = [trial.run("check", "--", tag.decode(), *paths) for tag in tags]
+    every = trial.run("check", "--all", *paths)
+    trial.holds("each area is checked", every.out == b"".join(one.out for one in each))
+    trial.holds("a no is told", every.status == max((one.status for one in each), default=0))
+
+
 def try_links(trial, files):
-    """Link files are checked and drawn."""
+    """Link files are listed, checked and drawn."""
     paths = [trial.put("net%d" % number, content) for number, content in enumerate(files)]
+    listed = trial.runner.run("links", "--areas", *paths)
+    trial.holds("all faulty lines are listed", listed.out == b"".join(map(listed_links, paths, files)))
+    is_faulty = any(reading.judge_links(content)[1] for content in files)
+    trial.holds("a fault is told", (listed.status, listed.fault) == (2 * is_faulty, b""))
     checked = trial.run("check", "test", *paths)
     drawn = trial.run("picture", "test", *paths)
     trial.holds("both end alike", (checked.status, checked.fault) == (drawn.status, drawn.fault))
@@ -265,6 +295,7 @@ def try_links(trial, files):
         label = drawn.out.split(b"\n")[1]
         trial.holds("the picture has the verdict", label == b'label="' + checked.out[:-1] + b'";')
         trial.holds("check says one line", checked.out.count(b"\n") == 1 and checked.out.startswith((b"yes ", b"no ")))
+        check_all_areas(trial, paths, files)
     if checked.status == 0:
         trial.holds("a yes has no red", b"color" not in drawn.out)
 

@@ -30,6 +30,12 @@ complete() {
   bash -c '. "$1"; shift; COMP_WORDS=(echonet "$@"); COMP_CWORD=$#; _echonet; printf "%s\n" "${COMPREPLY[@]}"' \
     - "$root/one/usr/share/bash-completion/completions/echonet" "$@" | sort
 }
+
+# What a real fish completes, where there is one.
+in_fish() {
+  HOME=$root fish -c 'source $argv[1]; complete -C "echonet $argv[2]"' \
+    "$root/one/usr/share/fish/vendor_completions.d/echonet.fish" "$1" | cut -f 1 | sort
+}
 commands=$(bin/echonet --help | sed -n '/^Commands:/,/^$/s/^  \([a-z]*\) .*/\1/p')
 check 'there are commands' "$([ "$(wc -w <<< "$commands")" -ge 12 ] && echo yes)" yes
 check 'commands' "$(complete '')" "$(printf '%s\n' $commands --help --version | sort)"
@@ -38,6 +44,7 @@ for command in $commands; do
   [ "$command" = help ] && continue
   wanted=$(bin/echonet "$command" --help | sed -n '/^Options:/,/^$/p' | grep -o -- '--[a-z][a-z-]*' | sort -u)
   check "options of $command" "$(complete "$command" --)" "$wanted"
+  if command -v fish > /dev/null; then check "options of $command in fish" "$(in_fish "$command --")" "$wanted"; fi
   for shell in zsh/site-functions/_echonet fish/vendor_completions.d/echonet.fish; do
     for option in $wanted; do
       check "$option of $command in $shell" "$(grep -E "(^    $command\)|_from $command')" "$root/one/usr/share/$shell" |

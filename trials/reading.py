@@ -224,20 +224,45 @@ def line_fault(line, words, earlier):
     return None
 
 
-def read_links(content):
-    """The own address and the areas of a link file, or its fault."""
-    lines = []
+def wrong_word(fault, line, words):
+    """The word of a line of a link file that a fault is about."""
+    if fault.startswith("L1"):
+        return next((word for word in words if any(byte < 0x20 for byte in word)), words[0])
+    if fault.startswith("L4"):
+        return words[0]
+    if fault.startswith("L8"):
+        return line.strip(b" \t")[4:].strip(b" \t")
+    if fault.startswith(("L5", "L7")):
+        return words[1] if len(words) > 1 else b""
+    if words[0] == b"SYSTEM":
+        return next((word for word in words[1:2] if not address_in(word)), words[2] if len(words) > 2 else b"")
+    links = [address_in(word) for word in words[2:]]
+    return words[2 + next(at for at, link in enumerate(links) if link is None or link in links[:at])]
+
+
+def judge_links(content):
+    """The good lines of a link file, as words, and its faults: the line, the fault, and the wrong word."""
+    lines, faults = [], []
     for number, line in link_lines(content):
         words = [word for word in line.replace(b"\t", b" ").split(b" ") if word]
         fault = line_fault(line, words, lines)
         if fault:
-            raise Fault("%s line %d" % (fault, number))
-        lines.append(words)
-    system = [words for words in lines if words[0] == b"SYSTEM"]
-    if not system:
-        raise Fault("L3 NoSystem line 0")
+            faults.append((number, fault, wrong_word(fault, line, words)))
+        else:
+            lines.append(words)
+    if not faults and not any(words[0] == b"SYSTEM" for words in lines):
+        faults.append((0, "L3 NoSystem", b""))
+    return lines, faults
+
+
+def read_links(content):
+    """The own address and the areas of a link file, or its first fault."""
+    lines, faults = judge_links(content)
+    if faults:
+        raise Fault("%s line %d" % (faults[0][1], faults[0][0]))
+    system = next(words[1] for words in lines if words[0] == b"SYSTEM")
     areas = {words[1].upper(): [address_in(word) for word in words[2:]] for words in lines if words[0] == b"AREA"}
-    return address_in(system[0][1]), areas
+    return address_in(system), areas
 
 
 class Record:

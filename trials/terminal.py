@@ -1,4 +1,4 @@
-"""What a terminal is told: that a lock is waited for, and how far a toss is.
+"""What a terminal is told: that a lock is waited for, and how far a command is.
 
 The program runs with standard error on a terminal of this trial's own (a pty), and with a pipe in its place, where it
 is to be told nothing of that. What stands on the screen is worked out from the bytes as a terminal shows them.
@@ -8,6 +8,7 @@ import os
 import pty
 import re
 import select
+import shutil
 import signal
 import subprocess
 import sys
@@ -21,7 +22,11 @@ PROGRAM = os.environ.get("ECHONET", os.path.join(TOP, "bin", "echonet"))
 LINKS = making.link_file(making.OWN, [("TEST", [making.UPLINK, *making.DOWNLINKS])])
 MAIL = b"From: Ann\nTo: All\nSubject: Hi\nNewsgroups: TEST\n\nHello\n"
 LONGEST, MANY, MOST = 20, 60_000, 3
+ALL = MANY * MOST
 TOSS = ["toss", "many.links", "many.base", *("%d.pkt" % number for number in range(MOST))]
+LIST = ["list", "--from", str(ALL - 1), "many.base"]
+SCAN = ["scan", "--at", making.STAMP, "many.links", "many.base", "many.out"]
+MESSAGES, PACKETS = rb"echonet: message (\d+) of (\d+)", rb"echonet: packet (\d+) of (\d+)"
 
 
 class Trial:
@@ -164,36 +169,90 @@ def tossed(terminal, both=False):
     return slowed(TOSS, "0.pkt", terminal, both)
 
 
-def steps(came, form):
-    """The numbers that a line of this form told, one after another."""
+def listed(terminal, both=False):
+    """A slow list of the last message of many."""
+    return slowed(LIST, "many.base", terminal, both)
+
+
+def scanned(terminal, both=False):
+    """A slow scan of many messages."""
+    put_base(ALL)
+    clear_out()
+    return slowed(SCAN, "many.base", terminal, both)
+
+
+def clear_out():
+    """Makes the folder of the packets of scans, without any."""
+    shutil.rmtree("many.out", ignore_errors=True)
+    os.mkdir("many.out")
+
+
+def put_base(count):
+    """Puts a base of so many messages in place, none of which was scanned."""
+    with open("many.base", "wb") as base:
+        base.write(making.plain_base(range(count), 100, 0))
+
+
+def put_packets(count):
+    """Puts packets of so many messages each in place."""
+    for number in range(MOST):
+        with open("%d.pkt" % number, "wb") as packet:
+            packet.write(making.plain_packet(range(number * count, (number + 1) * count), 100))
+
+
+def told_in(came, form):
+    """The numbers that lines of this form told, one after another."""
     return [tuple(map(int, each)) for each in re.findall(rb"\r" + form + rb" *(?=\r)", came)]
 
 
+def try_slow(trial, name, run, forms, lines):
+    """One slow command: what it tells has one of these forms, each with the greatest number that it may tell, and it
+    prints these lines."""
+    status, came, out = run(True)
+    trial.expect("%s ends well" % name, (status, out) == (0, lines), out)
+    left = came
+    for form, most in forms:
+        told = told_in(came, form)
+        trial.expect("%s tells how far it is" % name, told and {each[1] for each in told} == {most}, came)
+        trial.expect("%s goes on" % name, told == sorted(told) and told[-1][0] <= most, came)
+        left = re.sub(rb"\r" + form + rb" *\r", b"", left)
+    trial.expect("%s tells nothing else" % name, not re.sub(rb"\r *\r", b"", left), came)
+    trial.expect("%s takes the line away" % name, screen(came) == [""], came)
+    status, came, _ = run(True, both=True)
+    trial.expect("what %s prints stands there alone" % name, screen(came) == lines.decode().split("\n"), came)
+    trial.expect("where %s told how far it was, too" % name, b"echonet: " in came, came)
+    trial.expect("%s tells a pipe nothing" % name, run(False) == (0, b"", lines))
+
+
 def progress(trial):
-    """How far a toss is."""
+    """How far a command is."""
     with open("many.links", "wb") as links:
         links.write(LINKS)
-    for number in range(MOST):
-        with open("%d.pkt" % number, "wb") as packet:
-            packet.write(making.plain_packet(range(number * MANY, (number + 1) * MANY), 100))
+    put_packets(MANY)
     line = b"filed %d known 0 notecho 0 badtag 0 noarea 0 notlinked 0\n" % MANY
-    status, came, out = tossed(True)
-    told = steps(came, rb"echonet: packet (\d+) of (\d+), (\d+)%")
-    trial.expect("a toss ends well", (status, out) == (0, line * MOST), out)
-    trial.expect("it tells how far it is", told and {each[1] for each in told} == {MOST}, came)
-    trial.expect("and goes on", told == sorted(told) and told[-1] <= (MOST, MOST, 100), came)
-    left = re.sub(rb"\rechonet: packet \d+ of \d+, \d+% *\r|\r *\r", b"", came)
-    trial.expect("it tells nothing else", not left, came)
-    trial.expect("and takes the line away", screen(came) == [""], came)
-    status, came, _ = tossed(True, both=True)
-    trial.expect("what it prints stands there alone", screen(came) == [line.decode().rstrip()] * MOST + [""], came)
-    trial.expect("where it told how far it was, too", b"of %d," % MOST in came, came)
-    trial.expect("a pipe is told nothing", tossed(False) == (0, b"", line * MOST))
-    for number in range(MOST):
-        with open("%d.pkt" % number, "wb") as packet:
-            packet.write(making.plain_packet([number], 100))
+    try_slow(trial, "toss", tossed, [(PACKETS + rb", (?:\d+)%", MOST)], line * MOST)
+    put_base(ALL)
+    try_slow(trial, "list", listed, [(MESSAGES, ALL)], listed_last())
+    try_slow(trial, "scan", scanned, [(MESSAGES, ALL), (PACKETS, len(making.DOWNLINKS))], sent_lines())
+    put_packets(1)
+    clear_out()
     os.remove("many.base")
-    trial.expect("a short toss tells nothing", Started(TOSS).ended()[1] == b"")
+    for words in (TOSS, LIST, SCAN):
+        trial.expect("a short %s tells nothing" % words[0], Started(words).ended()[:2] == (0, b""))
+
+
+def listed_last():
+    """What `list` prints of the last of the messages."""
+    shown = b"".join(b"line %s\n" % line.replace(b"\x01", rb"\x01") for line in making.plain_kept(ALL - 1, 100))
+    return b"message %d area TEST from 1:10/2 waiting\ndate %s\\x00\nto All\nfrom Ann\nsubject Hi\n" % (
+        ALL - 1, making.DATE[:19]) + shown + b"seen 2 path 1\nend %d messages, %d waiting\n" % (ALL, ALL)
+
+
+def sent_lines():
+    """What `scan` prints of the packets."""
+    sizes = [len(making.scanned_packet(link, range(ALL), 100)) for link in making.DOWNLINKS]
+    return "".join("packet %s %d messages %d bytes\n" % (making.shown(link), ALL, size)
+                   for link, size in zip(making.DOWNLINKS, sizes)).encode()
 
 
 def main():

@@ -6,4 +6,4 @@
 
 mod listing;
 
-pub use listing::list_seen;
+pub use listing::{begin_at, judge_messages, list_seen};

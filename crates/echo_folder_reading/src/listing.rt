@@ -24,7 +24,8 @@ use echo_store::StoreError;
 use std::alloc::Global;
 
 /// `list [--area TAG] [--from I] BASE` of a base folder, of which the messages from the number `first` on were read:
-/// prints what `list` prints of a base file of the same messages. Where one of them is damaged nothing is printed.
+/// prints what `list` prints of a base file of the same messages. A damaged one ends it where it comes: `judge_messages`
+/// finds it before.
 pub fn list_seen<'a, H: Digest, W: Sink>(
     alloc: Global,
     area: Option<&[u8]>,
@@ -36,7 +37,6 @@ pub fn list_seen<'a, H: Digest, W: Sink>(
         → ListAnswers (option_copied area.entry) first file (output_of W.contents W.failures W.holds out.old) (output_of W.contents W.failures W.holds out.new) result }
     ensures vouched { OnOk result ((i : ℕ) → first ≤ i → i < length seen.now.keys.items / 16 → IsVouched H.keyed seen.now i) }
 {
-    judge_messages::<H>(alloc, first, seen)?;
     let area = raised(alloc, area)?;
     let mut lines = Vec::new(alloc);
     print_messages::<H, W>(alloc, area.as_ref(), first, seen, &mut lines, out)?;
@@ -61,8 +61,8 @@ fn message_of<'a, H: Digest>(alloc: Global, seen: &Seen, i: usize) -> Result<Alo
     }
 }
 
-// The first number from this one on, of so many messages, or behind the last of them.
-fn begin_at(first: u64, count: usize) -> usize
+/// The first number from this one on, of so many messages, or behind the last of them.
+pub fn begin_at(first: u64, count: usize) -> usize
     ensures within { first < count → result ≡ first }
     ensures behind { count ≤ first → result ≡ count }
 {
@@ -73,13 +73,18 @@ fn begin_at(first: u64, count: usize) -> usize
     }
 }
 
-// Reads each message from this number on, so that of a damaged one nothing is printed before it.
-fn judge_messages<'a, H: Digest>(alloc: Global, first: u64, seen: &Seen) -> Result<(), Fault<'a>>
-    ensures fault { (base : model.Base) → SeesBase H.keyed first base seen.now → IfErr result IsOutOfMemory }
-    ensures vouched { OnOk result ((i : ℕ) → first ≤ i → i < length seen.now.keys.items / 16 → IsVouched H.keyed seen.now i) }
+/// Reads the messages from one number up to another, so that of a damaged one nothing has to be printed before it.
+pub fn judge_messages<'a, H: Digest>(
+    alloc: Global,
+    seen: &Seen,
+    from: usize,
+    to: usize,
+) -> Result<(), Fault<'a>>
+    requires { to ≤ length seen.now.keys.items / 16 }
+    ensures fault { (first : ℕ) (base : model.Base) → SeesBase H.keyed first base seen.now → first ≤ from → IfErr result IsOutOfMemory }
+    ensures vouched { OnOk result ((i : ℕ) → from ≤ i → i < to → IsVouched H.keyed seen.now i) }
 {
-    let count = seen.count();
-    'messages: for i in begin_at(first, count)..count {
+    'messages: for i in from..to {
         message_of::<H>(alloc, seen, i)?;
     }
     Ok(())
@@ -98,6 +103,7 @@ fn print_messages<'a, H: Digest, W: Sink>(
         → OnOk result (PassesOn (lines.old.items ++ messages_text (option_copied area.entry) first base.messages base.cursor (length base.messages)) lines.new.items (W.contents out.old) (W.contents out.new)) }
     ensures begun { (base : model.Base) → SeesBase H.keyed first base seen.now
         → OnErr result (WritesFront (lines.old.items ++ messages_text (option_copied area.entry) first base.messages base.cursor (length base.messages)) (W.contents out.old) (W.contents out.new)) }
+    ensures vouched { OnOk result ((i : ℕ) → first ≤ i → i < length seen.now.keys.items / 16 → IsVouched H.keyed seen.now i) }
     ensures ok { OnOk result (W.failures out.new ≡ W.failures out.old) }
     ensures err { (base : model.Base) → SeesBase H.keyed first base seen.now → IfErr result (Stops (W.failures out.old) (W.failures out.new)) }
 {

@@ -1,16 +1,20 @@
 //! The program `echonet`: it reads the files that the command line names (`paths`, `inputs`), calls the
 //! commands (`judging`: `links`, which goes on where a file cannot be used), and puts what they leave in place
 //! (`station`, `packets`, `placing`, `stopped`, `stored` for files of one message each, and `jam` for JAM bases;
-//! `folders` and `on_folder` where a base is a folder, and `converting`), under `locks`. `clock` gives the moment and
-//! the serial that words leave to it, `progress` tells a terminal how far a command is.
+//! `folders`, `on_folder` and `listing` where a base is a folder, and `converting`; `front` reads the front of a base file), under
+//! `locks`. `clock` gives the moment and the serial that words leave to it, `progress` tells a terminal how far a
+//! command is, and `loading` how far the reading of a base file is.
 #![tactic(auto)]
 
 mod clock;
 mod converting;
 mod folders;
+mod front;
 mod inputs;
 mod jam;
 mod judging;
+mod listing;
+mod loading;
 mod locks;
 mod on_folder;
 mod packets;
@@ -26,16 +30,16 @@ use echo_base::BaseFault;
 use echo_checking::{check, check_all, picture};
 use echo_device::{Sink, Watched};
 use echo_export::Form;
-use echo_folder_reading::list_seen;
-use echo_keys::SipDigest;
 use echo_reading::{export, list, nodelist, show, tell_lost};
 use echo_rehearsing::{picture_why, replay, why};
 use echo_status::{Fault, Status, ended, number_of, wanted};
 use echo_words::{CheckWords, Ending, ExportWords, Words, explain, parse};
-use folders::{base_bytes, is_folder, look_into};
+use folders::{base_bytes, is_folder};
 use inputs::{MAX_INPUT, read_file, read_given, read_if_given, read_links, read_script};
 use jam::run_export_jam;
 use judging::run_links;
+use listing::list_folder;
+use loading::Counting;
 use paths::{PathNames, names_of};
 use progress::{Cleared, Progress};
 use station::{run_post, run_post_mail, run_post_stored, run_purge, run_reply, run_scan, run_toss};
@@ -132,6 +136,7 @@ fn run_list<'a, W: Sink>(
     area: Option<&'a str>,
     from: Option<&'a str>,
     base: &'a str,
+    progress: &Progress<'_>,
     out: &mut W,
 ) -> Result<Status, Fault<'a>> {
     let first = match from {
@@ -140,11 +145,11 @@ fn run_list<'a, W: Sink>(
     };
     let area = area.map(|tag| tag.as_bytes());
     if is_folder(rt, base) {
-        let seen = look_into(rt, base, first)?;
-        return list_seen::<SipDigest, W>(rt.alloc(), area, first, &seen, out);
+        return list_folder(rt, area, first, base, progress, out);
     }
-    let hasher = RandomState::new(rt).map_err(|_| Fault::Base(BaseFault::Read))?;
+    let keys = RandomState::new(rt).map_err(|_| Fault::Base(BaseFault::Read))?;
     let bytes = base_bytes(rt, base)?;
+    let hasher = Counting::new(keys, Some(progress), Some(&bytes));
     list(rt.alloc(), area, first, &bytes, hasher, out)
 }
 
@@ -246,9 +251,12 @@ fn run_words<W: Sink, E: Sink>(
             links,
             base,
             folder,
-        } => run_scan(rt, *at, *links, *base, *folder, out, errors),
+        } => run_scan(rt, *at, *links, *base, *folder, progress, out, errors),
         Words::Purge { links, base } => run_purge(rt, *links, *base, out, errors),
-        Words::List { area, from, base } => ended(run_list(rt, *area, *from, *base, out), errors),
+        Words::List { area, from, base } => ended(
+            run_list(rt, *area, *from, *base, progress, out),
+            errors,
+        ),
         Words::Export(words) => match (words.msg, words.jam) {
             (Some(folder), _) => run_export_stored(rt, words, folder, out, errors),
             (None, Some(path)) => run_export_jam(rt, words, path, out, errors),

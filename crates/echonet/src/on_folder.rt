@@ -5,6 +5,7 @@ ghost use Rattle.std.specs.Prelude.{IfOk};
 use crate::folders::{BaseFolder, cursor_there, look_into, open_own};
 use crate::locks::locked_folder;
 use crate::placing::{Outbound, drop_packets, name_packets, packet_paths, stage_packets};
+use crate::progress::Progress;
 use crate::station::{Place, Posting, let_go, locked_links, name_of};
 use crate::stopped::finish_stopped;
 use echo_addr::Items;
@@ -273,6 +274,7 @@ pub fn scan_there<'a, W: Sink, E: Sink>(
     place: Place<'a>,
     stamp: Stamp,
     folder: &'a str,
+    progress: &Progress<'_>,
     out: &mut W,
     errors: &mut E,
 ) -> Status {
@@ -286,7 +288,7 @@ pub fn scan_there<'a, W: Sink, E: Sink>(
     };
     let Station { links, store, .. } = &mut station;
     let status = match scan_on(rt.alloc(), stamp, links, store, out) {
-        Ok(packets) => put_in_place(rt, &mut station, place.base, to, &packets, errors),
+        Ok(packets) => put_in_place(rt, &mut station, place.base, to, &packets, progress, errors),
         Err(stop) => fault_of(rt, place.base, stop).report(errors),
     };
     both_let_go(station, status)
@@ -299,15 +301,17 @@ fn put_in_place<'r, E: Sink>(
     base: &str,
     to: Outbound<'_>,
     packets: &Items<PacketFile>,
+    progress: &Progress<'_>,
     errors: &mut E,
 ) -> Status
     requires { (⟦<BaseFolder<'r> as Store>⟧.state station.old.store).is_ready }
 {
-    let own = match name_of(rt, station.links.system()) {
-        Ok(own) => own,
+    let name = match name_of(rt, station.links.system()) {
+        Ok(name) => name,
         Err(_) => return Fault::OutOfMemory.report(errors),
     };
-    match finish_stopped(rt, own.as_str(), None, to, errors) {
+    let own = name.as_str();
+    match finish_stopped(rt, own, None, to, errors) {
         Status::Good => {}
         failed => return failed,
     }
@@ -316,14 +320,14 @@ fn put_in_place<'r, E: Sink>(
         Ok(paths) => paths,
         Err(_) => return Fault::OutOfMemory.report(errors),
     };
-    match stage_packets(rt, own.as_str(), to.folder, packets, &paths, errors) {
+    match stage_packets(rt, own, to.folder, packets, &paths, progress, errors) {
         Status::Good => {}
         failed => return failed,
     }
     match commit_on(&mut station.store) {
-        Ok(()) => name_packets(rt, own.as_str(), to.folder, &paths, errors),
+        Ok(()) => name_packets(rt, own, to.folder, &paths, errors),
         Err(stop) => {
-            drop_packets(rt, own.as_str(), to, cursor_there(rt, base), &paths);
+            drop_packets(rt, own, to, cursor_there(rt, base), &paths);
             fault_of(rt, base, stop).report(errors)
         }
     }

@@ -1,6 +1,7 @@
 //! What a command leaves, put in place.
 
 use crate::inputs::output_fault;
+use crate::progress::Progress;
 use crate::stopped::{cursor_of, finish_stopped, folder_path};
 use echo_changing::{Done, PacketFile};
 use echo_device::Sink;
@@ -31,6 +32,7 @@ pub fn write_scan<E: Sink>(
     to: Outbound<'_>,
     done: Done<'_>,
     base: &str,
+    progress: &Progress<'_>,
     errors: &mut E,
 ) -> Status {
     if done.fault.is_some() {
@@ -45,7 +47,7 @@ pub fn write_scan<E: Sink>(
         Err(_) => return Fault::OutOfMemory.report(errors),
     };
     let packets = done.files.packets.as_slice();
-    match stage_packets(rt, own, to.folder, packets, &paths, errors) {
+    match stage_packets(rt, own, to.folder, packets, &paths, progress, errors) {
         Status::Good => {}
         failed => return failed,
     }
@@ -96,9 +98,13 @@ pub fn stage_packets<E: Sink>(
     folder: &str,
     packets: &[PacketFile],
     paths: &[String],
+    progress: &Progress<'_>,
     errors: &mut E,
 ) -> Status {
     for (i, (packet, path)) in packets.iter().zip(paths).enumerate() {
+        if progress.is_due() {
+            progress.tell_written(i.saturating_add(1), packets.len());
+        }
         if let Err(fault) = stage_packet(rt, own, packet, path.as_str()) {
             for staged in paths.iter().take(i) {
                 let _ = drop_staged(rt.alloc(), rt, staged.as_str(), own);

@@ -68,9 +68,19 @@ impl<'r> Progress<'r> {
         }
     }
 
-    /// Tells that this share of a packet was read, in hundredths; packets are counted from 1.
+    /// Tells that this share of a packet was read, in hundredths. Packets are counted from 1.
     pub fn tell_packet(&self, packet: usize, packets: usize, share: u128) {
         self.tell(format!(in self.rt.alloc(); "echonet: packet {packet} of {packets}, {share}%"));
+    }
+
+    /// Tells which of the packets of a scan is written.
+    pub fn tell_written(&self, packet: usize, packets: usize) {
+        self.tell(format!(in self.rt.alloc(); "echonet: packet {packet} of {packets}"));
+    }
+
+    /// Tells which of the messages of a base was read; messages are counted from 1.
+    pub fn tell_message(&self, message: u64, messages: u64) {
+        self.tell(format!(in self.rt.alloc(); "echonet: message {message} of {messages}"));
     }
 
     // Tells a line, if there was memory for it.

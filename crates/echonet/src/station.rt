@@ -3,7 +3,9 @@
 
 use crate::clock::{moment_of, serial_from};
 use crate::folders::is_folder;
+use crate::front::cursor_in;
 use crate::inputs::{MAX_TEXT_FILE, input_fault, read_base, read_file, read_standard_input};
+use crate::loading::Counting;
 use crate::locks::lock_file;
 use crate::on_folder::{
     Replying, Tossing, post_mail_there, post_there, purge_there, reply_there, scan_there,
@@ -13,11 +15,10 @@ use crate::packets::PacketPaths;
 use crate::paths::{PathNames, names_of};
 use crate::placing::{Outbound, write_base, write_scan};
 use crate::progress::Progress;
-use crate::stopped::cursor_in;
 use echo_addr::{Address, Items};
 use echo_base::BaseFault;
 use echo_changing::{
-    Answer, Given, NewMessage, post, post_free, purge, reply, scan, toss, toss_each,
+    Answer, Given, NewMessage, PacketFiles, post, post_free, purge, reply, scan, toss, toss_each,
 };
 use echo_charset::Charset;
 use echo_device::{Sink, Watched};
@@ -45,10 +46,10 @@ pub struct Place<'a> {
 // The link file of a system, locked, the own address as names of files have it, and what is read of the
 // link file and of the base.
 #[derive(Drop)]
-struct Station<'a> {
+struct Station<'a, 'p, 'r> {
     locked: File,
     own: String,
-    given: Given<'a, RandomState>,
+    given: Given<'a, Counting<'p, 'r>>,
 }
 
 /// The link file under its lock.
@@ -69,15 +70,22 @@ fn open_fault<'a>(error: &io::Error, path: &'a str) -> Fault<'a> {
     }
 }
 
-// Reads the files of a system. A seed for the hasher that cannot be had is a failed read.
-fn read_station<'a>(rt: &HostRuntime, place: Place<'a>) -> Result<Station<'a>, Fault<'a>> {
+// Reads the files of a system. A seed for the hasher that cannot be had is a failed read. Where a progress is given it
+// is told how many messages of the base were read.
+fn read_station<'a, 'p, 'r>(
+    rt: &HostRuntime,
+    place: Place<'a>,
+    progress: Option<&'p Progress<'r>>,
+) -> Result<Station<'a, 'p, 'r>, Fault<'a>> {
     let (locked, links) = locked_links(rt, place.links)?;
     let own = own_name(rt, &links)?;
-    let hasher = RandomState::new(rt).map_err(|_| Fault::Base(BaseFault::Read))?;
+    let keys = RandomState::new(rt).map_err(|_| Fault::Base(BaseFault::Read))?;
     let (base, stopped) = match read_base(rt, place.base) {
         Ok(found) => (found.map(|bytes| Items::new(bytes)), None),
         Err(fault) => (None, Some(fault)),
     };
+    let bytes = base.as_ref().map(|bytes| bytes.as_slice());
+    let hasher = Counting::new(keys, progress, bytes);
     let given = Given {
         links: Items::new(links),
         base,
@@ -103,10 +111,10 @@ pub fn name_of(rt: &HostRuntime, own: Address) -> Result<String, AllocError> {
 }
 
 // What is given, where reading stopped for this reason too.
-fn stopped_by<'a>(
-    given: Given<'a, RandomState>,
+fn stopped_by<'a, 'p, 'r>(
+    given: Given<'a, Counting<'p, 'r>>,
     stopped: Option<Fault<'a>>,
-) -> Given<'a, RandomState> {
+) -> Given<'a, Counting<'p, 'r>> {
     let stopped = given.stopped.or(stopped);
     Given { stopped, ..given }
 }
@@ -156,7 +164,7 @@ fn post_at<'a, W: Sink, E: Sink>(
     if is_folder(rt, place.base) {
         return post_there(rt, place, asked, stopped, out, errors);
     }
-    let Station { locked, own, given } = match read_station(rt, place) {
+    let Station { locked, own, given } = match read_station(rt, place, None) {
         Ok(station) => station,
         Err(fault) => return fault.report(errors),
     };
@@ -220,7 +228,7 @@ pub fn run_post_mail<W: Sink, E: Sink>(
     if is_folder(rt, place.base) {
         return post_mail_there(rt, place, asked, &mail, out, errors);
     }
-    let Station { locked, own, given } = match read_station(rt, place) {
+    let Station { locked, own, given } = match read_station(rt, place, None) {
         Ok(station) => station,
         Err(fault) => return fault.report(errors),
     };
@@ -280,7 +288,7 @@ pub fn run_reply<W: Sink, E: Sink>(
         };
         return reply_there(rt, place, asked, stopped, out, errors);
     }
-    let Station { locked, own, given } = match read_station(rt, place) {
+    let Station { locked, own, given } = match read_station(rt, place, None) {
         Ok(station) => station,
         Err(fault) => return fault.report(errors),
     };
@@ -367,7 +375,7 @@ pub fn run_purge<W: Sink, E: Sink>(
     if is_folder(rt, base_path) {
         return purge_there(rt, place, out, errors);
     }
-    let Station { locked, own, given } = match read_station(rt, place) {
+    let Station { locked, own, given } = match read_station(rt, place, None) {
         Ok(station) => station,
         Err(fault) => return fault.report(errors),
     };
@@ -383,6 +391,7 @@ pub fn run_scan<'a, W: Sink, E: Sink>(
     links: &'a str,
     base_path: &'a str,
     folder: &'a str,
+    progress: &Progress<'_>,
     out: &mut W,
     errors: &mut E,
 ) -> Status {
@@ -395,16 +404,16 @@ pub fn run_scan<'a, W: Sink, E: Sink>(
         base: base_path,
     };
     if is_folder(rt, base_path) {
-        return scan_there(rt, place, stamp, folder, out, errors);
+        return scan_there(rt, place, stamp, folder, progress, out, errors);
     }
-    let Station { locked, own, given } = match read_station(rt, place) {
+    let Station { locked, own, given } = match read_station(rt, place, Some(progress)) {
         Ok(station) => station,
         Err(fault) => return fault.report(errors),
     };
     let before = cursor_in(given.base.as_ref().map(|bytes| bytes.as_slice()));
     let done = scan(rt.alloc(), stamp, given, out);
     let to = Outbound { folder, before };
-    let status = write_scan(rt, own.as_str(), to, done, base_path, errors);
+    let status = write_scan(rt, own.as_str(), to, done, base_path, progress, errors);
     let_go(locked, status)
 }
 
@@ -432,22 +441,36 @@ pub fn run_toss<W: Sink, E: Sink>(
         links: words.links,
         base: words.base,
     };
+    let by = Tossing {
+        limits,
+        each: words.each,
+    };
     if is_folder(rt, place.base) {
-        let by = Tossing {
-            limits,
-            each: words.each,
-        };
         return toss_there(rt, place, by, stopped, &mut packets, out, errors);
     }
-    let Station { locked, own, given } = match read_station(rt, place) {
+    toss_at(rt, place, by, stopped, &mut packets, progress, out, errors)
+}
+
+// Tosses at a system whose base is a file.
+fn toss_at<'a, P: PacketFiles<'a>, W: Sink, E: Sink>(
+    rt: &HostRuntime,
+    place: Place<'a>,
+    by: Tossing,
+    stopped: Option<Fault<'a>>,
+    packets: &mut P,
+    progress: &Progress<'_>,
+    out: &mut W,
+    errors: &mut E,
+) -> Status {
+    let Station { locked, own, given } = match read_station(rt, place, Some(progress)) {
         Ok(station) => station,
         Err(fault) => return fault.report(errors),
     };
     let given = stopped_by(given, stopped);
-    let done = if words.each {
-        toss_each(rt.alloc(), given, limits, &mut packets, out)
+    let done = if by.each {
+        toss_each(rt.alloc(), given, by.limits, packets, out)
     } else {
-        toss(rt.alloc(), given, limits, &mut packets, out)
+        toss(rt.alloc(), given, by.limits, packets, out)
     };
     let status = write_base(rt, own.as_str(), done, place.base, errors);
     let_go(locked, status)

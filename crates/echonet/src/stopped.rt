@@ -1,6 +1,7 @@
 //! What a scan that was stopped left in the folder of packets: packets that stand beside their names. The number in
 //! a name is how many messages were scanned before, so it shows whether that scan came to move the cursor.
 
+use crate::front::{TO_CURSOR, cursor_in};
 use crate::inputs::output_fault;
 use crate::placing::Outbound;
 use echo_device::{Sink, Watched, fill_from};
@@ -10,9 +11,6 @@ use std::alloc::AllocError;
 use std::io::ErrorKind;
 use std::{fs, io};
 
-/// Where a base file has its cursor, in four bytes, low byte first.
-const CURSOR: usize = 8;
-
 /// A packet that stands beside its path, and how many messages were scanned before it.
 #[derive(Drop)]
 struct Left {
@@ -20,24 +18,11 @@ struct Left {
     before: u64,
 }
 
-/// How many messages of a base file were scanned; none where there is no file.
-pub fn cursor_in(base: Option<&[u8]>) -> u64 {
-    match base {
-        Some(bytes) if bytes.len() >= CURSOR + 4 => u64::from(u32::from_le_bytes([
-            bytes[CURSOR],
-            bytes[CURSOR + 1],
-            bytes[CURSOR + 2],
-            bytes[CURSOR + 3],
-        ])),
-        _ => 0,
-    }
-}
-
-/// The same of the base file with this path, as it is now, where that can be read.
+/// How many messages of the base file with this path were scanned, as it is now, where that can be read.
 pub fn cursor_of(rt: &HostRuntime, base: &str) -> Option<u64> {
     match fs::open(rt, base) {
         Ok(file) => {
-            let mut front = [0u8; CURSOR + 4];
+            let mut front = [0u8; TO_CURSOR];
             let came = fill_from(&mut Watched::new(file), &mut front, 0).ok()?;
             Some(cursor_in(Some(&front[..came])))
         }

@@ -3,27 +3,18 @@ use Rattle.std.proofs.lemmas.Bool.{cases_lt}
 use Rattle.echo_base_folder.specs.Reading.{IsVouched}
 use Rattle.echo_base_folder.proofs.Lookings.{err_is}
 use Rattle.echo_status.specs.Ended.{IsOutOfMemory}
-use Rattle.echo_folder_reading.proofs.Listings.{asked_from, not_past}
 use Rattle.echo_folder_reading.proofs.listing.judge_messages.Goals as goal
 
-pub messages-init : goal.messages-init
-messages-init g c = record {
-  from = asked_from c.args.first c.count-count.result c.begin_at-i.result c.begin_at-i.ensures.within c.begin_at-i.ensures.behind;
-  vouched = λ j from below. absurd (omega (arith, from, below, not_past c.args.first c.count-count.result c.begin_at-i.result c.begin_at-i.ensures.within c.begin_at-i.ensures.behind));
+pub messages-preserved : goal.messages-preserved
+messages-preserved g c = record {
+  from = omega (arith, c.messages.invariant.from);
+  vouched = λ j from below. ⊎_elim (λ (h : j < c.messages.i). c.messages.invariant.vouched j from h)
+      (λ (h : c.messages.i ≤ j). let same : c.messages.i ≡ j = omega (arith, below, h) in subst (λ (n : ℕ). IsVouched g.H.Digest.keyed c.args.seen.now n) same c.in_ok-message_of.ensures.vouched) (cases_lt j c.messages.i);
 }
 
-pub messages-preserved : goal.messages-preserved
-messages-preserved g c =
-    let first_below : c.args.first ≤ c.messages.i = c.messages.invariant.from c.messages-test.true in
-    record {
-      from = λ below. omega (arith, first_below);
-      vouched = λ j from below. ⊎_elim (λ (h : j < c.messages.i). c.messages.invariant.vouched j from h)
-          (λ (h : c.messages.i ≤ j). let same : c.messages.i ≡ j = omega (arith, below, h) in subst (λ (n : ℕ). IsVouched g.H.Digest.keyed c.args.seen.now n) same c.in_ok-message_of.ensures.vouched) (cases_lt j c.messages.i);
-    }
-
 pub returns-in_err-message_of-clause-fault : goal.returns-in_err-message_of-clause-fault
-returns-in_err-message_of-clause-fault g c = λ base sees.
-    err_is IsOutOfMemory c.in_err-message_of.field-0.0 c.from_residual.result c.from_residual.ensures.1 (c.in_err-message_of.ensures.fault c.args.first base sees (c.messages.invariant.from c.messages-test.true))
+returns-in_err-message_of-clause-fault g c = λ first base sees from.
+    err_is IsOutOfMemory c.in_err-message_of.field-0.0 c.from_residual.result c.from_residual.ensures.1 (c.in_err-message_of.ensures.fault first base sees (omega (arith, from, c.messages.invariant.from)))
 
 pub returns-clause-vouched : goal.returns-clause-vouched
-returns-clause-vouched g c = λ i from below. c.messages.invariant.vouched i from (omega (arith, below, c.count-count.ensures, c.messages-test.false, c.messages.auto.i-end))
+returns-clause-vouched g c = λ i from below. c.messages.invariant.vouched i from (omega (arith, below, c.messages-test.false))

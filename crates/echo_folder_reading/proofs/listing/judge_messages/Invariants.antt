@@ -5,6 +5,6 @@ use Rattle.echo_folder_reading.proofs.listing.judge_messages.Given as goal
 
 abbrev pub invariant-messages : goal.invariant-messages
 invariant-messages g l = record {
-  from : l.i < l.count → l.first ≤ l.i;
-  vouched : (j : ℕ) → l.first ≤ j → j < l.i → IsVouched g.H.Digest.keyed l.seen j;
+  from : l.from ≤ l.i;
+  vouched : (j : ℕ) → l.from ≤ j → j < l.i → IsVouched g.H.Digest.keyed l.seen j;
 }

@@ -1,15 +1,10 @@
-use Rattle.std.proofs.Common.{◌∙◌, ◌++◌, ℕ, ap, inl, inr, refl}
+use Rattle.std.proofs.Common.{◌∙◌, ◌++◌, ℕ, ap, inl, inr}
 use Rattle.std.proofs.lemmas.Result.{err_from_is_err_and}
 use Rattle.echo_print.specs.BaseListed.{total_text}
 use Rattle.echo_base_folder.proofs.Readings.{seen_count, seen_cursor}
 use Rattle.echo_status.specs.Devices.{output_of}
 use Rattle.echo_reading.proofs.Listings.{base_listed, base_unlisted, listing_begun}
 use Rattle.echo_folder_reading.proofs.listing.list_seen.Goals as goal
-
-pub returns-in_err-judge_messages-clause-answers : goal.returns-in_err-judge_messages-clause-answers
-returns-in_err-judge_messages-clause-answers g c = λ base file sees given.
-    let p = err_from_is_err_and c.from_residual.result c.from_residual.ensures.1 in
-    rw (p.1, p.2) (inr (inl (c.in_err-judge_messages.ensures.fault base sees), refl))
 
 pub returns-in_err-print_messages-clause-answers : goal.returns-in_err-print_messages-clause-answers
 returns-in_err-print_messages-clause-answers g c = λ base file sees given.

@@ -1,4 +1,6 @@
-use Rattle.std.proofs.Common.{◌≡◌, ◌∙◌, ◌≤◌, ◌<◌, ◌+◌, ◌++◌, ℕ, List, length, option_copied, refl, subst, arith}
+use Rattle.std.proofs.Common.{◌≡◌, ◌∙◌, ◌≤◌, ◌<◌, ◌+◌, ◌++◌, ℕ, List, length, option_copied, refl, subst, arith, ⊎_elim}
+use Rattle.std.proofs.lemmas.Bool.{cases_lt}
+use Rattle.echo_base_folder.specs.Reading.{IsVouched}
 use Rattle.echo_base_folder.proofs.Lookings.{err_is}
 use Rattle.echo_base_folder.proofs.Readings.{seen_count, seen_cursor}
 use Rattle.echo_print.specs.BaseListed.{asked_text, messages_text}
@@ -16,6 +18,7 @@ messages-init g c =
     record {
       from = asked_from c.args.first c.count-count.result c.begin_at-i.result within behind;
       inside = not_behind c.args.first c.count-count.result c.begin_at-i.result within behind;
+      vouched = λ j from below. absurd (omega (arith, from, below, not_past c.args.first c.count-count.result c.begin_at-i.result within behind));
       printed = λ base sees. printed_none (g.W.Write.contents c.args.out.now) c.args.lines.now.items (option_copied c.args.area) c.args.first base.messages base.cursor c.begin_at-i.result (not_past c.args.first c.count-count.result c.begin_at-i.result within behind);
       failed = refl;
     }
@@ -64,6 +67,8 @@ messages-preserved g c =
     record {
       from = λ below. omega (arith, from);
       inside = omega (arith, c.messages-test.true);
+      vouched = λ j first below. ⊎_elim (λ (h : j < c.messages.i). c.messages.invariant.vouched j first h)
+          (λ (h : c.messages.i ≤ j). let same : c.messages.i ≡ j = omega (arith, below, h) in subst (λ (n : ℕ). IsVouched keyed seen n) same c.in_ok-alone.ensures.vouched) (cases_lt j c.messages.i);
       printed = λ base sees.
           let many = seen_count keyed c.args.first base seen sees in
           let within : c.messages.i < length base.messages = omega (arith, c.messages-test.true, c.count-count.ensures, many) in
@@ -81,3 +86,6 @@ returns-clause-lines g c = λ base sees.
     let end : c.messages.i ≡ length base.messages = omega (arith, c.messages-test.false, c.messages.invariant.inside, c.count-count.ensures, many) in
     subst (λ (n : ℕ). PassesOn (c.args.lines.now.items ++ messages_text (option_copied c.args.area) c.args.first base.messages base.cursor n) c.messages.lines.items (g.W.Write.contents c.args.out.now) (g.W.Write.contents c.messages.out)) end
     (c.messages.invariant.printed base sees)
+
+pub returns-clause-vouched : goal.returns-clause-vouched
+returns-clause-vouched g c = λ i from below. c.messages.invariant.vouched i from (omega (arith, below, c.count-count.ensures, c.messages-test.false, c.messages.invariant.inside))

@@ -1,0 +1,32 @@
+//! The front of a base file: numbers of four bytes, low byte first.
+
+/// Where the cursor stands.
+const CURSOR: usize = 8;
+
+/// Where the number of messages stands.
+const MESSAGES: usize = 12;
+
+/// How many bytes there are up to the end of the cursor.
+pub const TO_CURSOR: usize = CURSOR + 4;
+
+/// How many messages of a base file were scanned; none where there is no file.
+pub fn cursor_in(base: Option<&[u8]>) -> u64 {
+    number_at(base, CURSOR)
+}
+
+/// How many messages a base file says that it has; none where there is no file.
+pub fn messages_in(base: Option<&[u8]>) -> u64 {
+    number_at(base, MESSAGES)
+}
+
+// The number at this place; none where the file ends before it does.
+fn number_at(base: Option<&[u8]>, place: usize) -> u64 {
+    let four = match base {
+        Some(bytes) => bytes.get(place..).unwrap_or(&[]),
+        None => &[],
+    };
+    if four.len() < 4 {
+        return 0;
+    }
+    u64::from(u32::from_le_bytes([four[0], four[1], four[2], four[3]]))
+}
