@@ -33,14 +33,11 @@ fn judge_seen<'a>(
     progress: &Progress<'_>,
 ) -> Result<(), Fault<'a>> {
     let count = seen.count();
-    let mut at = begin_at(first, count);
-    'pieces: while at < count {
-        let to = if count - at > SOME { at + SOME } else { count };
-        judge_messages::<SipDigest>(rt.alloc(), seen, at, to)?;
-        if progress.is_due() {
-            progress.tell_message(to as u64, count as u64);
+    'messages: for i in begin_at(first, count)..count {
+        judge_messages::<SipDigest>(rt.alloc(), seen, i, i + 1)?;
+        if i % SOME == 0 && progress.is_due() {
+            progress.tell_message((i + 1) as u64, count as u64);
         }
-        at = to;
     }
     Ok(())
 }
