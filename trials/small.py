@@ -263,7 +263,7 @@ def hexadecimal(chance, real):
 def posting(chance):
     """The words of a posting and its body."""
     serial = chance.choice(["%08x" % chance.getrandbits(32), "%08X" % chance.getrandbits(32), "1", "0000000g"])
-    stamp = chance.choice([making.STAMP] * 4 + ["2026-02-31T00:00:00", "2080-01-01T00:00:00", "2026-13-01T00:00:00", "now"])
+    stamp = chance.choice([making.STAMP] * 4 + ["2026-02-31T00:00:00", "2080-01-01T00:00:00", "2026-13-01T00:00:00", "Now"])
     to, by, subject = (plain_bytes(chance, most).decode("latin-1") for most in (38, 38, 75))
     words = ["--area=" + chance.choice(["TEST", "test", "Other", "NONE", ""]), "--to=" + to, "--from=" + by,
              "--subject=" + subject, "--serial=" + serial, "--at=" + stamp]

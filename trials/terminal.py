@@ -26,7 +26,10 @@ ALL = MANY * MOST
 TOSS = ["toss", "many.links", "many.base", *("%d.pkt" % number for number in range(MOST))]
 LIST = ["list", "--from", str(ALL - 1), "many.base"]
 SCAN = ["scan", "--at", making.STAMP, "many.links", "many.base", "many.out"]
+POSTED = 40_000
+REPLAY = ["replay", "many.script", "many.links"]
 MESSAGES, PACKETS = rb"echonet: message (\d+) of (\d+)", rb"echonet: packet (\d+) of (\d+)"
+EVENTS = rb"echonet: event (\d+) of (\d+)"
 
 
 class Trial:
@@ -181,6 +184,23 @@ def scanned(terminal, both=False):
     return slowed(SCAN, "many.base", terminal, both)
 
 
+def replayed(terminal, both=False):
+    """A slow replay of many postings: its script is a pipe, into which nothing is written for a while."""
+    os.mkfifo("many.script")
+    run = Started(REPLAY, b"", terminal, both)
+    time.sleep(1.1)
+    put_script(POSTED)
+    ended = run.ended()
+    os.remove("many.script")
+    return ended
+
+
+def put_script(count):
+    """Writes a script of so many postings."""
+    with open("many.script", "wb") as script:
+        script.write(b"".join(b"POST 0 TEST %08x\n" % number for number in range(count)))
+
+
 def clear_out():
     """Makes the folder of the packets of scans, without any."""
     shutil.rmtree("many.out", ignore_errors=True)
@@ -234,10 +254,13 @@ def progress(trial):
     put_base(ALL)
     try_slow(trial, "list", listed, [(MESSAGES, ALL)], listed_last())
     try_slow(trial, "scan", scanned, [(MESSAGES, ALL), (PACKETS, len(making.DOWNLINKS))], sent_lines())
+    try_slow(trial, "replay", replayed, [(EVENTS, POSTED)],
+             b"system 1:10/1 TEST filed %d waiting %d\npackets 0 undelivered 0\nsettled no\n" % (POSTED, POSTED))
     put_packets(1)
+    put_script(1)
     clear_out()
     os.remove("many.base")
-    for words in (TOSS, LIST, SCAN):
+    for words in (TOSS, LIST, SCAN, REPLAY):
         trial.expect("a short %s tells nothing" % words[0], Started(words).ended()[:2] == (0, b""))
 
 

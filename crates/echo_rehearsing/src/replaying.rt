@@ -8,7 +8,7 @@ ghost use Rattle.echo_replay.specs.Script.{ScriptOf};
 use crate::replay_text::push_world;
 use echo_addr::Items;
 use echo_device::Sink;
-use echo_replay::{ScriptFault, read_script};
+use echo_replay::{ScriptFault, Telling, read_script, replay_told};
 use echo_run::Event;
 use echo_status::{Fault, Status, link_files, print_rest};
 use std::alloc::Global;
@@ -18,13 +18,14 @@ use std::hash::RandomState;
 /// its areas, and what waits there, after the events of the script; then how many packets were made and
 /// not delivered, and whether the net has settled. Of a faulty input nothing is printed; the first fault
 /// is answered, that of the script before those of link files. `stopped` is why no further file was
-/// read, and comes last. Look-ups go by the hasher.
-pub fn replay<'a, W: Sink>(
+/// read, and comes last. Look-ups go by the hasher, and `told` hears of each event once it happened.
+pub fn replay<'a, T: Telling, W: Sink>(
     alloc: Global,
     script: &[u8],
     files: &[Items<u8>],
     stopped: Option<Fault<'a>>,
     hasher: RandomState,
+    told: &T,
     out: &mut W,
 ) -> Result<Status, Fault<'a>>
     ensures { ReplayAnswers script.now files.now stopped.entry (output_of W.contents W.failures W.holds out.old) (output_of W.contents W.failures W.holds out.new) result }
@@ -35,7 +36,7 @@ pub fn replay<'a, W: Sink>(
         return Err(fault);
     }
     let systems = links.len();
-    let world = echo_replay::replay(alloc, links, &events, hasher)?;
+    let world = replay_told(alloc, links, &events, hasher, told)?;
     let mut lines = Vec::new(alloc);
     push_world(&mut lines, systems, &world)?;
     print_rest(&mut lines, out)?;

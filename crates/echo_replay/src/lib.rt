@@ -4,8 +4,8 @@
 //! of these events on these files, which the laws of runs speak of.
 //!
 //! Modules in reading order: `world` (the systems and packets after the events, and what one reads off
-//! them), `receivers` (which system has an address), `happening` (what one event does), `replaying`,
-//! `script` (events as text), and `laws` (what holds of every replay).
+//! them), `receivers` (which system has an address), `happening` (what one event does), `telling` (who is told how
+//! far it is), `replaying`, `script` (events as text), and `laws` (what holds of every replay).
 #![tactic(auto)]
 
 mod happening;
@@ -13,10 +13,12 @@ mod laws;
 mod receivers;
 mod replaying;
 mod script;
+mod telling;
 mod world;
 
 pub use laws::replay_laws;
 pub use receivers::Receivers;
-pub use replaying::{replay, replay_counted};
+pub use replaying::{replay, replay_counted, replay_told};
 pub use script::{ScriptFault, read_script};
+pub use telling::{Telling, Untold};
 pub use world::World;

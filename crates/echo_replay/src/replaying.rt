@@ -9,6 +9,7 @@ ghost use Rattle.echo_steps.specs.SystemState.{state_at_first};
 
 use crate::happening::happen;
 use crate::receivers::Receivers;
+use crate::telling::{Telling, Untold};
 use crate::world::World;
 use echo_links::LinkFile;
 use echo_run::Event;
@@ -28,16 +29,43 @@ pub fn replay(
 ) -> Result<World, AllocError>
     ensures { IfOk result (λ world. IsWorldOf world (run_of files.items (map run_event events.now))) }
 {
-    let (world, _) = replay_counted(alloc, files, events, hasher)?;
+    replay_told(alloc, files, events, hasher, &Untold)
+}
+
+/// The same, and `told` hears of each event once it happened.
+pub fn replay_told<T: Telling>(
+    alloc: Global,
+    files: Vec<LinkFile>,
+    events: &[Event],
+    hasher: RandomState,
+    told: &T,
+) -> Result<World, AllocError>
+    ensures { IfOk result (λ world. IsWorldOf world (run_of files.items (map run_event events.now))) }
+{
+    let (world, _) = replayed(alloc, files, events, hasher, told)?;
     Ok(world)
 }
 
-/// The same, and how many packets were there after each event.
+/// What becomes of the net, and how many packets were there after each event.
 pub fn replay_counted(
     alloc: Global,
     files: Vec<LinkFile>,
     events: &[Event],
     hasher: RandomState,
+) -> Result<(World, Vec<usize>), AllocError>
+    ensures world { IfOk result (λ found. IsWorldOf found.0 (run_of files.items (map run_event events.now))) }
+    ensures counts { IfOk result (λ found. found.1.items ≡ packet_counts (start files.items) (map run_event events.now)) }
+{
+    replayed(alloc, files, events, hasher, &Untold)
+}
+
+// The same, and `told` hears of each event.
+fn replayed<T: Telling>(
+    alloc: Global,
+    files: Vec<LinkFile>,
+    events: &[Event],
+    hasher: RandomState,
+    told: &T,
 ) -> Result<(World, Vec<usize>), AllocError>
     ensures world { IfOk result (λ found. IsWorldOf found.0 (run_of files.items (map run_event events.now))) }
     ensures counts { IfOk result (λ found. found.1.items ≡ packet_counts (start files.items) (map run_event events.now)) }
@@ -51,6 +79,7 @@ pub fn replay_counted(
     'events: for event in events {
         happen(alloc, &receivers, &mut world, event)?;
         counts.push(world.packets())?;
+        told.tell(counts.len(), events.len());
     }
     Ok((world, counts))
 }

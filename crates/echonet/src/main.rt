@@ -213,11 +213,12 @@ fn run_replay<'a, W: Sink>(
     rt: &HostRuntime,
     script: &'a str,
     links: &'a PathNames<'a>,
+    progress: &Progress<'_>,
     out: &mut W,
 ) -> Result<Status, Fault<'a>> {
     let (script, hasher) = replay_input(rt, script)?;
     let (files, stopped) = read_links(rt, links);
-    replay(rt.alloc(), &script, &files, stopped, hasher, out)
+    replay(rt.alloc(), &script, &files, stopped, hasher, progress, out)
 }
 
 // The words are lent, so that no case has to be proved to drop what another one has.
@@ -264,7 +265,8 @@ fn run_words<W: Sink, E: Sink>(
         },
         Words::Convert { from, to } => ended(run_convert(rt, *from, *to, out), errors),
         Words::Replay { script, links } => {
-            ended(run_replay(rt, *script, &names_of(rt, links), out), errors)
+            let links = names_of(rt, links);
+            ended(run_replay(rt, *script, &links, progress, out), errors)
         }
     }
 }

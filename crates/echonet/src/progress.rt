@@ -2,6 +2,7 @@
 //! began on, is written over in place, and goes before anything else is printed.
 
 use echo_device::Watched;
+use echo_replay::Telling;
 use echo_status::print_rest;
 use std::alloc::AllocError;
 use std::cell::Cell;
@@ -70,21 +71,23 @@ impl<'r> Progress<'r> {
 
     /// Tells that this share of a packet was read, in hundredths. Packets are counted from 1.
     pub fn tell_packet(&self, packet: usize, packets: usize, share: u128) {
-        self.tell(format!(in self.rt.alloc(); "echonet: packet {packet} of {packets}, {share}%"));
+        self.tell_line(format!(in self.rt.alloc();
+            "echonet: packet {packet} of {packets}, {share}%"
+        ));
     }
 
     /// Tells which of the packets of a scan is written.
     pub fn tell_written(&self, packet: usize, packets: usize) {
-        self.tell(format!(in self.rt.alloc(); "echonet: packet {packet} of {packets}"));
+        self.tell_line(format!(in self.rt.alloc(); "echonet: packet {packet} of {packets}"));
     }
 
     /// Tells which of the messages of a base was read; messages are counted from 1.
     pub fn tell_message(&self, message: u64, messages: u64) {
-        self.tell(format!(in self.rt.alloc(); "echonet: message {message} of {messages}"));
+        self.tell_line(format!(in self.rt.alloc(); "echonet: message {message} of {messages}"));
     }
 
     // Tells a line, if there was memory for it.
-    fn tell(&self, line: Result<String, AllocError>) {
+    fn tell_line(&self, line: Result<String, AllocError>) {
         if let Ok(line) = line {
             let _ = self.write_over(line.as_str());
         }
@@ -107,6 +110,15 @@ impl<'r> Progress<'r> {
         self.shown.set(line.len());
         let _ = print_rest(&mut bytes, &mut Watched::new(self.rt.stderr()));
         Ok(())
+    }
+}
+
+/// The events of a replay.
+impl Telling for Progress<'_> {
+    fn tell(&self, happened: usize, events: usize) {
+        if self.is_due() {
+            self.tell_line(format!(in self.rt.alloc(); "echonet: event {happened} of {events}"));
+        }
     }
 }
 

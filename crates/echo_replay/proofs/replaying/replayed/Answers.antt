@@ -9,10 +9,10 @@ use Rattle.echo_replay.specs.Worlds.{IsWorldOf, LeadsToFirst, WorldState, own_ad
 use Rattle.echo_replay.proofs.Counted.{counts-more}
 use Rattle.echo_replay.proofs.Runs.{addresses-first, event-more, first-run}
 use Rattle.echo_replay.proofs.Taken.{run-taken}
-use Rattle.echo_replay.proofs.replaying.replay_counted.Goals as goal
+use Rattle.echo_replay.proofs.replaying.replayed.Goals as goal
 
 pub events-init : goal.events-init
-events-init c =
+events-init g c =
     let A : List Address → Type 0 = λ all. LeadsToFirst c.in_ok-receivers.receivers.first.entries all in
     let W : WorldState → Type 0 = λ w. IsWorldOf w (run_of c.args.files.items []) in
     record {
@@ -26,7 +26,7 @@ events-init c =
     }
 
 pub events-preserved : goal.events-preserved
-events-preserved c =
+events-preserved g c =
     let before = c.events.invariant in
     let A : List Address → Type 0 = λ all. LeadsToFirst c.in_ok-receivers.receivers.first.entries all in
     let R : Run → Type 0 = λ run. IsWorldOf c.happen.new.world run in
@@ -41,12 +41,12 @@ events-preserved c =
     }
 
 pub returns-clause-world : goal.returns-clause-world
-returns-clause-world c =
+returns-clause-world g c =
     let whole = take_all c.events.event-index c.args.events.now c.events-test.false in
     let R : List Event → Type 0 = λ events. IsWorldOf c.events.world (run_of c.args.files.items (map run_event events)) in
     subst R whole c.events.invariant.run
 
 pub returns-clause-counts : goal.returns-clause-counts
-returns-clause-counts c =
+returns-clause-counts g c =
     let whole = take_all c.events.event-index c.args.events.now c.events-test.false in
     c.events.invariant.counts ∙ ap (λ (events : List Event). packet_counts (start c.args.files.items) (map run_event events)) whole

@@ -3,11 +3,11 @@ use Rattle.echo_run.specs.Event.{run_event}
 use Rattle.echo_run.specs.Run.{run_of, start}
 use Rattle.echo_replay.specs.Counts.{packet_counts}
 use Rattle.echo_replay.specs.Worlds.{IsWorldOf, LeadsToFirst, own_addresses}
-use Rattle.echo_replay.proofs.replaying.replay_counted.Given as goal
+use Rattle.echo_replay.proofs.replaying.replayed.Given as goal
 
 -- the world is that of the events so far, the packets after each of them are counted, and each address leads to its first system
 abbrev pub invariant-events : goal.invariant-events
-invariant-events l = record {
+invariant-events g l = record {
   leads : LeadsToFirst l.receivers.first.entries (own_addresses l.world.systems);
   run : IsWorldOf l.world (run_of l.fn.files.items (map run_event (take l.event-index l.events)));
   counts : l.counts.items ≡ packet_counts (start l.fn.files.items) (map run_event (take l.event-index l.events));
