@@ -2,11 +2,11 @@
 # Runs `post`, `toss` of two packets, `scan` and `purge` on base folders on the disk in memory, each stopped after each
 # number of its calls, with what was not synced torn at each length; the folder is read then, and a next command run on
 # it, and both are held against bases in memory. Needs the built crates/disk_trials/out/disk_trials.
-# Words: how many bases (200), how many at a time (1), by how many bytes the lengths differ (1), the number of the first.
+# Words: how many bases (100), how many at a time (1), by how many bytes the lengths differ (1), the number of the first.
 set -eu
 cd "$(dirname "$0")/.."
 program=${DISK_TRIALS:-$PWD/crates/disk_trials/out/disk_trials}
-bases=${1:-200}
+bases=${1:-100}
 side=${2:-1}
 step=${3:-1}
 first=${4:-0}

@@ -38,10 +38,10 @@ pub(crate) struct Job {
 impl Job {
     /// A command of any kind.
     pub(crate) fn any(seed: u64) -> Job {
-        let command = match next(seed) % 6 {
+        let command = match next(seed) % 7 {
             0 => Command::Post,
-            1 => Command::Scan,
-            2 => Command::Purge,
+            1 | 2 => Command::Scan,
+            3 | 4 => Command::Purge,
             _ => Command::Toss,
         };
         Job { command, seed }

@@ -18,8 +18,8 @@ const SECOND: u64 = 29;
 /// In how many ways changes come to the disk.
 const WAYS: u64 = 15;
 
-/// After each third number of calls of the next command there is a second crash in each way, where no byte came.
-const THIRD: u64 = 3;
+/// After each fourth number of calls of the next command there is a second crash in each way, where no byte came.
+const FOURTH: u64 = 4;
 
 /// How many crashes there were, and how many of them left the base before the command, the one after it, or the one
 /// of a command that changes nothing.
@@ -77,11 +77,11 @@ struct Found {
     next_ended: Ended,
 }
 
-// The commands of a base: none to five.
+// The commands of a base: none to eight.
 fn history(alloc: Global, seed: u64) -> Result<Vec<Job>> {
     let mut jobs = Vec::new(alloc);
     let mut number = seed;
-    for _ in 0..seed % 6 {
+    for _ in 0..seed % 9 {
         number = next(number);
         jobs.push(Job::any(number))?;
     }
@@ -234,7 +234,8 @@ impl Counts {
     }
 }
 
-// Stops the command at each length, or at one of so many, and then in each way with no byte.
+// Where the command is stopped after these calls: first at each length, or at one of so many, then in each way with no
+// byte.
 fn cut_of(calls: u64, place: u64, lengths: u64, step: u64) -> Cut {
     if place < lengths {
         return Cut {
@@ -248,8 +249,8 @@ fn cut_of(calls: u64, place: u64, lengths: u64, step: u64) -> Cut {
     Cut {
         calls,
         again: (more / WAYS)
-            .wrapping_mul(THIRD)
-            .wrapping_add(calls % THIRD),
+            .wrapping_mul(FOURTH)
+            .wrapping_add(calls % FOURTH),
         bytes: 0,
         way: more % WAYS,
     }
@@ -266,7 +267,7 @@ fn try_command(
 ) -> Result<()> {
     let all = calls_of(alloc, links, case)?;
     let lengths = longest_write(case.stopped.command, expected) / step.max(1);
-    let cuts = lengths.saturating_add(SECOND / THIRD * WAYS);
+    let cuts = lengths.saturating_add(SECOND / FOURTH * WAYS);
     for calls in 0..all.saturating_add(1) {
         for place in 0..cuts {
             let cut = cut_of(calls, place, lengths, step);
