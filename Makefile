@@ -20,8 +20,8 @@ lower = $(shell sed -n 's/^$(1):\(.*\)/\1/p' crates.txt)
 ours := $(shell sed -n 's/^\([a-z_]*\):.*/\1/p' crates.txt)
 closure = $(sort $(1) $(foreach name,$(filter $(ours),$(call lower,$(1))),$(call closure,$(name))))
 needed := $(call closure,echonet)
-# And with the program by which a trial replays events.
-tried := $(sort $(needed) $(call closure,bench))
+# And with the programs that trials run: one replays events, one crashes commands on a disk in memory.
+tried := $(sort $(needed) $(call closure,bench) $(call closure,disk_trials))
 counted := $(if $(filter bin/proved/bench,$(MAKECMDGOALS)),$(tried),$(needed))
 
 all: bin/echonet
@@ -38,6 +38,7 @@ endef
 # How a program is run once it is built.
 run_echonet = run --help
 run_bench = run
+run_disk_trials = run
 $(foreach name,$(tried),$(eval $(call crate_rule,$(name))))
 
 bin/echonet: bin/proved/echonet
@@ -48,7 +49,7 @@ else
 # that is called here.
 .PHONY: bin/echonet
 bin/echonet: toolchain
-	@$(MAKE) --no-print-directory --jobs=$$(($$(nproc) + 2)) proving=1 bin/echonet $(if $(filter trials,$(MAKECMDGOALS)),bin/proved/bench)
+	@$(MAKE) --no-print-directory --jobs=$$(($$(nproc) + 2)) proving=1 bin/echonet $(if $(filter trials,$(MAKECMDGOALS)),bin/proved/bench bin/proved/disk_trials)
 endif
 
 test: toolchain

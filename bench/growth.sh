@@ -6,7 +6,7 @@
 # by its processor time is told. Words: the sizes; with none, 1,000 to 1,000,000 messages of 1.2 kB. With
 # `purged` before the sizes, the bases have purged messages alone; then the largest with no words is
 # 10,000,000. With `folders` before all of that the bases are folders; a posting that is filed has a row of its own then,
-# and so has `list` of the last ten messages.
+# and so has `list` of the last ten messages, and `sum -s` of the keys as a yardstick.
 set -eu
 cd "$(dirname "$0")/.."
 program=${ECHONET:-$PWD/bin/echonet}
@@ -72,13 +72,14 @@ for many in "$@"; do
     if [ $kind = folders ]; then
       measure post 0 post --area TEST --to x --from x --subject x --serial 00000001 --at $stamp links base
       measure list 0 list --from $((many - 10)) base
+      program=sum measure sum 0 -s base/keys.?
     fi
     measure toss 0 toss links base new.pkt
     measure scan 0 scan --at $stamp links base out
     measure purge 0 purge links base
     measure again 2 post --area NONE --to x --from x --subject x --serial 00000001 --at $stamp links base
   done
-  for name in load post list toss scan purge again; do
+  for name in load post sum list toss scan purge again; do
     if [ -e "now.$name" ]; then tell $name "$many"; fi
   done
 done
