@@ -48,7 +48,12 @@ impl Seen {
     }
 
     // Whether the message has the digest of the entry of this number.
-    fn is_vouched<H: Digest>(&self, alloc: Global, alone: &Alone, i: usize) -> Result<bool, AllocError>
+    fn is_vouched<H: Digest>(
+        &self,
+        alloc: Global,
+        alone: &Alone,
+        i: usize,
+    ) -> Result<bool, AllocError>
         requires { i < length self.now.keys.items / 16 }
         ensures { (m : Filed) → alone.now.messages ≡ m ∷ []
             → IfOk result (λ is. IsTrue is ↔ (digest_at self.now.keys.items i ≡ digest_by H.keyed self.now.mark (digested m))) }
