@@ -18,7 +18,7 @@ program ?= bin/echonet
 # The crates that the program stands on, lowest first.
 lower = $(shell sed -n 's/^$(1):\(.*\)/\1/p' crates.txt)
 ours := $(shell sed -n 's/^\([a-z_]*\):.*/\1/p' crates.txt)
-closure = $(sort $(1) $(foreach name,$(filter $(ours),$(call lower,$(1))),$(call closure,$(name))))
+closure = $(shell scripts/below.sh $(1))
 needed := $(call closure,echonet)
 # And with the programs that trials run: one replays events, one crashes commands on a disk in memory.
 tried := $(sort $(needed) $(call closure,bench) $(call closure,disk_trials))

@@ -12,20 +12,6 @@ log=$top/bin/$name.log
 tree=$top/bin/trees/$name
 mkdir -p bin/proved
 
-# The crates of this tree that a crate stands on, and it.
-below() {
-  awk -v wanted="$1" '
-    /^[a-z_]*:/ { split($0, parts, ":"); uses[parts[1]] = parts[2] }
-    function go(crate, list, n, i) {
-      if (!(crate in uses) || crate in seen) return
-      seen[crate] = 1
-      n = split(uses[crate], list, " ")
-      for (i = 1; i <= n; i++) go(list[i])
-      print crate
-    }
-    END { go(wanted) }' crates.txt
-}
-
 # How many crates stand one on another above a crate, at most: the longer that chain, the sooner it is wanted. And
 # by how many crates the longest chain through it is shorter than the longest of all.
 chains() {
@@ -73,7 +59,7 @@ trap put_back EXIT
 trap 'exit 3' HUP INT TERM
 
 mkdir -p "$tree"
-for crate in $(below "$name"); do
+for crate in $(scripts/below.sh "$name"); do
   grep "^$crate:" crates.txt >> "$tree/crates.txt"
   mkdir -p "$tree/crates/$crate/out"
   for part in "crates/$crate"/*; do

@@ -1,0 +1,14 @@
+#!/usr/bin/env bash
+# Prints the crates of this tree that a crate stands on, and it, each behind those that it stands on. Word: the crate.
+set -eu
+cd "$(dirname "$0")/.."
+awk -v wanted="$1" '
+  /^[a-z_]*:/ { split($0, parts, ":"); uses[parts[1]] = parts[2] }
+  function go(crate, list, n, i) {
+    if (!(crate in uses) || crate in seen) return
+    seen[crate] = 1
+    n = split(uses[crate], list, " ")
+    for (i = 1; i <= n; i++) go(list[i])
+    print crate
+  }
+  END { go(wanted) }' crates.txt
