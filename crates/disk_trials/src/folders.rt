@@ -71,9 +71,9 @@ pub(crate) fn run_after_crash(
 /// Crashes, and answers the base file of what the folder has then.
 pub(crate) fn file_after_crash(alloc: Global, disk: &mut MemoryDisk) -> Result<Vec<u8>> {
     disk.crash(u64::MAX)?;
-    let seen = match look(alloc, disk, FOLDER, false) {
+    let seen = match look(alloc, disk, FOLDER, false, 0) {
         Ok(seen) => seen,
         Err(why) => bail!("not read: {why}"),
     };
-    Ok(seen.as_file(alloc)?)
+    Ok(seen.as_file::<SipDigest>(alloc)?)
 }
