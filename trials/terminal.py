@@ -26,6 +26,7 @@ ALL = MANY * MOST
 TOSS = ["toss", "many.links", "many.base", *("%d.pkt" % number for number in range(MOST))]
 LIST = ["list", "--from", str(ALL - 1), "many.base"]
 SCAN = ["scan", "--at", making.STAMP, "many.links", "many.base", "many.out"]
+SCAN_FOLDER = [*SCAN[:-2], "many.folder", "many.out"]
 POSTED = 40_000
 REPLAY = ["replay", "many.script", "many.links"]
 MESSAGES, PACKETS = rb"echonet: message (\d+) of (\d+)", rb"echonet: packet (\d+) of (\d+)"
@@ -184,6 +185,24 @@ def scanned(terminal, both=False):
     return slowed(SCAN, "many.base", terminal, both)
 
 
+def try_folder(trial):
+    """A scan of many messages of a base folder, which begins late, since its link file is locked for a while."""
+    put_base(ALL)
+    shutil.rmtree("many.folder", ignore_errors=True)
+    os.mkdir("many.folder")
+    subprocess.run([PROGRAM, "convert", "many.base", "many.folder"], check=True, stdout=subprocess.DEVNULL)
+    clear_out()
+    held = locked("many.links")
+    run = Started(SCAN_FOLDER)
+    time.sleep(1.1)
+    os.close(held)
+    status, came, out = run.ended()
+    told = told_in(came, MESSAGES)
+    trial.expect("a scan of a folder ends well", (status, out) == (0, sent_lines()), out)
+    trial.expect("a scan of a folder tells how far it is", told and {each[1] for each in told} == {ALL}, came)
+    trial.expect("a scan of a folder goes on", told == sorted(told) and told[-1][0] <= ALL, came)
+
+
 def replayed(terminal, both=False):
     """A slow replay of many postings: its script is a pipe, into which nothing is written for a while."""
     os.mkfifo("many.script")
@@ -254,6 +273,7 @@ def progress(trial):
     put_base(ALL)
     try_slow(trial, "list", listed, [(MESSAGES, ALL)], listed_last())
     try_slow(trial, "scan", scanned, [(MESSAGES, ALL), (PACKETS, len(making.DOWNLINKS))], sent_lines())
+    try_folder(trial)
     try_slow(trial, "replay", replayed, [(EVENTS, POSTED)],
              b"system 1:10/1 TEST filed %d waiting %d\npackets 0 undelivered 0\nsettled no\n" % (POSTED, POSTED))
     put_packets(1)

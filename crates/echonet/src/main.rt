@@ -3,7 +3,7 @@
 //! (`station`, `packets`, `placing`, `stopped`, `stored` for files of one message each, and `jam` for JAM bases;
 //! `folders`, `on_folder` and `listing` where a base is a folder, and `converting`; `front` reads the front of a base file), under
 //! `locks`. `clock` gives the moment and the serial that words leave to it, `progress` tells a terminal how far a
-//! command is, and `loading` how far the reading of a base file is.
+//! command is, `loading` how far the reading of a base file is, and `telling` that of a base folder.
 #![tactic(auto)]
 
 mod clock;
@@ -24,6 +24,7 @@ mod progress;
 mod station;
 mod stopped;
 mod stored;
+mod telling;
 
 use converting::run_convert;
 use echo_base::BaseFault;

@@ -8,6 +8,7 @@ use crate::placing::{Outbound, drop_packets, name_packets, packet_paths, stage_p
 use crate::progress::Progress;
 use crate::station::{Place, Posting, let_go, locked_links, name_of};
 use crate::stopped::finish_stopped;
+use crate::telling::Telling;
 use echo_addr::Items;
 use echo_base::BaseFault;
 use echo_changing::{Answer, NewMessage, PacketFile, PacketFiles};
@@ -278,16 +279,29 @@ pub fn scan_there<'a, W: Sink, E: Sink>(
     out: &mut W,
     errors: &mut E,
 ) -> Status {
-    let mut station = match open_station(rt, place, None) {
+    let Station {
+        locked,
+        folder: held,
+        links,
+        store,
+    } = match open_station(rt, place, None) {
         Ok(station) => station,
         Err(fault) => return fault.report(errors),
     };
     let to = Outbound {
         folder,
-        before: station.store.cursor() as u64,
+        before: store.cursor() as u64,
     };
-    let Station { links, store, .. } = &mut station;
-    let status = match scan_on(rt.alloc(), stamp, links, store, out) {
+    let mut telling = Telling { store, progress };
+    let done = scan_on(rt.alloc(), stamp, &links, &mut telling, out);
+    let Telling { store, .. } = telling;
+    let mut station = Station {
+        locked,
+        folder: held,
+        links,
+        store,
+    };
+    let status = match done {
         Ok(packets) => put_in_place(rt, &mut station, place.base, to, &packets, progress, errors),
         Err(stop) => fault_of(rt, place.base, stop).report(errors),
     };
