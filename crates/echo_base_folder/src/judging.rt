@@ -8,8 +8,8 @@ ghost use Rattle.echo_base_folder.specs.Wrong.{AreWhole, IsFolderLog, IsShort, I
 
 use crate::unread::Unread;
 use echo_base::BaseFault;
-use echo_disk::{Disk, DiskError, read_file};
-use echo_folder::{End, Names, Told, last_record, read_part};
+use echo_disk::{Disk, DiskError, read_file, read_part};
+use echo_folder::{End, Names, Told, last_record};
 use echo_keys::end_of;
 use std::alloc::Global;
 

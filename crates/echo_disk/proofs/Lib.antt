@@ -1,3 +1,2 @@
 pub mod Moments
-mod Reading
 pub mod Tearing

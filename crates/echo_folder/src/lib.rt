@@ -6,8 +6,8 @@
 //!
 //! Modules in reading order: `names` (the paths of the files), `log` (records, and the last of them), `staging`
 //! (bytes written behind those that count), `anew` (files of another number), `committing` (a record, and its gate), `removing` (files that no
-//! longer count), `folder_error`, `making` (the files of a folder that has none), `mending` (the end of a log),
-//! `opening` and `parts` (bytes read from the middle of a file).
+//! longer count), `folder_error`, `making` (the files of a folder that has none), `mending` (the end of a log)
+//! and `opening`.
 #![tactic(auto)]
 
 mod anew;
@@ -18,7 +18,6 @@ mod making;
 mod mending;
 mod names;
 mod opening;
-mod parts;
 mod removing;
 mod staging;
 
@@ -28,6 +27,5 @@ pub use folder_error::FolderError;
 pub use log::{End, Mark, Told, last_record};
 pub use names::Names;
 pub use opening::open;
-pub use parts::read_part;
 pub use removing::remove_files;
 pub use staging::{stage_keys, stage_messages, stage_nothing};

@@ -14,8 +14,8 @@ ghost use Rattle.echo_folder_store.specs.Opened.{IsNamed, IsOpen, IsWritten, hel
 
 use crate::alone::{Alone, read_alone};
 use crate::waiting::Waiting;
-use echo_disk::{Disk, DiskError};
-use echo_folder::{End, FolderError, Names, Told, open, read_part};
+use echo_disk::{Disk, DiskError, read_part};
+use echo_folder::{End, FolderError, Names, Told, open};
 use echo_keys::{end_of, place_of};
 use echo_store::StoreError;
 use std::alloc::Global;

@@ -25,8 +25,6 @@ use Rattle.echo_folder_store.proofs.folder.Folder.leave_next.Goals as goal
 
 pub message_at-requires-clause-there : goal.message_at-requires-clause-there
 message_at-requires-clause-there g c honest =
-    let f = c.args.self.now in
-    let n = c.args.next.now in
     let d0 = g.D.Disk.state c.args.disk.now in
     let readable = c.requires.readable honest in
     let name = c.deref.ensures.value ∙ readable.names.messages in
@@ -35,7 +33,6 @@ message_at-requires-clause-there g c honest =
 pub message_at-requires-clause-long : goal.message_at-requires-clause-long
 message_at-requires-clause-long g c honest =
     let f = c.args.self.now in
-    let n = c.args.next.now in
     let d0 = g.D.Disk.state c.args.disk.now in
     let readable = c.requires.readable honest in
     let name = c.deref.ensures.value ∙ readable.names.messages in
@@ -45,7 +42,6 @@ pub returns-in_err-alone-clause-readable : goal.returns-in_err-alone-clause-read
 returns-in_err-alone-clause-readable g c honest =
     let h0 = c.message_at.ensures.quiet.honest honest in
     let f = c.args.self.now in
-    let n = c.args.next.now in
     let d0 = g.D.Disk.state c.args.disk.now in
     let d1 = g.D.Disk.state c.message_at.new.disk in
     let quiet = c.message_at.ensures.quiet in
@@ -54,7 +50,6 @@ returns-in_err-alone-clause-readable g c honest =
 pub returns-in_err-alone-clause-any_moment : goal.returns-in_err-alone-clause-any_moment
 returns-in_err-alone-clause-any_moment g c honest =
     let h0 = c.message_at.ensures.quiet.honest honest in
-    let f = c.args.self.now in
     let n = c.args.next.now in
     let d0 = g.D.Disk.state c.args.disk.now in
     let d1 = g.D.Disk.state c.message_at.new.disk in
@@ -64,7 +59,6 @@ returns-in_err-alone-clause-any_moment g c honest =
 
 pub returns-in_err-alone-clause-outside : goal.returns-in_err-alone-clause-outside
 returns-in_err-alone-clause-outside g c =
-    let f = c.args.self.now in
     let n = c.args.next.now in
     let d0 = g.D.Disk.state c.args.disk.now in
     let d1 = g.D.Disk.state c.message_at.new.disk in
@@ -75,7 +69,6 @@ pub returns-in_err-left-clause-readable : goal.returns-in_err-left-clause-readab
 returns-in_err-left-clause-readable g c honest =
     let h0 = c.message_at.ensures.quiet.honest honest in
     let f = c.args.self.now in
-    let n = c.args.next.now in
     let d0 = g.D.Disk.state c.args.disk.now in
     let d1 = g.D.Disk.state c.message_at.new.disk in
     let quiet = c.message_at.ensures.quiet in
@@ -84,7 +77,6 @@ returns-in_err-left-clause-readable g c honest =
 pub returns-in_err-left-clause-any_moment : goal.returns-in_err-left-clause-any_moment
 returns-in_err-left-clause-any_moment g c honest =
     let h0 = c.message_at.ensures.quiet.honest honest in
-    let f = c.args.self.now in
     let n = c.args.next.now in
     let d0 = g.D.Disk.state c.args.disk.now in
     let d1 = g.D.Disk.state c.message_at.new.disk in
@@ -94,7 +86,6 @@ returns-in_err-left-clause-any_moment g c honest =
 
 pub returns-in_err-left-clause-outside : goal.returns-in_err-left-clause-outside
 returns-in_err-left-clause-outside g c =
-    let f = c.args.self.now in
     let n = c.args.next.now in
     let d0 = g.D.Disk.state c.args.disk.now in
     let d1 = g.D.Disk.state c.message_at.new.disk in
@@ -126,7 +117,6 @@ returns-in_err-stage-clause-damaged g c honest is keyed base holds =
 pub stage-requires-clause-opened : goal.stage-requires-clause-opened
 stage-requires-clause-opened g c honest =
     let h0 = c.message_at.ensures.quiet.honest honest in
-    let f = c.args.self.now in
     let n = c.args.next.now in
     let d0 = g.D.Disk.state c.args.disk.now in
     let d1 = g.D.Disk.state c.message_at.new.disk in
@@ -148,8 +138,6 @@ returns-in_err-stage-clause-readable g c honest =
 pub returns-in_err-stage-clause-beside : goal.returns-in_err-stage-clause-beside
 returns-in_err-stage-clause-beside g c =
     let f = c.args.self.now in
-    let n = c.args.next.now in
-    let d0 = g.D.Disk.state c.args.disk.now in
     let beside : IsBesideIn f c.stage.new.self = record {
       path = c.stage.ensures.path ∙ c.requires.beside.path;
       end = c.stage.ensures.end ∙ c.requires.beside.end;
@@ -162,7 +150,6 @@ pub returns-in_err-stage-clause-any_moment : goal.returns-in_err-stage-clause-an
 returns-in_err-stage-clause-any_moment g c honest =
     let h1 = c.stage.ensures.outside.honest honest in
     let h0 = c.message_at.ensures.quiet.honest h1 in
-    let f = c.args.self.now in
     let n = c.args.next.now in
     let d0 = g.D.Disk.state c.args.disk.now in
     let d1 = g.D.Disk.state c.message_at.new.disk in
@@ -173,7 +160,6 @@ returns-in_err-stage-clause-any_moment g c honest =
 
 pub returns-in_err-stage-clause-outside : goal.returns-in_err-stage-clause-outside
 returns-in_err-stage-clause-outside g c =
-    let f = c.args.self.now in
     let n = c.args.next.now in
     let d0 = g.D.Disk.state c.args.disk.now in
     let d1 = g.D.Disk.state c.message_at.new.disk in
@@ -196,8 +182,6 @@ returns-clause-readable g c honest =
 pub returns-clause-beside : goal.returns-clause-beside
 returns-clause-beside g c =
     let f = c.args.self.now in
-    let n = c.args.next.now in
-    let d0 = g.D.Disk.state c.args.disk.now in
     let beside : IsBesideIn f c.stage.new.self = record {
       path = c.stage.ensures.path ∙ c.requires.beside.path;
       end = c.stage.ensures.end ∙ c.requires.beside.end;
@@ -210,7 +194,6 @@ pub returns-clause-any_moment : goal.returns-clause-any_moment
 returns-clause-any_moment g c honest =
     let h1 = c.stage.ensures.outside.honest honest in
     let h0 = c.message_at.ensures.quiet.honest h1 in
-    let f = c.args.self.now in
     let n = c.args.next.now in
     let d0 = g.D.Disk.state c.args.disk.now in
     let d1 = g.D.Disk.state c.message_at.new.disk in
@@ -221,7 +204,6 @@ returns-clause-any_moment g c honest =
 
 pub returns-clause-outside : goal.returns-clause-outside
 returns-clause-outside g c =
-    let f = c.args.self.now in
     let n = c.args.next.now in
     let d0 = g.D.Disk.state c.args.disk.now in
     let d1 = g.D.Disk.state c.message_at.new.disk in
@@ -231,13 +213,9 @@ returns-clause-outside g c =
 
 pub returns-clause-same : goal.returns-clause-same
 returns-clause-same g c honest =
-    let h1 = c.stage.ensures.outside.honest honest in
-    let h0 = c.message_at.ensures.quiet.honest h1 in
-    let f = c.args.self.now in
     let n = c.args.next.now in
     let d0 = g.D.Disk.state c.args.disk.now in
     let d1 = g.D.Disk.state c.message_at.new.disk in
-    let d2 = g.D.Disk.state c.stage.new.disk in
     let quiet = c.message_at.ensures.quiet in
     c.in_ok-stage.ensures.same honest ∙ base_quiet d0 d1 (path_of n) n.end.told quiet
 

@@ -1,7 +1,7 @@
 use Rattle.std.proofs.Common.{◌≡◌, ◌-◌, ◌≤◌, length, take, drop}
 use Rattle.echo_disk.specs.Disk.{Honestly, bytes_in}
 use Rattle.echo_disk.specs.Runs.{ChangesNothing}
-use Rattle.echo_folder.proofs.parts.fill_part.Given as goal
+use Rattle.echo_disk.proofs.part.fill_part.Given as goal
 
 abbrev pub invariant-reads : goal.invariant-reads
 invariant-reads g l = record {

@@ -3,7 +3,8 @@ ghost use Rattle.std.specs.Prelude.{◌≡◌, ◌≤◌, ◌<◌, ◌+◌, ◌^
 ghost use Rattle.echo_disk.specs.Disk.{Honestly, bytes_in};
 ghost use Rattle.echo_disk.specs.Runs.{ChangesNothing, HasCause};
 
-use echo_disk::{Disk, DiskError};
+use crate::disk::Disk;
+use crate::disk_error::DiskError;
 use std::alloc::Global;
 
 // One read behind the first bytes of the part, which are there; answers how many are there then.

@@ -4,7 +4,7 @@ use Rattle.std.proofs.lemmas.List.{drop_at, drop-drop, take-append-le}
 use Rattle.std.proofs.lemmas.Slice.{take-put_mid_below}
 use borrow.Rule.Slice.PartMut.{put_mid, post_of}
 use Rattle.echo_disk.specs.Disk.{bytes_in}
-use Rattle.echo_folder.proofs.parts.read_more.Goals as goal
+use Rattle.echo_disk.proofs.part.read_more.Goals as goal
 
 -- the front of a part, with what was read behind it
 more_read : (file part buf : List ℕ) (from done count k : ℕ) → done < length part → count ≤ length buf → take done part ≡ take done (drop from file)
