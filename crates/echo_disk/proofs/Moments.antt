@@ -19,6 +19,7 @@ no_call old P now = record {
 pub then_run : (old mid new : DiskState) (P Q : Files → Type 0) → LeavesOnly old mid P → LeavesOnly mid new Q → ((c : Files) → Q c → P c) → LeavesOnly old new P
 then_run old mid new P Q first second gives =
     let one : old.moment ≤ mid.moment = first.later in
+    let two : mid.moment ≤ new.moment = second.later in
     record {
       later = omega arith;
       each = λ c left. ⊎_elim (first.each c) (gives c) (second.before old.moment c one left);
@@ -33,6 +34,7 @@ pub then_call : (old mid new : DiskState) (P : Files → Type 0) (step : Files �
     → ((a c : Files) → P a → step a c → P c) → LeavesOnly old new P
 then_call old mid new P step run time steps keeps =
     let one : old.moment ≤ mid.moment = run.later in
+    let two : mid.moment ≤ new.moment = time.later in
     let now : (c : Files) → new.may_leave c → P c = λ c left. let from = steps c left in keeps from.0 c (left_now old mid P run from.0 from.1) from.2 in
     record {
       later = omega arith;
@@ -61,6 +63,7 @@ one_call old new step none time steps =
 -- two runs that change nothing
 pub nothing_twice : (old mid new : DiskState) → ChangesNothing old mid → ChangesNothing mid new → ChangesNothing old new
 nothing_twice old mid new first second =
+    let one : old.moment ≤ mid.moment = first.run.later in
     record {
       seen = λ m. second.seen m ∙ first.seen m;
       no_more = λ c left. first.no_more c (second.no_more c left);

@@ -72,6 +72,7 @@ pub whole_record : (front bytes new : List ℕ) → IsWrittenAt (front ++ 0 ∷ 
 whole_record front bytes new is =
     let n = length front + 1 in
     let shut = front ++ 0 ∷ [] in
+    let long : length shut ≡ n = omega (arith, length-append front (0 ∷ [])) in
     is
     ∙ ap (λ (l : List ℕ). l ++ bytes ++ drop (n + length bytes) shut) (take_all n shut (omega arith))
     ∙ ap (λ (l : List ℕ). shut ++ bytes ++ l) (drop_all (n + length bytes) shut (omega arith))
@@ -84,6 +85,8 @@ pub torn_gate : (front tail : List ℕ) (old new : Option (List ℕ)) → TornWr
 torn_gate front tail old new torn is =
     let n = length front in
     let c = bytes_in new in
+    let within : n + 1 ≤ length (bytes_in old) = omega (arith, ap length is, length-append front (0 ∷ tail)) in
+    let long : n + 1 ≤ length c = omega (arith, torn.no_shorter) in
     let back : drop (n + 1) (bytes_in old) ≡ tail =
     ap (λ (l : List ℕ). drop (n + 1) l) (is ∙ sym (append_assoc front (0 ∷ []) tail)) ∙ drop_at (front ++ 0 ∷ []) tail (n + 1) (omega (arith, length-append front (0 ∷ []))) in
     let before : take n c ≡ front = kept_before n 1 old new torn (omega arith) ∙ ap (λ (l : List ℕ). take n l) is ∙ take_at front (0 ∷ tail) n refl in

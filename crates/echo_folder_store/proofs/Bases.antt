@@ -32,7 +32,10 @@ cursor_within keyed bytes base holds = let within = holds.files.holds.within in 
 pub not_cut : (keyed : ℕ → ℕ → List ℕ → ℕ) (d : DiskState) (path : List ℕ) (told : Told) (keys : List ℕ) (bytes : BaseBytes) (base : Base) → HoldsBase keyed bytes base → base_at d path told ≡ bytes
     → keys ≡ (base_at d path told).keys → (length keys % 16 ≢ 0) ⊎ (length keys / 16 < told.cursor) → ⊥
 not_cut keyed d path told keys bytes base holds same is wrong =
+    let many : length bytes.keys ≡ 16 * length base.messages = (told_where keyed bytes base holds).many in
+    let long : length keys ≡ 16 * length base.messages = ap (λ (l : List ℕ). length l) is ∙ ap (λ (b : BaseBytes). length b.keys) same ∙ many in
     let at : told.cursor ≡ bytes.cursor = ap (λ (b : BaseBytes). b.cursor) same in
+    let within : bytes.cursor ≤ length base.messages = cursor_within keyed bytes base holds in
     ⊎_elim (λ (odd : length keys % 16 ≢ 0). odd (omega arith)) (λ (past : length keys / 16 < told.cursor). omega arith) wrong
 
 -- a crash at any moment of opening

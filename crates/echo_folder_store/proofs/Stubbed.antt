@@ -148,6 +148,7 @@ changed_more messages cursor place d true stub within below is =
     scanned_more (take cursor messages) place d stub (omega (arith, length-take cursor messages)) (ap is_stub (get_or-take cursor messages place d less) ∙ is)
 changed_more messages cursor place d false stub within below is =
     let front = take cursor messages in
+    let past : cursor ≤ place = below.no refl in
     let short : length front ≤ place = omega (arith, length-take cursor messages) in
     let same : take (place + 1) front ≡ take place front = take_all (place + 1) front (omega arith) ∙ sym (take_all place front short) in
     let counts = ap (λ (l : List Filed). changed l) same in omega (arith, counts)

@@ -28,6 +28,9 @@ plain_dotted a zone net node =
 -- the name of a system in range
 pub plain_address : (a b : Address) → a ≡ b → IsAddress b → All IsPlain (dotted a)
 plain_address a b same is =
+    let zone = is.zone.1 in
+    let net = is.net.1 in
+    let node = is.node.1 in
     subst (λ (x : Address). All IsPlain (dotted x)) (sym same) (plain_dotted b (omega arith) (omega arith) (omega arith))
 
 pub plain_front : All IsPlain (codes ".~")

@@ -79,6 +79,12 @@ counted_first : (o : Outcome) (all : List Outcome) → all_counted (tally_of (o 
     ≡ cond (same_outcome Filed o) 1 0 + (cond (same_outcome Known o) 1 0 + (cond (same_outcome NotEcho o) 1 0 + (cond (same_outcome BadTag o) 1 0
     + (cond (same_outcome NoArea o) 1 0 + cond (same_outcome NotLinked o) 1 0)))) + all_counted (tally_of all)
 counted_first o all =
+    let filed = counted_front (same_outcome Filed) o all in
+    let known = counted_front (same_outcome Known) o all in
+    let not_echo = counted_front (same_outcome NotEcho) o all in
+    let bad_tag = counted_front (same_outcome BadTag) o all in
+    let no_area = counted_front (same_outcome NoArea) o all in
+    let not_linked = counted_front (same_outcome NotLinked) o all in
     omega arith
 
 one_outcome : (o : Outcome) → cond (same_outcome Filed o) 1 0 + (cond (same_outcome Known o) 1 0 + (cond (same_outcome NotEcho o) 1 0 + (cond (same_outcome BadTag o) 1 0

@@ -16,6 +16,9 @@ no_long_area [] tag all long = refl
 no_long_area (area ∷ areas) tag all long =
     let other : bytes_eq area.tag tag ≡ false =
     false_from_ne_true (bytes_eq area.tag tag) (λ same.
+    let size : length area.tag ≡ length tag = ap length ((bytes_decides area.tag tag).0 same) in
+    let parts = and_parts (nat_lt 0 (length area.tag) && nat_le (length area.tag) 60) (list_all is_tag_byte area.tag) all.0.tag_bytes in
+    let room : length area.tag ≤ 60 = leb-true (length area.tag) 60 (and_parts (nat_lt 0 (length area.tag)) (nat_le (length area.tag) 60) parts.0).1 in
     omega arith)
     in
     ap (λ (o : Option Area). is_some o) (cond-false (bytes_eq area.tag tag) (Some area) (find (λ a. bytes_eq a.tag tag) areas) other) ∙ no_long_area areas tag all.1 long

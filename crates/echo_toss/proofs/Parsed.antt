@@ -38,11 +38,13 @@ opens h rest (fault.BadField n) is alive wrong = wrong
 one_message : (limits : Limits) (given : ℕ) (m n : Message) (r s : List ℕ) → IsMessage limits.text m → IsMessage limits.text n → given < limits.messages
     → message_bytes m ++ r ≡ message_bytes n ++ s → (n ≡ m) × (r ≡ s)
 one_message limits given m n r s is are room same =
+    let both : Whole m r ≡ Whole n s = sym (verdict-whole limits given m r is room) ∙ ap (verdict limits given) same ∙ verdict-whole limits given n s are room in
     (cc, cc)
 
 -- a message is no terminator
 no_message : (limits : Limits) (given : ℕ) (m : Message) (r s : List ℕ) → IsMessage limits.text m → given < limits.messages → message_bytes m ++ r ≡ word 0 ++ s → ⊥
 no_message limits given m r s is room same =
+    let both : Whole m r ≡ End s = sym (verdict-whole limits given m r is room) ∙ ap (verdict limits given) same ∙ verdict-end limits given s in
     cc
 
 split : (m : Message) (ms : List Message) (r : List ℕ) → messages_bytes (m ∷ ms) ++ r ≡ message_bytes m ++ (messages_bytes ms ++ r)
@@ -66,6 +68,7 @@ pub one_list : (limits : Limits) (given : ℕ) (ms all : List Message) (r s : Li
     → given + length ms ≤ limits.messages → given + length all ≤ limits.messages → messages_bytes ms ++ (word 0 ++ r) ≡ messages_bytes all ++ (word 0 ++ s)
     → (all ≡ ms) × (r ≡ s)
 one_list limits given [] [] r s are some room more same =
+    let both : End r ≡ End s = sym (verdict-end limits given r) ∙ ap (verdict limits given) same ∙ verdict-end limits given s in
     (refl, cc)
 one_list limits given (m ∷ ms) [] r s are some room more same =
     absurd (no_message limits given m (messages_bytes ms ++ (word 0 ++ r)) s are.0 (omega arith) (sym (split m ms (word 0 ++ r)) ∙ same))

@@ -88,6 +88,10 @@ of_these limits ms bs after (fault.BadField n) alive h = h
 -- a packet has no fault
 no_fault : (limits : Limits) (h : Header) (ms all : List Message) (bytes rest : List ℕ) (f : PacketFault) → PacketOf limits h ms bytes → FaultOf (bytes ++ rest) limits all f → ⊥
 no_fault limits h ms all bytes rest f is wrong =
+    let found : Describes limits (bytes ++ rest) (Ok (h, ms, length bytes)) = (omega (arith, length-append bytes rest), subst (PacketOf limits h ms) (sym (take-append_seam bytes rest)) is) in
+    let packet : Answer = Ok (h, ms, length bytes) in
+    let broken : Answer = Err f in
+    let different : packet ≡ broken = only_one limits (bytes ++ rest) packet found ∙ sym (only_one limits (bytes ++ rest) broken (all, wrong)) in
     cc
 
 front_part : (limits : Limits) (header : Header) (ms : List Message) (bytes rest : List ℕ) (after : Option (List ℕ)) (old new : SystemState) (tally : Tally) (cause : TossCause)

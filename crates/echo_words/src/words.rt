@@ -351,33 +351,81 @@ fn names_links_twice(matches: &ArgMatches<'_>) -> bool {
     }
 }
 
-fn words_of<'a>(alloc: Global, matches: &ArgMatches<'a>) -> Result<Option<Words<'a>>, AllocError> {
-    Ok(match matches.subcommand() {
-        Some(("show", given)) => show_words(given),
-        Some(("nodelist", given)) => nodelist_words(given),
-        Some(("links", given)) => Some(Words::Links {
+// What the words of a command ask for that looks at packets, lists and nets.
+fn looking_words<'a>(
+    alloc: Global,
+    command: &str,
+    given: &ArgMatches<'a>,
+) -> Result<Option<Words<'a>>, AllocError> {
+    Ok(match command {
+        "show" => show_words(given),
+        "nodelist" => nodelist_words(given),
+        "links" => Some(Words::Links {
             areas: given.get_flag("areas"),
             links: links(alloc, given)?,
         }),
-        Some(("check", given)) => check_words(alloc, given)?,
-        Some(("why", given)) => why_words(given, links(alloc, given)?),
-        Some(("picture", given)) => picture_words(given, links(alloc, given)?),
-        Some(("post", given)) if given.get_flag("mail") => post_mail_words(given),
-        Some(("post", given)) if given.get_str("msg").is_some() => post_stored_words(given),
-        Some(("post", given)) => post_words(given),
-        Some(("reply", given)) => reply_words(given),
-        Some(("toss", given)) => toss_words(
-            given,
-            paths_in(alloc, given, "PACKET", "packets-from")?,
-        ),
-        Some(("scan", given)) => scan_words(given),
-        Some(("purge", given)) => purge_words(given),
-        Some(("list", given)) => list_words(given),
-        Some(("export", given)) => export_words(given),
-        Some(("convert", given)) => convert_words(given),
-        Some(("replay", given)) => replay_words(given, links(alloc, given)?),
+        "check" => check_words(alloc, given)?,
+        "why" => why_words(given, links(alloc, given)?),
+        "picture" => picture_words(given, links(alloc, given)?),
         _ => None,
     })
+}
+
+// What the words of `post` ask for.
+fn posting_words<'a>(given: &ArgMatches<'a>) -> Option<Words<'a>> {
+    if given.get_flag("mail") {
+        post_mail_words(given)
+    } else if given.get_str("msg").is_some() {
+        post_stored_words(given)
+    } else {
+        post_words(given)
+    }
+}
+
+// What the words of a command ask for that changes a base.
+fn changing_words<'a>(
+    alloc: Global,
+    command: &str,
+    given: &ArgMatches<'a>,
+) -> Result<Option<Words<'a>>, AllocError> {
+    Ok(match command {
+        "post" => posting_words(given),
+        "reply" => reply_words(given),
+        "toss" => toss_words(given, paths_in(alloc, given, "PACKET", "packets-from")?),
+        "scan" => scan_words(given),
+        "purge" => purge_words(given),
+        _ => None,
+    })
+}
+
+// What the words of a command ask for that reads a base, or none.
+fn reading_words<'a>(
+    alloc: Global,
+    command: &str,
+    given: &ArgMatches<'a>,
+) -> Result<Option<Words<'a>>, AllocError> {
+    Ok(match command {
+        "list" => list_words(given),
+        "export" => export_words(given),
+        "convert" => convert_words(given),
+        "replay" => replay_words(given, links(alloc, given)?),
+        _ => None,
+    })
+}
+
+fn words_of<'a>(alloc: Global, matches: &ArgMatches<'a>) -> Result<Option<Words<'a>>, AllocError> {
+    let Some((command, given)) = matches.subcommand() else {
+        return Ok(None);
+    };
+    let looking = looking_words(alloc, command, given)?;
+    if looking.is_some() {
+        return Ok(looking);
+    }
+    let changing = changing_words(alloc, command, given)?;
+    if changing.is_some() {
+        return Ok(changing);
+    }
+    reading_words(alloc, command, given)
 }
 
 /// What the words ask for, or why they were refused; help that was asked for is such an error too.

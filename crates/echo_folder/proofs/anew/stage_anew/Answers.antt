@@ -30,14 +30,20 @@ returns-in_err-create-clause-any_moment g c honest =
 
 pub returns-in_err-create-clause-same : goal.returns-in_err-create-clause-same
 returns-in_err-create-clause-same g c honest =
+    let h1 = honest in
+    let h0 = c.create.ensures.time.honest h1 in
     let path = folder_of c.args.names.now in
     let end = c.args.end in
     let n = end.told.number in
     let number = c.args.number in
+    let rest = (c.requires.settled h0) in
     let d0 = g.D.Disk.state c.args.disk.now in
     let d1 = g.D.Disk.state c.create.new.self in
     let messages : c.deref.result.now ≡ messages_of path number = c.deref.ensures.value ∙ c.requires.names.messages in
     let other_m : messages_of path n ≢ messages_of path number = λ is. c.requires.other (sym (messages_of-injective path n number is)) in
+    let crash_1 = subst (λ (l : List ℕ). LeavesOneStepOn (ChangesFile d0 l TornMaking) d0 d1) messages c.create.ensures.crash in
+    let beside_m : IsBeside path n (messages_of path number) = record { inside = messages_in path number; not_log = log_not_messages path number; not_messages = other_m; not_keys = keys_not_messages path n number } in
+    let run_1 = alone_changed d0 path end rest TornMaking d0 d1 (messages_of path number) beside_m (rest.log.named (messages_of path number) (messages_in path number)) (alone_first d0 path end rest) c.create.ensures.time crash_1 in
     let seen_1 : (m : List ℕ) → m ≢ messages_of path number → d1.seen m ≡ d0.seen m = λ m ne. c.create.ensures.beside m (λ is. ne (is ∙ messages)) in
     same_base d0 d1 path end (seen_1 (messages_of path n) other_m) (seen_1 (keys_of path n) (keys_not_messages path n number))
 
@@ -69,17 +75,28 @@ returns-in_err-create-2-clause-any_moment g c honest =
 
 pub returns-in_err-create-2-clause-same : goal.returns-in_err-create-2-clause-same
 returns-in_err-create-2-clause-same g c honest =
+    let h2 = honest in
+    let h1 = c.create-2.ensures.time.honest h2 in
+    let h0 = c.create.ensures.time.honest h1 in
     let path = folder_of c.args.names.now in
     let end = c.args.end in
     let n = end.told.number in
     let number = c.args.number in
+    let rest = (c.requires.settled h0) in
     let d0 = g.D.Disk.state c.args.disk.now in
     let d1 = g.D.Disk.state c.create.new.self in
     let messages : c.deref.result.now ≡ messages_of path number = c.deref.ensures.value ∙ c.requires.names.messages in
     let other_m : messages_of path n ≢ messages_of path number = λ is. c.requires.other (sym (messages_of-injective path n number is)) in
+    let crash_1 = subst (λ (l : List ℕ). LeavesOneStepOn (ChangesFile d0 l TornMaking) d0 d1) messages c.create.ensures.crash in
+    let beside_m : IsBeside path n (messages_of path number) = record { inside = messages_in path number; not_log = log_not_messages path number; not_messages = other_m; not_keys = keys_not_messages path n number } in
+    let run_1 = alone_changed d0 path end rest TornMaking d0 d1 (messages_of path number) beside_m (rest.log.named (messages_of path number) (messages_in path number)) (alone_first d0 path end rest) c.create.ensures.time crash_1 in
     let d2 = g.D.Disk.state c.create-2.new.self in
     let keys : c.deref-2.result.now ≡ keys_of path number = c.deref-2.ensures.value ∙ c.requires.names.keys in
     let other_k : keys_of path n ≢ keys_of path number = λ is. c.requires.other (sym (keys_of-injective path n number is)) in
+    let crash_2 = subst (λ (l : List ℕ). LeavesOneStepOn (ChangesFile d1 l TornMaking) d1 d2) keys c.create-2.ensures.crash in
+    let beside_k : IsBeside path n (keys_of path number) = record { inside = keys_in path number; not_log = log_not_keys path number; not_messages = messages_not_keys path n number; not_keys = other_k } in
+    let named_k = c.create.ensures.named (keys_of path number) (λ is. keys_not_messages path number number (is ∙ messages)) (rest.log.named (keys_of path number) (keys_in path number)) in
+    let run_2 = alone_changed d0 path end rest TornMaking d1 d2 (keys_of path number) beside_k named_k run_1 c.create-2.ensures.time crash_2 in
     let seen_1 : (m : List ℕ) → m ≢ messages_of path number → d1.seen m ≡ d0.seen m = λ m ne. c.create.ensures.beside m (λ is. ne (is ∙ messages)) in
     let seen_2 : (m : List ℕ) → m ≢ keys_of path number → d2.seen m ≡ d1.seen m = λ m ne. c.create-2.ensures.beside m (λ is. ne (is ∙ keys)) in
     same_base d0 d2 path end (seen_2 (messages_of path n) (messages_not_keys path n number) ∙ seen_1 (messages_of path n) other_m) (seen_2 (keys_of path n) other_k ∙ seen_1 (keys_of path n) (keys_not_messages path n number))
@@ -116,19 +133,32 @@ returns-in_err-sync_folder-clause-any_moment g c honest =
 
 pub returns-in_err-sync_folder-clause-same : goal.returns-in_err-sync_folder-clause-same
 returns-in_err-sync_folder-clause-same g c honest =
+    let h3 = honest in
+    let h2 = c.sync_folder.ensures.quiet.honest h3 in
+    let h1 = c.create-2.ensures.time.honest h2 in
+    let h0 = c.create.ensures.time.honest h1 in
     let path = folder_of c.args.names.now in
     let end = c.args.end in
     let n = end.told.number in
     let number = c.args.number in
+    let rest = (c.requires.settled h0) in
     let d0 = g.D.Disk.state c.args.disk.now in
     let d1 = g.D.Disk.state c.create.new.self in
     let messages : c.deref.result.now ≡ messages_of path number = c.deref.ensures.value ∙ c.requires.names.messages in
     let other_m : messages_of path n ≢ messages_of path number = λ is. c.requires.other (sym (messages_of-injective path n number is)) in
+    let crash_1 = subst (λ (l : List ℕ). LeavesOneStepOn (ChangesFile d0 l TornMaking) d0 d1) messages c.create.ensures.crash in
+    let beside_m : IsBeside path n (messages_of path number) = record { inside = messages_in path number; not_log = log_not_messages path number; not_messages = other_m; not_keys = keys_not_messages path n number } in
+    let run_1 = alone_changed d0 path end rest TornMaking d0 d1 (messages_of path number) beside_m (rest.log.named (messages_of path number) (messages_in path number)) (alone_first d0 path end rest) c.create.ensures.time crash_1 in
     let d2 = g.D.Disk.state c.create-2.new.self in
     let keys : c.deref-2.result.now ≡ keys_of path number = c.deref-2.ensures.value ∙ c.requires.names.keys in
     let other_k : keys_of path n ≢ keys_of path number = λ is. c.requires.other (sym (keys_of-injective path n number is)) in
+    let crash_2 = subst (λ (l : List ℕ). LeavesOneStepOn (ChangesFile d1 l TornMaking) d1 d2) keys c.create-2.ensures.crash in
+    let beside_k : IsBeside path n (keys_of path number) = record { inside = keys_in path number; not_log = log_not_keys path number; not_messages = messages_not_keys path n number; not_keys = other_k } in
+    let named_k = c.create.ensures.named (keys_of path number) (λ is. keys_not_messages path number number (is ∙ messages)) (rest.log.named (keys_of path number) (keys_in path number)) in
+    let run_2 = alone_changed d0 path end rest TornMaking d1 d2 (keys_of path number) beside_k named_k run_1 c.create-2.ensures.time crash_2 in
     let d3 = g.D.Disk.state c.sync_folder.new.self in
     let quiet = c.sync_folder.ensures.quiet in
+    let run_3 = then_nothing d0 d2 d3 (FilesAlone d0 path end rest) run_2 quiet in
     let seen_1 : (m : List ℕ) → m ≢ messages_of path number → d1.seen m ≡ d0.seen m = λ m ne. c.create.ensures.beside m (λ is. ne (is ∙ messages)) in
     let seen_2 : (m : List ℕ) → m ≢ keys_of path number → d2.seen m ≡ d1.seen m = λ m ne. c.create-2.ensures.beside m (λ is. ne (is ∙ keys)) in
     same_base d0 d3 path end (quiet.seen (messages_of path n) ∙ seen_2 (messages_of path n) (messages_not_keys path n number) ∙ seen_1 (messages_of path n) other_m) (quiet.seen (keys_of path n) ∙ seen_2 (keys_of path n) other_k ∙ seen_1 (keys_of path n) (keys_not_messages path n number))
@@ -165,19 +195,32 @@ returns-clause-any_moment g c honest =
 
 pub returns-clause-same : goal.returns-clause-same
 returns-clause-same g c honest =
+    let h3 = honest in
+    let h2 = c.sync_folder.ensures.quiet.honest h3 in
+    let h1 = c.create-2.ensures.time.honest h2 in
+    let h0 = c.create.ensures.time.honest h1 in
     let path = folder_of c.args.names.now in
     let end = c.args.end in
     let n = end.told.number in
     let number = c.args.number in
+    let rest = (c.requires.settled h0) in
     let d0 = g.D.Disk.state c.args.disk.now in
     let d1 = g.D.Disk.state c.create.new.self in
     let messages : c.deref.result.now ≡ messages_of path number = c.deref.ensures.value ∙ c.requires.names.messages in
     let other_m : messages_of path n ≢ messages_of path number = λ is. c.requires.other (sym (messages_of-injective path n number is)) in
+    let crash_1 = subst (λ (l : List ℕ). LeavesOneStepOn (ChangesFile d0 l TornMaking) d0 d1) messages c.create.ensures.crash in
+    let beside_m : IsBeside path n (messages_of path number) = record { inside = messages_in path number; not_log = log_not_messages path number; not_messages = other_m; not_keys = keys_not_messages path n number } in
+    let run_1 = alone_changed d0 path end rest TornMaking d0 d1 (messages_of path number) beside_m (rest.log.named (messages_of path number) (messages_in path number)) (alone_first d0 path end rest) c.create.ensures.time crash_1 in
     let d2 = g.D.Disk.state c.create-2.new.self in
     let keys : c.deref-2.result.now ≡ keys_of path number = c.deref-2.ensures.value ∙ c.requires.names.keys in
     let other_k : keys_of path n ≢ keys_of path number = λ is. c.requires.other (sym (keys_of-injective path n number is)) in
+    let crash_2 = subst (λ (l : List ℕ). LeavesOneStepOn (ChangesFile d1 l TornMaking) d1 d2) keys c.create-2.ensures.crash in
+    let beside_k : IsBeside path n (keys_of path number) = record { inside = keys_in path number; not_log = log_not_keys path number; not_messages = messages_not_keys path n number; not_keys = other_k } in
+    let named_k = c.create.ensures.named (keys_of path number) (λ is. keys_not_messages path number number (is ∙ messages)) (rest.log.named (keys_of path number) (keys_in path number)) in
+    let run_2 = alone_changed d0 path end rest TornMaking d1 d2 (keys_of path number) beside_k named_k run_1 c.create-2.ensures.time crash_2 in
     let d3 = g.D.Disk.state c.sync_folder.new.self in
     let quiet = c.sync_folder.ensures.quiet in
+    let run_3 = then_nothing d0 d2 d3 (FilesAlone d0 path end rest) run_2 quiet in
     let seen_1 : (m : List ℕ) → m ≢ messages_of path number → d1.seen m ≡ d0.seen m = λ m ne. c.create.ensures.beside m (λ is. ne (is ∙ messages)) in
     let seen_2 : (m : List ℕ) → m ≢ keys_of path number → d2.seen m ≡ d1.seen m = λ m ne. c.create-2.ensures.beside m (λ is. ne (is ∙ keys)) in
     same_base d0 d3 path end (quiet.seen (messages_of path n) ∙ seen_2 (messages_of path n) (messages_not_keys path n number) ∙ seen_1 (messages_of path n) other_m) (quiet.seen (keys_of path n) ∙ seen_2 (keys_of path n) other_k ∙ seen_1 (keys_of path n) (keys_not_messages path n number))

@@ -136,6 +136,7 @@ returns-clause-acknowledged g c honest =
     let kept_1 = subst (λ (l : List ℕ). KeepsOthers d2 d3 l) log_1 c.write_synced.ensures.others in
     let on_1 = subst (λ (l : List ℕ). IsOnDisk d3 l) log_1 (c.in_ok-write_synced.ensures.durable h3) in
     let written_1 = subst (λ (l : List ℕ). IsWrittenAt (bytes_in (d2.seen l)) (end.gate + 1) bytes (bytes_in (d3.seen l))) log_1 c.in_ok-write_synced.ensures.written in
+    let says = told_by-body_of told c.record_of.ensures.fits in
     let at_gate = subst (λ (l : List ℕ). Ready d0 path end told staged d3 l) c.record_of.ensures.bytes (done_record d0 path end told staged d2 d3 bytes at_record more_1 kept_1 on_1 written_1) in
     let log_2 : c.deref-4.result.now ≡ log_of path = c.deref-4.ensures.value ∙ c.requires.names.log in
     let kept_2 = subst (λ (l : List ℕ). KeepsOthers d3 d4 l) log_2 c.write_synced-2.ensures.others in

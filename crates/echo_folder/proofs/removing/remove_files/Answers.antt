@@ -18,13 +18,17 @@ remove_one-requires-clause-file g c =
     let end = c.args.end in
     let number = c.args.number in
     let n = end.told.number in
+    let d0 = g.D.Disk.state c.args.disk.now in
     let messages : c.deref-2.result.now ≡ messages_of path number = c.deref-2.ensures.value ∙ c.requires.names.messages in
     let m_beside = subst (λ (f : List ℕ). IsBeside path n f) (sym messages) (messages_beside path n number c.requires.other) in
     subst (λ (p : List ℕ). IsBeside p n c.deref-2.result.now) (sym c.deref.ensures.value) m_beside
 
 pub remove_one-requires-clause-settled : goal.remove_one-requires-clause-settled
 remove_one-requires-clause-settled g c honest =
+    let path = folder_of c.args.names.now in
     let end = c.args.end in
+    let number = c.args.number in
+    let n = end.told.number in
     let d0 = g.D.Disk.state c.args.disk.now in
     subst (λ (p : List ℕ). IsAtRest d0 p end) (sym c.deref.ensures.value) (c.requires.settled honest)
 
@@ -43,7 +47,10 @@ returns-in_err-remove_one-clause-same g c =
 
 pub returns-in_err-remove_one-clause-any_moment : goal.returns-in_err-remove_one-clause-any_moment
 returns-in_err-remove_one-clause-any_moment g c honest =
+    let path = folder_of c.args.names.now in
     let end = c.args.end in
+    let number = c.args.number in
+    let n = end.told.number in
     let d0 = g.D.Disk.state c.args.disk.now in
     let d1 = g.D.Disk.state c.remove_one.new.disk in
     let run_1 = subst (λ (p : List ℕ). LeavesOnly d0 d1 (StandsAlone p d0 (base_at d0 p end.told))) c.deref.ensures.value (c.remove_one.ensures.any_moment honest) in
@@ -51,6 +58,10 @@ returns-in_err-remove_one-clause-any_moment g c honest =
 
 pub returns-in_err-remove_one-clause-outside : goal.returns-in_err-remove_one-clause-outside
 returns-in_err-remove_one-clause-outside g c =
+    let path = folder_of c.args.names.now in
+    let end = c.args.end in
+    let number = c.args.number in
+    let n = end.told.number in
     let d0 = g.D.Disk.state c.args.disk.now in
     let d1 = g.D.Disk.state c.remove_one.new.disk in
     let out_1 = subst (λ (p : List ℕ). KeepsOutside p d0 d1) c.deref.ensures.value c.remove_one.ensures.outside in
@@ -62,19 +73,28 @@ remove_one-requires-2-clause-file g c =
     let end = c.args.end in
     let number = c.args.number in
     let n = end.told.number in
+    let d0 = g.D.Disk.state c.args.disk.now in
     let keys : c.deref-4.result.now ≡ keys_of path number = c.deref-4.ensures.value ∙ c.requires.names.keys in
     let k_beside = subst (λ (f : List ℕ). IsBeside path n f) (sym keys) (keys_beside path n number c.requires.other) in
     subst (λ (p : List ℕ). IsBeside p n c.deref-4.result.now) (sym c.deref-3.ensures.value) k_beside
 
 pub remove_one-requires-2-clause-settled : goal.remove_one-requires-2-clause-settled
 remove_one-requires-2-clause-settled g c honest =
+    let path = folder_of c.args.names.now in
     let end = c.args.end in
+    let number = c.args.number in
+    let n = end.told.number in
+    let d0 = g.D.Disk.state c.args.disk.now in
     let d1 = g.D.Disk.state c.remove_one.new.disk in
     subst (λ (p : List ℕ). IsAtRest d1 p end) (c.deref.ensures.value ∙ sym c.deref-3.ensures.value) (c.in_ok-remove_one.ensures.settled honest)
 
 pub returns-clause-settled : goal.returns-clause-settled
 returns-clause-settled g c honest =
+    let path = folder_of c.args.names.now in
     let end = c.args.end in
+    let number = c.args.number in
+    let n = end.told.number in
+    let d0 = g.D.Disk.state c.args.disk.now in
     let d2 = g.D.Disk.state c.remove_one-2.new.disk in
     on_ok_weaker c.remove_one-2.result (λ rest. subst (λ (p : List ℕ). IsAtRest d2 p end) c.deref-3.ensures.value rest) (c.remove_one-2.ensures.settled honest)
 
@@ -82,10 +102,16 @@ pub returns-clause-messages : goal.returns-clause-messages
 returns-clause-messages g c honest =
     let h1 = c.remove_one-2.ensures.outside.honest honest in
     let path = folder_of c.args.names.now in
+    let end = c.args.end in
     let number = c.args.number in
+    let n = end.told.number in
+    let d0 = g.D.Disk.state c.args.disk.now in
     let messages : c.deref-2.result.now ≡ messages_of path number = c.deref-2.ensures.value ∙ c.requires.names.messages in
+    let m_beside = subst (λ (f : List ℕ). IsBeside path n f) (sym messages) (messages_beside path n number c.requires.other) in
     let keys : c.deref-4.result.now ≡ keys_of path number = c.deref-4.ensures.value ∙ c.requires.names.keys in
+    let k_beside = subst (λ (f : List ℕ). IsBeside path n f) (sym keys) (keys_beside path n number c.requires.other) in
     let d1 = g.D.Disk.state c.remove_one.new.disk in
+    let d2 = g.D.Disk.state c.remove_one-2.new.disk in
     let gone_1 : d1.seen (messages_of path number) ≡ None = subst (λ (f : List ℕ). d1.seen f ≡ None) messages (c.in_ok-remove_one.ensures.gone h1) in
     on_ok_weaker c.remove_one-2.result
     (λ rest. c.remove_one-2.ensures.beside (messages_of path number) (λ is. messages_not_keys path number number (is ∙ keys)) ∙ gone_1) (c.remove_one-2.ensures.settled honest)
@@ -93,8 +119,12 @@ returns-clause-messages g c honest =
 pub returns-clause-keys : goal.returns-clause-keys
 returns-clause-keys g c honest =
     let path = folder_of c.args.names.now in
+    let end = c.args.end in
     let number = c.args.number in
+    let n = end.told.number in
+    let d0 = g.D.Disk.state c.args.disk.now in
     let keys : c.deref-4.result.now ≡ keys_of path number = c.deref-4.ensures.value ∙ c.requires.names.keys in
+    let k_beside = subst (λ (f : List ℕ). IsBeside path n f) (sym keys) (keys_beside path n number c.requires.other) in
     let d2 = g.D.Disk.state c.remove_one-2.new.disk in
     on_ok_weaker c.remove_one-2.result (λ gone. subst (λ (f : List ℕ). d2.seen f ≡ None) keys gone) (c.remove_one-2.ensures.gone honest)
 
@@ -137,6 +167,9 @@ returns-clause-any_moment g c honest =
 pub returns-clause-outside : goal.returns-clause-outside
 returns-clause-outside g c =
     let path = folder_of c.args.names.now in
+    let end = c.args.end in
+    let number = c.args.number in
+    let n = end.told.number in
     let d0 = g.D.Disk.state c.args.disk.now in
     let d1 = g.D.Disk.state c.remove_one.new.disk in
     let d2 = g.D.Disk.state c.remove_one-2.new.disk in

@@ -51,7 +51,9 @@ returns-then-not-branch-clause-settled g c honest =
 
 pub returns-then-not-branch-clause-gone : goal.returns-then-not-branch-clause-gone
 returns-then-not-branch-clause-gone g c honest =
+    let h0 = c.exists.ensures.quiet.honest honest in
     let d0 = g.D.Disk.state c.args.disk.now in
+    let d1 = g.D.Disk.state c.exists.new.self in
     let file = c.args.file.now in
     c.exists.ensures.quiet.seen file ∙ not_there (d0.seen file) (λ is. absurd (cc ((c.in_ok-exists.ensures.found honest).1 is, c.if-not-branch.true)))
 
@@ -174,6 +176,7 @@ returns-clause-settled g c honest =
 
 pub returns-clause-gone : goal.returns-clause-gone
 returns-clause-gone g c honest =
+    let d2 = g.D.Disk.state c.remove.new.self in
     let d3 = g.D.Disk.state c.sync_folder.new.self in
     let file = c.args.file.now in
     on_ok_weaker {P = (m : List ℕ) → IsIn c.args.folder.now m → d3.is_named m} c.sync_folder.result (λ named. c.sync_folder.ensures.quiet.seen file ∙ c.in_ok-remove.ensures.gone) c.sync_folder.ensures.durable

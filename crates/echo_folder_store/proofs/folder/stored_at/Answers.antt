@@ -8,9 +8,11 @@ use Rattle.echo_folder_store.proofs.folder.stored_at.Goals as goal
 
 pub returns-then-begins-ends-clause-stored : goal.returns-then-begins-ends-clause-stored
 returns-then-begins-ends-clause-stored g c honest =
+    let h0 = honest in
     λ base told inside.
     let all = c.in-Some.all in
     let file = take c.args.written (bytes_in ((g.D.Disk.state c.args.disk.now).seen c.args.messages.now)) ++ c.args.waiting.now in
+    let long = count_across (bytes_in ((g.D.Disk.state c.args.disk.now).seen c.args.messages.now)) c.args.waiting.now c.args.written (c.requires.long h0) in
     let few : length file ≤ all = omega arith in
     let here = subst (λ (l : List ℕ). StandWhereTold base l c.args.keys.now) (sym (take_all all file few)) told in
     let stands = here.each c.args.place inside in
@@ -24,9 +26,11 @@ returns-then-begins-ends-clause-stored g c honest =
 pub returns-clause-stored : goal.returns-clause-stored
 returns-clause-stored g c honest =
     let h1 = honest in
+    let h0 = c.read_across.ensures.quiet.honest h1 in
     λ base told inside.
     let all = c.in-Some.all in
     let file = take c.args.written (bytes_in ((g.D.Disk.state c.args.disk.now).seen c.args.messages.now)) ++ c.args.waiting.now in
+    let long = count_across (bytes_in ((g.D.Disk.state c.args.disk.now).seen c.args.messages.now)) c.args.waiting.now c.args.written (c.requires.long h0) in
     let few : length file ≤ all = omega arith in
     let here = subst (λ (l : List ℕ). StandWhereTold base l c.args.keys.now) (sym (take_all all file few)) told in
     let stands = here.each c.args.place inside in

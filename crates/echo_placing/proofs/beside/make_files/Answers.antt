@@ -42,6 +42,7 @@ packets-preserved g c =
 pub returns-in_err-create-clause-changes : goal.returns-in_err-create-clause-changes
 returns-in_err-create-clause-changes g c =
     let packets = c.args.packets.now in
+    let pairs = c.requires.apart in
     let i = c.packets.packet-index in
     let x = get_or packets i nobody in
     let lt : i < length packets = omega arith in

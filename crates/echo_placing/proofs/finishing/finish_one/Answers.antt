@@ -51,6 +51,8 @@ returns-then-left-cursor-clause-any_moment g c honest =
 pub returns-then-left-cursor-clause-over : goal.returns-then-left-cursor-clause-over
 returns-then-left-cursor-clause-over g c honest is =
     let l = c.args.left.now in
+    let d0 = g.D.Disk.state c.args.disk.now in
+    let d1 = g.D.Disk.state c.remove.new.self in
     let now = c.remove.ensures in
     record {
       committed = λ lt. absurd (omega (arith, c.if-left-cursor.true));
@@ -61,6 +63,8 @@ returns-then-left-cursor-clause-over g c honest is =
 pub returns-then-left-cursor-clause-kept : goal.returns-then-left-cursor-clause-kept
 returns-then-left-cursor-clause-kept g c honest some =
     let l = c.args.left.now in
+    let d0 = g.D.Disk.state c.args.disk.now in
+    let d1 = g.D.Disk.state c.remove.new.self in
     let now = c.remove.ensures in
     now.beside l.path.now (λ e. c.requires.placed.other (sym e))
 
@@ -118,6 +122,9 @@ returns-clause-over g c honest =
 pub returns-clause-kept : goal.returns-clause-kept
 returns-clause-kept g c honest =
     let l = c.args.left.now in
+    let d0 = g.D.Disk.state c.args.disk.now in
+    let d1 = g.D.Disk.state c.sync.new.self in
+    let d2 = g.D.Disk.state c.name_packet.new.disk in
     let quiet = c.sync.ensures.quiet in
     let now = c.name_packet.ensures in
     on_ok_weaker c.name_packet.result (λ keeps some. keeps (subst (λ f. IsSome f) (sym (quiet.seen l.path.now)) some) ∙ quiet.seen l.path.now) (now.over_none honest)
@@ -127,6 +134,7 @@ returns-clause-taken g c honest =
     let l = c.args.left.now in
     let d0 = g.D.Disk.state c.args.disk.now in
     let d1 = g.D.Disk.state c.sync.new.self in
+    let d2 = g.D.Disk.state c.name_packet.new.disk in
     let quiet = c.sync.ensures.quiet in
     let now = c.name_packet.ensures in
     IfOk-weaker c.name_packet.result (λ b. b ≡ false → IsTaken d1 l.path.now l.beside.now) (λ b. b ≡ false → IsFreeOf d0 l → ⊥)

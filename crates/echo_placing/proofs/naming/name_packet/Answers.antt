@@ -29,6 +29,7 @@ pub returns-in_err-sync_folder-clause-any_moment : goal.returns-in_err-sync_fold
 returns-in_err-sync_folder-clause-any_moment g c honest =
     let path = c.args.path.now in
     let beside = c.args.beside.now in
+    let both = λ (m : List ℕ). (m ≡ beside) ⊎ (m ≡ path) in
     let d0 = g.D.Disk.state c.args.disk.now in
     let d1 = g.D.Disk.state c.give_path.new.disk in
     let d2 = g.D.Disk.state c.sync_folder.new.self in
@@ -52,6 +53,7 @@ pub returns-in_err-remove-clause-any_moment : goal.returns-in_err-remove-clause-
 returns-in_err-remove-clause-any_moment g c honest =
     let path = c.args.path.now in
     let beside = c.args.beside.now in
+    let both = λ (m : List ℕ). (m ≡ beside) ⊎ (m ≡ path) in
     let d0 = g.D.Disk.state c.args.disk.now in
     let d1 = g.D.Disk.state c.give_path.new.disk in
     let d2 = g.D.Disk.state c.sync_folder.new.self in
@@ -83,6 +85,7 @@ pub returns-clause-any_moment : goal.returns-clause-any_moment
 returns-clause-any_moment g c honest =
     let path = c.args.path.now in
     let beside = c.args.beside.now in
+    let both = λ (m : List ℕ). (m ≡ beside) ⊎ (m ≡ path) in
     let d0 = g.D.Disk.state c.args.disk.now in
     let d1 = g.D.Disk.state c.give_path.new.disk in
     let d2 = g.D.Disk.state c.sync_folder.new.self in
@@ -100,6 +103,10 @@ pub returns-clause-named : goal.returns-clause-named
 returns-clause-named g c honest is =
     let path = c.args.path.now in
     let beside = c.args.beside.now in
+    let both = λ (m : List ℕ). (m ≡ beside) ⊎ (m ≡ path) in
+    let d0 = g.D.Disk.state c.args.disk.now in
+    let d1 = g.D.Disk.state c.give_path.new.disk in
+    let d2 = g.D.Disk.state c.sync_folder.new.self in
     let quiet = c.sync_folder.ensures.quiet in
     let now = c.remove.ensures in
     let given = c.in_ok-given.ensures in
@@ -115,6 +122,11 @@ returns-clause-named g c honest is =
 pub returns-clause-over_none : goal.returns-clause-over_none
 returns-clause-over_none g c honest some =
     let path = c.args.path.now in
+    let beside = c.args.beside.now in
+    let both = λ (m : List ℕ). (m ≡ beside) ⊎ (m ≡ path) in
+    let d0 = g.D.Disk.state c.args.disk.now in
+    let d1 = g.D.Disk.state c.give_path.new.disk in
+    let d2 = g.D.Disk.state c.sync_folder.new.self in
     let quiet = c.sync_folder.ensures.quiet in
     let now = c.remove.ensures in
     let h1 = quiet.honest (now.time.honest honest) in

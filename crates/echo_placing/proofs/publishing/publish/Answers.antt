@@ -99,14 +99,22 @@ returns-clause-committed g c =
     let placed = c.requires.placed in
     let apart = c.requires.apart in
     let d0 = g.D.Disk.state c.args.disk.now in
+    let d1 = g.D.Disk.state c.stage_packets.new.disk in
     let d2 = g.D.Disk.state c.commit.new.disk in
     let d3 = g.D.Disk.state c.name_packets.new.disk in
     still_comes change folder packets placed apart d0 d2 d3 c.in_ok-commit.ensures.committed c.name_packets.ensures.changes
 
 pub returns-then-not-branch-2-clause-taken : goal.returns-then-not-branch-2-clause-taken
 returns-then-not-branch-2-clause-taken g c honest is free =
+    let change = g.C.Commit.change c.args.commit.now in
+    let folder = c.args.folder.now in
     let packets = c.args.packets.now in
+    let placed = c.requires.placed in
     let apart = c.requires.apart in
+    let d0 = g.D.Disk.state c.args.disk.now in
+    let d1 = g.D.Disk.state c.stage_packets.new.disk in
+    let d2 = g.D.Disk.state c.commit.new.disk in
+    let d3 = g.D.Disk.state c.name_packets.new.disk in
     let h1 = c.commit.ensures.changes.honest (c.name_packets.ensures.changes.honest honest) in
     c.in_ok-name_packets.ensures.taken honest c.if-not-branch-2.true
     (λ k z lt. c.commit.ensures.changes.seen (get_or packets k z).path.now (apart k z lt).path ∙ c.in_ok-stage_packets.ensures.free h1 c.if-not-branch.false k z lt)

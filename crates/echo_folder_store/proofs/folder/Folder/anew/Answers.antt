@@ -69,6 +69,7 @@ returns-clause-named g c =
 pub returns-clause-opened : goal.returns-clause-opened
 returns-clause-opened g c honest =
     let f = c.args.self.now in
+    let d0 = g.D.Disk.state c.args.disk.now in
     let d1 = g.D.Disk.state c.stage_anew.new.disk in
     let next : Folder = record { names = c.in_ok-names.names; end = f.end; told = c.in_ok-told.told; keys = c.new-keys.result; waiting = c.new-waiting.result } in
     let told = c.in_ok-told.ensures.told in
@@ -95,6 +96,7 @@ returns-clause-beside g c =
 
 pub returns-clause-empty : goal.returns-clause-empty
 returns-clause-empty g c =
+    let d0 = g.D.Disk.state c.args.disk.now in
     let d1 = g.D.Disk.state c.stage_anew.new.disk in
     let next : Folder = record { names = c.in_ok-names.names; end = c.args.self.now.end; told = c.in_ok-told.told; keys = c.new-keys.result; waiting = c.new-waiting.result } in
     let none : IsWritten next = record { messages = c.new-waiting.ensures.messages; keys = c.new-waiting.ensures.keys } in
@@ -104,6 +106,7 @@ pub returns-clause-committed : goal.returns-clause-committed
 returns-clause-committed g c honest =
     let f = c.args.self.now in
     let d0 = g.D.Disk.state c.args.disk.now in
+    let d1 = g.D.Disk.state c.stage_anew.new.disk in
     let folder : folder_of c.in_ok-names.names ≡ path_of f = c.in_ok-names.ensures.folder ∙ c.deref.ensures.value in
     c.in_ok-told.ensures.same honest ∙ ap (λ (p : List ℕ). base_at d0 p f.end.told) folder
 
@@ -121,6 +124,7 @@ returns-clause-readable g c honest =
       number = λ is. c.other_number-number.ensures.other (sym (ap (λ (t : Told). t.number) told) ∙ is);
       mark = ap (λ (t : Told). t.mark) told;
     } in
+    let number = c.other_number-number.result in
     let path = folder_of c.in_ok-names.names in
     readable_beside d0 d1 f next beside
     (λ m messages keys. c.stage_anew.ensures.beside m (λ is. messages (is ∙ ap (λ (t : Told). messages_of path t.number) (sym told))) (λ is. keys (is ∙ ap (λ (t : Told). keys_of path t.number) (sym told))))

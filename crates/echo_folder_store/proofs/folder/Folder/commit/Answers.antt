@@ -22,6 +22,7 @@ returns-clause-opened g c honest =
 pub returns-clause-same : goal.returns-clause-same
 returns-clause-same g c honest =
     let h1 = c.remove_former.ensures.outside.honest honest in
+    let d1 = g.D.Disk.state c.acknowledge.new.disk in
     let d2 = g.D.Disk.state c.remove_former.new.disk in
     let f = c.acknowledge.new.self in
     on_ok_weaker {P = IsAtRest d2 (path_of f) f.end} c.remove_former.result

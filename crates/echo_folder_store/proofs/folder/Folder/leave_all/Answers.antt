@@ -88,12 +88,18 @@ returns-in_err-one-clause-outside g c =
     let d0 = g.D.Disk.state c.args.disk.now in
     let n0 = c.args.next.now in
     let d1 = g.D.Disk.state c.messages.disk in
+    let n1 = c.messages.next in
     let d2 = g.D.Disk.state c.leave_next.new.disk in
     let before = c.messages.invariant in
     outside_twice (path_of n0) d0 d1 d2 before.outside (subst (λ (p : List ℕ). KeepsOutside p d1 d2) before.path c.leave_next.ensures.outside)
 
 pub returns-in_err-one-clause-damaged : goal.returns-in_err-one-clause-damaged
 returns-in_err-one-clause-damaged g c honest is keyed base holds =
+    let d0 = g.D.Disk.state c.args.disk.now in
+    let n0 = c.args.next.now in
+    let d1 = g.D.Disk.state c.messages.disk in
+    let n1 = c.messages.next in
+    let d2 = g.D.Disk.state c.leave_next.new.disk in
     let before = c.messages.invariant in
     let h1 = c.leave_next.ensures.outside.honest honest in
     c.in_err-one.ensures.damaged honest (handed_on _ _ c.from_residual.result c.from_residual.ensures.1 is) keyed base (subst (λ (b : BaseBytes). HoldsBase keyed b base) (sym (before.same h1)) holds)

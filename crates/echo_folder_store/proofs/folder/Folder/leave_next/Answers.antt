@@ -25,6 +25,8 @@ use Rattle.echo_folder_store.proofs.folder.Folder.leave_next.Goals as goal
 
 pub message_at-requires-clause-there : goal.message_at-requires-clause-there
 message_at-requires-clause-there g c honest =
+    let f = c.args.self.now in
+    let n = c.args.next.now in
     let d0 = g.D.Disk.state c.args.disk.now in
     let readable = c.requires.readable honest in
     let name = c.deref.ensures.value ∙ readable.names.messages in
@@ -33,6 +35,7 @@ message_at-requires-clause-there g c honest =
 pub message_at-requires-clause-long : goal.message_at-requires-clause-long
 message_at-requires-clause-long g c honest =
     let f = c.args.self.now in
+    let n = c.args.next.now in
     let d0 = g.D.Disk.state c.args.disk.now in
     let readable = c.requires.readable honest in
     let name = c.deref.ensures.value ∙ readable.names.messages in
@@ -42,6 +45,7 @@ pub returns-in_err-alone-clause-readable : goal.returns-in_err-alone-clause-read
 returns-in_err-alone-clause-readable g c honest =
     let h0 = c.message_at.ensures.quiet.honest honest in
     let f = c.args.self.now in
+    let n = c.args.next.now in
     let d0 = g.D.Disk.state c.args.disk.now in
     let d1 = g.D.Disk.state c.message_at.new.disk in
     let quiet = c.message_at.ensures.quiet in
@@ -50,6 +54,7 @@ returns-in_err-alone-clause-readable g c honest =
 pub returns-in_err-alone-clause-any_moment : goal.returns-in_err-alone-clause-any_moment
 returns-in_err-alone-clause-any_moment g c honest =
     let h0 = c.message_at.ensures.quiet.honest honest in
+    let f = c.args.self.now in
     let n = c.args.next.now in
     let d0 = g.D.Disk.state c.args.disk.now in
     let d1 = g.D.Disk.state c.message_at.new.disk in
@@ -59,6 +64,7 @@ returns-in_err-alone-clause-any_moment g c honest =
 
 pub returns-in_err-alone-clause-outside : goal.returns-in_err-alone-clause-outside
 returns-in_err-alone-clause-outside g c =
+    let f = c.args.self.now in
     let n = c.args.next.now in
     let d0 = g.D.Disk.state c.args.disk.now in
     let d1 = g.D.Disk.state c.message_at.new.disk in
@@ -69,6 +75,7 @@ pub returns-in_err-left-clause-readable : goal.returns-in_err-left-clause-readab
 returns-in_err-left-clause-readable g c honest =
     let h0 = c.message_at.ensures.quiet.honest honest in
     let f = c.args.self.now in
+    let n = c.args.next.now in
     let d0 = g.D.Disk.state c.args.disk.now in
     let d1 = g.D.Disk.state c.message_at.new.disk in
     let quiet = c.message_at.ensures.quiet in
@@ -77,6 +84,7 @@ returns-in_err-left-clause-readable g c honest =
 pub returns-in_err-left-clause-any_moment : goal.returns-in_err-left-clause-any_moment
 returns-in_err-left-clause-any_moment g c honest =
     let h0 = c.message_at.ensures.quiet.honest honest in
+    let f = c.args.self.now in
     let n = c.args.next.now in
     let d0 = g.D.Disk.state c.args.disk.now in
     let d1 = g.D.Disk.state c.message_at.new.disk in
@@ -86,6 +94,7 @@ returns-in_err-left-clause-any_moment g c honest =
 
 pub returns-in_err-left-clause-outside : goal.returns-in_err-left-clause-outside
 returns-in_err-left-clause-outside g c =
+    let f = c.args.self.now in
     let n = c.args.next.now in
     let d0 = g.D.Disk.state c.args.disk.now in
     let d1 = g.D.Disk.state c.message_at.new.disk in
@@ -117,6 +126,7 @@ returns-in_err-stage-clause-damaged g c honest is keyed base holds =
 pub stage-requires-clause-opened : goal.stage-requires-clause-opened
 stage-requires-clause-opened g c honest =
     let h0 = c.message_at.ensures.quiet.honest honest in
+    let f = c.args.self.now in
     let n = c.args.next.now in
     let d0 = g.D.Disk.state c.args.disk.now in
     let d1 = g.D.Disk.state c.message_at.new.disk in
@@ -138,6 +148,8 @@ returns-in_err-stage-clause-readable g c honest =
 pub returns-in_err-stage-clause-beside : goal.returns-in_err-stage-clause-beside
 returns-in_err-stage-clause-beside g c =
     let f = c.args.self.now in
+    let n = c.args.next.now in
+    let d0 = g.D.Disk.state c.args.disk.now in
     let beside : IsBesideIn f c.stage.new.self = record {
       path = c.stage.ensures.path ∙ c.requires.beside.path;
       end = c.stage.ensures.end ∙ c.requires.beside.end;
@@ -150,6 +162,7 @@ pub returns-in_err-stage-clause-any_moment : goal.returns-in_err-stage-clause-an
 returns-in_err-stage-clause-any_moment g c honest =
     let h1 = c.stage.ensures.outside.honest honest in
     let h0 = c.message_at.ensures.quiet.honest h1 in
+    let f = c.args.self.now in
     let n = c.args.next.now in
     let d0 = g.D.Disk.state c.args.disk.now in
     let d1 = g.D.Disk.state c.message_at.new.disk in
@@ -160,6 +173,7 @@ returns-in_err-stage-clause-any_moment g c honest =
 
 pub returns-in_err-stage-clause-outside : goal.returns-in_err-stage-clause-outside
 returns-in_err-stage-clause-outside g c =
+    let f = c.args.self.now in
     let n = c.args.next.now in
     let d0 = g.D.Disk.state c.args.disk.now in
     let d1 = g.D.Disk.state c.message_at.new.disk in
@@ -182,6 +196,8 @@ returns-clause-readable g c honest =
 pub returns-clause-beside : goal.returns-clause-beside
 returns-clause-beside g c =
     let f = c.args.self.now in
+    let n = c.args.next.now in
+    let d0 = g.D.Disk.state c.args.disk.now in
     let beside : IsBesideIn f c.stage.new.self = record {
       path = c.stage.ensures.path ∙ c.requires.beside.path;
       end = c.stage.ensures.end ∙ c.requires.beside.end;
@@ -194,6 +210,7 @@ pub returns-clause-any_moment : goal.returns-clause-any_moment
 returns-clause-any_moment g c honest =
     let h1 = c.stage.ensures.outside.honest honest in
     let h0 = c.message_at.ensures.quiet.honest h1 in
+    let f = c.args.self.now in
     let n = c.args.next.now in
     let d0 = g.D.Disk.state c.args.disk.now in
     let d1 = g.D.Disk.state c.message_at.new.disk in
@@ -204,6 +221,7 @@ returns-clause-any_moment g c honest =
 
 pub returns-clause-outside : goal.returns-clause-outside
 returns-clause-outside g c =
+    let f = c.args.self.now in
     let n = c.args.next.now in
     let d0 = g.D.Disk.state c.args.disk.now in
     let d1 = g.D.Disk.state c.message_at.new.disk in
@@ -213,9 +231,13 @@ returns-clause-outside g c =
 
 pub returns-clause-same : goal.returns-clause-same
 returns-clause-same g c honest =
+    let h1 = c.stage.ensures.outside.honest honest in
+    let h0 = c.message_at.ensures.quiet.honest h1 in
+    let f = c.args.self.now in
     let n = c.args.next.now in
     let d0 = g.D.Disk.state c.args.disk.now in
     let d1 = g.D.Disk.state c.message_at.new.disk in
+    let d2 = g.D.Disk.state c.stage.new.disk in
     let quiet = c.message_at.ensures.quiet in
     c.in_ok-stage.ensures.same honest ∙ base_quiet d0 d1 (path_of n) n.end.told quiet
 

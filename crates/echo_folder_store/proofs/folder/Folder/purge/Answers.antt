@@ -13,6 +13,8 @@ use Rattle.echo_folder_store.proofs.folder.Folder.purge.Goals as goal
 
 pub anew-requires-clause-readable : goal.anew-requires-clause-readable
 anew-requires-clause-readable g c honest =
+    let d0 = g.D.Disk.state c.args.disk.now in
+    let f0 = c.args.self.now in
     let d1 = g.D.Disk.state c.commit.new.disk in
     let f1 = c.commit.new.self in
     rest_readable d1 f1 (c.in_ok-commit.ensures.opened honest) (c.in_ok-commit.ensures.settled honest) c.in_ok-commit.ensures.told c.in_ok-commit.ensures.written
@@ -34,6 +36,7 @@ returns-in_err-next-clause-outside g c =
     let d0 = g.D.Disk.state c.args.disk.now in
     let f0 = c.args.self.now in
     let d1 = g.D.Disk.state c.commit.new.disk in
+    let f1 = c.commit.new.self in
     let d2 = g.D.Disk.state c.anew.new.disk in
     let out_2 = outside_twice (path_of f0) d0 d1 d2 c.commit.ensures.outside (subst (λ (p : List ℕ). KeepsOutside p d1 d2) c.commit.ensures.path c.anew.ensures.outside) in
     out_2
@@ -70,6 +73,7 @@ returns-in_err-changed-clause-outside g c =
     let d0 = g.D.Disk.state c.args.disk.now in
     let f0 = c.args.self.now in
     let d1 = g.D.Disk.state c.commit.new.disk in
+    let f1 = c.commit.new.self in
     let d2 = g.D.Disk.state c.anew.new.disk in
     let d3 = g.D.Disk.state c.leave_all.new.disk in
     let n2 = c.in_ok-next.next in
@@ -101,6 +105,7 @@ returns-clause-outside g c =
     let d0 = g.D.Disk.state c.args.disk.now in
     let f0 = c.args.self.now in
     let d1 = g.D.Disk.state c.commit.new.disk in
+    let f1 = c.commit.new.self in
     let d2 = g.D.Disk.state c.anew.new.disk in
     let d3 = g.D.Disk.state c.leave_all.new.disk in
     let n2 = c.in_ok-next.next in
@@ -114,7 +119,10 @@ returns-in_err-changed-clause-damaged g c honest is keyed base holds =
     let h1 = c.anew.ensures.outside.honest h2 in
     let d0 = g.D.Disk.state c.args.disk.now in
     let f0 = c.args.self.now in
+    let d1 = g.D.Disk.state c.commit.new.disk in
+    let f1 = c.commit.new.self in
     let d2 = g.D.Disk.state c.anew.new.disk in
+    let d3 = g.D.Disk.state c.leave_all.new.disk in
     let n2 = c.in_ok-next.next in
     let same : committed_by d2 n2 ≡ held_by d0 f0 = c.in_ok-next.ensures.committed h2 ∙ c.in_ok-commit.ensures.committed h1 in
     let here = subst (λ (b : BaseBytes). HoldsBase keyed b base) (sym same) holds in
@@ -126,6 +134,9 @@ returns-clause-path g c =
 
 pub returns-clause-opened : goal.returns-clause-opened
 returns-clause-opened g c honest =
+    let d0 = g.D.Disk.state c.args.disk.now in
+    let f0 = c.args.self.now in
+    let d1 = g.D.Disk.state c.commit.new.disk in
     let f1 = c.commit.new.self in
     cursor_open (g.D.Disk.state c.leave_all.new.disk) c.leave_all.new.next f1.end.told.cursor (c.in_ok-changed.ensures.opened honest)
 
@@ -135,7 +146,10 @@ returns-clause-committed g c honest =
     let h1 = c.anew.ensures.outside.honest h2 in
     let d0 = g.D.Disk.state c.args.disk.now in
     let f0 = c.args.self.now in
+    let d1 = g.D.Disk.state c.commit.new.disk in
+    let f1 = c.commit.new.self in
     let d2 = g.D.Disk.state c.anew.new.disk in
+    let d3 = g.D.Disk.state c.leave_all.new.disk in
     let n2 = c.in_ok-next.next in
     let same : committed_by d2 n2 ≡ held_by d0 f0 = c.in_ok-next.ensures.committed h2 ∙ c.in_ok-commit.ensures.committed h1 in
     c.in_ok-changed.ensures.same honest ∙ same
@@ -165,7 +179,10 @@ returns-clause-count g c honest =
     let h1 = c.anew.ensures.outside.honest h2 in
     let d0 = g.D.Disk.state c.args.disk.now in
     let f0 = c.args.self.now in
+    let d1 = g.D.Disk.state c.commit.new.disk in
+    let f1 = c.commit.new.self in
     let d2 = g.D.Disk.state c.anew.new.disk in
+    let d3 = g.D.Disk.state c.leave_all.new.disk in
     let n2 = c.in_ok-next.next in
     let same : committed_by d2 n2 ≡ held_by d0 f0 = c.in_ok-next.ensures.committed h2 ∙ c.in_ok-commit.ensures.committed h1 in
     λ keyed base holds.
