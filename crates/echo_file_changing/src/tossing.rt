@@ -1,0 +1,76 @@
+//! The command `toss` on the files of a disk.
+ghost use Rattle.std.specs.Prelude.{◌≡◌, ◌⊎◌, Some, None};
+ghost use Rattle.echo_disk.specs.Disk.{Honestly};
+ghost use Rattle.echo_disk.specs.Runs.{ChangesNothing};
+ghost use Rattle.echo_placing.specs.Changes.{ChangesOnly};
+ghost use Rattle.echo_status.specs.Devices.{device_of, output_of};
+ghost use Rattle.echo_changing.specs.Tossed.{TossAnswers, TossAnswersBy};
+ghost use Rattle.echo_changing.specs.TossedPacket.{NotesPacketAt};
+ghost use Rattle.echo_station_files.specs.Faults.{HaveFailed};
+ghost use Rattle.echo_file_changing.specs.Running.{IsTouched, RunsOn};
+
+use crate::handing::{Handing, hand_over};
+use crate::putting::put_base;
+use echo_changing::{PacketFiles, toss, toss_each};
+use echo_device::Sink;
+use echo_disk::Disk;
+use echo_packet::Limits;
+use echo_station_files::{FileLock, StationPaths, lock_station};
+use echo_status::Fault;
+use std::alloc::Global;
+use std::hash::BuildHasher;
+
+/// `toss LINKS BASE PACKET...`: packet files are tossed into the base file. `unread` is why the list of them was not
+/// read, where it was not.
+pub fn toss_at<'a, D: Disk, L: FileLock, S: BuildHasher + Drop, P: PacketFiles<'a>, W: Sink>(
+    alloc: Global,
+    disk: &mut D,
+    lock: &mut L,
+    at: StationPaths<'a>,
+    unread: Option<Fault<'a>>,
+    hasher: S,
+    limits: Limits,
+    packets: &mut P,
+    out: &mut W,
+) -> Result<(), Fault<'a>>
+    requires { L.held lock.old ≡ None }
+    ensures locked { (L.held lock.new ≡ Some at.entry.links.now) ⊎ ChangesNothing (D.state disk.old) (D.state disk.new) }
+    ensures runs { Honestly (D.state disk.new) (RunsOn
+        (λ handed done. TossAnswers limits (device_of P.Reader.remaining P.Reader.failures) handed (P.coming packets.old) (P.coming packets.new)
+        (output_of W.contents W.failures W.holds out.old) (output_of W.contents W.failures W.holds out.new) done)
+        at.entry.links.now at.entry.base.now unread.entry (HaveFailed (D.failures disk.old) (D.failures disk.new) (L.failures lock.old) (L.failures lock.new)) (D.state disk.old) (D.state disk.new)
+        (output_of W.contents W.failures W.holds out.old) (output_of W.contents W.failures W.holds out.new) result) }
+    ensures changes { ChangesOnly (IsTouched at.entry.base.now) (D.state disk.old) (D.state disk.new) }
+{
+    let files = lock_station(alloc, disk, lock, at, unread)?;
+    let Handing { own, given } = hand_over(files, hasher);
+    let done = toss(alloc, given, limits, packets, out);
+    put_base(alloc, disk, at.base, own.as_slice(), done)
+}
+
+/// `toss --each`: the same, with a line on each message that was not filed.
+pub fn toss_each_at<'a, D: Disk, L: FileLock, S: BuildHasher + Drop, P: PacketFiles<'a>, W: Sink>(
+    alloc: Global,
+    disk: &mut D,
+    lock: &mut L,
+    at: StationPaths<'a>,
+    unread: Option<Fault<'a>>,
+    hasher: S,
+    limits: Limits,
+    packets: &mut P,
+    out: &mut W,
+) -> Result<(), Fault<'a>>
+    requires { L.held lock.old ≡ None }
+    ensures locked { (L.held lock.new ≡ Some at.entry.links.now) ⊎ ChangesNothing (D.state disk.old) (D.state disk.new) }
+    ensures runs { Honestly (D.state disk.new) (RunsOn
+        (λ handed done. TossAnswersBy NotesPacketAt limits (device_of P.Reader.remaining P.Reader.failures) handed (P.coming packets.old) (P.coming packets.new)
+        (output_of W.contents W.failures W.holds out.old) (output_of W.contents W.failures W.holds out.new) done)
+        at.entry.links.now at.entry.base.now unread.entry (HaveFailed (D.failures disk.old) (D.failures disk.new) (L.failures lock.old) (L.failures lock.new)) (D.state disk.old) (D.state disk.new)
+        (output_of W.contents W.failures W.holds out.old) (output_of W.contents W.failures W.holds out.new) result) }
+    ensures changes { ChangesOnly (IsTouched at.entry.base.now) (D.state disk.old) (D.state disk.new) }
+{
+    let files = lock_station(alloc, disk, lock, at, unread)?;
+    let Handing { own, given } = hand_over(files, hasher);
+    let done = toss_each(alloc, given, limits, packets, out);
+    put_base(alloc, disk, at.base, own.as_slice(), done)
+}
