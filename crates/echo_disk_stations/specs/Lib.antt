@@ -1,0 +1,2 @@
+pub mod OnDisks
+pub mod AsMay
