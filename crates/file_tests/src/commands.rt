@@ -1,0 +1,125 @@
+//! The first posting of the worked examples, and what crashes leave of it and of a purge.
+use crate::station::{AT, LINKS, NoWaiting};
+use echo_changing::NewMessage;
+use echo_device::Watched;
+use echo_disk::{Disk, DiskError, read_file};
+use echo_file_changing::{post_at, purge_at};
+use echo_memory_disk::{MemoryDisk, Tear};
+use echo_status::Fault;
+use echo_steps::Stamp;
+use std::alloc::{AllocError, Global};
+use std::hash::{BuildHasherDefault, FoldHasher};
+use std::test::Fail;
+
+/// The base with the first posting, field by field: the numbers; first byte, sender, DateTime; names and subject; the
+/// length of the text, and its lines.
+const POSTED: &[u8] = b"ECHOBAS2\0\0\0\0\x01\0\0\0\
+\0\0\0\0\0\0\x0003 Jul 26  12:34:56\0\
+\x03All\x03Ann\x02Hi\
+\x4e\0\0\0\
+AREA:TEST\r\
+\x01MSGID: 1:10/1 00000001\r\
+Hello\r\
+--- echonet\r\x20* Origin: Alpha (1:10/1)\r";
+
+const WORDS: NewMessage<'static> = NewMessage {
+    tag: b"TEST",
+    to_name: b"All",
+    from_name: b"Ann",
+    subject: b"Hi",
+    reply: b"",
+    serial: 1,
+    stamp: Stamp {
+        year: 2026,
+        month: 7,
+        day: 3,
+        hour: 12,
+        minute: 34,
+        second: 56,
+    },
+};
+
+// A disk with the link file of the station, on which changes that are not synced come so far.
+fn started(alloc: Global, tears: Vec<Tear>) -> Result<MemoryDisk, DiskError> {
+    let mut disk = MemoryDisk::new(alloc, tears, u64::MAX);
+    disk.create(b"links")?;
+    disk.write_at(b"links", 0, LINKS)?;
+    disk.sync(b"links")?;
+    disk.sync_folder(b"")?;
+    Ok(disk)
+}
+
+// Posts the first message, and answers what was printed.
+fn post_first(alloc: Global, disk: &mut MemoryDisk) -> (Result<(), Fault<'static>>, Vec<u8>) {
+    let mut out = Watched::new(Vec::new(alloc));
+    let mut lock = NoWaiting::new(alloc);
+    let hasher: BuildHasherDefault<FoldHasher> = BuildHasherDefault::default();
+    let ended = post_at(
+        alloc, disk, &mut lock, AT, hasher, WORDS, b"Hello", None, &mut out,
+    );
+    (ended, out.into_inner())
+}
+
+// The bytes of the base file, none where there is no such file.
+fn base_of(alloc: Global, disk: &mut MemoryDisk) -> Result<Vec<u8>, DiskError> {
+    if disk.exists(b"base")? {
+        return read_file(alloc, disk, b"base");
+    }
+    Ok(Vec::new(alloc))
+}
+
+#[test]
+fn the_first_posting_is_in_the_base_file(rt: HostRuntime) -> Result<(), Fail> {
+    let alloc = rt.alloc();
+    let mut disk = started(alloc, Vec::new(alloc))?;
+    let (ended, printed) = post_first(alloc, &mut disk);
+    assert!(rt; ended.is_ok());
+    assert_eq!(rt;
+        printed.as_slice(),
+        b"posted TEST 1:10/1 00000001\n".as_slice()
+    );
+    let base = base_of(alloc, &mut disk)?;
+    assert_eq!(rt; base.as_slice(), POSTED);
+    Ok(())
+}
+
+// How far changes come to the disk that are not synced: never, whole, or some bytes of them.
+fn tears(alloc: Global, way: usize) -> Result<Vec<Tear>, AllocError> {
+    let mut tears = Vec::new(alloc);
+    let bytes = match way {
+        0 => 0,
+        1 => usize::MAX,
+        _ => way.wrapping_mul(9) % 141,
+    };
+    tears.push(Tear {
+        bytes,
+        filler: None,
+    })?;
+    Ok(tears)
+}
+
+#[test]
+fn a_crash_leaves_no_base_file_or_the_whole(rt: HostRuntime) -> Result<(), Fail> {
+    let alloc = rt.alloc();
+    let mut whole = 0u32;
+    for way in 0..9 {
+        'calls: for calls in 0..40 {
+            let mut disk = started(alloc, tears(alloc, way)?)?;
+            disk.crash(calls)?;
+            let (ended, _) = post_first(alloc, &mut disk);
+            disk.crash(u64::MAX)?;
+            let base = base_of(alloc, &mut disk)?;
+            assert!(rt;
+                base.is_empty() || base.as_slice() == POSTED,
+                "way {way}, {calls} calls"
+            );
+            if ended.is_ok() {
+                assert!(rt; !base.is_empty());
+                whole = whole.saturating_add(1);
+                break 'calls;
+            }
+        }
+    }
+    assert_eq!(rt; whole, 9);
+    Ok(())
+}
