@@ -86,9 +86,21 @@ impl<D: Disk, H: Digest> FolderStore<D, H> {
         self.folder.claim(mark)
     }
 
-    /// The message with this key is going to be looked up. Answers are the same whether it is or not. Where memory is
-    /// refused nothing is expected.
-    pub fn expect(&mut self, key: &Key)
+    /// The messages with these keys are going to be looked up. Answers are the same whether they are or not. Where memory
+    /// is refused some are not expected.
+    pub fn expect(&mut self, keys: &[Key])
+        requires { (⟦<FolderStore<D, H> as Store>⟧.state self.old).is_ready }
+        ensures looks { LooksOn (⟦<FolderStore<D, H> as Store>⟧.state self.old) (⟦<FolderStore<D, H> as Store>⟧.state self.new) }
+        ensures disk { self.new.disk ≡ self.old.disk }
+        ensures folder { self.new.folder ≡ self.old.folder }
+    {
+        'keys: for i in 0..keys.len() {
+            self.expect_one(&keys[i]);
+        }
+    }
+
+    // The message with this key is one of them.
+    fn expect_one(&mut self, key: &Key)
         requires { (⟦<FolderStore<D, H> as Store>⟧.state self.old).is_ready }
         ensures looks { LooksOn (⟦<FolderStore<D, H> as Store>⟧.state self.old) (⟦<FolderStore<D, H> as Store>⟧.state self.new) }
         ensures disk { self.new.disk ≡ self.old.disk }

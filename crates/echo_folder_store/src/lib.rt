@@ -3,13 +3,12 @@
 //! Modules in reading order: `alone` (one message by itself, read and made), `front` (what its
 //! first lines tell), `sought` (what is looked for), `waiting`
 //! (what is not written yet), `folder` (opened, a message read by its number), `finding` (looked up by digests), `owning` (whose it is), `adding` (added
-//! to and committed), `leaving` (what a purge leaves of a message), `purging`, `folder_store` (all of this as a store), `expecting`
-//! (the messages of a packet, told beforehand) and `laws` (what holds of the definitions).
+//! to and committed), `leaving` (what a purge leaves of a message), `purging`, `folder_store` (all of this as a store)
+//! and `laws` (what holds of the definitions).
 #![tactic(auto)]
 
 mod adding;
 mod alone;
-mod expecting;
 mod finding;
 mod folder;
 mod folder_store;
@@ -22,7 +21,6 @@ mod sought;
 mod waiting;
 
 pub use alone::{Alone, bytes_alone, read_alone};
-pub use expecting::expect_packet;
 pub use folder::Folder;
 pub use folder_store::FolderStore;
 pub use laws::one_message_more;

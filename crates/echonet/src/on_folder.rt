@@ -2,7 +2,7 @@
 //! folder, so that runs with other link files, or `convert`, do not change it meanwhile.
 ghost use Rattle.std.specs.Prelude.{IfOk};
 
-use crate::expecting::expect_packets;
+use crate::expecting::expected_keys;
 use crate::folders::{BaseFolder, cursor_there, look_into, open_own};
 use crate::locks::locked_folder;
 use crate::paths::PathName;
@@ -249,6 +249,16 @@ pub fn purge_there<W: Sink, E: Sink>(
     }
 }
 
+// Tells the folder which messages the packets have.
+fn expect<'r>(rt: &HostRuntime, by: Tossing<'_>, store: &mut BaseFolder<'r>)
+    requires { (⟦<BaseFolder<'r> as Store>⟧.state store.old).is_ready }
+    ensures { (⟦<BaseFolder<'r> as Store>⟧.state store.new).is_ready }
+{
+    if let Ok(keys) = expected_keys(rt, by.names, by.limits, store.len()) {
+        store.expect(&keys);
+    }
+}
+
 /// `toss`: what ends it at a packet is reported once the folder is committed.
 pub fn toss_there<'a, P: PacketFiles<'a>, W: Sink, E: Sink>(
     rt: &HostRuntime,
@@ -264,7 +274,7 @@ pub fn toss_there<'a, P: PacketFiles<'a>, W: Sink, E: Sink>(
         Err(fault) => return fault.report(errors),
     };
     let Station { links, store, .. } = &mut station;
-    expect_packets(rt, by.names, by.limits, store);
+    expect(rt, by, store);
     let done = toss_on(rt.alloc(), by.limits, by.each, links, store, packets, out);
     let status = match done {
         Ok(None) => Status::Good,
