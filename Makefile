@@ -2,13 +2,14 @@
 # first example, `make show-examples` compares what `show` prints of the packets in examples/ with what
 # it is to print, and `make cases` what each command prints and leaves in the runs of examples/cases. `make
 # story` runs three systems on real files, `make net-test` the scripts of
-# examples/net; `make manual-test` compares the manual page with the program's help; `make follow` does
+# examples/net; `make manual-test` compares the manual page with the program's help; `make small-nets` holds the
+# verdicts on all small nets against the definitions; `make follow` does
 # what docs/OPERATORS.md says (it needs binkd); `make interop` runs a net with another tosser, and holds that
 # to the rules of docs/OPERATORS.md (it needs binkd and crashmail); `make trials` tries the program from
 # outside (docs/TRIALS.md). `make install` puts what was built, the program, its page, the scripts, the documents
 # and what shells complete, under PREFIX, or under DESTDIR and PREFIX, and `make uninstall` takes it away; `make
 # deb` makes a Debian package of the same.
-.PHONY: all test demo show-examples cases story net-test manual-test follow interop trials install uninstall deb toolchain clean
+.PHONY: all test demo show-examples cases story net-test manual-test small-nets follow interop trials install uninstall deb toolchain clean
 PREFIX = /usr/local
 
 # The program that the examples are run with. After the gate that is the one that it built and left in
@@ -78,6 +79,9 @@ net-test: $(program)
 
 manual-test: $(program)
 	scripts/manual.sh docs/echonet.1 $(program)
+
+small-nets: $(program)
+	ECHONET=$(abspath $(program)) python3 trials/small_nets.py
 
 follow: bin/echonet
 	scripts/follow.sh docs/OPERATORS.md bin/echonet

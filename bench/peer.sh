@@ -2,8 +2,9 @@
 # How fast packets are tossed here and by CrashMail II, where that is installed (Debian's package
 # crashmail): the same packets on the same disk, alternating. Each row has the messages a second of both
 # and their ratio, from the middle one of the rounds by time, and how long echonet waited for the disk to
-# take its files (fsync), which CrashMail never asks for; that is told where strace is installed. The rows that end in
-# `folder` are those of a base folder here, the others of a base file.
+# take its files (fsync), which CrashMail never asks for; that is told where there is a C compiler, for the calls are timed
+# by waits.c, which is loaded in front of the C library. The rows that end in `folder` are those of a base folder here, the
+# others of a base file.
 # Words: how many messages, how many rounds, the folder to work in.
 set -eu
 cd "$(dirname "$0")/.."
@@ -87,30 +88,29 @@ own_count() {
 
 want_count() { [ "$1" = "$2" ] || { echo "$3 has $1 messages in place of $2" >&2; exit 1; }; }
 
-now() { date +%s%N; }
+# The shell's own clock in nanoseconds, of which it tells microseconds; no program is started for it.
+now() { moment=${EPOCHREALTIME/./}000; }
 
 # Runs a command and adds its nanoseconds to a file.
 timed() {
-  local file=$1 begin end
+  local file=$1 begin
   shift
-  begin=$(now)
+  now
+  begin=$moment
   "$@" > said 2>&1
-  end=$(now)
-  echo $((end - begin)) >> "$file"
+  now
+  echo $((moment - begin)) >> "$file"
 }
 
 # The same of echonet, with the nanoseconds of its calls of fsync beside it.
 timed_own() {
-  local begin end
-  begin=$(now)
-  if command -v strace > /dev/null; then
-    strace -f --seccomp-bpf -T -e trace=fsync,fdatasync -o calls "$program" "$@" > said
-  else
-    : > calls
-    "$program" "$@" > said
-  fi
-  end=$(now)
-  echo $((end - begin)) $(sed -n 's/.*<\([0-9.]*\)>$/\1/p' calls | awk '{ all += $1 } END { printf "%.0f", all * 1e9 }') >> own.times
+  local begin
+  echo 0 > waited
+  now
+  begin=$moment
+  WAITED=$work/waited LD_PRELOAD=$waits "$program" "$@" > said
+  now
+  echo $((moment - begin)) "$(cat waited)" >> own.times
 }
 
 # CrashMail takes packets of eight digits from its inbound, and removes them.
@@ -205,13 +205,18 @@ small_packets() {
   row "the same packets, one run, once" $((few * few))
 }
 
+waits=
+if command -v cc > /dev/null; then
+  cc -O2 -shared -fPIC -o waits.so "$top/bench/waits.c"
+  waits=$work/waits.so
+fi
 make_file packet 0 "$count" $size > new.pkt
 make_file packet 0 "$known" $size > known.pkt
 echo "$count messages, $(wc -c < new.pkt) bytes, $rounds rounds"
-begin=$(now); cat new.pkt | cksum > /dev/null; end=$(now)
-echo "$count $begin $end" | awk '{ printf "%-44s %9.0f /s\n", "cksum of the packet", $1 * 1e9 / ($3 - $2) }'
-begin=$(now); dd if=new.pkt of=copy bs=1M conv=fsync 2> /dev/null; end=$(now)
-echo "$count $begin $end" | awk '{ printf "%-44s %9.0f /s\n", "the packet copied, with fsync", $1 * 1e9 / ($3 - $2) }'
+now; begin=$moment; cat new.pkt | cksum > /dev/null; now
+echo "$count $begin $moment" | awk '{ printf "%-44s %9.0f /s\n", "cksum of the packet", $1 * 1e9 / ($3 - $2) }'
+now; begin=$moment; dd if=new.pkt of=copy bs=1M conv=fsync 2> /dev/null; now
+echo "$count $begin $moment" | awk '{ printf "%-44s %9.0f /s\n", "the packet copied, with fsync", $1 * 1e9 / ($3 - $2) }'
 new_messages "new, JAM" JAM 1:10/2
 known_messages "known, JAM" JAM
 new_messages "new, JAM, to one link" JAM "1:10/2 1:10/3"

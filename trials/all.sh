@@ -28,6 +28,7 @@ for name in kept package keys kills crowds beside mailer full_disk devices piece
 for name in kills crowds beside full_disk devices pieces refusals; do each trials/$name.sh folders & done
 for name in folders folder_kills folder_damage; do each python3 trials/$name.py & done
 each python3 trials/why.py &
+each python3 trials/small_nets.py &
 each python3 trials/export.py &
 each python3 trials/stored.py &
 each python3 trials/jam.py &

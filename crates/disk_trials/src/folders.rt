@@ -7,13 +7,14 @@ use crate::commands::{Job, run};
 use anyhow::{Result, bail};
 use echo_base_folder::{Unread, look, open_own};
 use echo_disk::Disk;
+use echo_filed::{Key, by_id};
 use echo_folder_store::FolderStore;
 use echo_keys::SipDigest;
 use echo_links::LinkFile;
 use echo_memory_disk::MemoryDisk;
-use echo_store::StoreError;
+use echo_store::{Store, StoreError};
 use echo_store_changing::Stop;
-use std::alloc::Global;
+use std::alloc::{AllocError, Global};
 
 /// The base folder.
 pub(crate) const FOLDER: &[u8] = b"base/";
@@ -37,6 +38,26 @@ fn end_of(done: Result<(), Stop<'_>>) -> Ended {
     }
 }
 
+// Keys of messages with half of the ids that packets have, so that some messages are expected and others are not.
+fn some_keys(alloc: Global) -> Result<Vec<Key>, AllocError> {
+    let mut keys = Vec::new(alloc);
+    keys.push(by_id(alloc, b"TEST", b"1:10/1 00000001")?)?;
+    keys.push(by_id(alloc, b"TEST", b"1:10/1 00000002")?)?;
+    keys.push(by_id(alloc, b"OTHER", b"1:10/1 00000004")?)?;
+    keys.push(by_id(alloc, b"OTHER", b"1:10/1 00000007")?)?;
+    Ok(keys)
+}
+
+// Tells the store of them.
+fn expect_some<D: Disk>(alloc: Global, store: &mut FolderStore<D, SipDigest>)
+    requires { (⟦<FolderStore<D, SipDigest> as Store>⟧.state store.old).is_ready }
+    ensures { (⟦<FolderStore<D, SipDigest> as Store>⟧.state store.new).is_ready }
+{
+    if let Ok(keys) = some_keys(alloc) {
+        store.expect(&keys);
+    }
+}
+
 // Opens the folder and runs a command on it.
 fn run_there<D: Disk + Drop>(alloc: Global, disk: D, links: &LinkFile, job: Job) -> (D, Ended)
     requires { Honestly (D.state disk) (AreAlone FOLDER.now (D.state disk)) }
@@ -45,6 +66,7 @@ fn run_there<D: Disk + Drop>(alloc: Global, disk: D, links: &LinkFile, job: Job)
     match open_own(alloc, &mut disk, FOLDER, false, links.system(), KEY) {
         Ok(folder) => {
             let mut store = FolderStore::<D, SipDigest>::new(alloc, disk, folder);
+            expect_some(alloc, &mut store);
             let done = run(alloc, links, &mut store, job);
             let (disk, _folder) = store.into_parts();
             (disk, end_of(done))

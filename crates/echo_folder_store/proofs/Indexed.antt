@@ -6,7 +6,7 @@ use Rattle.echo_folder.specs.Standing.{BaseBytes}
 use Rattle.echo_keys.specs.Index.{IsIndexOf}
 use Rattle.echo_keys.specs.Keys.{entry}
 use Rattle.echo_keys.specs.declared.index.Index.{Index}
-use Rattle.echo_keys.proofs.Indexed.{chains_stay}
+use Rattle.echo_keys.proofs.Found.{index_stays}
 use Rattle.echo_store.specs.declared.store_error.StoreError.{StoreError}
 use Rattle.echo_folder_store.specs.Added.{with_stored}
 use Rattle.echo_folder_store.specs.Opened.{IsOpen, held_by}
@@ -26,7 +26,7 @@ indexed_more d e f g i (Ok done) bytes digest was opened staged back indexed =
     λ honest.
     let keys : g.keys.items ≡ f.keys.items ++ more =
     (opened honest).keys ∙ ap (λ (b : BaseBytes). b.keys) (staged honest) ∙ ap (λ (l : List ℕ). l ++ more) (sym (was (back honest)).keys) in
-    subst (λ (l : List ℕ). IsIndexOf l i) (sym keys) (chains_stay f.keys.items more i.heads.items i.before.items (indexed (back honest)))
+    subst (λ (l : List ℕ). IsIndexOf l i) (sym keys) (index_stays f.keys.items more i (indexed (back honest)))
 indexed_more d e f g i (Err failed) bytes digest was opened staged back indexed = tt
 
 -- and one of keys to which nothing was added

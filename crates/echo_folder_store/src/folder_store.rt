@@ -6,7 +6,7 @@ ghost use Rattle.echo_folder_store.specs.Held.{HoldsBase};
 ghost use Rattle.echo_folder_store.specs.Opened.{IsNamed, IsOpen, committed_by, held_by};
 ghost use Rattle.echo_folder_store.specs.Owned.{IsUnclaimed, owner_of, with_mark};
 ghost use Rattle.echo_folder_store.specs.State.{IsIndexed, state_of, where_so};
-ghost use Rattle.echo_store.specs.Store.{CommitsNothing, GoesOn};
+ghost use Rattle.echo_store.specs.Store.{CommitsNothing, GoesOn, LooksOn};
 
 use crate::alone::{Alone, bytes_alone};
 use crate::folder::Folder;
@@ -21,7 +21,8 @@ use std::marker::PhantomData;
 
 /// A base folder on a disk. After a call that failed in the middle of a change it is to be opened again.
 ///
-/// The first look-ups of a run pass over its keys, and the others go by an index of them.
+/// Look-ups of messages that were told beforehand go by one pass over its keys. Of the others the first ones of a run pass
+/// over them, and the rest go by an index of them.
 #[derive(Drop)]
 pub struct FolderStore<D: Disk, H: Digest> {
     alloc: Global,
@@ -84,6 +85,33 @@ impl<D: Disk, H: Digest> FolderStore<D, H> {
     {
         self.folder.claim(mark)
     }
+
+    /// The messages with these keys are going to be looked up. Answers are the same whether they are or not. Where memory
+    /// is refused some are not expected.
+    pub fn expect(&mut self, keys: &[Key])
+        requires { (⟦<FolderStore<D, H> as Store>⟧.state self.old).is_ready }
+        ensures looks { LooksOn (⟦<FolderStore<D, H> as Store>⟧.state self.old) (⟦<FolderStore<D, H> as Store>⟧.state self.new) }
+        ensures disk { self.new.disk ≡ self.old.disk }
+        ensures folder { self.new.folder ≡ self.old.folder }
+    {
+        'keys: for i in 0..keys.len() {
+            self.expect_one(&keys[i]);
+        }
+    }
+
+    // The message with this key is one of them.
+    fn expect_one(&mut self, key: &Key)
+        requires { (⟦<FolderStore<D, H> as Store>⟧.state self.old).is_ready }
+        ensures looks { LooksOn (⟦<FolderStore<D, H> as Store>⟧.state self.old) (⟦<FolderStore<D, H> as Store>⟧.state self.new) }
+        ensures disk { self.new.disk ≡ self.old.disk }
+        ensures folder { self.new.folder ≡ self.old.folder }
+    {
+        let Ok(bytes) = bytes_of_key(self.alloc, key) else {
+            return;
+        };
+        let digest = self.folder.digest::<H>(&bytes);
+        self.index.expect(self.alloc, digest);
+    }
 }
 
 impl<D: Disk, H: Digest> Store for FolderStore<D, H> {
@@ -102,14 +130,14 @@ impl<D: Disk, H: Digest> Store for FolderStore<D, H> {
     fn knows(&mut self, key: &Key) -> Result<bool, StoreError> {
         let bytes = bytes_of_key(self.alloc, key)?;
         let digest = self.folder.digest::<H>(&bytes);
-        self.index.prepare(self.alloc, &self.folder.keys);
+        self.index.prepare(self.alloc, &self.folder.keys, digest);
         self.folder
             .find(self.alloc, &mut self.disk, &self.index, key, digest)
     }
 
     fn has_id(&mut self, msgid: &[u8]) -> Result<bool, StoreError> {
         let digest = self.folder.digest::<H>(msgid);
-        self.index.prepare(self.alloc, &self.folder.keys);
+        self.index.prepare(self.alloc, &self.folder.keys, digest);
         self.folder.find(
             self.alloc,
             &mut self.disk,

@@ -7,7 +7,7 @@ use Rattle.echo_keys.specs.Index.{AreChains, IsLastUnder, head_of}
 use Rattle.echo_keys.specs.Keys.{digest_at}
 
 -- more keys behind them change no entry
-entry_stays : (keys more : List ℕ) (i : ℕ) → 16 * i + 16 ≤ length keys → digest_at (keys ++ more) i ≡ digest_at keys i
+pub entry_stays : (keys more : List ℕ) (i : ℕ) → 16 * i + 16 ≤ length keys → digest_at (keys ++ more) i ≡ digest_at keys i
 entry_stays keys more i within =
     let at = 16 * i + 8 in
     let front : drop at (keys ++ more) ≡ drop at keys ++ more = drop-append-le at keys more (omega arith) in

@@ -1,4 +1,5 @@
 pub mod Digests
+pub mod Found
 pub mod Indexed
 pub mod Placed
 pub mod Told

@@ -1,5 +1,6 @@
 -- An index of the keys of a base folder by the low bits of digests.
 use Rattle.std.specs.Prelude.{◌≡◌, ◌≢◌, ℕ, ◌+◌, ◌-◌, ◌/◌, ◌<◌, ◌≤◌, List, length, bit_and, slice_index}
+use Rattle.echo_keys.specs.Expected.{AreFound}
 use Rattle.echo_keys.specs.Keys.{digest_at}
 use Rattle.echo_keys.specs.declared.index.Index.{Index}
 
@@ -24,6 +25,7 @@ pub record AreChains (keys heads before : List ℕ) : Type 0 where
 abbrev pub count_of : Index → ℕ
 count_of index = length index.before.items
 
--- it has so many of the first messages of the keys
-abbrev pub IsIndexOf : List ℕ → Index → Type 0
-IsIndexOf keys index = AreChains keys index.heads.items index.before.items
+-- it has so many of the first messages of the keys, and those among them that were expected
+pub record IsIndexOf (keys : List ℕ) (index : Index) : Type 0 where
+  pub chains : AreChains keys index.heads.items index.before.items
+  pub found : AreFound keys index.expected

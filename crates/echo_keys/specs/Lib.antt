@@ -1,3 +1,4 @@
+pub mod Expected
 pub mod Index
 pub mod Keys
 pub mod Sip

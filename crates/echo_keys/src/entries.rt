@@ -1,5 +1,5 @@
 //! The entries of the keys, one after another.
-ghost use Rattle.std.specs.Prelude.{◌≡◌, ◌≢◌, ◌<◌, ◌≤◌, ◌+◌, ◌*◌, ◌/◌, ℕ, List, length, take, drop, IfSome, IfNone};
+ghost use Rattle.std.specs.Prelude.{◌≡◌, ◌≢◌, ◌<◌, ◌≤◌, ◌+◌, ◌*◌, ◌/◌, ◌↔◌, ℕ, List, length, take, drop, IfSome, IfNone, IsTrue};
 ghost use Rattle.std.specs.Int.{w64, from_le_bytes};
 ghost use Rattle.echo_keys.specs.Keys.{digest_at, entry, place_at, place_behind};
 
@@ -61,6 +61,14 @@ pub fn entry(place: u64, digest: u64) -> [u8; 16]
         p[0], p[1], p[2], p[3], p[4], p[5], p[6], p[7], d[0], d[1], d[2], d[3], d[4], d[5], d[6],
         d[7],
     ]
+}
+
+/// Whether the message of this number is below the other and has the digest.
+pub(crate) fn has_digest(keys: &[u8], digest: u64, place: usize, below: usize) -> bool
+    requires { below ≤ length keys.now / 16 }
+    ensures { IsTrue result ↔ ((place < below) × (digest_at keys.now place ≡ digest)) }
+{
+    place < below && digest_of(keys, place) == digest
 }
 
 // The last message from that number on, and below the other, whose entry has the digest.

@@ -1,9 +1,11 @@
 //! An index of the keys, by which a look-up goes to the messages with a digest and not over all of them.
-ghost use Rattle.std.specs.Prelude.{◌≡◌, ◌≢◌, ◌<◌, ◌≤◌, ◌+◌, ◌/◌, ◌↔◌, ◌⊎◌, ℕ, List, length, min, slice_index, IfSome, IfNone, IfOk, OnOk, IsTrue};
+ghost use Rattle.std.specs.Prelude.{◌≡◌, ◌≢◌, ◌<◌, ◌≤◌, ◌+◌, ◌/◌, ◌⊎◌, ℕ, true, List, length, min, slice_index, IfSome, IfNone, OnOk};
+ghost use Rattle.echo_keys.specs.Expected.{is_expected};
 ghost use Rattle.echo_keys.specs.Keys.{digest_at};
-ghost use Rattle.echo_keys.specs.Index.{IsIndexOf, count_of, head_of};
+ghost use Rattle.echo_keys.specs.Index.{AreChains, IsIndexOf, count_of, head_of};
 
-use crate::entries::{ENTRY, digest_of, last_from};
+use crate::entries::{ENTRY, digest_of, has_digest, last_from};
+use crate::expected::Expected;
 use std::alloc::{AllocError, Global};
 
 /// How many messages an index has at most: each, counted from 1, is a number of four bytes.
@@ -14,11 +16,13 @@ const PASSES: u8 = 2;
 
 /// For the low bits of digests the last message with them, and for each message the last one before it with the same:
 /// counted from 1, and 0 where there is none. What was added to the keys since it last followed them, it has not; a
-/// look-up goes over that.
+/// look-up goes over that. Digests that were told before they are looked up need no index: one pass finds the messages
+/// that have them.
 #[derive(Drop)]
 pub struct Index {
     heads: Vec<u32>,
     before: Vec<u32>,
+    expected: Expected,
     // How many look-ups passed over the keys.
     passes: u8,
 }
@@ -32,14 +36,6 @@ fn head_of(heads: usize, digest: u64) -> usize
     (digest & (heads as u64 - 1)) as usize
 }
 
-// Whether the message of this number is below the other and has the digest.
-fn has_digest(keys: &[u8], digest: u64, place: usize, below: usize) -> bool
-    requires { below ≤ length keys.now / 16 }
-    ensures { IsTrue result ↔ ((place < below) × (digest_at keys.now place ≡ digest)) }
-{
-    place < below && digest_of(keys, place) == digest
-}
-
 impl Index {
     /// One that has no message yet.
     pub fn new(alloc: Global) -> Index
@@ -49,29 +45,28 @@ impl Index {
         Index {
             heads: Vec::new(alloc),
             before: Vec::new(alloc),
+            expected: Expected::new(alloc),
             passes: 0,
         }
     }
 
-    // One with so many heads that has no message yet.
-    fn with_heads(alloc: Global, heads: usize) -> Result<Index, AllocError>
-        ensures index { IfOk result (λ made. (keys : List ℕ) → IsIndexOf keys made) }
-        ensures heads { IfOk result (λ made. length made.heads.items ≡ heads) }
+    /// The digest is going to be looked up. Answers are the same whether it is or not.
+    pub fn expect(&mut self, alloc: Global, digest: u64)
+        ensures { (keys : List ℕ) → IsIndexOf keys self.old → IsIndexOf keys self.new }
     {
-        Ok(Index {
-            heads: vec![in alloc; 0; heads]?,
-            before: Vec::new(alloc),
-            passes: PASSES,
-        })
+        self.expected.add(alloc, digest);
     }
 
     // Makes it anew with more heads, and no message, where it has few for so many messages.
     fn make_room(&mut self, alloc: Global, all: usize) -> Result<(), AllocError>
         ensures index { (keys : List ℕ) → IsIndexOf keys self.old → IsIndexOf keys self.new }
+        ensures expected { self.new.expected ≡ self.old.expected }
         ensures room { OnOk result (0 < length self.new.heads.items) }
     {
         if self.heads.len() <= all / 4 {
-            *self = Index::with_heads(alloc, (all / 2).next_power_of_two())?;
+            let heads = vec![in alloc; 0; (all / 2).next_power_of_two()]?;
+            self.heads = heads;
+            self.before.clear();
         }
         Ok(())
     }
@@ -82,7 +77,8 @@ impl Index {
         requires few { number < 4294967294 }
         requires next { number ≡ count_of self.old }
         requires room { 0 < length self.old.heads.items }
-        ensures index { IsIndexOf keys.now self.old → IsIndexOf keys.now self.new }
+        ensures chains { AreChains keys.now self.old.heads.items self.old.before.items → AreChains keys.now self.new.heads.items self.new.before.items }
+        ensures expected { self.new.expected ≡ self.old.expected }
         ensures count { OnOk result (count_of self.new ≡ number + 1) }
         ensures heads { length self.new.heads.items ≡ length self.old.heads.items }
     {
@@ -107,12 +103,15 @@ impl Index {
         Ok(())
     }
 
-    /// To be called before each look-up: from the third on, it takes in what was added to the keys. Where memory is
-    /// refused for that, look-ups pass over what it has not.
-    pub fn prepare(&mut self, alloc: Global, keys: &[u8])
+    /// To be called before each look-up of a digest. Where that was expected, what was added to the keys is gone over
+    /// for all that were; of the others it is taken in from the third look-up on. Where memory is refused for that,
+    /// look-ups pass over what it has not.
+    pub fn prepare(&mut self, alloc: Global, keys: &[u8], digest: u64)
         ensures { IsIndexOf keys.now self.old → IsIndexOf keys.now self.new }
     {
-        if self.passes < PASSES {
+        if self.expected.has(digest) {
+            self.expected.go_over(keys);
+        } else if self.passes < PASSES {
             self.passes += 1;
         } else {
             let _followed = self.follow(alloc, keys);
@@ -159,10 +158,20 @@ impl Index {
         ensures none { IsIndexOf keys.now self.now → IfNone result ((j : ℕ) → j < below → j < length keys.now / 16 → digest_at keys.now j ≢ digest) }
     {
         let end = below.min(keys.len() / ENTRY);
-        let added = last_from(keys, digest, self.before.len(), end);
+        let expected = self.expected.has(digest);
+        let had = if expected {
+            self.expected.passed()
+        } else {
+            self.before.len()
+        };
+        let added = last_from(keys, digest, had, end);
         if added.is_some() {
             return added;
         }
-        self.find_indexed(keys, digest, end)
+        if expected {
+            self.expected.find_below(keys, digest, end)
+        } else {
+            self.find_indexed(keys, digest, end)
+        }
     }
 }

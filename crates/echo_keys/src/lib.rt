@@ -3,12 +3,14 @@
 //! A look-up goes over the digests, or by an index of them, and reads only messages whose digest is the one that is
 //! sought, so that a digest of two messages costs time and never an answer.
 //!
-//! Modules in reading order: `entries` (what stands for a message, and a digest found), `index` (many digests found),
-//! `digest` (what it is taken of), `sip` (SipHash as a digest) and `laws`.
+//! Modules in reading order: `entries` (what stands for a message, and a digest found), `expected` (those found
+//! that are told before they are looked up), `index` (many digests found), `digest` (what it is taken of), `sip` (SipHash as
+//! a digest) and `laws`.
 #![tactic(auto)]
 
 mod digest;
 mod entries;
+mod expected;
 mod index;
 mod laws;
 mod sip;

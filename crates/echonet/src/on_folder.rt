@@ -2,8 +2,10 @@
 //! folder, so that runs with other link files, or `convert`, do not change it meanwhile.
 ghost use Rattle.std.specs.Prelude.{IfOk};
 
+use crate::expecting::expected_keys;
 use crate::folders::{BaseFolder, cursor_there, look_into, open_own};
 use crate::locks::locked_folder;
+use crate::paths::PathName;
 use crate::placing::{Outbound, drop_packets, name_packets, packet_paths, stage_packets};
 use crate::progress::Progress;
 use crate::station::{Place, Posting, let_go, locked_links, name_of};
@@ -33,9 +35,11 @@ pub struct Replying<'a> {
     pub body: &'a [u8],
 }
 
-/// How packets are tossed: what is taken of them, and whether each message that is not filed has a line.
+/// How packets are tossed: the names of their files, what is taken of them, and whether each message that is not filed
+/// has a line.
 #[derive(Clone, Copy)]
-pub struct Tossing {
+pub struct Tossing<'a> {
+    pub names: &'a [PathName],
     pub limits: Limits,
     pub each: bool,
 }
@@ -245,11 +249,21 @@ pub fn purge_there<W: Sink, E: Sink>(
     }
 }
 
+// Tells the folder which messages the packets have.
+fn expect<'r>(rt: &HostRuntime, by: Tossing<'_>, store: &mut BaseFolder<'r>)
+    requires { (⟦<BaseFolder<'r> as Store>⟧.state store.old).is_ready }
+    ensures { (⟦<BaseFolder<'r> as Store>⟧.state store.new).is_ready }
+{
+    if let Ok(keys) = expected_keys(rt, by.names, by.limits, store.len()) {
+        store.expect(&keys);
+    }
+}
+
 /// `toss`: what ends it at a packet is reported once the folder is committed.
 pub fn toss_there<'a, P: PacketFiles<'a>, W: Sink, E: Sink>(
     rt: &HostRuntime,
     place: Place<'a>,
-    by: Tossing,
+    by: Tossing<'_>,
     stopped: Option<Fault<'a>>,
     packets: &mut P,
     out: &mut W,
@@ -260,6 +274,7 @@ pub fn toss_there<'a, P: PacketFiles<'a>, W: Sink, E: Sink>(
         Err(fault) => return fault.report(errors),
     };
     let Station { links, store, .. } = &mut station;
+    expect(rt, by, store);
     let done = toss_on(rt.alloc(), by.limits, by.each, links, store, packets, out);
     let status = match done {
         Ok(None) => Status::Good,

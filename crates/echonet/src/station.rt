@@ -442,6 +442,7 @@ pub fn run_toss<W: Sink, E: Sink>(
         base: words.base,
     };
     let by = Tossing {
+        names: names.as_slice(),
         limits,
         each: words.each,
     };
@@ -455,7 +456,7 @@ pub fn run_toss<W: Sink, E: Sink>(
 fn toss_at<'a, P: PacketFiles<'a>, W: Sink, E: Sink>(
     rt: &HostRuntime,
     place: Place<'a>,
-    by: Tossing,
+    by: Tossing<'_>,
     stopped: Option<Fault<'a>>,
     packets: &mut P,
     progress: &Progress<'_>,

@@ -7,4 +7,4 @@ chain-preserved c = λ is.
     let link = c.in-Some.ensures.link in
     let index = c.args.self.now in
     reached_next c.args.keys.now index.heads.items index.before.items c.args.digest c.args.below c.chain.next c.in-Some.place c.in-Some.earlier link.0 link.2
-    (λ both. let wrong : false ≡ true = c.if-has_digest.ensures.1 both in cc) is (c.chain.invariant is)
+    (λ both. let wrong : false ≡ true = c.if-has_digest.ensures.1 both in cc) is.chains (c.chain.invariant is)

@@ -1,10 +1,11 @@
 use Rattle.std.proofs.Common.{◌≡◌, ◌<◌, length}
-use Rattle.echo_keys.specs.Index.{IsIndexOf, count_of}
+use Rattle.echo_keys.specs.Index.{AreChains, IsIndexOf, count_of}
 use Rattle.echo_keys.proofs.index.Index.follow.Given as goal
 
 abbrev pub invariant-entries : goal.invariant-entries
 invariant-entries l = record {
   count : count_of l.self ≡ l.i;
   room : 0 < length l.self.heads.items;
-  chains : IsIndexOf l.keys l.fn.self → IsIndexOf l.keys l.self;
+  chains : IsIndexOf l.keys l.fn.self → AreChains l.keys l.self.heads.items l.self.before.items;
+  kept : l.self.expected ≡ l.fn.self.expected;
 }

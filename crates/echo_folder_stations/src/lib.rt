@@ -1,0 +1,10 @@
+//! Commands on base folders, as command events in a net of stations: what they commit, and what a crash leaves of them,
+//! is what the headline over crashes allows.
+//!
+//! The definitions stand in specs/: `OnStores` (a store as the folder of a station, and what is to hold of a command on
+//! it) and `EachCommand` (what is to hold of each command).
+#![tactic(auto)]
+
+mod laws;
+
+pub use laws::{posts_in_folders, purges_in_folders, replies_in_folders, tosses_in_folders};

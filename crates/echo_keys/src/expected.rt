@@ -1,0 +1,176 @@
+//! Digests that a run expects to look up: one pass over the keys finds the messages that have them.
+ghost use Rattle.std.specs.Prelude.{◌≡◌, ◌≢◌, ◌<◌, ◌≤◌, ◌+◌, ◌/◌, ◌%◌, ◌↔◌, ℕ, true, false, Contains, List, length, slice_index_or, IfNone, IfSome, IsTrue, OnOk};
+ghost use Rattle.echo_keys.specs.Expected.{AreFound, IsLastSeen, are_set, is_expected};
+ghost use Rattle.echo_keys.specs.Keys.{digest_at};
+
+use crate::entries::{ENTRY, digest_of, has_digest};
+use std::alloc::{AllocError, Global};
+
+/// How many flags are in a table: one for each number of sixteen bits.
+const FLAGS: usize = 65_536;
+
+/// How many digests are expected at most. With more of them the flags tell too little apart.
+const MOST: usize = 2_048;
+
+/// Flags for digests that are expected, and the messages that have such digests, of so many of the first ones of the
+/// keys. A digest whose bits are those of an expected one is taken for one: that costs time and never an answer.
+#[derive(Drop)]
+pub struct Expected {
+    // A flag for the low sixteen bits of a digest, and one for the sixteen above them.
+    low: Vec<bool>,
+    high: Vec<bool>,
+    // How many digests were told.
+    digests: usize,
+    places: Vec<usize>,
+    // How many messages were gone over.
+    passed: usize,
+}
+
+// Whether the flag of this number is set.
+fn is_set(flags: &[bool], number: usize) -> bool
+    ensures { result ≡ slice_index_or flags.now number false }
+{
+    match flags.get(number) {
+        Some(flag) => *flag,
+        None => false,
+    }
+}
+
+// Whether both flags of the digest are set.
+fn are_set(low: &[bool], high: &[bool], digest: u64) -> bool
+    ensures { result ≡ are_set low.now high.now digest }
+{
+    is_set(low, (digest % 65_536) as usize) && is_set(high, (digest / 65_536 % 65_536) as usize)
+}
+
+// Adds to the places those of the messages from that number on whose digests have their flags set.
+fn find_all(
+    low: &[bool],
+    high: &[bool],
+    keys: &[u8],
+    from: usize,
+    places: &mut Vec<usize>,
+) -> Result<(), AllocError>
+    ensures kept { (j : ℕ) → Contains places.old.items j → Contains places.new.items j }
+    ensures found { OnOk result ((j : ℕ) → from ≤ j → j < length keys.now / 16 → are_set low.now high.now (digest_at keys.now j) ≡ true → Contains places.new.items j) }
+{
+    'entries: for i in from..keys.len() / ENTRY {
+        if are_set(low, high, digest_of(keys, i)) {
+            places.push(i)?;
+        }
+    }
+    Ok(())
+}
+
+// Whether the message of this number is from one on and below the other, and has the digest.
+fn is_later(keys: &[u8], digest: u64, place: usize, from: usize, below: usize) -> bool
+    requires { below ≤ length keys.now / 16 }
+    ensures { IsTrue result ↔ ((from ≤ place) × (place < below) × (digest_at keys.now place ≡ digest)) }
+{
+    from <= place && has_digest(keys, digest, place, below)
+}
+
+impl Expected {
+    /// None are expected.
+    pub(crate) fn new(alloc: Global) -> Expected
+        ensures { (keys : List ℕ) → AreFound keys result }
+    {
+        Expected {
+            low: Vec::new(alloc),
+            high: Vec::new(alloc),
+            digests: 0,
+            places: Vec::new(alloc),
+            passed: 0,
+        }
+    }
+
+    /// Whether a digest with these bits is expected.
+    pub(crate) fn has(&self, digest: u64) -> bool
+        ensures { result ≡ is_expected self.now digest }
+    {
+        are_set(&self.low, &self.high, digest)
+    }
+
+    /// How many of the first messages of the keys were gone over.
+    pub(crate) fn passed(&self) -> usize
+        ensures { result ≡ self.now.passed }
+    {
+        self.passed
+    }
+
+    /// The digest is expected too, and no message was gone over. Where memory is refused, or where very many are told,
+    /// some are not expected.
+    pub(crate) fn add(&mut self, alloc: Global, digest: u64)
+        ensures { (keys : List ℕ) → AreFound keys self.new }
+    {
+        self.passed = 0;
+        self.places.clear();
+        if self.digests >= MOST {
+            self.low.clear();
+            return;
+        }
+        self.digests += 1;
+        let _set = self.set_flags(alloc, digest);
+    }
+
+    // Sets both flags of the digest.
+    fn set_flags(&mut self, alloc: Global, digest: u64) -> Result<(), AllocError>
+        ensures passed { self.new.passed ≡ self.old.passed }
+    {
+        if self.low.len() < FLAGS || self.high.len() < FLAGS {
+            let low = vec![in alloc; false; FLAGS]?;
+            let high = vec![in alloc; false; FLAGS]?;
+            self.low = low;
+            self.high = high;
+        }
+        self.low[(digest % 65_536) as usize] = true;
+        self.high[(digest / 65_536 % 65_536) as usize] = true;
+        Ok(())
+    }
+
+    /// Goes over the messages of the keys that it has not gone over yet. Where memory is refused, it is to do so again.
+    pub(crate) fn go_over(&mut self, keys: &[u8])
+        ensures found { AreFound keys.now self.old → AreFound keys.now self.new }
+    {
+        let all = keys.len() / ENTRY;
+        if find_all(&self.low, &self.high, keys, self.passed, &mut self.places).is_ok() {
+            self.passed = all;
+        }
+    }
+
+    // Of the places through that number, the greatest that is below and has the digest, counted from 1, where that of
+    // the places before it is known.
+    #[tactic(auto, using(crate::proofs::Found::seen_more, crate::proofs::Found::seen_same))]
+    fn seen_next(&self, keys: &[u8], digest: u64, below: usize, i: usize, last: usize) -> usize
+        requires within { below ≤ length keys.now / 16 }
+        requires inside { i < length self.now.places.items }
+        ensures { IsLastSeen keys.now self.now.places.items digest below i last → IsLastSeen keys.now self.now.places.items digest below (i + 1) result }
+    {
+        let place = self.places[i];
+        if is_later(keys, digest, place, last, below) {
+            return place + 1;
+        }
+        last
+    }
+
+    /// The last message that was gone over, below that number, whose entry has the digest. All of the places are looked
+    /// at: they are few.
+    #[tactic(auto, using(crate::proofs::Found::beyond))]
+    pub(crate) fn find_below(&self, keys: &[u8], digest: u64, below: usize) -> Option<usize>
+        requires { below ≤ length keys.now / 16 }
+        ensures found { IfSome result (λ i. (i < below) × (digest_at keys.now i ≡ digest)) }
+        ensures last { AreFound keys.now self.now → is_expected self.now digest ≡ true
+            → IfSome result (λ i. (j : ℕ) → i < j → j < below → j < self.now.passed → digest_at keys.now j ≢ digest) }
+        ensures none { AreFound keys.now self.now → is_expected self.now digest ≡ true
+            → IfNone result ((j : ℕ) → j < below → j < self.now.passed → digest_at keys.now j ≢ digest) }
+    {
+        let mut last = 0;
+        'places: for i in 0..self.places.len() {
+            last = self.seen_next(keys, digest, below, i, last);
+        }
+        if last == 0 {
+            return None;
+        }
+        Some(last - 1)
+    }
+}

@@ -1,0 +1,170 @@
+"""Holds the verdicts of `check` on all small nets against the definitions, tried out one by one: each net is an area of the
+same systems, and `check --all` judges thousands of them in one run. These nets are: all link files of four systems; all of
+three of which two have one net and node, with an address that has no file; each graph of five systems and less; and two
+polygons of four with a system in common, with up to one of their links left out, under three numberings.
+"""
+import itertools
+import os
+import subprocess
+import sys
+import tempfile
+from typing import NamedTuple
+
+TOP = os.path.dirname(os.path.dirname(os.path.abspath(__file__)))
+PROGRAM = os.environ.get("ECHONET", os.path.join(TOP, "bin", "echonet"))
+MOST_AREAS = 16000  # a link file has at most 1,048,576 bytes
+FOUR = ("1:10/1", "1:10/2", "1:10/3", "1:10/4")
+TWINS = ("1:10/1", "1:10/2", "2:10/1", "2:10/9")
+SEVEN = tuple("1:10/%d" % node for node in range(1, 8))
+PAIR_FAULTS = ("V3 SelfLink", "V4 Unknown", "V5 OneSided", "V6 SameNetNode")
+CHAINED = [pair for first in (0, 3) for pair in itertools.combinations(range(first, first + 4), 2)]
+
+
+class Area(NamedTuple):
+    """The addresses, ascending, and what each system lists, by their numbers: None where it has not the area."""
+    addresses: tuple
+    lists: tuple
+
+    def carriers(self):
+        """The systems that have the area."""
+        return [one for one, listed in enumerate(self.lists) if listed is not None]
+
+    def has(self, one, other):
+        """Whether one lists the other."""
+        return one < len(self.lists) and self.lists[one] is not None and other in self.lists[one]
+
+    def linked(self, one, other):
+        """Whether both list each other."""
+        return self.has(one, other) and self.has(other, one)
+
+    def same_net_node(self, one, other):
+        """Whether two carriers differ in the zone alone."""
+        near = self.addresses[one].split(":")[1] == self.addresses[other].split(":")[1]
+        return one < other and near and one in self.carriers() and other in self.carriers()
+
+    def is_wrong(self, fault, one, other):
+        """Whether this fault is that of these two."""
+        if fault == "V3 SelfLink":
+            return one == other and self.has(one, one)
+        if fault == "V4 Unknown":
+            return self.has(one, other) and other not in self.carriers()
+        if fault == "V5 OneSided":
+            return self.has(one, other) and not self.has(other, one)
+        return self.same_net_node(one, other)
+
+    def reached(self, start):
+        """The systems to which a walk leads."""
+        found, left = {start}, [start]
+        while left:
+            here = left.pop()
+            for other in self.carriers():
+                if self.linked(here, other) and other not in found:
+                    found.add(other)
+                    left.append(other)
+        return found
+
+    def loops(self):
+        """Each cycle of four or more in which two are not linked, from its smallest system to the smaller one beside it."""
+        for size in range(4, len(self.carriers()) + 1):
+            for round_trip in itertools.permutations(self.carriers(), size):
+                begins = round_trip[0] == min(round_trip) and round_trip[1] < round_trip[-1]
+                if begins and all(self.linked(one, round_trip[(at + 1) % size]) for at, one in enumerate(round_trip)) \
+                        and not all(self.linked(*pair) for pair in itertools.combinations(round_trip, 2)):
+                    yield round_trip
+
+    def named(self, systems):
+        """Systems as their addresses, a repeated one once."""
+        return " ".join(self.addresses[one] for one in dict.fromkeys(systems))
+
+    def verdicts(self):
+        """What may be answered, by the first rule that is broken; of loops any one may be named."""
+        for fault in PAIR_FAULTS:
+            for one, other in itertools.product(range(len(self.addresses)), repeat=2):
+                if self.is_wrong(fault, one, other):
+                    return {"no %%s %s %s" % (fault, self.named((one, other)))}
+        carriers = self.carriers()
+        for other in carriers:
+            if other not in self.reached(carriers[0]):
+                return {"no %%s V7 Apart %s" % self.named((carriers[0], other))}
+        loops = {"no %%s V8 Loop %s" % self.named(found) for found in self.loops()}
+        links = sum(self.linked(*pair) for pair in itertools.combinations(carriers, 2))
+        return loops or {"yes %%s %d systems %d links" % (len(carriers), links)}
+
+
+def all_files(addresses, systems):
+    """All link files of so many systems: each lists some of the addresses, or has not the area."""
+    some = [None] + [frozenset(chosen) for size in range(5) for chosen in itertools.combinations(range(4), size)]
+    for lists in itertools.product(some, repeat=systems):
+        if any(listed is not None for listed in lists):
+            yield Area(addresses, lists)
+
+
+def graph(addresses, members, pairs):
+    """The area in which just these are linked."""
+    lists = [frozenset(b if a == one else a for a, b in pairs if one in (a, b)) for one in range(members)]
+    return Area(addresses, tuple(lists))
+
+
+def all_graphs():
+    """Each graph of at most five systems."""
+    for members in range(1, 6):
+        every = list(itertools.combinations(range(members), 2))
+        for chosen in itertools.product((False, True), repeat=len(every)):
+            yield graph(SEVEN, members, list(itertools.compress(every, chosen)))
+
+
+def chained_polygons():
+    """Two polygons of four with a system in common, with up to one link left out, numbered in three ways."""
+    for factor in (1, 3, 5):
+        numbered = [tuple(sorted((one * factor % 7, other * factor % 7))) for one, other in CHAINED]
+        for left_out in [None, *numbered]:
+            yield graph(SEVEN, 7, [pair for pair in numbered if pair != left_out])
+
+
+def judged(areas, folder):
+    """What `check --all` prints of these areas, which have the same addresses, by their tags."""
+    systems = max(len(area.lists) for area in areas)
+    for system in range(systems):
+        with open(os.path.join(folder, "%d.links" % system), "w", encoding="ascii") as file:
+            file.write("SYSTEM %s\n" % areas[0].addresses[system])
+            for number, area in enumerate(areas):
+                if system < len(area.lists) and area.lists[system] is not None:
+                    listed = "".join(" " + area.addresses[other] for other in sorted(area.lists[system]))
+                    file.write("AREA N%d%s\n" % (number, listed))
+    names = [os.path.join(folder, "%d.links" % system) for system in reversed(range(systems))]
+    ended = subprocess.run([PROGRAM, "check", "--all", *names], capture_output=True, check=False, text=True)
+    return {line.split(" ")[1]: line for line in ended.stdout.splitlines()}, ended.stderr
+
+
+def differ(areas, folder):
+    """How many of the areas are answered otherwise than by the definitions; the first ones are printed."""
+    wrong = 0
+    for begins in range(0, len(areas), MOST_AREAS):
+        batch = areas[begins:begins + MOST_AREAS]
+        said, fault = judged(batch, folder)
+        for number, area in enumerate(batch):
+            tag = "N%d" % number
+            wanted = {verdict % tag for verdict in area.verdicts()}
+            if said.get(tag) not in wanted or fault or len(said) != len(batch):
+                wrong += 1
+                if wrong <= 5:
+                    print(area, said.get(tag), fault.strip(), "in place of", sorted(wanted)[:3])
+    return wrong
+
+
+def main():
+    """Tries all, prints a line for each kind, and a last one with the counts."""
+    kinds = [("four systems", list(all_files(FOUR, 4))), ("twins and an address without a file", list(all_files(TWINS, 3))),
+             ("graphs of at most five", list(all_graphs())), ("polygons in a chain", list(chained_polygons()))]
+    tried = wrong = 0
+    with tempfile.TemporaryDirectory() as folder:
+        for name, areas in kinds:
+            failed = differ(areas, folder)
+            print("%s: %d nets, %d answered otherwise" % (name, len(areas), failed))
+            tried, wrong = tried + len(areas), wrong + failed
+    print("small_nets.py: %d passed, %d failed" % (tried - wrong, wrong))
+    return wrong > 0
+
+
+if __name__ == "__main__":
+    sys.exit(main())
