@@ -50,7 +50,8 @@ fn base_files(rt: HostRuntime) -> Result<(), Fail> {
         let world = scripted(&rt, *script).ok_or(AllocError)?;
         let mut writer = Watched::new(Vec::new(rt.alloc()));
         let answer = world.save(*system, &mut writer);
-        assert!(rt; answer == expected.map(|_| Ok(())));
+        let wanted = expected.map(|_| Ok(()));
+        assert!(rt; answer == wanted);
         assert!(rt; writer.into_inner().as_slice() == expected.unwrap_or(b""));
     }
     Ok(())
