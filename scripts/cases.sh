@@ -11,7 +11,7 @@ passed=0
 failed=0
 
 # The bytes that hexadecimal digits stand for.
-bytes_of() { printf "$(tr -d ' \n' < "$1" | sed 's/../\\x&/g')"; }
+bytes_of() { printf "$(tr -d ' \n' | sed 's/../\\x&/g')"; }
 
 # The link files of a net. Words: the folder, how many systems, the links.
 make_net() {
@@ -27,13 +27,33 @@ make_net() {
   done
 }
 
-# Makes the file that stands in lines. Words: how, its name.
+# A packet with a message for each line. Words: the nodes from which and to which it goes, in two digits.
+make_packet() {
+  local nodes="\\x$1\\x00\\x$2\\x00" nets='\x0a\x00\x0a\x00' zeros='\x00\x00\x00\x00' count=0 text
+  printf '%b' "$nodes" '\xea\x07\x06\x00\x03\x00\x0c\x00\x22\x00\x38\x00\x00\x00\x02\x00' "$nets" \
+    "$zeros$zeros\\x00\\x00" '\x01\x00\x01\x00' "$zeros$zeros$zeros$zeros$zeros"
+  while IFS= read -r text; do
+    count=$((count + 1))
+    printf '%b' '\x02\x00' "$nodes$nets$zeros" '03 Jul 26  12:34:56\x00All\x00Ann\x00' "$count\\x00$text\\x00"
+  done
+  printf '\0\0'
+}
+
+# Makes the file that stands in lines. Words: how, its name, and for a packet its nodes.
 make_file() {
   case $1 in
-    @) cp "$place/lines" "files/$2" ;;
-    @hex) bytes_of "$place/lines" > "files/$2" ;;
-    @escaped) printf '%b' "$(cat "$place/lines")" > "files/$2" ;;
-  esac
+    @) cat ;;
+    @hex) bytes_of ;;
+    @escaped) printf '%b' "$(tr -d '\n')" ;;
+    @packet) make_packet "$3" "$4" ;;
+  esac < "$place/lines" > "files/$2"
+}
+
+# The bytes of a file with others in place of some. Words: from where on, these in digits, the file.
+changed() {
+  head -c "$1" "$3"
+  bytes_of <<< "$2"
+  tail -c +$(($1 + ${#2} / 2 + 1)) "$3"
 }
 
 # A cell without the blanks around it.
@@ -111,7 +131,7 @@ read_cases() {
   while IFS= read -r line <&3; do
     if [ -n "$how" ]; then
       if [ "$line" = @ ]; then
-        make_file "$how" "$name"
+        make_file "$how" $name
         how=
       else
         printf '%s\n' "$line" >> "$place/lines"
@@ -121,6 +141,9 @@ read_cases() {
     case $line in
       '' | '#'*) ;;
       '@front '*) read -r _ count from name <<< "$line"; head -c "$count" "files/$from" > "files/$name" ;;
+      '@text '*) read -r _ name line <<< "$line"; printf '%b' "$line" > "files/$name" ;;
+      '@set '*) read -r -a cells <<< "$line"; changed "${cells[@]:1:2}" "files/${cells[3]}" > "files/${cells[4]}" ;;
+      '@joined '*) read -r -a cells <<< "$line"; (cd files && cat "${cells[@]:2}") > "files/${cells[1]}" ;;
       '@net '*) read -r -a cells <<< "$line"; make_net "files/${cells[1]}" "${cells[@]:2}" ;;
       @*) read -r how name <<< "$line"; : > "$place/lines" ;;
       *)

@@ -27,6 +27,7 @@ use echo_links::{LinkFault, LinkFile};
 use echo_mailing::{LetterFault, MailWords, Spare, post_mail};
 use echo_numbered::refuse_message;
 use echo_packet::Limits;
+use echo_post_words::new_message;
 use echo_status::{Fault, LIMITS, Status, limits_for, number_of};
 use echo_steps::Stamp;
 use echo_stored::{StoredFault, read_stored};
@@ -194,16 +195,7 @@ fn posting_of<'a>(
 ) -> Result<(NewMessage<'a>, bool), Fault<'a>> {
     let (serial, free) = serial_from(rt, words.serial)?;
     let stamp = moment_of(rt, words.at)?;
-    let posting = NewMessage {
-        tag: words.area.as_bytes(),
-        to_name: words.to.as_bytes(),
-        from_name: words.from.as_bytes(),
-        subject: words.subject.as_bytes(),
-        reply: words.reply.unwrap_or("").as_bytes(),
-        serial,
-        stamp,
-    };
-    Ok((posting, free))
+    Ok((new_message(words, serial, stamp), free))
 }
 
 /// `post --mail`: the charset, the serial and the stamp are judged first, then that the files can be read, then the

@@ -1,2 +1,2 @@
+mod faults;
 mod items;
-mod lists;

@@ -1,5 +1,5 @@
-//! Tests of the formats over what their crates offer to others: the worked examples, calls that are
-//! refused memory, and devices that fail.
+//! Tests of the formats over what their crates offer to others, of what no row of examples/cases shows:
+//! calls that no command makes, answers that none prints, and devices that fail.
 #![tactic(auto)]
 
 #[cfg(test)]
@@ -14,8 +14,6 @@ mod filed;
 mod graph;
 #[cfg(test)]
 mod links;
-#[cfg(test)]
-mod mail;
 #[cfg(test)]
 mod nodelist;
 #[cfg(test)]

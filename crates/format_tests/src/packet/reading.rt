@@ -1,8 +1,9 @@
-//! Packets from readers.
+//! Packets from readers that move pieces, fail, or come where memory is refused; and a limit that no command
+//! sets.
 use super::{FIRST, SIZE};
 use echo_device::{Source, Trial, Watched};
 use echo_packet::{Limits, PacketFault, PacketReader, read_packet};
-use std::alloc::{AllocError, Global};
+use std::alloc::Global;
 use std::test::Fail;
 
 // The place after the packet, which has one message.
@@ -18,27 +19,6 @@ fn read_one<R: Source + Drop>(
         }
     }
     Ok(0)
-}
-
-fn fault_of(alloc: Global, bytes: &[u8], limits: Limits) -> Option<PacketFault> {
-    read_packet(alloc, bytes, limits).err()
-}
-
-#[test]
-fn reads_a_message(rt: HostRuntime) -> Result<(), Fail> {
-    let (header, messages, size) = read_packet(rt.alloc(), &FIRST, Limits::NONE)?;
-    assert_eq!(rt; size, SIZE);
-    assert_eq!(rt; header.year, 2026);
-    assert_eq!(rt; messages.len(), 1);
-    let message = messages.get(0).ok_or(PacketFault::Memory)?;
-    assert_eq!(rt; (message.orig_node(), message.dest_node()), (1, 2));
-    assert_eq!(rt; (message.orig_net(), message.dest_net()), (10, 10));
-    assert_eq!(rt; (message.attribute(), message.cost()), (0, 0));
-    assert_eq!(rt; message.to_name(), b"All".as_slice());
-    assert_eq!(rt; message.from_name(), b"Ann".as_slice());
-    assert_eq!(rt; message.subject(), b"Hi".as_slice());
-    assert_eq!(rt; message.text().len(), 106);
-    Ok(())
 }
 
 #[test]
@@ -81,18 +61,12 @@ fn place_of_cut(count: usize) -> u64 {
 }
 
 #[test]
-fn every_cut(rt: HostRuntime) {
-    let alloc = rt.alloc();
+fn failing_readers_are_reported(rt: HostRuntime) {
     for count in 0..SIZE {
         let at = place_of_cut(count);
-        assert_eq!(rt;
-            fault_of(alloc, &FIRST[..count], Limits::NONE),
-            Some(PacketFault::Truncated { at }),
-            "at {count}"
-        );
         let failing = Watched::new(Trial::new(&FIRST[..], 1000, 0, count as u64));
         assert_eq!(rt;
-            read_one(alloc, failing, Limits::NONE).err(),
+            read_one(rt.alloc(), failing, Limits::NONE).err(),
             Some(PacketFault::Read { at }),
             "at {count}"
         );
@@ -100,43 +74,15 @@ fn every_cut(rt: HostRuntime) {
 }
 
 #[test]
-fn keeps_limits(rt: HostRuntime) {
-    let alloc = rt.alloc();
-    let limits = |text: usize, messages: u64| Limits { text, messages };
-    assert_eq!(rt; fault_of(alloc, &FIRST, limits(106, 1)), None);
+fn keeps_a_limit_of_messages(rt: HostRuntime) {
+    let none = Limits {
+        messages: 0,
+        ..Limits::NONE
+    };
     assert_eq!(rt;
-        fault_of(alloc, &FIRST, limits(105, 1)),
-        Some(PacketFault::TextTooLong { at: 103 })
-    );
-    assert_eq!(rt;
-        fault_of(alloc, &FIRST, limits(106, 0)),
+        read_one(rt.alloc(), &FIRST[..], none).err(),
         Some(PacketFault::TooManyMessages { at: 58 })
     );
-}
-
-// The packet with this toUserName, and a 00 behind it where there is room.
-fn with_name(alloc: Global, name: &[u8]) -> Result<Vec<u8>, AllocError> {
-    let mut bytes = Vec::new(alloc);
-    bytes.extend_from_slice(&FIRST[..92])?;
-    bytes.extend_from_slice(name)?;
-    if name.len() < 36 {
-        bytes.push(0)?;
-    }
-    bytes.extend_from_slice(&FIRST[96..])?;
-    Ok(bytes)
-}
-
-#[test]
-fn longest_name(rt: HostRuntime) -> Result<(), Fail> {
-    let alloc = rt.alloc();
-    let longest = with_name(alloc, &[b'A'; 35])?;
-    assert_eq!(rt; fault_of(alloc, &longest, Limits::NONE), None);
-    let longer = with_name(alloc, &[b'A'; 36])?;
-    assert_eq!(rt;
-        fault_of(alloc, &longer, Limits::NONE),
-        Some(PacketFault::FieldTooLong { at: 92 })
-    );
-    Ok(())
 }
 
 // Where memory is refused the reader stops, and the whole packet read again has its message.

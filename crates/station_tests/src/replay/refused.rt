@@ -2,19 +2,7 @@
 //! These pass whether or not an allocation is refused.
 use super::*;
 use echo_device::Watched;
-
-// The chain after the script, if memory is there.
-fn scripted(rt: &HostRuntime, script: &[u8]) -> Option<World> {
-    let alloc = rt.alloc();
-    let mut links = Vec::new(alloc);
-    for file in CHAIN {
-        links
-            .push(LinkFile::read(alloc, file.as_bytes()).ok()?)
-            .ok()?;
-    }
-    let events = read_script(alloc, script).ok()?;
-    replay(alloc, links, &events, RandomState::new(rt).ok()?).ok()
-}
+use std::alloc::Global;
 
 // How many messages each of so many systems has and has waiting, and what became of the packets.
 fn text_of(alloc: Global, systems: usize, world: &World) -> Result<String, AllocError> {

@@ -20,22 +20,35 @@ const RECEIVED: &[u8] = b"ECHOBAS2\0\0\0\0\x01\0\0\0\
     AREA:TEST\r\x01MSGID: 1:10/1 00000001\rHello\r--- echonet\r * Origin: echonet (1:10/1)\r\
     SEEN-BY: 10/1 2\r\x01PATH: 10/1\r";
 
-/// What happens on the chain, a system, and its base file, none where there is no such system.
-const SAVED: &[(&[Step], usize, Option<&[u8]>)] = &[
-    (&[], 0, Some(EMPTY)),
-    (&[Post(0)], 0, Some(POSTED)),
-    (&[Post(0)], 1, Some(EMPTY)),
-    (&[Post(0), Scan(0), Purge(0)], 0, Some(PURGED)),
-    (&[Post(0), Scan(0), Deliver(0)], 1, Some(RECEIVED)),
-    (&[Post(0)], 3, None),
+/// A posting with blanks in its body.
+const BLANKS: &[u8] = b"ECHOBAS2\0\0\0\0\x01\0\0\0\
+    \0\0\0\0\0\0\001 Jan 00  00:00:00\0\x03All\x05Sysop\x080000ff0a\x59\0\0\0\
+    AREA:TEST\r\x01MSGID: 1:10/1 0000ff0a\r two  blanks \t\r--- echonet\r * Origin: echonet (1:10/1)\r";
+
+/// Scripts on the chain, a system, and its base file, none where there is no such system.
+const SAVED: &[(&[u8], usize, Option<&[u8]>)] = &[
+    (b"", 0, Some(EMPTY)),
+    (b"POST 0 TEST 00000001 Hello", 0, Some(POSTED)),
+    (b"POST 0 TEST 00000001 Hello", 1, Some(EMPTY)),
+    (b"POST 0 TEST 00000001 Hello", 3, None),
+    (b"POST 0 test 0000ff0a  two  blanks \t", 0, Some(BLANKS)),
+    (
+        b"POST 0 TEST 00000001 Hello\nSCAN 0\nPURGE 0",
+        0,
+        Some(PURGED),
+    ),
+    (
+        b"POST 0 TEST 00000001 Hello\nSCAN 0\nDELIVER 0",
+        1,
+        Some(RECEIVED),
+    ),
 ];
 
 #[test]
 fn base_files(rt: HostRuntime) -> Result<(), Fail> {
-    let alloc = rt.alloc();
-    for (steps, system, expected) in SAVED {
-        let world = played(&rt, CHAIN, *steps)?;
-        let mut writer = Watched::new(Vec::new(alloc));
+    for (script, system, expected) in SAVED {
+        let world = scripted(&rt, *script).ok_or(AllocError)?;
+        let mut writer = Watched::new(Vec::new(rt.alloc()));
         let answer = world.save(*system, &mut writer);
         let wanted = expected.map(|_| Ok(()));
         assert!(rt; answer == wanted);
@@ -46,11 +59,10 @@ fn base_files(rt: HostRuntime) -> Result<(), Fail> {
 
 #[test]
 fn failing_writers(rt: HostRuntime) -> Result<(), Fail> {
-    let alloc = rt.alloc();
-    let world = played(&rt, CHAIN, &[Post(0)])?;
+    let world = scripted(&rt, b"POST 0 TEST 00000001 Hello").ok_or(AllocError)?;
     for left in 0..POSTED.len() {
         let bytes = left as u64;
-        let mut writer = Watched::new(Trial::new(Vec::new(alloc), 7, 1, bytes));
+        let mut writer = Watched::new(Trial::new(Vec::new(rt.alloc()), 7, 1, bytes));
         let answer = world.save(0, &mut writer);
         assert!(rt; answer == Some(Err(BaseFault::Write { bytes })));
         let went = writer.into_inner().into_inner();

@@ -10,21 +10,12 @@ fn ready(alloc: Global, file: &[u8]) -> Result<System, LinkFault> {
     }
 }
 
-// The packet of two postings, if memory is there.
-fn two(alloc: Global) -> Option<Vec<u8>> {
-    let mut alpha = system(alloc, ALPHA).ok()?;
-    post(alloc, &mut alpha, b"TEST", 1).ok()?;
-    post(alloc, &mut alpha, b"TEST", 2).ok()?;
-    let packets = alpha.scan(STAMP).ok()?;
-    packets.get(0)?.encode(alloc).ok()
-}
-
 #[test]
 fn a_refused_post(rt: HostRuntime) -> Result<(), Fail> {
     let mut alpha = ready(rt.alloc(), ALPHA)?;
-    if post(rt.alloc(), &mut alpha, b"TEST", 1) == Err(PostFault::Memory) {
+    if post(rt.alloc(), &mut alpha, 1) == Err(PostFault::Memory) {
         assert_eq!(rt; alpha.filed(), 0);
-        post(rt.alloc(), &mut alpha, b"TEST", 1)?;
+        post(rt.alloc(), &mut alpha, 1)?;
     }
     assert_eq!(rt; alpha.waiting(), 1);
     Ok(())
@@ -51,8 +42,8 @@ fn purges_again(alpha: &mut System) -> Result<bool, AllocError> {
 #[test]
 fn a_refused_scan(rt: HostRuntime) -> Result<(), Fail> {
     let mut alpha = ready(rt.alloc(), ALPHA)?;
-    if post(rt.alloc(), &mut alpha, b"TEST", 1).is_err() {
-        post(rt.alloc(), &mut alpha, b"TEST", 1)?;
+    if post(rt.alloc(), &mut alpha, 1).is_err() {
+        post(rt.alloc(), &mut alpha, 1)?;
     }
     let scanned = scans_again(&mut alpha)?;
     assert!(rt; scanned);
