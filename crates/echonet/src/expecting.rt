@@ -13,13 +13,13 @@ use std::fs;
 const BUFFER: usize = 65_536;
 
 /// How many bytes the packets have at most: more messages would be too many to be expected.
-const MOST: u64 = 2_097_152;
+const MOST: u64 = 1_048_576;
 
 /// How many bytes of the keys tell of a message.
 const ENTRY: u64 = 16;
 
 /// How many messages are read of a packet at most.
-const MESSAGES: usize = 2_048;
+const MESSAGES: usize = 1_024;
 
 /// The keys of the messages in these packets, where the packets have fewer bytes than the keys of a folder with so many
 /// messages. It is not said here where one cannot be read: the toss does that, and reads them again.
