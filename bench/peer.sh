@@ -5,13 +5,14 @@
 # take its files (fsync), which CrashMail never asks for; that is told where there is a C compiler, for the calls are timed
 # by waits.c, which is loaded in front of the C library. The rows that end in `folder` are those of a base folder here, the
 # others of a base file.
-# Words: how many messages, how many rounds, the folder to work in.
+# Words: how many messages, how many rounds, the folder to work in, and `files` or `folders` for these rows alone.
 set -eu
 cd "$(dirname "$0")/.."
 program=${ECHONET:-$PWD/bin/echonet}
 top=$PWD
 count=${1:-100000}
 rounds=${2:-5}
+wanted=${4:-files folders}
 work=$(mktemp -d "${3:-${TMPDIR:-/tmp}}/echonet-peer.XXXXXX")
 trap 'rm -rf "$work"' EXIT
 command -v crashmail > /dev/null || { echo "crashmail is not installed"; exit 1; }
@@ -217,16 +218,23 @@ now; begin=$moment; cat new.pkt | cksum > /dev/null; now
 echo "$count $begin $moment" | awk '{ printf "%-44s %9.0f /s\n", "cksum of the packet", $1 * 1e9 / ($3 - $2) }'
 now; begin=$moment; dd if=new.pkt of=copy bs=1M conv=fsync 2> /dev/null; now
 echo "$count $begin $moment" | awk '{ printf "%-44s %9.0f /s\n", "the packet copied, with fsync", $1 * 1e9 / ($3 - $2) }'
-new_messages "new, JAM" JAM 1:10/2
-known_messages "known, JAM" JAM
-new_messages "new, JAM, to one link" JAM "1:10/2 1:10/3"
-new_messages "new, *.MSG" MSG 1:10/2
-known_messages "known, *.MSG" MSG
-new_messages "new, *.MSG, to one link" MSG "1:10/2 1:10/3"
-small_packets
-kind=folder
-new_messages "new, JAM" JAM 1:10/2
-known_messages "known, JAM" JAM
-new_messages "new, JAM, to one link" JAM "1:10/2 1:10/3"
-rm -rf peer.kept own.kept
-small_packets
+rows_of_files() {
+  new_messages "new, JAM" JAM 1:10/2
+  known_messages "known, JAM" JAM
+  new_messages "new, JAM, to one link" JAM "1:10/2 1:10/3"
+  new_messages "new, *.MSG" MSG 1:10/2
+  known_messages "known, *.MSG" MSG
+  new_messages "new, *.MSG, to one link" MSG "1:10/2 1:10/3"
+  small_packets
+}
+
+rows_of_folders() {
+  kind=folder
+  new_messages "new, JAM" JAM 1:10/2
+  known_messages "known, JAM" JAM
+  new_messages "new, JAM, to one link" JAM "1:10/2 1:10/3"
+  rm -rf peer.kept own.kept
+  small_packets
+}
+
+for rows in $wanted; do rows_of_$rows; done
