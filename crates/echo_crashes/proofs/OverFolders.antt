@@ -4,7 +4,7 @@ use Rattle.std.specs.Prelude.{is_some}
 use Rattle.std.specs.List.{AllByRecursion, flat_map}
 use Rattle.echo_packet.specs.Header.{AreBytes}
 use Rattle.echo_base.specs.Base.{Base}
-use Rattle.echo_base.specs.BaseFile.{is_countable}
+use Rattle.echo_base.specs.BaseFile.{is_countable, saved_bytes}
 use Rattle.echo_steps.specs.declared.stamp.Stamp.{Stamp}
 use Rattle.echo_steps.specs.Purging.{changed}
 use Rattle.echo_steps.specs.Scanning.{scanned}
@@ -95,29 +95,22 @@ purges-file w i new stand p =
     }
 
 -- the files that a run leaves, also after a fault
-left-files : (stopped : Option Fault) (files : Files) → (run_done stopped (Ok files)).files ≡ files
+pub left-files : (stopped : Option Fault) (files : Files) → (run_done stopped (Ok files)).files ≡ files
 left-files None files = refl
 left-files (Some fault) files = refl
 
-run-ends : (run : TossRun) (next : Base) (stopped : Option Fault) → next ≡ record { messages = run.system.base; cursor = run.system.cursor } → CanBeSaved next
-    → RunEnds run (is_some stopped) quiet quiet (Ok (only_base (file_of next)))
-run-ends run next None makes saved = (
-  ap (λ (b : Base). only_base (file_of b)) makes,
-  subst (λ (b : Base). is_countable b.messages b.cursor ≡ true) makes saved.countable,
-  tt,
-  (refl, refl),
-)
-run-ends run next (Some fault) makes saved = (
-  ap (λ (b : Base). only_base (file_of b)) makes,
-  subst (λ (b : Base). is_countable b.messages b.cursor ≡ true) makes saved.countable,
-  inl (tt, (refl, refl)),
-)
+-- how a run ends whose base is left, over a standard output that takes all
+pub run-ends : (run : TossRun) (bytes : List ℕ) (stopped : Option Fault) → bytes ≡ saved_bytes run.system.base run.system.cursor → is_countable run.system.base run.system.cursor ≡ true
+    → RunEnds run (is_some stopped) quiet quiet (Ok (only_base bytes))
+run-ends run bytes None saved countable = (ap only_base saved, countable, tt, (refl, refl))
+run-ends run bytes (Some fault) saved countable = (ap only_base saved, countable, inl (tt, (refl, refl)))
 
 tosses-file : (indexes : List ℕ) (w : Folders) (i : ℕ) (new : Folders) → Stand w → (p : TossesInFolder indexes w i new) → Tosses indexes w.disks.net i new.disks.net
 tosses-file indexes w i new stand p =
     let c = p.commits in
     let files = only_base (file_of p.next) in
     let same = left-files p.stopped files in
+    let ends = run-ends p.run (file_of p.next) p.stopped (ap file_of p.makes) (subst (λ (b : Base). is_countable b.messages b.cursor ≡ true) p.makes c.saved.countable) in
     record {
       station = c.station;
       there = c.there;
@@ -134,7 +127,7 @@ tosses-file indexes w i new stand p =
         run = p.run;
         stopped = p.stopped;
         each = p.each;
-        ends = record { answer = Ok files; so = run-ends p.run p.next p.stopped p.makes c.saved; is = refl };
+        ends = record { answer = Ok files; so = ends; is = refl };
       };
       base = file_of p.next;
       leaves = record {

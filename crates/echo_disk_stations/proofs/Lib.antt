@@ -1,2 +1,3 @@
-pub mod Leading
-pub mod Events
+mod Leading
+mod Events
+mod Tosses

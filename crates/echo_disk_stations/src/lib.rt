@@ -7,4 +7,4 @@
 
 mod laws;
 
-pub use laws::{posts_as_may, purges_as_may};
+pub use laws::{free_posts_as_may, posts_as_may, purges_as_may, replies_as_may, tosses_as_may};

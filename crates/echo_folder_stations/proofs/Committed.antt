@@ -1,5 +1,5 @@
 -- A command that commits a base to the folder of a station.
-use Rattle.std.proofs.Common.{◌≡◌, ◌⊎◌, inl, inr, ⊎_elim, refl, sym, ap, ◌∙◌, ℕ, List, Some, Ok}
+use Rattle.std.proofs.Common.{◌≡◌, ◌⊎◌, inl, inr, ⊎_elim, refl, sym, ap, ◌∙◌, ℕ, Some}
 use Rattle.echo_disk.specs.Disk.{Files, Honestly}
 use Rattle.echo_disk.specs.Runs.{LeavesOnly}
 use Rattle.echo_disk.proofs.Moments.{weaker_run}
@@ -7,52 +7,49 @@ use Rattle.echo_links.specs.Links.{LinkFile}
 use Rattle.echo_base.specs.Base.{Base}
 use Rattle.echo_run.specs.Run.{change, nth}
 use Rattle.echo_stations.specs.Commands.{Command}
-use Rattle.echo_stations.specs.Nets.{Net, Station, with_base}
-use Rattle.echo_stations.proofs.Pairs.{change-found, change-here}
+use Rattle.echo_stations.specs.Nets.{with_base}
+use Rattle.echo_stations.proofs.Pairs.{changed-there}
+use Rattle.echo_crashes.specs.Disks.{Disks}
 use Rattle.echo_crashes.specs.Folders.{CanBeSaved, Commits, Folders, HasFolder, LeadsInFolder, file_of}
 use Rattle.echo_store.specs.Store.{StoreState}
 use Rattle.echo_store_changing.specs.Answered.{HasCommitted, MayMake, StandsForMade}
 use Rattle.echo_folder_stations.specs.OnStores.{IsFolderAfter, IsFolderOf, LeadsBy, StandsAsMay}
 
--- the item that was changed
-changed-there : {X : Type 0} (i : ℕ) (f : X → X) (x : X) (xs : List X) → nth i xs ≡ Some x → nth i (change i f xs) ≡ Some (f x)
-changed-there i f x xs h = ap (λ (ys : List _). nth i ys) (change-here i f x xs h) ∙ change-found i x (f x) xs h
-
--- the folder of the station holds this base, and its station has the base file that says it
-abbrev pub becomes : ℕ → Base → Net → Folders → Folders
-becomes i next net w = record { disks = record { net = net; beside = w.disks.beside }; folders = change i (λ _. Some next) w.folders }
+-- the disks are these, and the folder of the station holds this base
+abbrev pub becomes : ℕ → Base → Disks → Folders → Folders
+becomes i next disks w = record { disks = disks; folders = change i (λ _. Some next) w.folders }
 
 module _ (file : LinkFile) (base : Base) (i : ℕ) (w : Folders) (store : StoreState) (at : IsFolderOf file base i w store) where
   -- what is committed
-  pub commits : (next : Base) (net : Net) → CanBeSaved next → Commits w i file base next net (becomes i next net w)
-  commits next net saved = record { station = at.station; there = at.there; folder = at.folder; links = at.links; saved = saved; net_becomes = refl; folders = refl }
+  pub commits : (next : Base) (disks : Disks) → CanBeSaved next → Commits w i file base next disks.net (becomes i next disks w)
+  commits next disks saved = record { station = at.station; there = at.there; folder = at.folder; links = at.links; saved = saved; net_becomes = refl; folders = refl }
 
   -- and held
-  pub holds : (next : Base) (net : Net) → HasFolder (becomes i next net w) i next
-  holds next net = changed-there i (λ _. Some next) (Some base) w.folders at.folder
+  pub holds : (next : Base) (disks : Disks) → HasFolder (becomes i next disks w) i next
+  holds next disks = changed-there i (λ _. Some next) (Some base) w.folders at.folder
 
   -- the folder after it
-  pub folder-after : (next : Base) (net : Net) → net.stations ≡ change i (with_base (file_of next)) w.disks.net.stations → (later : StoreState) → later.keeps next → later.committed next
-      → IsFolderOf file next i (becomes i next net w) later
-  folder-after next net stations later keeps committed = record {
+  pub folder-after : (next : Base) (disks : Disks) → disks.net.stations ≡ change i (with_base (file_of next)) w.disks.net.stations → (later : StoreState) → later.keeps next → later.committed next
+      → IsFolderOf file next i (becomes i next disks w) later
+  folder-after next disks stations later keeps committed = record {
     station = with_base (file_of next) at.station;
     there = ap (nth i) stations ∙ changed-there i (with_base (file_of next)) at.station w.disks.net.stations at.there;
     links = at.links;
-    folder = holds next net;
+    folder = holds next disks;
     keeps = keeps;
     committed = committed;
   }
 
 -- a net to which a command of this kind leads, in which the folder of the station holds this base
 pub record LeadsTo (IsCommand : Command → Type 0) (i : ℕ) (w : Folders) (next : Base) : Type 0 where
-  pub net : Net
-  pub stations : net.stations ≡ change i (with_base (file_of next)) w.disks.net.stations
+  pub disks : Disks
+  pub stations : disks.net.stations ≡ change i (with_base (file_of next)) w.disks.net.stations
   pub command : Command
   pub is : IsCommand command
-  pub leads : LeadsInFolder command w i (becomes i next net w)
+  pub leads : LeadsInFolder command w i (becomes i next disks w)
 
 -- that command
-pub led : (IsCommand : Command → Type 0) (i : ℕ) (w : Folders) (next : Base) (to : LeadsTo IsCommand i w next) → LeadsBy IsCommand i w (becomes i next to.net w)
+pub led : (IsCommand : Command → Type 0) (i : ℕ) (w : Folders) (next : Base) (to : LeadsTo IsCommand i w next) → LeadsBy IsCommand i w (becomes i next to.disks w)
 led IsCommand i w next to = record { command = to.command; is = to.is; leads = to.leads }
 
 -- what is made may be what was held
@@ -74,10 +71,10 @@ module _ (IsCommand : Command → Type 0) (file : LinkFile) (base : Base) (i : �
       ⊎_elim
       (λ (same : now.0 ≡ base). unchanged c now.0 same now.2)
       (λ (to : LeadsTo IsCommand i w now.0). record {
-        after = becomes i now.0 to.net w;
+        after = becomes i now.0 to.disks w;
         leads = inr (led IsCommand i w now.0 to);
         held = now.0;
-        folder = holds file base i w old at now.0 to.net;
+        folder = holds file base i w old at now.0 to.disks;
         stands = now.2;
       })
       (leads now.0 now.1))
@@ -93,8 +90,8 @@ module _ (IsCommand : Command → Type 0) (file : LinkFile) (base : Base) (i : �
   done Ends to has =
       let is_led = to has.next has.made in
       record {
-        after = becomes i has.next is_led.net w;
+        after = becomes i has.next is_led.disks w;
         leads = led IsCommand i w has.next is_led;
         base = has.next;
-        is = folder-after file base i w old at has.next is_led.net is_led.stations new has.keeps has.committed;
+        is = folder-after file base i w old at has.next is_led.disks is_led.stations new has.keeps has.committed;
       }

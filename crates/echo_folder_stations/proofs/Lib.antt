@@ -1,4 +1,4 @@
 mod Committed
-mod AnyReader
 mod Postings
 mod Tosses
+mod Scans

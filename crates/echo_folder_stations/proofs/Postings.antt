@@ -1,5 +1,5 @@
 -- Postings, answers and purges on the folder of a station.
-use Rattle.std.proofs.Common.{◌≡◌, ◌⊎◌, inl, inr, ⊎_elim, refl, ℕ, List, [], Bool, true, false}
+use Rattle.std.proofs.Common.{inl, inr, ⊎_elim, refl, ℕ, List, [], Bool, true, false}
 use Rattle.echo_links.specs.Links.{LinkFile}
 use Rattle.echo_base.specs.Base.{Base}
 use Rattle.echo_steps.specs.Posting.{posted}
@@ -9,14 +9,16 @@ use Rattle.echo_changing.specs.declared.replying.Answer.{Answer}
 use Rattle.echo_changing.specs.FreeSerial.{with_serial}
 use Rattle.echo_changing.specs.Posted.{draft_given}
 use Rattle.echo_stations.specs.Commands.{Command, Post, Purge}
+use Rattle.echo_stations.specs.Kinds.{IsPost, IsPostWith, IsPurge, IsReplyTo}
 use Rattle.echo_stations.specs.Nets.{with_left, with_posting}
+use Rattle.echo_crashes.specs.Disks.{Disks}
 use Rattle.echo_crashes.specs.Folders.{CanBeSaved, Folders, file_of}
 use Rattle.echo_store.specs.Store.{StoreState}
 use Rattle.echo_store_changing.specs.FreeSerial.{PostsFree}
 use Rattle.echo_store_changing.specs.Posted.{Posts}
 use Rattle.echo_store_changing.specs.Purged.{HoldsOrPurges, Purges}
 use Rattle.echo_store_changing.specs.Replied.{PostsAs, Replies}
-use Rattle.echo_folder_stations.specs.EachCommand.{FreePostsAsMay, IsPost, IsPostWith, IsPurge, IsReplyTo, PostsAsMay, PurgesAsMay, RepliesAsMay}
+use Rattle.echo_folder_stations.specs.EachCommand.{FreePostsAsMay, PostsAsMay, PurgesAsMay, RepliesAsMay}
 use Rattle.echo_folder_stations.specs.OnStores.{IsFolderOf}
 use Rattle.echo_folder_stations.proofs.Committed.{LeadsTo, commits, crash, done}
 
@@ -25,8 +27,9 @@ module _ (file : LinkFile) (base : Base) (i : ℕ) (w : Folders) (store : StoreS
   posts-lead : (IsCommand : Command → Type 0) (words : NewMessage) (body : List ℕ) (next : Base) → IsCommand (Post words body) → CanBeSaved next → Posts file words body base next → LeadsTo IsCommand i w next
   posts-lead IsCommand words body next is saved posts =
       let net = with_posting w.disks.net i (file_of next) (posted file words.tag.now (draft_given words body) words.serial words.stamp) in
+      let disks : Disks = record { net = net; beside = w.disks.beside } in
       record {
-        net = net;
+        disks = disks;
         stations = refl;
         command = Post words body;
         is = is;
@@ -36,7 +39,7 @@ module _ (file : LinkFile) (base : Base) (i : ℕ) (w : Folders) (store : StoreS
           allowed = posts.allowed;
           next = next;
           makes = posts.is;
-          commits = commits file base i w store at next net saved;
+          commits = commits file base i w store at next disks saved;
           beside = refl;
         };
       }
@@ -46,12 +49,13 @@ module _ (file : LinkFile) (base : Base) (i : ℕ) (w : Folders) (store : StoreS
   unfolding purged
   purges-lead next saved purges =
       let net = with_left w.disks.net i [] (file_of next) in
+      let disks : Disks = record { net = net; beside = w.disks.beside } in
       record {
-        net = net;
+        disks = disks;
         stations = refl;
         command = Purge;
         is = refl;
-        leads = record { file = file; held = base; next = next; makes = purges; commits = commits file base i w store at next net saved; beside = refl };
+        leads = record { file = file; held = base; next = next; makes = purges; commits = commits file base i w store at next disks saved; beside = refl };
       }
 
 pub posts-as-may : (old new : StoreState) → PostsAsMay old new

@@ -1,16 +1,14 @@
 -- What is to hold of each command on a base folder.
-use Rattle.std.specs.Prelude.{◌≡◌, ◌⊎◌, ℕ, Bool, List}
+use Rattle.std.specs.Prelude.{ℕ, Bool, List}
 use Rattle.echo_base.specs.Base.{Base}
-use Rattle.echo_filed.specs.Filed.{Filed}
 use Rattle.echo_links.specs.Links.{LinkFile}
 use Rattle.echo_packet.specs.declared.limits.Limits.{Limits}
 use Rattle.echo_changing.specs.declared.posting.NewMessage.{NewMessage}
 use Rattle.echo_changing.specs.declared.replying.Answer.{Answer}
 use Rattle.echo_changing.specs.Coming.{Coming}
-use Rattle.echo_changing.specs.FreeSerial.{with_serial}
-use Rattle.echo_changing.specs.Replied.{IsReply}
 use Rattle.echo_status.specs.Devices.{Device}
-use Rattle.echo_stations.specs.Commands.{Command, IsPacketAt, Post, Purge, Toss}
+use Rattle.echo_stations.specs.Commands.{IsPacketAt}
+use Rattle.echo_stations.specs.Kinds.{IsPost, IsPostWith, IsPurge, IsReplyTo, IsToss}
 use Rattle.echo_stations.specs.Nets.{Paired}
 use Rattle.echo_crashes.specs.Folders.{Folders}
 use Rattle.echo_store.specs.Store.{StoreState}
@@ -20,25 +18,6 @@ use Rattle.echo_store_changing.specs.Purged.{HoldsOrPurges, Purges}
 use Rattle.echo_store_changing.specs.Replied.{Replies}
 use Rattle.echo_store_changing.specs.Tossed.{Tosses}
 use Rattle.echo_folder_stations.specs.OnStores.{RunsAsMay, RunsAt}
-
--- the posting of these words
-abbrev pub IsPost : NewMessage → List ℕ → Command → Type 0
-IsPost words body command = command ≡ Post words body
-
--- the same with some serial
-abbrev pub IsPostWith : NewMessage → List ℕ → Command → Type 0
-IsPostWith words body command = (serial : ℕ) × (command ≡ Post (with_serial words serial) body)
-
--- the posting of an answer to some message, with the serial of the answer or another
-pub record IsReplyTo (answer : Answer) (body : List ℕ) (command : Command) : Type 0 where
-  pub message : Filed
-  pub words : NewMessage
-  pub of_message : IsReply message answer words
-  pub is : IsPost words body command ⊎ IsPostWith words body command
-
--- a purge
-abbrev pub IsPurge : Command → Type 0
-IsPurge command = command ≡ Purge
 
 -- a posting of these words
 abbrev pub PostsAsMay : StoreState → StoreState → Type 0
@@ -63,4 +42,4 @@ PurgesAsMay old new = (file : LinkFile) → RunsAsMay IsPurge file HoldsOrPurges
 abbrev pub TossesAsMay : {R : Type 0} → (R → Device) → StoreState → StoreState → Type 0
 TossesAsMay device old new = (noting : Bool) (limits : Limits) (file : LinkFile) (files : List Coming) (indexes : List ℕ) (base : Base) (i : ℕ) (w : Folders)
     → Paired (IsPacketAt w.disks.net.packets) indexes files
-    → RunsAt (λ command. command ≡ Toss indexes) file (Tosses noting limits device file files) (Tosses noting limits device file files base) old new base i w
+    → RunsAt (IsToss indexes) file (Tosses noting limits device file files) (Tosses noting limits device file files base) old new base i w

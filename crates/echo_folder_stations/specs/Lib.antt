@@ -1,2 +1,3 @@
 pub mod OnStores
 pub mod EachCommand
+pub mod Scans

@@ -11,12 +11,12 @@ use Rattle.echo_changing.specs.TossedPacket.{TossRun}
 use Rattle.echo_stations.specs.Commands.{itself}
 
 module _ {R : Type 0} (device : R → Device) where
-  opened : (file : Coming) (reader : R) → Opens (λ r. (device r).contents) file (Ok reader) → Opens (λ (d : Device). d.contents) file (Ok (device reader))
+  pub opened : (file : Coming) (reader : R) → Opens (λ r. (device r).contents) file (Ok reader) → Opens (λ (d : Device). d.contents) file (Ok (device reader))
   opened (Holds bytes) reader h = h
   opened (Fails why) reader h = h
   opened Unknown reader h = tt
 
-  unopened : (file : Coming) (fault : Fault) → Opens (λ (r : R). (device r).contents) file (Err fault) → Opens (λ (d : Device). d.contents) file (Err fault)
+  pub unopened : (file : Coming) (fault : Fault) → Opens (λ (r : R). (device r).contents) file (Err fault) → Opens (λ (d : Device). d.contents) file (Err fault)
   unopened (Holds bytes) fault h = h
   unopened (Fails why) fault h = h
   unopened Unknown fault h = tt

@@ -17,6 +17,7 @@ use Rattle.echo_stations.proofs.BaseFiles.{given-once}
 pub record Left (IsSo : Result Files Fault → Type 0) (done : Done) : Type 0 where
   pub files : Files
   pub so : IsSo (Ok files)
+  pub is : done ≡ done_of (Ok files)
   pub are : done.files ≡ files
 
 -- where a base is left the command answered files
@@ -24,8 +25,16 @@ pub left : (IsSo : Result Files Fault → Type 0) (done : Done) (base : List ℕ
 left IsSo done base leaves there = by leaves.answer leaves.so leaves.is
   where
     by : (r : Result Files Fault) → IsSo r → done ≡ done_of r → Left IsSo done
-    by (Ok files) so e = record { files = files; so = so; are = ap (λ (d : Done). d.files) e }
+    by (Ok files) so e = record { files = files; so = so; is = e; are = ap (λ (d : Done). d.files) e }
     by (Err fault) so e = absurd (none_some (sym (ap (λ (d : Done). d.files.base) e) ∙ there))
+
+-- and where it met no fault
+pub faultless : (IsSo : Result Files Fault → Type 0) (done : Done) → Leaves IsSo done → done.fault ≡ None → Left IsSo done
+faultless IsSo done leaves none = by leaves.answer leaves.so leaves.is
+  where
+    by : (r : Result Files Fault) → IsSo r → done ≡ done_of r → Left IsSo done
+    by (Ok files) so e = record { files = files; so = so; is = e; are = ap (λ (d : Done). d.files) e }
+    by (Err fault) so e = absurd (none_some (sym none ∙ ap (λ (d : Done). d.fault) e))
 
 -- the call went on, so the system that it was given is that of the station's files
 pub called-on : (station : Station) (s : System) (call : Call station) (system : SystemState) → HasFiles station s → call.handed.stopped ≡ None

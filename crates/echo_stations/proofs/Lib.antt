@@ -15,3 +15,4 @@ pub mod Unpurged
 pub mod Sound
 pub mod Headline
 pub mod AnyReader
+pub mod WithoutNotes

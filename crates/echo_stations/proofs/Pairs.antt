@@ -66,6 +66,9 @@ change-found i x y [] h = absurd (none_some h)
 change-found zero x y (z ∷ xs) h = refl
 change-found (suc i) x y (z ∷ xs) h = change-found i x y xs h
 
+pub changed-there : {X : Type 0} (i : ℕ) (f : X → X) (x : X) (xs : List X) → nth i xs ≡ Some x → nth i (change i f xs) ≡ Some (f x)
+changed-there i f x xs h = ap (λ (ys : List _). nth i ys) (change-here i f x xs h) ∙ change-found i x (f x) xs h
+
 -- a change of one item keeps what is the same of its old and its new value
 pub change-map : {X Y : Type 0} (g : X → Y) (i : ℕ) (x y : X) (xs : List X) → nth i xs ≡ Some x → g y ≡ g x → map g (change i (λ _. y) xs) ≡ map g xs
 change-map g i x y [] h e = refl

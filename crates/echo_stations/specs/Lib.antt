@@ -2,3 +2,4 @@ pub mod Nets
 pub mod Commands
 pub mod Agreement
 pub mod InOrder
+pub mod Kinds

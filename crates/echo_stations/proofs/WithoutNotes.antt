@@ -1,4 +1,4 @@
--- A toss from any readers, with notes or without, is one from what is known of them without notes.
+-- A toss from any readers, with notes or without, is one from what is known of them, without notes, whose lines are others.
 use Rattle.std.proofs.Common.{◌≡◌, ◌∙◌, inl, inr, refl, sym, ap, subst, Bool, true, false, ℕ, List, [], ◌∷◌, ◌++◌, Option, Some, None, Result, Ok, Err}
 use Rattle.echo_status.specs.Devices.{Device}
 use Rattle.echo_status.specs.declared.fault.Fault.{Fault}
@@ -6,11 +6,12 @@ use Rattle.echo_steps.specs.SystemState.{SystemState}
 use Rattle.echo_toss.specs.declared.fault.TossFault.{TossFault}
 use Rattle.echo_toss.specs.declared.tally.Tally.{Tally}
 use Rattle.echo_toss.specs.PacketSteps.{CountsToss, PacketStep}
-use Rattle.echo_changing.specs.Coming.{Coming, Fails, Holds, Opens, Unknown}
+use Rattle.echo_changing.specs.Coming.{Coming}
 use Rattle.echo_changing.specs.Lines.{tally_line}
 use Rattle.echo_changing.specs.Tossed.{TossesEach, TossesEachBy, TossesFile, TossesFileBy}
 use Rattle.echo_changing.specs.TossedPacket.{HasTossedPacket, ReportsPacket, TossRun, TossesPacket, TossesPacketBy}
 use Rattle.echo_stations.specs.Commands.{itself}
+use Rattle.echo_stations.proofs.AnyReader.{opened, unopened}
 
 -- two runs at one system, which take as much of packets
 pub record SameBut (a b : TossRun) : Type 0 where
@@ -57,35 +58,25 @@ module _ (old other : TossRun) (same : SameBut other old) where
   packet true reader left stopped new (inr p) = packet-with reader left stopped new p.noted p.answer p.same p.step p.device p.line
 
 module _ {R : Type 0} (device : R → Device) where
-  opened : (file : Coming) (reader : R) → Opens (λ r. (device r).contents) file (Ok reader) → Opens (λ (d : Device). d.contents) file (Ok (device reader))
-  opened (Holds bytes) reader h = h
-  opened (Fails why) reader h = h
-  opened Unknown reader h = tt
-
-  unopened : (file : Coming) (fault : Fault) → Opens (λ (r : R). (device r).contents) file (Err fault) → Opens (λ (d : Device). d.contents) file (Err fault)
-  unopened (Holds bytes) fault h = h
-  unopened (Fails why) fault h = h
-  unopened Unknown fault h = tt
-
   file-known : (noting : Bool) (file : Coming) (old other : TossRun) (stopped : Option Fault) (new : TossRun) → SameBut other old
       → TossesFileBy (TossesPacketBy noting) device file old stopped new → Follows (TossesFile itself file other stopped) new
   file-known noting file old other stopped new same (inl h) =
       let (run, tosses, is) = packet old other same noting (device h.reader) (device h.left) stopped new h.packet in
-      (run, inl (record { reader = device h.reader; left = device h.left; opened = opened file h.reader h.opened; packet = tosses }), is)
+      (run, inl (record { reader = device h.reader; left = device h.left; opened = opened device file h.reader h.opened; packet = tosses }), is)
   file-known noting file old other stopped new same (inr h) = (
     other,
-    inr (record { fault = h.fault; is = h.is; cannot = unopened file h.fault h.cannot; same = refl }),
+    inr (record { fault = h.fault; is = h.is; cannot = unopened device file h.fault h.cannot; same = refl }),
     record { limits = same.limits ∙ ap (λ (r : TossRun). r.limits) (sym h.same); system = same.system ∙ ap (λ (r : TossRun). r.system) (sym h.same) },
   )
 
-  pub each-known : (noting : Bool) (files : List Coming) (old other : TossRun) (stopped : Option Fault) (left : List Coming) (new : TossRun) → SameBut other old
+  pub without-notes : (noting : Bool) (files : List Coming) (old other : TossRun) (stopped : Option Fault) (left : List Coming) (new : TossRun) → SameBut other old
       → TossesEachBy (TossesPacketBy noting) device files old stopped left new → Follows (TossesEach itself files other stopped left) new
-  each-known noting [] old other stopped left new same (is, none, unchanged) =
+  without-notes noting [] old other stopped left new same (is, none, unchanged) =
       (other, (is, none, refl), record { limits = same.limits ∙ ap (λ (r : TossRun). r.limits) (sym unchanged); system = same.system ∙ ap (λ (r : TossRun). r.system) (sym unchanged) })
-  each-known noting (file ∷ files) old other stopped left new same (inl (run, first, more)) =
+  without-notes noting (file ∷ files) old other stopped left new same (inl (run, first, more)) =
       let (one, tossed, is) = file-known noting file old other None run same first in
-      let (last, rest, so) = each-known noting files run one stopped left new is more in
+      let (last, rest, so) = without-notes noting files run one stopped left new is more in
       (last, inl (one, tossed, rest), so)
-  each-known noting (file ∷ files) old other stopped left new same (inr (fault, is, left_is, first)) =
+  without-notes noting (file ∷ files) old other stopped left new same (inr (fault, is, left_is, first)) =
       let (one, tossed, so) = file-known noting file old other stopped new same first in
       (one, inr (fault, is, left_is, tossed), so)
