@@ -22,7 +22,7 @@ use Rattle.echo_changing.specs.TossedPacket.{TossRun}
 use Rattle.echo_stations.specs.Commands.{Command, CommandEvent, Post, Posts, Purge, Purges, Scan, Scans, Toss, Tosses}
 use Rattle.echo_stations.specs.Nets.{with_left}
 use Rattle.echo_crashes.specs.Disks.{Disks}
-use Rattle.echo_crashes.specs.Folders.{CanBeSaved, Folders, HappensInFiles, LeadsInFolder, MayHappenIn, MovesInFolder, PostsInFolder, PurgesInFolder, ScansFarInFolder, TossesInFolder, file_of, on_disks, system_in}
+use Rattle.echo_crashes.specs.Folders.{Folders, HappensInFiles, LeadsInFolder, MayHappenIn, MovesInFolder, PostsInFolder, PurgesInFolder, ScansFarInFolder, TossesInFolder, file_of, on_disks, system_in}
 use Rattle.echo_crashes.specs.Stopping.{EndsSome, LeadsFar, MayHappen, Moves, ScansFar, Writes}
 use Rattle.echo_crashes.proofs.Elsewhere.{elsewhere, some-stations, written-stations}
 use Rattle.echo_crashes.proofs.InFolders.{Stand, call, given, quiet, says, stands}

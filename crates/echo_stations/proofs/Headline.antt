@@ -1,5 +1,5 @@
 -- Where an area was checked, the files of a net are in order.
-use Rattle.std.proofs.Common.{◌≡◌, refl, sym, subst, ap, ◌∙◌, ℕ, ◌≤◌, List, [], ◌∷◌, ◌++◌, length, Option, Some, Result, Ok, Err}
+use Rattle.std.proofs.Common.{◌≡◌, refl, sym, subst, ap, ◌∙◌, ℕ, ◌≤◌, List, [], ◌∷◌, ◌++◌, length, Option, Some, Ok}
 use Rattle.std.specs.Prelude.{IsTrue}
 use Rattle.std.proofs.lemmas.List.{append-nil}
 use Rattle.echo_status.specs.Devices.{Output}
@@ -15,7 +15,6 @@ use Rattle.echo_run.specs.Tidy.{Tidy}
 use Rattle.echo_run.proofs.Histories.{among-nth}
 use Rattle.echo_run.proofs.Lists.{nth-among}
 use Rattle.echo_status.specs.declared.fault.Fault.{Fault}
-use Rattle.echo_status.specs.declared.status.Status.{Status}
 use Rattle.echo_status.specs.declared.status.Status.TheVariants.{Good}
 use Rattle.echo_checking.specs.Checking.{CheckAnswers, RunsAreOrderly}
 use Rattle.echo_status.specs.Inputs.{AreLinkFiles}

@@ -1,5 +1,5 @@
 -- A toss from any readers, with notes or without, is one from what is known of them, without notes, whose lines are others.
-use Rattle.std.proofs.Common.{◌≡◌, ◌∙◌, inl, inr, refl, sym, ap, subst, Bool, true, false, ℕ, List, [], ◌∷◌, ◌++◌, Option, Some, None, Result, Ok, Err}
+use Rattle.std.proofs.Common.{◌≡◌, ◌∙◌, inl, inr, refl, sym, ap, subst, Bool, true, false, ℕ, List, [], ◌∷◌, ◌++◌, Option, None, Result, Ok, Err}
 use Rattle.echo_status.specs.Devices.{Device}
 use Rattle.echo_status.specs.declared.fault.Fault.{Fault}
 use Rattle.echo_steps.specs.SystemState.{SystemState}
@@ -9,7 +9,7 @@ use Rattle.echo_toss.specs.PacketSteps.{CountsToss, PacketStep}
 use Rattle.echo_changing.specs.Coming.{Coming}
 use Rattle.echo_changing.specs.Lines.{tally_line}
 use Rattle.echo_changing.specs.Tossed.{TossesEach, TossesEachBy, TossesFile, TossesFileBy}
-use Rattle.echo_changing.specs.TossedPacket.{HasTossedPacket, ReportsPacket, TossRun, TossesPacket, TossesPacketBy}
+use Rattle.echo_changing.specs.TossedPacket.{ReportsPacket, TossRun, TossesPacket, TossesPacketBy}
 use Rattle.echo_stations.specs.Commands.{itself}
 use Rattle.echo_stations.proofs.AnyReader.{opened, unopened}
 
