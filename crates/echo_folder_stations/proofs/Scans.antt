@@ -43,7 +43,7 @@ Scans base next = next ≡ all_scanned base
 module _ (stamp : Stamp) (file : LinkFile) (base : Base) (packets : List PacketFile) (i : ℕ) (w : Folders) (n : ℕ) (ended : Disks) (old : StoreState) (at : IsFolderOf file base i w old)
     (saved : CanBeSaved (all_scanned base)) (bytes : AllByRecursion (λ (packet : PacketFile). AreBytes packet.bytes) packets) (ends : EndsSome n i w.disks ended) (none : HasNoneBeside i ended.beside) where
   abbrev after : Folders
-  after = with_waiting i base packets (on_disks w ended)
+  after = with_waiting i base packets w ended
 
   at-end : IsFolderOf file base i (on_disks w ended) old
   at-end = ended-too file base i w n ended old at ends
@@ -83,8 +83,9 @@ scans-as-may old made new stamp file base packets out out_now i w n ended at sav
           let makes = makes_then Scans old made new scan.commits scan.goes_on (λ went b h. (all_scanned b, refl, scan.moved went b h)) may in
           weaker_run old.disk new.disk (StandsForMade old (Scans base) base) (StandsForScan old base) (makes.any_moment honest base base at.committed at.keeps)
           (stands-so stamp file base packets i w n ended old at saved bytes ends none);
-      done = λ honest done.
+      done = λ honest done m d some.
           let kept = scan.moved (may.beside.honest honest) base at.keeps in
-          folder-after file base i (on_disks w ended) old (ended-too file base i w n ended old at ends) (all_scanned base) here.disks refl new
-          (done.keeps honest (all_scanned base) kept) (done.committed honest (all_scanned base) kept);
+          let committed = folder-after file base i (on_disks w ended) old (ended-too file base i w n ended old at ends) (all_scanned base) here.disks refl new
+          (done.keeps honest (all_scanned base) kept) (done.committed honest (all_scanned base) kept) in
+          ended-too file (all_scanned base) i here m d new committed some;
     }

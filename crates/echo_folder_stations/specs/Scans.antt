@@ -28,12 +28,12 @@ pub record HasScanned (stamp : Stamp) (file : LinkFile) (packets : List PacketFi
   pub goes_on : GoesOn old made
   pub commits : CommitsNothing old made
 
--- the folder of the station has its cursor at the end, and these packets stand beside their names
-abbrev pub with_waiting : ℕ → Base → List PacketFile → Folders → Folders
-with_waiting i base packets w = record {
+-- the folder of the station has its cursor at the end, and to what stood on the disks these packets came, beside their names
+abbrev pub with_waiting : ℕ → Base → List PacketFile → Folders → Disks → Folders
+with_waiting i base packets w ended = record {
   disks = record {
-    net = with_left w.disks.net i [] (file_of (all_scanned base));
-    beside = w.disks.beside ++ map (beside_of i base.cursor) packets;
+    net = with_left ended.net i [] (file_of (all_scanned base));
+    beside = ended.beside ++ map (beside_of i base.cursor) packets;
   };
   folders = change i (λ _. Some (all_scanned base)) w.folders;
 }
@@ -49,14 +49,15 @@ pub record ScansAs (stamp : Stamp) (file : LinkFile) (base : Base) (packets : Li
   pub first : Honestly made.disk (LeavesOnly old.disk made.disk (old.stands base))
   pub writes : (written : Disks) → Writes i ended written → LeadsInFolder (Scan stamp) w i (on_disks w written)
   -- once it is, the packets waiting beside their names, that is the scan, which came so far
-  pub waits : Honestly made.disk (LeadsInFolder (Scan stamp) w i (with_waiting i base packets (on_disks w ended)))
+  pub waits : Honestly made.disk (LeadsInFolder (Scan stamp) w i (with_waiting i base packets w ended))
   -- as some of them get their names, or all, it is the scan still
-  pub names : Honestly made.disk ((m : ℕ) (named : Disks) → EndsSome m i (with_waiting i base packets (on_disks w ended)).disks named
-      → LeadsInFolder (Scan stamp) w i (on_disks (with_waiting i base packets (on_disks w ended)) named))
+  pub names : Honestly made.disk ((m : ℕ) (named : Disks) → EndsSome m i (with_waiting i base packets w ended).disks named
+      → LeadsInFolder (Scan stamp) w i (on_disks (with_waiting i base packets w ended) named))
   -- a crash at any moment leaves what the folder held, or what it holds then
   pub crash : Honestly new.disk (LeavesOnly old.disk new.disk (StandsForScan old base))
-  -- what is committed is that
-  pub done : Honestly new.disk (Commits made new → IsFolderOf file (all_scanned base) i (with_waiting i base packets (on_disks w ended)) new)
+  -- what is committed is that, and so the next command finds it, whichever of the packets have their names
+  pub done : Honestly new.disk (Commits made new → (m : ℕ) (named : Disks) → EndsSome m i (with_waiting i base packets w ended).disks named
+      → IsFolderOf file (all_scanned base) i (on_disks (with_waiting i base packets w ended) named) new)
 
 -- a scan of this folder, whose packets were made and which may then be committed; what stopped scans left is brought to its end before
 abbrev pub ScansAsMay : StoreState → StoreState → StoreState → Type 0
