@@ -6,7 +6,7 @@ ghost use Rattle.echo_folder.specs.Names.{AreNames, folder_of};
 ghost use Rattle.echo_folder.specs.Log.{body_of, FitsRecord};
 ghost use Rattle.echo_folder.specs.Standing.{base_at};
 ghost use Rattle.echo_folder.specs.AtRest.{IsAtRest, IsStaged};
-ghost use Rattle.echo_folder.specs.Moments.{IsBeforeOrAfter, KeepsOutside};
+ghost use Rattle.echo_folder.specs.Moments.{IsBeforeOrAfter, KeepsOutside, LeavesOutside};
 
 use crate::log::{End, Told};
 use crate::names::Names;
@@ -43,6 +43,7 @@ pub fn commit<D: Disk>(disk: &mut D, names: &Names, end: End, told: Told) -> Res
     ensures any_moment { Honestly (D.state disk.new) (LeavesOnly (D.state disk.old) (D.state disk.new)
         (IsBeforeOrAfter (folder_of names.now) (D.state disk.old) (base_at (D.state disk.old) (folder_of names.now) end.told) (base_at (D.state disk.old) (folder_of names.now) told))) }
     ensures outside { KeepsOutside (folder_of names.now) (D.state disk.old) (D.state disk.new) }
+    ensures leaves { LeavesOutside (folder_of names.now) (D.state disk.old) (D.state disk.new) }
     ensures cause { HasCause (D.failures disk.old) (D.failures disk.new) result }
 {
     disk.sync(&names.messages)?;

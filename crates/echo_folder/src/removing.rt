@@ -5,7 +5,7 @@ ghost use Rattle.echo_disk.specs.Runs.{LeavesOnly, HasCause};
 ghost use Rattle.echo_folder.specs.Names.{AreNames, IsBeside, folder_of, keys_of, messages_of};
 ghost use Rattle.echo_folder.specs.Standing.{base_at};
 ghost use Rattle.echo_folder.specs.AtRest.{IsAtRest};
-ghost use Rattle.echo_folder.specs.Moments.{StandsAlone, KeepsOutside};
+ghost use Rattle.echo_folder.specs.Moments.{StandsAlone, KeepsOutside, LeavesOutside};
 
 use crate::log::End;
 use crate::names::Names;
@@ -26,6 +26,7 @@ pub(crate) fn remove_one<D: Disk>(
     ensures any_moment { Honestly (D.state disk.new) (LeavesOnly (D.state disk.old) (D.state disk.new)
         (StandsAlone folder.now (D.state disk.old) (base_at (D.state disk.old) folder.now end.told))) }
     ensures outside { KeepsOutside folder.now (D.state disk.old) (D.state disk.new) }
+    ensures leaves { LeavesOutside folder.now (D.state disk.old) (D.state disk.new) }
     ensures cause { HasCause (D.failures disk.old) (D.failures disk.new) result }
 {
     if !disk.exists(file)? {
@@ -53,6 +54,7 @@ pub fn remove_files<D: Disk>(
     ensures any_moment { Honestly (D.state disk.new) (LeavesOnly (D.state disk.old) (D.state disk.new)
         (StandsAlone (folder_of names.now) (D.state disk.old) (base_at (D.state disk.old) (folder_of names.now) end.told))) }
     ensures outside { KeepsOutside (folder_of names.now) (D.state disk.old) (D.state disk.new) }
+    ensures leaves { LeavesOutside (folder_of names.now) (D.state disk.old) (D.state disk.new) }
     ensures cause { HasCause (D.failures disk.old) (D.failures disk.new) result }
 {
     remove_one(disk, &names.folder, &names.messages, end)?;

@@ -7,7 +7,7 @@ ghost use Rattle.echo_disk.specs.Steps.{SameBeside};
 ghost use Rattle.echo_folder.specs.Names.{AreNames, folder_of, keys_of, messages_of};
 ghost use Rattle.echo_folder.specs.Standing.{base_at, and_messages, and_keys};
 ghost use Rattle.echo_folder.specs.AtRest.{IsAtRest, IsStaged};
-ghost use Rattle.echo_folder.specs.Moments.{StandsAlone, KeepsOutside};
+ghost use Rattle.echo_folder.specs.Moments.{StandsAlone, KeepsOutside, LeavesOutside};
 
 use crate::log::{End, Mark, Told};
 use crate::names::Names;
@@ -48,6 +48,7 @@ pub fn stage_messages<D: Disk>(
     ensures any_moment { Honestly (D.state disk.new) (LeavesOnly (D.state disk.old) (D.state disk.new)
         (StandsAlone (folder_of names.now) (D.state disk.old) (base_at (D.state disk.old) (folder_of names.now) end.told))) }
     ensures outside { KeepsOutside (folder_of names.now) (D.state disk.old) (D.state disk.new) }
+    ensures leaves { LeavesOutside (folder_of names.now) (D.state disk.old) (D.state disk.new) }
     ensures cause { HasCause (D.failures disk.old) (D.failures disk.new) result }
 {
     disk.write_at(&names.messages, told.messages, bytes)?;
@@ -78,6 +79,7 @@ pub fn stage_keys<D: Disk>(
     ensures any_moment { Honestly (D.state disk.new) (LeavesOnly (D.state disk.old) (D.state disk.new)
         (StandsAlone (folder_of names.now) (D.state disk.old) (base_at (D.state disk.old) (folder_of names.now) end.told))) }
     ensures outside { KeepsOutside (folder_of names.now) (D.state disk.old) (D.state disk.new) }
+    ensures leaves { LeavesOutside (folder_of names.now) (D.state disk.old) (D.state disk.new) }
     ensures cause { HasCause (D.failures disk.old) (D.failures disk.new) result }
 {
     disk.write_at(&names.keys, told.keys, bytes)?;

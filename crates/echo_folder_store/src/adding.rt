@@ -3,7 +3,7 @@ ghost use Rattle.std.specs.Prelude.{◌≡◌, ◌≢◌, ◌<◌, ◌+◌, ◌^
 ghost use Rattle.echo_disk.specs.Disk.{Honestly};
 ghost use Rattle.echo_disk.specs.Runs.{HasCause, LeavesOnly};
 ghost use Rattle.echo_folder.specs.AtRest.{IsAtRest, IsStaged};
-ghost use Rattle.echo_folder.specs.Moments.{IsBeforeOrAfter, KeepsOutside, StandsAlone};
+ghost use Rattle.echo_folder.specs.Moments.{IsBeforeOrAfter, KeepsOutside, LeavesOutside, StandsAlone};
 ghost use Rattle.echo_folder.specs.Names.{AreNames, folder_of};
 ghost use Rattle.echo_folder.specs.Standing.{and_keys, and_messages, base_at};
 ghost use Rattle.echo_folder_store.specs.Added.{OneMoreWaits, SameBesideBoth, with_stored};
@@ -47,6 +47,7 @@ fn stage_both<D: Disk>(
     ensures any_moment { Honestly (D.state disk.new) (LeavesOnly (D.state disk.old) (D.state disk.new)
         (StandsAlone (folder_of names.now) (D.state disk.old) (base_at (D.state disk.old) (folder_of names.now) end.told))) }
     ensures outside { KeepsOutside (folder_of names.now) (D.state disk.old) (D.state disk.new) }
+    ensures leaves { LeavesOutside (folder_of names.now) (D.state disk.old) (D.state disk.new) }
     ensures cause { HasCause (D.failures disk.old) (D.failures disk.new) result }
 {
     let more = stage_messages(disk, names, end, told, bytes)?;
@@ -101,6 +102,7 @@ impl Folder {
         ensures any_moment { Honestly (D.state disk.new) (LeavesOnly (D.state disk.old) (D.state disk.new)
             (StandsAlone (path_of self.old) (D.state disk.old) (committed_by (D.state disk.old) self.old))) }
         ensures outside { KeepsOutside (path_of self.old) (D.state disk.old) (D.state disk.new) }
+        ensures leaves { LeavesOutside (path_of self.old) (D.state disk.old) (D.state disk.new) }
         ensures whole { IsErrOf result StoreError.Damaged → ⊥ }
         ensures cause { HasReadCause (D.failures disk.old) (D.failures disk.new) result }
     {
@@ -178,6 +180,7 @@ impl Folder {
         ensures any_moment { Honestly (D.state disk.new) (LeavesOnly (D.state disk.old) (D.state disk.new)
             (IsBeforeOrAfter (path_of self.old) (D.state disk.old) (committed_by (D.state disk.old) self.old) (held_by (D.state disk.old) self.old))) }
         ensures outside { KeepsOutside (path_of self.old) (D.state disk.old) (D.state disk.new) }
+        ensures leaves { LeavesOutside (path_of self.old) (D.state disk.old) (D.state disk.new) }
         ensures whole { IsErrOf result StoreError.Damaged → ⊥ }
         ensures cause { HasReadCause (D.failures disk.old) (D.failures disk.new) result }
     {
@@ -207,6 +210,7 @@ impl Folder {
         ensures any_moment { Honestly (D.state disk.new) (LeavesOnly (D.state disk.old) (D.state disk.new)
             (IsBeforeOrAfter (path_of self.old) (D.state disk.old) (committed_by (D.state disk.old) self.old) (held_by (D.state disk.old) self.old))) }
         ensures outside { KeepsOutside (path_of self.old) (D.state disk.old) (D.state disk.new) }
+        ensures leaves { LeavesOutside (path_of self.old) (D.state disk.old) (D.state disk.new) }
         ensures whole { IsErrOf result StoreError.Damaged → ⊥ }
         ensures cause { HasReadCause (D.failures disk.old) (D.failures disk.new) result }
     {
@@ -223,6 +227,7 @@ impl Folder {
         ensures any_moment { Honestly (D.state disk.new) (LeavesOnly (D.state disk.old) (D.state disk.new)
             (StandsAlone (path_of self.now) (D.state disk.old) (committed_by (D.state disk.old) self.now))) }
         ensures outside { KeepsOutside (path_of self.now) (D.state disk.old) (D.state disk.new) }
+        ensures leaves { LeavesOutside (path_of self.now) (D.state disk.old) (D.state disk.new) }
         ensures whole { IsErrOf result StoreError.Damaged → ⊥ }
         ensures cause { HasReadCause (D.failures disk.old) (D.failures disk.new) result }
     {
@@ -258,6 +263,7 @@ impl Folder {
         ensures any_moment { Honestly (D.state disk.new) (LeavesOnly (D.state disk.old) (D.state disk.new)
             (IsBeforeOrAfter (path_of self.old) (D.state disk.old) (committed_by (D.state disk.old) self.old) (held_by (D.state disk.old) self.old))) }
         ensures outside { KeepsOutside (path_of self.old) (D.state disk.old) (D.state disk.new) }
+        ensures leaves { LeavesOutside (path_of self.old) (D.state disk.old) (D.state disk.new) }
         ensures whole { IsErrOf result StoreError.Damaged → ⊥ }
         ensures cause { HasReadCause (D.failures disk.old) (D.failures disk.new) result }
     {

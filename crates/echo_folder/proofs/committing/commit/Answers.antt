@@ -1,11 +1,12 @@
-use Rattle.std.proofs.Common.{List, ℕ, ◌≡◌, ◌+◌, ◌∷◌, [], ◌++◌, length, ◌∙◌, subst, refl}
-use Rattle.echo_disk.specs.Disk.{bytes_in}
+use Rattle.std.proofs.Common.{List, ℕ, ◌≡◌, ◌+◌, ◌∷◌, [], ◌++◌, length, ◌∙◌, subst, sym, refl}
+use Rattle.echo_disk.specs.Disk.{IsIn, bytes_in}
 use Rattle.echo_disk.specs.Steps.{IsWrittenAt, TornWrite, ChangesFile}
 use Rattle.echo_disk.specs.Runs.{OneStepOn, LeavesOnly}
 use Rattle.echo_disk.specs.Synced.{IsOnDisk, KeepsOthers}
 use Rattle.echo_folder.specs.Names.{folder_of, log_of}
 use Rattle.echo_folder.specs.Log.{body_of}
 use Rattle.echo_folder.proofs.Gates.{told_by-body_of, Ready, ready, run_record, done_record, run_gate, done_gate, same_gate, outside_kept, outside_quiet, outside_twice}
+use Rattle.echo_folder.proofs.LeftOutside.{left_changed, left_quiet, left_twice}
 use Rattle.echo_folder.proofs.Paths.{log_in}
 use Rattle.echo_folder.proofs.committing.commit.Goals as goal
 
@@ -188,3 +189,74 @@ returns-clause-outside g c =
     let quiet = outside_twice path d0 d1 d2 (outside_quiet path d0 d1 c.sync.ensures.quiet) (outside_quiet path d1 d2 c.sync-2.ensures.quiet) in
     let record_out = outside_twice path d0 d2 d3 quiet (outside_kept path (log_of path) d2 d3 (log_in path) kept_1) in
     outside_twice path d0 d3 d4 record_out (outside_kept path (log_of path) d3 d4 (log_in path) kept_2)
+
+pub returns-in_err-sync-clause-leaves : goal.returns-in_err-sync-clause-leaves
+returns-in_err-sync-clause-leaves g c =
+    let path = folder_of c.args.names.now in
+    let d0 = g.D.Disk.state c.args.disk.now in
+    let d1 = g.D.Disk.state c.sync.new.self in
+    let left_1 = left_quiet path d0 d1 c.sync.ensures.quiet in
+    left_1
+
+pub returns-in_err-sync-2-clause-leaves : goal.returns-in_err-sync-2-clause-leaves
+returns-in_err-sync-2-clause-leaves g c =
+    let path = folder_of c.args.names.now in
+    let d0 = g.D.Disk.state c.args.disk.now in
+    let d1 = g.D.Disk.state c.sync.new.self in
+    let left_1 = left_quiet path d0 d1 c.sync.ensures.quiet in
+    let d2 = g.D.Disk.state c.sync-2.new.self in
+    let left_2 = left_twice path d0 d1 d2 (λ m out. c.sync.ensures.quiet.named m (λ h. h)) left_1 (left_quiet path d1 d2 c.sync-2.ensures.quiet) in
+    left_2
+
+pub returns-in_err-write_synced-clause-leaves : goal.returns-in_err-write_synced-clause-leaves
+returns-in_err-write_synced-clause-leaves g c =
+    let path = folder_of c.args.names.now in
+    let d0 = g.D.Disk.state c.args.disk.now in
+    let d1 = g.D.Disk.state c.sync.new.self in
+    let left_1 = left_quiet path d0 d1 c.sync.ensures.quiet in
+    let d2 = g.D.Disk.state c.sync-2.new.self in
+    let left_2 = left_twice path d0 d1 d2 (λ m out. c.sync.ensures.quiet.named m (λ h. h)) left_1 (left_quiet path d1 d2 c.sync-2.ensures.quiet) in
+    let d3 = g.D.Disk.state c.write_synced.new.disk in
+    let log_1 : c.deref-3.result.now ≡ log_of path = c.deref-3.ensures.value ∙ c.requires.names.log in
+    let inside_1 = subst (λ (l : List ℕ). IsIn path l) (sym log_1) (log_in path) in
+    let record_left = left_changed path c.deref-3.result.now d2 d3 (TornWrite (c.args.end.gate + 1) (length c.record_of.result)) inside_1 c.write_synced.ensures.any_moment in
+    let left_3 = left_twice path d0 d2 d3 (λ m out is. c.sync-2.ensures.quiet.named m (λ h. h) (c.sync.ensures.quiet.named m (λ h. h) is)) left_2 record_left in
+    left_3
+
+pub returns-in_err-write_synced-2-clause-leaves : goal.returns-in_err-write_synced-2-clause-leaves
+returns-in_err-write_synced-2-clause-leaves g c =
+    let path = folder_of c.args.names.now in
+    let d0 = g.D.Disk.state c.args.disk.now in
+    let d1 = g.D.Disk.state c.sync.new.self in
+    let left_1 = left_quiet path d0 d1 c.sync.ensures.quiet in
+    let d2 = g.D.Disk.state c.sync-2.new.self in
+    let left_2 = left_twice path d0 d1 d2 (λ m out. c.sync.ensures.quiet.named m (λ h. h)) left_1 (left_quiet path d1 d2 c.sync-2.ensures.quiet) in
+    let d3 = g.D.Disk.state c.write_synced.new.disk in
+    let log_1 : c.deref-3.result.now ≡ log_of path = c.deref-3.ensures.value ∙ c.requires.names.log in
+    let inside_1 = subst (λ (l : List ℕ). IsIn path l) (sym log_1) (log_in path) in
+    let record_left = left_changed path c.deref-3.result.now d2 d3 (TornWrite (c.args.end.gate + 1) (length c.record_of.result)) inside_1 c.write_synced.ensures.any_moment in
+    let left_3 = left_twice path d0 d2 d3 (λ m out is. c.sync-2.ensures.quiet.named m (λ h. h) (c.sync.ensures.quiet.named m (λ h. h) is)) left_2 record_left in
+    let d4 = g.D.Disk.state c.write_synced-2.new.disk in
+    let log_2 : c.deref-4.result.now ≡ log_of path = c.deref-4.ensures.value ∙ c.requires.names.log in
+    let inside_2 = subst (λ (l : List ℕ). IsIn path l) (sym log_2) (log_in path) in
+    let gate_left = left_changed path c.deref-4.result.now d3 d4 (TornWrite c.args.end.gate 1) inside_2 c.write_synced-2.ensures.any_moment in
+    left_twice path d0 d3 d4 (λ m out is. c.write_synced.ensures.others.named m (c.sync-2.ensures.quiet.named m (λ h. h) (c.sync.ensures.quiet.named m (λ h. h) is))) left_3 gate_left
+
+pub returns-clause-leaves : goal.returns-clause-leaves
+returns-clause-leaves g c =
+    let path = folder_of c.args.names.now in
+    let d0 = g.D.Disk.state c.args.disk.now in
+    let d1 = g.D.Disk.state c.sync.new.self in
+    let left_1 = left_quiet path d0 d1 c.sync.ensures.quiet in
+    let d2 = g.D.Disk.state c.sync-2.new.self in
+    let left_2 = left_twice path d0 d1 d2 (λ m out. c.sync.ensures.quiet.named m (λ h. h)) left_1 (left_quiet path d1 d2 c.sync-2.ensures.quiet) in
+    let d3 = g.D.Disk.state c.write_synced.new.disk in
+    let log_1 : c.deref-3.result.now ≡ log_of path = c.deref-3.ensures.value ∙ c.requires.names.log in
+    let inside_1 = subst (λ (l : List ℕ). IsIn path l) (sym log_1) (log_in path) in
+    let record_left = left_changed path c.deref-3.result.now d2 d3 (TornWrite (c.args.end.gate + 1) (length c.record_of.result)) inside_1 c.write_synced.ensures.any_moment in
+    let left_3 = left_twice path d0 d2 d3 (λ m out is. c.sync-2.ensures.quiet.named m (λ h. h) (c.sync.ensures.quiet.named m (λ h. h) is)) left_2 record_left in
+    let d4 = g.D.Disk.state c.write_synced-2.new.disk in
+    let log_2 : c.deref-4.result.now ≡ log_of path = c.deref-4.ensures.value ∙ c.requires.names.log in
+    let inside_2 = subst (λ (l : List ℕ). IsIn path l) (sym log_2) (log_in path) in
+    let gate_left = left_changed path c.deref-4.result.now d3 d4 (TornWrite c.args.end.gate 1) inside_2 c.write_synced-2.ensures.any_moment in
+    left_twice path d0 d3 d4 (λ m out is. c.write_synced.ensures.others.named m (c.sync-2.ensures.quiet.named m (λ h. h) (c.sync.ensures.quiet.named m (λ h. h) is))) left_3 gate_left

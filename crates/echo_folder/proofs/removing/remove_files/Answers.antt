@@ -3,11 +3,12 @@ use Rattle.std.proofs.lemmas.Result.{on_ok_weaker}
 use Rattle.echo_disk.specs.Runs.{LeavesOnly}
 use Rattle.echo_disk.proofs.Moments.{then_run}
 use Rattle.echo_folder.specs.AtRest.{IsAtRest}
-use Rattle.echo_folder.specs.Moments.{KeepsOutside, StandsAlone}
+use Rattle.echo_folder.specs.Moments.{KeepsOutside, LeavesOutside, StandsAlone}
 use Rattle.echo_folder.specs.Names.{IsBeside, folder_of, keys_of, messages_of}
 use Rattle.echo_folder.specs.Standing.{BaseBytes, base_at}
 use Rattle.echo_folder.proofs.Empty.{alone_since}
 use Rattle.echo_folder.proofs.Gates.{outside_twice}
+use Rattle.echo_folder.proofs.LeftOutside.{left_twice}
 use Rattle.echo_folder.proofs.Paths.{keys_beside, messages_beside, messages_not_keys}
 use Rattle.echo_folder.proofs.Removed.{base_beside}
 use Rattle.echo_folder.proofs.removing.remove_files.Goals as goal
@@ -176,3 +177,21 @@ returns-clause-outside g c =
     let out_1 = subst (λ (p : List ℕ). KeepsOutside p d0 d1) c.deref.ensures.value c.remove_one.ensures.outside in
     let out_2 = subst (λ (p : List ℕ). KeepsOutside p d1 d2) c.deref-3.ensures.value c.remove_one-2.ensures.outside in
     outside_twice path d0 d1 d2 out_1 out_2
+
+pub returns-in_err-remove_one-clause-leaves : goal.returns-in_err-remove_one-clause-leaves
+returns-in_err-remove_one-clause-leaves g c =
+    let path = folder_of c.args.names.now in
+    let d0 = g.D.Disk.state c.args.disk.now in
+    let d1 = g.D.Disk.state c.remove_one.new.disk in
+    subst (λ (p : List ℕ). LeavesOutside p d0 d1) c.deref.ensures.value c.remove_one.ensures.leaves
+
+pub returns-clause-leaves : goal.returns-clause-leaves
+returns-clause-leaves g c =
+    let path = folder_of c.args.names.now in
+    let d0 = g.D.Disk.state c.args.disk.now in
+    let d1 = g.D.Disk.state c.remove_one.new.disk in
+    let d2 = g.D.Disk.state c.remove_one-2.new.disk in
+    let left_1 = subst (λ (p : List ℕ). LeavesOutside p d0 d1) c.deref.ensures.value c.remove_one.ensures.leaves in
+    let left_2 = subst (λ (p : List ℕ). LeavesOutside p d1 d2) c.deref-3.ensures.value c.remove_one-2.ensures.leaves in
+    let out_1 = subst (λ (p : List ℕ). KeepsOutside p d0 d1) c.deref.ensures.value c.remove_one.ensures.outside in
+    left_twice path d0 d1 d2 out_1.named left_1 left_2

@@ -2,10 +2,12 @@ use Rattle.std.proofs.Common.{List, ℕ, ◌≡◌, ◌≢◌, None, Option, fal
 use Rattle.std.specs.Prelude.{IsSome}
 use Rattle.std.proofs.lemmas.Result.{on_ok_weaker}
 use Rattle.echo_disk.specs.Disk.{DiskState, IsIn}
+use Rattle.echo_disk.specs.Steps.{TornRemoval}
 use Rattle.echo_disk.proofs.Moments.{then_nothing}
 use Rattle.echo_folder.specs.Moments.{StandsAlone}
 use Rattle.echo_folder.specs.Opening.{KeepsButOne}
 use Rattle.echo_folder.specs.Standing.{base_at}
+use Rattle.echo_folder.proofs.LeftOutside.{left_call, left_quiet, left_twice}
 use Rattle.echo_folder.proofs.Removed.{but_one_quiet, but_one_twice, looked_run, not_there, outside_but_one, removed_run, rest_beside}
 use Rattle.echo_folder.proofs.removing.remove_one.Goals as goal
 
@@ -180,3 +182,47 @@ returns-clause-gone g c honest =
     let d3 = g.D.Disk.state c.sync_folder.new.self in
     let file = c.args.file.now in
     on_ok_weaker {P = (m : List ℕ) → IsIn c.args.folder.now m → d3.is_named m} c.sync_folder.result (λ named. c.sync_folder.ensures.quiet.seen file ∙ c.in_ok-remove.ensures.gone) c.sync_folder.ensures.durable
+
+pub returns-in_err-exists-clause-leaves : goal.returns-in_err-exists-clause-leaves
+returns-in_err-exists-clause-leaves g c =
+    let path = c.args.folder.now in
+    let file = c.args.file.now in
+    let d0 = g.D.Disk.state c.args.disk.now in
+    let d1 = g.D.Disk.state c.exists.new.self in
+    let left_1 = left_quiet path d0 d1 c.exists.ensures.quiet in
+    left_1
+
+pub returns-then-not-branch-clause-leaves : goal.returns-then-not-branch-clause-leaves
+returns-then-not-branch-clause-leaves g c =
+    let path = c.args.folder.now in
+    let file = c.args.file.now in
+    let d0 = g.D.Disk.state c.args.disk.now in
+    let d1 = g.D.Disk.state c.exists.new.self in
+    let left_1 = left_quiet path d0 d1 c.exists.ensures.quiet in
+    left_1
+
+pub returns-in_err-remove-clause-leaves : goal.returns-in_err-remove-clause-leaves
+returns-in_err-remove-clause-leaves g c =
+    let path = c.args.folder.now in
+    let file = c.args.file.now in
+    let d0 = g.D.Disk.state c.args.disk.now in
+    let d1 = g.D.Disk.state c.exists.new.self in
+    let left_1 = left_quiet path d0 d1 c.exists.ensures.quiet in
+    let d2 = g.D.Disk.state c.remove.new.self in
+    let removing = left_call path file d1 d2 TornRemoval c.requires.file.inside c.remove.ensures.time c.remove.ensures.crash in
+    let left_2 = left_twice path d0 d1 d2 (λ m out. c.exists.ensures.quiet.named m (λ h. h)) left_1 removing in
+    left_2
+
+pub returns-clause-leaves : goal.returns-clause-leaves
+returns-clause-leaves g c =
+    let path = c.args.folder.now in
+    let file = c.args.file.now in
+    let d0 = g.D.Disk.state c.args.disk.now in
+    let d1 = g.D.Disk.state c.exists.new.self in
+    let left_1 = left_quiet path d0 d1 c.exists.ensures.quiet in
+    let d2 = g.D.Disk.state c.remove.new.self in
+    let removing = left_call path file d1 d2 TornRemoval c.requires.file.inside c.remove.ensures.time c.remove.ensures.crash in
+    let left_2 = left_twice path d0 d1 d2 (λ m out. c.exists.ensures.quiet.named m (λ h. h)) left_1 removing in
+    let d3 = g.D.Disk.state c.sync_folder.new.self in
+    let other : (m : List ℕ) → (IsIn path m → ⊥) → m ≢ file = λ m out is. out (subst (λ (l : List ℕ). IsIn path l) (sym is) c.requires.file.inside) in
+    left_twice path d0 d2 d3 (λ m out is. c.remove.ensures.named m (other m out) (c.exists.ensures.quiet.named m (λ h. h) is)) left_2 (left_quiet path d2 d3 c.sync_folder.ensures.quiet)

@@ -1,12 +1,13 @@
-use Rattle.std.proofs.Common.{List, ℕ, ◌≡◌, length, ◌∙◌, subst}
+use Rattle.std.proofs.Common.{List, ℕ, ◌≡◌, length, ◌∙◌, subst, sym}
 use Rattle.std.specs.Prelude.{IsSome}
-use Rattle.echo_disk.specs.Disk.{bytes_in}
+use Rattle.echo_disk.specs.Disk.{IsIn, bytes_in}
 use Rattle.echo_disk.specs.Steps.{IsWrittenAt, TornWrite, ChangesFile}
 use Rattle.echo_disk.specs.Runs.{LeavesOneStepOn}
 use Rattle.echo_disk.specs.Synced.{KeepsOthers}
 use Rattle.echo_folder.specs.Names.{folder_of, keys_of}
 use Rattle.echo_folder.proofs.Paths.{keys_in}
 use Rattle.echo_folder.proofs.Gates.{outside_kept}
+use Rattle.echo_folder.proofs.LeftOutside.{left_call}
 use Rattle.echo_folder.proofs.Behind.{keys_run, keys_same, keys_added, keys_staged}
 use Rattle.echo_folder.proofs.staging.stage_keys.Goals as goal
 
@@ -148,3 +149,23 @@ returns-clause-beside g c =
     let path = folder_of c.args.names.now in
     let file : c.deref.result.now ≡ keys_of path c.args.told.number = c.deref.ensures.value ∙ c.requires.names.keys in
     λ m ne. c.write_at.ensures.beside m (λ is. ne (is ∙ file))
+
+pub returns-in_err-write_at-clause-leaves : goal.returns-in_err-write_at-clause-leaves
+returns-in_err-write_at-clause-leaves g c =
+    let path = folder_of c.args.names.now in
+    let told = c.args.told in
+    let d0 = g.D.Disk.state c.args.disk.now in
+    let d = g.D.Disk.state c.write_at.new.self in
+    let file : c.deref.result.now ≡ keys_of path told.number = c.deref.ensures.value ∙ c.requires.names.keys in
+    let inside = subst (λ (l : List ℕ). IsIn path l) (sym file) (keys_in path told.number) in
+    left_call path c.deref.result.now d0 d (TornWrite told.keys (length c.args.bytes.now)) inside c.write_at.ensures.time c.write_at.ensures.crash
+
+pub returns-clause-leaves : goal.returns-clause-leaves
+returns-clause-leaves g c =
+    let path = folder_of c.args.names.now in
+    let told = c.args.told in
+    let d0 = g.D.Disk.state c.args.disk.now in
+    let d = g.D.Disk.state c.write_at.new.self in
+    let file : c.deref.result.now ≡ keys_of path told.number = c.deref.ensures.value ∙ c.requires.names.keys in
+    let inside = subst (λ (l : List ℕ). IsIn path l) (sym file) (keys_in path told.number) in
+    left_call path c.deref.result.now d0 d (TornWrite told.keys (length c.args.bytes.now)) inside c.write_at.ensures.time c.write_at.ensures.crash

@@ -4,6 +4,7 @@ use Rattle.echo_folder.specs.Names.{AreNames, folder_of, keys_of}
 use Rattle.echo_folder.specs.Standing.{BaseBytes, and_keys, and_messages, base_at}
 use Rattle.echo_folder.specs.declared.log.Told.{Told}
 use Rattle.echo_folder.proofs.Gates.{outside_twice}
+use Rattle.echo_folder.proofs.LeftOutside.{left_twice}
 use Rattle.echo_folder_store.proofs.Staged.{both_runs}
 use Rattle.echo_folder_store.proofs.adding.stage_both.Goals as goal
 
@@ -70,3 +71,8 @@ pub returns-clause-beside : goal.returns-clause-beside
 returns-clause-beside g c = λ m messages keys.
     c.stage_keys.ensures.beside m (λ is. keys (is ∙ ap (λ (t : Told). keys_of (folder_of c.args.names.now) t.number) c.in_ok-more.ensures.told))
     ∙ c.stage_messages.ensures.beside m messages
+
+pub returns-clause-leaves : goal.returns-clause-leaves
+returns-clause-leaves g c =
+    left_twice (folder_of c.args.names.now) (g.D.Disk.state c.args.disk.now) (g.D.Disk.state c.stage_messages.new.disk) (g.D.Disk.state c.stage_keys.new.disk)
+    c.stage_messages.ensures.outside.named c.stage_messages.ensures.leaves c.stage_keys.ensures.leaves

@@ -1,8 +1,9 @@
 use Rattle.std.proofs.Common.{ℕ, List, subst, ◌∙◌}
 use Rattle.std.proofs.lemmas.Result.{on_ok_weaker}
 use Rattle.echo_disk.specs.Runs.{LeavesOnly}
-use Rattle.echo_folder.specs.Moments.{IsBeforeOrAfter, KeepsOutside}
+use Rattle.echo_folder.specs.Moments.{IsBeforeOrAfter, KeepsOutside, LeavesOutside}
 use Rattle.echo_folder.proofs.Gates.{outside_twice}
+use Rattle.echo_folder.proofs.LeftOutside.{left_twice}
 use Rattle.echo_folder_store.specs.Opened.{committed_by, held_by, path_of}
 use Rattle.echo_folder_store.proofs.Beside.{before_commit, before_only}
 use Rattle.echo_folder_store.proofs.folder.Folder.acknowledge.Goals as goal
@@ -32,3 +33,10 @@ returns-clause-outside g c =
     let d2 = g.D.Disk.state c.tell.new.disk in
     let f0 = c.args.self.now in
     outside_twice (path_of f0) d0 d1 d2 c.write_out.ensures.outside (subst (λ (p : List ℕ). KeepsOutside p d1 d2) c.write_out.ensures.path c.tell.ensures.outside)
+
+pub returns-clause-leaves : goal.returns-clause-leaves
+returns-clause-leaves g c =
+    let d0 = g.D.Disk.state c.args.disk.now in
+    let d1 = g.D.Disk.state c.write_out.new.disk in
+    let d2 = g.D.Disk.state c.tell.new.disk in
+    left_twice (path_of c.args.self.now) d0 d1 d2 c.write_out.ensures.outside.named c.write_out.ensures.leaves (subst (λ (p : List ℕ). LeavesOutside p d1 d2) c.write_out.ensures.path c.tell.ensures.leaves)

@@ -2,8 +2,9 @@ use Rattle.std.proofs.Common.{◌≢◌, ◌<◌, List, ℕ, subst, ◌∙◌}
 use Rattle.std.proofs.lemmas.Result.{on_ok_weaker}
 use Rattle.echo_disk.specs.Runs.{LeavesOnly}
 use Rattle.echo_folder.specs.AtRest.{IsAtRest}
-use Rattle.echo_folder.specs.Moments.{KeepsOutside, StandsAlone}
+use Rattle.echo_folder.specs.Moments.{KeepsOutside, LeavesOutside, StandsAlone}
 use Rattle.echo_folder.proofs.Gates.{outside_twice}
+use Rattle.echo_folder.proofs.LeftOutside.{left_twice}
 use Rattle.echo_folder_store.specs.Left.{AreGone}
 use Rattle.echo_folder_store.specs.Opened.{committed_by, held_by, path_of}
 use Rattle.echo_folder_store.proofs.Beside.{after_commit, rest_held, rest_open}
@@ -69,3 +70,10 @@ returns-clause-gone g c honest =
 
 pub returns-clause-written : goal.returns-clause-written
 returns-clause-written g c = on_ok_from c.remove_former.result c.in_ok-acknowledge.ensures.written
+
+pub returns-clause-leaves : goal.returns-clause-leaves
+returns-clause-leaves g c =
+    let d0 = g.D.Disk.state c.args.disk.now in
+    let d1 = g.D.Disk.state c.acknowledge.new.disk in
+    let d2 = g.D.Disk.state c.remove_former.new.disk in
+    left_twice (path_of c.args.self.now) d0 d1 d2 c.acknowledge.ensures.outside.named c.acknowledge.ensures.leaves (subst (λ (p : List ℕ). LeavesOutside p d1 d2) c.acknowledge.ensures.path c.remove_former.ensures.leaves)

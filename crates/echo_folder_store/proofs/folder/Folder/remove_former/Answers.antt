@@ -1,9 +1,10 @@
 use Rattle.std.proofs.Common.{◌≡◌, ℕ, List, None, sym, subst, ◌∙◌, arith}
 use Rattle.echo_disk.specs.Runs.{LeavesOnly}
 use Rattle.echo_folder.specs.AtRest.{IsAtRest}
-use Rattle.echo_folder.specs.Moments.{KeepsOutside, StandsAlone}
+use Rattle.echo_folder.specs.Moments.{KeepsOutside, LeavesOutside, StandsAlone}
 use Rattle.echo_folder.specs.Names.{folder_of, keys_of, messages_of}
 use Rattle.echo_folder.specs.Standing.{base_at}
+use Rattle.echo_folder.proofs.LeftOutside.{left_start}
 use Rattle.echo_folder.proofs.Renewed.{alone_first, alone_run}
 use Rattle.echo_folder_store.specs.Opened.{path_of}
 use Rattle.echo_folder_store.proofs.Staged.{outside_same}
@@ -103,3 +104,25 @@ returns-clause-gone g c honest = λ digit other.
       messages = subst (λ (p : List ℕ). e.seen (messages_of p c.args.former) ≡ None) folder (c.in_ok-remove_files.ensures.messages honest);
       keys = subst (λ (p : List ℕ). e.seen (keys_of p c.args.former) ≡ None) folder (c.in_ok-remove_files.ensures.keys honest);
     }
+
+pub returns-then-former-self-clause-leaves : goal.returns-then-former-self-clause-leaves
+returns-then-former-self-clause-leaves g c = left_start (path_of c.args.self.now) (g.D.Disk.state c.args.disk.now)
+
+pub returns-in_err-names-clause-leaves : goal.returns-in_err-names-clause-leaves
+returns-in_err-names-clause-leaves g c = left_start (path_of c.args.self.now) (g.D.Disk.state c.args.disk.now)
+
+pub returns-in_err-remove_files-clause-leaves : goal.returns-in_err-remove_files-clause-leaves
+returns-in_err-remove_files-clause-leaves g c =
+    let f = c.args.self.now in
+    let d = g.D.Disk.state c.args.disk.now in
+    let e = g.D.Disk.state c.remove_files.new.disk in
+    let folder : folder_of c.in_ok-names.names ≡ path_of f = c.in_ok-names.ensures.folder ∙ c.deref.ensures.value in
+    subst (λ (p : List ℕ). LeavesOutside p d e) folder c.remove_files.ensures.leaves
+
+pub returns-clause-leaves : goal.returns-clause-leaves
+returns-clause-leaves g c =
+    let f = c.args.self.now in
+    let d = g.D.Disk.state c.args.disk.now in
+    let e = g.D.Disk.state c.remove_files.new.disk in
+    let folder : folder_of c.in_ok-names.names ≡ path_of f = c.in_ok-names.ensures.folder ∙ c.deref.ensures.value in
+    subst (λ (p : List ℕ). LeavesOutside p d e) folder c.remove_files.ensures.leaves
