@@ -3,11 +3,14 @@
 //! The contract for the program: what stands at a packet's path was committed. A crash at any moment leaves the base
 //! from before the commit and none of the packets at its path, or the base that the folder held and each packet whole.
 //!
-//! Modules in reading order: `unpublished` (why they were not put on the disk) and `publishing`.
+//! Modules in reading order: `unpublished` (why they were not put on the disk), `publishing` (an open folder) and `storing`
+//! (a store on one).
 #![tactic(auto)]
 
 mod publishing;
+mod storing;
 mod unpublished;
 
 pub use publishing::publish_with;
+pub use storing::{Unfinished, publish_store};
 pub use unpublished::Unpublished;

@@ -92,7 +92,11 @@ fn check_links<'a, D: Disk>(disk: &mut D, path: &'a str) -> Result<(), Fault<'a>
 }
 
 // The bytes of a link file, whose lock is held.
-fn read_links<'a, D: Disk>(alloc: Global, disk: &mut D, path: &'a str) -> Result<Vec<u8>, Fault<'a>>
+pub(crate) fn read_links<'a, D: Disk>(
+    alloc: Global,
+    disk: &mut D,
+    path: &'a str,
+) -> Result<Vec<u8>, Fault<'a>>
     ensures bytes { Honestly (D.state disk.new) (IfOk result (λ bytes. (D.state disk.old).seen path.now ≡ Some bytes.items)) }
     ensures quiet { ChangesNothing (D.state disk.old) (D.state disk.new) }
     ensures err { Honestly (D.state disk.new) (IfErr result (LinksUnread (D.state disk.old) path.now (Failed (D.failures disk.old) (D.failures disk.new)))) }

@@ -1,0 +1,126 @@
+//! The command `post` on a base folder.
+ghost use Rattle.std.specs.Prelude.{◌≡◌, ◌⊎◌, Some, None};
+ghost use Rattle.echo_disk.specs.Disk.{Honestly};
+ghost use Rattle.echo_disk.specs.Runs.{ChangesNothing};
+ghost use Rattle.echo_folder.specs.Moments.{KeepsOutside};
+ghost use Rattle.echo_folder.specs.Opening.{AreAlone};
+ghost use Rattle.echo_status.specs.Devices.{output_of};
+ghost use Rattle.echo_store_changing.specs.FreeSerial.{PostsFree, PostsFreeOn};
+ghost use Rattle.echo_store_changing.specs.Posted.{Posts, PostsOn};
+ghost use Rattle.echo_toss.specs.PacketsIn.{state_in};
+ghost use Rattle.echo_folder_changing.specs.Opening.{HaveFailed};
+ghost use Rattle.echo_folder_changing.specs.Running.{RunsIn};
+
+use crate::beginning::{Begun, begin};
+use crate::place::{Ended, FolderPlace, Found};
+use crate::preparing::Preparing;
+use echo_changing::NewMessage;
+use echo_device::Sink;
+use echo_disk::Disk;
+use echo_folder_store::FolderStore;
+use echo_keys::Digest;
+use echo_station_files::FileLock;
+use echo_status::Fault;
+use echo_store_changing::{Stop, post_free_on, post_on};
+use std::alloc::Global;
+
+/// `post .. LINKS BASE`: a message of these words and this body is filed in the base folder, and committed. `unread` is why
+/// the body was not read, where it was not.
+pub fn post_in<
+    'a,
+    D: Disk + Drop,
+    H: Digest,
+    L: FileLock,
+    K: FileLock,
+    P: Preparing<'a, FolderStore<D, H>>,
+    W: Sink,
+>(
+    alloc: Global,
+    disk: D,
+    lock: &mut L,
+    held: &mut K,
+    at: FolderPlace<'a>,
+    found: Found,
+    unread: Option<Fault<'a>>,
+    with: &mut P,
+    words: NewMessage<'_>,
+    body: &[u8],
+    out: &mut W,
+) -> Ended<'a, D, ()>
+    requires free { L.held lock.old ≡ None }
+    requires folder_free { K.held held.old ≡ None }
+    requires alone { Honestly (D.state disk) (AreAlone at.path.now (D.state disk)) }
+    ensures locked { ((L.held lock.new ≡ Some at.entry.links.now) × (K.held held.new ≡ Some at.entry.base.now)) ⊎ ChangesNothing (D.state disk) (D.state result.disk) }
+    ensures runs { Honestly (D.state result.disk) (RunsIn
+        (λ file base. PostsOn words.entry (state_in file base) body.now (output_of W.contents W.failures W.holds out.old) (output_of W.contents W.failures W.holds out.new) result.done)
+        (λ file. Posts file words.entry body.now)
+        (λ file. Posts file words.entry body.now)
+        H.keyed at.entry.links.now at.entry.base.now at.entry.path.now found.strange (P.met with.new) unread.entry
+        (HaveFailed (D.failures disk) (D.failures result.disk) (L.failures lock.old) (L.failures lock.new) (K.failures held.old) (K.failures held.new)) (D.state disk) (D.state result.disk)
+        (output_of W.contents W.failures W.holds out.old) (output_of W.contents W.failures W.holds out.new) result.done) }
+    ensures outside { KeepsOutside at.entry.path.now (D.state disk) (D.state result.disk) }
+{
+    match begin(alloc, disk, lock, held, at, found, unread, with) {
+        Ok(begun) => {
+            let Begun { links, store } = begun;
+            let mut store: FolderStore<D, H> = store;
+            let done = post_on(alloc, words, &links, &mut store, body, out);
+            let (disk, _folder) = store.into_parts();
+            Ended { disk, done }
+        }
+        Err(stopped) => Ended {
+            disk: stopped.disk,
+            done: Err(Stop::Met(stopped.fault)),
+        },
+    }
+}
+
+/// `post --serial auto`: the same with the first serial, from that of the words on, that is free.
+pub fn post_free_in<
+    'a,
+    D: Disk + Drop,
+    H: Digest,
+    L: FileLock,
+    K: FileLock,
+    P: Preparing<'a, FolderStore<D, H>>,
+    W: Sink,
+>(
+    alloc: Global,
+    disk: D,
+    lock: &mut L,
+    held: &mut K,
+    at: FolderPlace<'a>,
+    found: Found,
+    unread: Option<Fault<'a>>,
+    with: &mut P,
+    words: NewMessage<'_>,
+    body: &[u8],
+    out: &mut W,
+) -> Ended<'a, D, ()>
+    requires free { L.held lock.old ≡ None }
+    requires folder_free { K.held held.old ≡ None }
+    requires alone { Honestly (D.state disk) (AreAlone at.path.now (D.state disk)) }
+    ensures locked { ((L.held lock.new ≡ Some at.entry.links.now) × (K.held held.new ≡ Some at.entry.base.now)) ⊎ ChangesNothing (D.state disk) (D.state result.disk) }
+    ensures runs { Honestly (D.state result.disk) (RunsIn
+        (λ file base. PostsFreeOn words.entry (state_in file base) body.now (output_of W.contents W.failures W.holds out.old) (output_of W.contents W.failures W.holds out.new) result.done)
+        (λ file. PostsFree file words.entry body.now)
+        (λ file. PostsFree file words.entry body.now)
+        H.keyed at.entry.links.now at.entry.base.now at.entry.path.now found.strange (P.met with.new) unread.entry
+        (HaveFailed (D.failures disk) (D.failures result.disk) (L.failures lock.old) (L.failures lock.new) (K.failures held.old) (K.failures held.new)) (D.state disk) (D.state result.disk)
+        (output_of W.contents W.failures W.holds out.old) (output_of W.contents W.failures W.holds out.new) result.done) }
+    ensures outside { KeepsOutside at.entry.path.now (D.state disk) (D.state result.disk) }
+{
+    match begin(alloc, disk, lock, held, at, found, unread, with) {
+        Ok(begun) => {
+            let Begun { links, store } = begun;
+            let mut store: FolderStore<D, H> = store;
+            let done = post_free_on(alloc, words, &links, &mut store, body, out);
+            let (disk, _folder) = store.into_parts();
+            Ended { disk, done }
+        }
+        Err(stopped) => Ended {
+            disk: stopped.disk,
+            done: Err(Stop::Met(stopped.fault)),
+        },
+    }
+}

@@ -1,0 +1,46 @@
+//! The link file alone, and other files that are locked.
+ghost use Rattle.std.specs.Prelude.{◌≡◌, ◌≤◌, IfErr, IfOk, OnOk, Some, None};
+ghost use Rattle.echo_device.specs.Device.{Failed};
+ghost use Rattle.echo_disk.specs.Disk.{Honestly};
+ghost use Rattle.echo_disk.specs.Runs.{ChangesNothing};
+ghost use Rattle.echo_station_files.specs.Faults.{FailsAt, HaveFailed, LinksUnread};
+
+use crate::locked::FileLock;
+use crate::reading::{fault_at, read_links};
+use echo_disk::Disk;
+use echo_status::Fault;
+use std::alloc::Global;
+
+/// Takes the lock of the file with this path.
+pub fn lock_at<'a, L: FileLock>(lock: &mut L, path: &'a str) -> Result<(), Fault<'a>>
+    requires { L.held lock.old ≡ None }
+    ensures locked { OnOk result (L.held lock.new ≡ Some path.now) }
+    ensures err { IfErr result (FailsAt path.now (Failed (L.failures lock.old) (L.failures lock.new))) }
+    ensures later { L.failures lock.old ≤ L.failures lock.new }
+{
+    match lock.lock(path.as_bytes()) {
+        Ok(()) => Ok(()),
+        Err(cause) => Err(fault_at(cause, path)),
+    }
+}
+
+/// Takes the lock of the link file with this path, and reads it.
+pub fn lock_links<'a, D: Disk, L: FileLock>(
+    alloc: Global,
+    disk: &mut D,
+    lock: &mut L,
+    path: &'a str,
+) -> Result<Vec<u8>, Fault<'a>>
+    requires { L.held lock.old ≡ None }
+    ensures locked { OnOk result (L.held lock.new ≡ Some path.now) }
+    ensures bytes { Honestly (D.state disk.new) (IfOk result (λ bytes. (D.state disk.old).seen path.now ≡ Some bytes.items)) }
+    ensures quiet { ChangesNothing (D.state disk.old) (D.state disk.new) }
+    ensures err { Honestly (D.state disk.new) (IfErr result (LinksUnread (D.state disk.old) path.now (HaveFailed (D.failures disk.old) (D.failures disk.new) (L.failures lock.old) (L.failures lock.new)))) }
+    ensures later { D.failures disk.old ≤ D.failures disk.new }
+    ensures lock_later { L.failures lock.old ≤ L.failures lock.new }
+{
+    match lock.lock(path.as_bytes()) {
+        Ok(()) => read_links(alloc, disk, path),
+        Err(cause) => Err(fault_at(cause, path)),
+    }
+}
