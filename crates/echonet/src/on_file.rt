@@ -81,9 +81,13 @@ pub fn post_here<'a, W: Sink, E: Sink>(
     let alloc = rt.alloc();
     let Posting { words, free, body } = asked;
     let done = if free {
-        post_free_at(alloc, &mut disk, &mut lock, at, hasher, words, body, stopped, out)
+        post_free_at(
+            alloc, &mut disk, &mut lock, at, hasher, words, body, stopped, out,
+        )
     } else {
-        post_at(alloc, &mut disk, &mut lock, at, hasher, words, body, stopped, out)
+        post_at(
+            alloc, &mut disk, &mut lock, at, hasher, words, body, stopped, out,
+        )
     };
     ended(&files, place, at.base, done, errors)
 }
@@ -171,11 +175,27 @@ pub fn toss_here<'a, W: Sink, E: Sink>(
     let mut packets = packets;
     let done = if by.each {
         toss_each_at(
-            alloc, &mut disk, &mut lock, at, stopped, hasher, limits, &mut packets, out,
+            alloc,
+            &mut disk,
+            &mut lock,
+            at,
+            stopped,
+            hasher,
+            limits,
+            &mut packets,
+            out,
         )
     } else {
         toss_at(
-            alloc, &mut disk, &mut lock, at, stopped, hasher, limits, &mut packets, out,
+            alloc,
+            &mut disk,
+            &mut lock,
+            at,
+            stopped,
+            hasher,
+            limits,
+            &mut packets,
+            out,
         )
     };
     ended(&files, place, at.base, done, errors)
