@@ -10,7 +10,7 @@ use Rattle.echo_placing.proofs.Packets.{AtBoth}
 
 -- whatever a crash leaves, the packet stands whole at one of its two paths
 abbrev pub IsAnchored : DiskState → Outgoing → Type 0
-IsAnchored disk p = HasOnDisk disk p.path.now p.bytes.now ⊎ HasOnDisk disk p.beside.now p.bytes.now
+IsAnchored disk p = HasOnDisk disk p.path.now p.file.now.bytes ⊎ HasOnDisk disk p.beside.now p.file.now.bytes
 
 -- its path has what it had
 abbrev pub IsSameAt : DiskState → DiskState → Outgoing → Type 0
@@ -27,17 +27,17 @@ module _ (x y : Outgoing) (apart : AreApart x y) where
   module _ (d e : DiskState) (run : ChangesOnly (AtBoth x) d e) where
     pub anchor_stays : IsAnchored d y → IsAnchored e y
     anchor_stays was =
-        ⊎_elim (λ on. inl (stays_on_disk (AtBoth x) d e y.path.now y.bytes.now run not_path on)) (λ on. inr (stays_on_disk (AtBoth x) d e y.beside.now y.bytes.now run not_beside on)) was
+        ⊎_elim (λ on. inl (stays_on_disk (AtBoth x) d e y.path.now y.file.now.bytes run not_path on)) (λ on. inr (stays_on_disk (AtBoth x) d e y.beside.now y.file.now.bytes run not_beside on)) was
 
     pub staged_stays : IsStaged d y → IsStaged e y
     staged_stays was = record {
-      file = stays_on_disk (AtBoth x) d e y.beside.now y.bytes.now run not_beside was.file;
+      file = stays_on_disk (AtBoth x) d e y.beside.now y.file.now.bytes run not_beside was.file;
       named = run.named y.path.now not_path was.named;
     }
 
     pub has_path_stays : HasItsPath d y → HasItsPath e y
     has_path_stays was = record {
-      file = stays_on_disk (AtBoth x) d e y.path.now y.bytes.now run not_path was.file;
+      file = stays_on_disk (AtBoth x) d e y.path.now y.file.now.bytes run not_path was.file;
       gone = run.seen y.beside.now not_beside ∙ was.gone;
     }
 
@@ -48,12 +48,12 @@ module _ (x y : Outgoing) (apart : AreApart x y) where
   pub whole_stays : (d : DiskState) (b c : Files) → d.may_leave b → Names x.path.now x.beside.now b c → IsAnchored d y → StandsWhole c y
   whole_stays d b c left names on =
       ⊎_elim
-      (λ at. inl (names.others y.path.now not_path ∙ left_there d y.path.now y.bytes.now at b left))
-      (λ at. inr (names.others y.beside.now not_beside ∙ left_there d y.beside.now y.bytes.now at b left))
+      (λ at. inl (names.others y.path.now not_path ∙ left_there d y.path.now y.file.now.bytes at b left))
+      (λ at. inr (names.others y.beside.now not_beside ∙ left_there d y.beside.now y.file.now.bytes at b left))
       on
 
 -- the packet that is named
-module _ (x : Outgoing) (d e : DiskState) (staged : HasOnDisk d x.beside.now x.bytes.now) where
+module _ (x : Outgoing) (d e : DiskState) (staged : HasOnDisk d x.beside.now x.file.now.bytes) where
   pub has_path : HasMoved d e x.path.now x.beside.now → HasItsPath e x
   has_path moved = record { file = record { seen = moved.seen ∙ staged.seen; named = moved.named; flushed = moved.flushed }; gone = moved.gone }
 
@@ -65,5 +65,5 @@ module _ (x : Outgoing) (d e : DiskState) (staged : HasOnDisk d x.beside.now x.b
 
   pub whole_now : (b c : Files) → d.may_leave b → Names x.path.now x.beside.now b c → StandsWhole c x
   whole_now b c left names =
-      let was : b x.beside.now ≡ Some x.bytes.now = left_there d x.beside.now x.bytes.now staged b left in
+      let was : b x.beside.now ≡ Some x.file.now.bytes = left_there d x.beside.now x.file.now.bytes staged b left in
       ⊎_elim (λ is. inl (is ∙ was)) (λ is. inr (is ∙ was)) names.stands

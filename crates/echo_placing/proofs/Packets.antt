@@ -19,7 +19,7 @@ apart_back p q a = record {
 
 -- what a loop reads past the end
 abbrev pub nobody : Outgoing
-nobody = record { path = record { ref_ptr = (0, 0); now = [] }; beside = record { ref_ptr = (0, 0); now = [] }; bytes = record { ref_ptr = (0, 0); now = [] } }
+nobody = record { path = record { ref_ptr = (0, 0); now = [] }; beside = record { ref_ptr = (0, 0); now = [] }; file = record { ref_ptr = (0, 0); now = record { name = []; bytes = [] } } }
 
 -- the path beside one of them
 abbrev pub At : Outgoing → List ℕ → Type 0
@@ -47,8 +47,8 @@ module _ (d e : DiskState) (x : Outgoing) (run : ChangesOnly (At x) d e) (y : Ou
   pub named_stays : IsNamedBeside d y → IsNamedBeside e y
   named_stays was = run.named y.beside.now (λ at. apart.besides (sym at)) was
 
-  pub filled_stays : HasOnDisk d y.beside.now y.bytes.now → HasOnDisk e y.beside.now y.bytes.now
-  filled_stays was = stays_on_disk (At x) d e y.beside.now y.bytes.now run (λ at. apart.besides (sym at)) was
+  pub filled_stays : HasOnDisk d y.beside.now y.file.now.bytes → HasOnDisk e y.beside.now y.file.now.bytes
+  filled_stays was = stays_on_disk (At x) d e y.beside.now y.file.now.bytes run (λ at. apart.besides (sym at)) was
 
 -- no packet's path is one that is beside another
 pub path_not_beside : (folder : List ℕ) (packets : List Outgoing) → ArePlaced folder packets → (k : ℕ) (z : Outgoing) → k < length packets → IsBesideOne packets (get_or packets k z).path.now → ⊥

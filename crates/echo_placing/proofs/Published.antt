@@ -1,5 +1,5 @@
 -- What a crash leaves of packets and a commit.
-use Rattle.std.proofs.Common.{inl, inr, ⊎_elim, ◌∙◌, ℕ, List, get_or, subst}
+use Rattle.std.proofs.Common.{◌⊎◌, inl, inr, ⊎_elim, ◌∙◌, ℕ, List, get_or, subst}
 use Rattle.std.specs.Prelude.{All}
 use Rattle.std.proofs.lemmas.List.Elements.{All-contains}
 use Rattle.echo_disk.specs.Disk.{DiskState, Files}
@@ -11,7 +11,7 @@ use Rattle.echo_placing.specs.Naming.{NamesEach}
 use Rattle.echo_placing.specs.Outgoing.{ArePlaced, IsBesideOne, IsOfOne, IsStaged}
 use Rattle.echo_placing.specs.Publishing.{IsApartFrom, Publishes}
 use Rattle.echo_placing.specs.declared.outgoing.Outgoing.{Outgoing}
-use Rattle.echo_placing.proofs.Changes.{left_there, stays_on_disk, then_steps, weaker_steps}
+use Rattle.echo_placing.proofs.Changes.{left_there, stays_on_disk, then_only, then_steps, weaker_steps, wider}
 use Rattle.echo_placing.proofs.Packets.{path_not_beside}
 
 module _ (change : Change) (folder : List ℕ) (packets : List Outgoing) (placed : ArePlaced folder packets) (apart : All (IsApartFrom change.own) packets) where
@@ -53,7 +53,7 @@ module _ (change : Change) (folder : List ℕ) (packets : List Outgoing) (placed
                 ))
                 (λ comes. inr (
                   comes,
-                  λ k z lt. inr (q.others (get_or packets k z).beside.now (apart k z lt).beside ∙ left_there d1 (get_or packets k z).beside.now (get_or packets k z).bytes.now (staged k z lt).file b left),
+                  λ k z lt. inr (q.others (get_or packets k z).beside.now (apart k z lt).beside ∙ left_there d1 (get_or packets k z).beside.now (get_or packets k z).file.now.bytes (staged k z lt).file b left),
                 ))
                 q.either;
           })
@@ -62,7 +62,7 @@ module _ (change : Change) (folder : List ℕ) (packets : List Outgoing) (placed
       still_staged k z lt =
           let p = get_or packets k z in
           record {
-            file = stays_on_disk change.own d1 d2 p.beside.now p.bytes.now committing (apart k z lt).beside (staged k z lt).file;
+            file = stays_on_disk change.own d1 d2 p.beside.now p.file.now.bytes committing (apart k z lt).beside (staged k z lt).file;
             named = committing.named p.path.now (apart k z lt).path (staged k z lt).named;
           }
 
@@ -80,3 +80,18 @@ module _ (change : Change) (folder : List ℕ) (packets : List Outgoing) (placed
     still_comes naming c left =
         let from = left_now d2 d3 (OneStepOn (DifferAt (IsOfOne packets)) d2) naming.any_moment c left in
         change.same_comes from.0 c (λ m own. from.2 m (own_not_of m own)) (comes from.0 from.1)
+
+-- what a publishing touches
+module _ (change : Change) (packets : List Outgoing) where
+  abbrev Of : List ℕ → Type 0
+  Of m = change.own m ⊎ IsOfOne packets m
+
+  pub touched_staged : (d0 d1 : DiskState) → ChangesOnly (IsBesideOne packets) d0 d1 → ChangesOnly Of d0 d1
+  touched_staged d0 d1 run = wider (IsBesideOne packets) Of d0 d1 (λ m o. inr (o.0, o.1, inl o.2)) run
+
+  pub touched_committed : (d0 d1 d2 : DiskState) → ChangesOnly (IsBesideOne packets) d0 d1 → ChangesOnly change.own d1 d2 → ChangesOnly Of d0 d2
+  touched_committed d0 d1 d2 staging committing = then_only Of d0 d1 d2 (touched_staged d0 d1 staging) (wider change.own Of d1 d2 (λ m o. inl o) committing)
+
+  pub touched_named : (d0 d1 d2 d3 : DiskState) → ChangesOnly (IsBesideOne packets) d0 d1 → ChangesOnly change.own d1 d2 → ChangesOnly (IsOfOne packets) d2 d3 → ChangesOnly Of d0 d3
+  touched_named d0 d1 d2 d3 staging committing naming =
+      then_only Of d0 d2 d3 (touched_committed d0 d1 d2 staging committing) (wider (IsOfOne packets) Of d2 d3 (λ m o. inr o) naming)

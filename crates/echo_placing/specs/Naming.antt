@@ -31,7 +31,7 @@ pub record IsTaken (old : DiskState) (path beside : List ℕ) : Type 0 where
 
 -- the packet stands whole at one of its two paths
 abbrev pub StandsWhole : Files → Outgoing → Type 0
-StandsWhole c p = (c p.path.now ≡ Some p.bytes.now) ⊎ (c p.beside.now ≡ Some p.bytes.now)
+StandsWhole c p = (c p.path.now ≡ Some p.file.now.bytes) ⊎ (c p.beside.now ≡ Some p.file.now.bytes)
 
 -- Each packet stands whole at one of its two paths; all else is as it was.
 pub record NamesEach (packets : List Outgoing) (before after : Files) : Type 0 where
@@ -40,5 +40,5 @@ pub record NamesEach (packets : List Outgoing) (before after : Files) : Type 0 w
 
 -- the packet has its path alone, on the disk
 pub record HasItsPath (disk : DiskState) (p : Outgoing) : Type 0 where
-  pub file : HasOnDisk disk p.path.now p.bytes.now
+  pub file : HasOnDisk disk p.path.now p.file.now.bytes
   pub gone : disk.seen p.beside.now ≡ None

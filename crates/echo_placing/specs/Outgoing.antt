@@ -45,9 +45,9 @@ pub record IsMade (disk : DiskState) (p : Outgoing) : Type 0 where
 
 -- the packet stands beside its path, on the disk
 abbrev pub IsFilled : DiskState → Outgoing → Type 0
-IsFilled disk p = HasOnDisk disk p.beside.now p.bytes.now
+IsFilled disk p = HasOnDisk disk p.beside.now p.file.now.bytes
 
 -- and whether the path has a file or none is on the disk too
 pub record IsStaged (disk : DiskState) (p : Outgoing) : Type 0 where
-  pub file : HasOnDisk disk p.beside.now p.bytes.now
+  pub file : HasOnDisk disk p.beside.now p.file.now.bytes
   pub named : disk.is_named p.path.now

@@ -8,6 +8,7 @@ ghost use Rattle.echo_placing.specs.Outgoing.{AreApart, ArePlaced, IsBesideOne, 
 use crate::outgoing::Outgoing;
 use crate::staging::fill_file;
 use echo_disk::{Disk, DiskError};
+use std::alloc::Global;
 
 // Whether no packet's path is taken.
 fn are_free<D: Disk>(disk: &mut D, packets: &[Outgoing<'_>]) -> Result<bool, DiskError>
@@ -38,8 +39,12 @@ fn make_files<D: Disk>(disk: &mut D, packets: &[Outgoing<'_>]) -> Result<(), Dis
     Ok(())
 }
 
-// Writes the bytes of each packet into the file beside its path.
-fn fill_files<D: Disk>(disk: &mut D, packets: &[Outgoing<'_>]) -> Result<(), DiskError>
+// Writes the bytes of each packet into the file beside its path. They are held no longer than that takes.
+fn fill_files<D: Disk>(
+    alloc: Global,
+    disk: &mut D,
+    packets: &[Outgoing<'_>],
+) -> Result<(), DiskError>
     requires apart { AllPairs AreApart packets.now }
     requires made { All (IsMade (D.state disk.old)) packets.now }
     requires named { All (IsNamedBeside (D.state disk.old)) packets.now }
@@ -49,7 +54,8 @@ fn fill_files<D: Disk>(disk: &mut D, packets: &[Outgoing<'_>]) -> Result<(), Dis
     ensures cause { HasCause (D.failures disk.old) (D.failures disk.new) result }
 {
     'packets: for packet in packets {
-        fill_file(disk, packet.beside, packet.bytes)?;
+        let bytes = packet.file.bytes(alloc)?;
+        fill_file(disk, packet.beside, &bytes)?;
     }
     Ok(())
 }
@@ -57,6 +63,7 @@ fn fill_files<D: Disk>(disk: &mut D, packets: &[Outgoing<'_>]) -> Result<(), Dis
 /// Writes each packet beside its path, and puts it on the disk. Where a path is taken it answers `false`, and writes
 /// none.
 pub fn stage_packets<D: Disk>(
+    alloc: Global,
     disk: &mut D,
     folder: &[u8],
     packets: &[Outgoing<'_>],
@@ -74,6 +81,6 @@ pub fn stage_packets<D: Disk>(
     }
     make_files(disk, packets)?;
     disk.sync_folder(folder)?;
-    fill_files(disk, packets)?;
+    fill_files(alloc, disk, packets)?;
     Ok(true)
 }

@@ -1,5 +1,6 @@
 //! Why files were not put in place.
 use echo_disk::DiskError;
+use std::alloc::AllocError;
 use thiserror::Error;
 
 /// Why files were not put in place.
@@ -27,5 +28,16 @@ impl From<DiskError> for PlacingError {
             DiskError::Memory => PlacingError::Memory,
             DiskError::Device => PlacingError::Device,
         }
+    }
+}
+
+impl From<AllocError> for PlacingError {
+    ghost use Rattle.std.specs.Prelude.{◌≡◌};
+    ghost use Rattle.echo_placing.specs.declared.placing_error.PlacingError.TheVariants as error;
+
+    ghost from_gives = { λ _ e. e ≡ error.Memory };
+
+    fn from(_refused: AllocError) -> PlacingError {
+        PlacingError::Memory
     }
 }

@@ -1,10 +1,10 @@
 //! Packets and a commit, together: what stands at a packet's path was committed.
-ghost use Rattle.std.specs.Prelude.{◌≡◌, All, OnOk, IsErrOf};
+ghost use Rattle.std.specs.Prelude.{◌≡◌, ◌⊎◌, All, OnOk, IsErrOf};
 ghost use Rattle.echo_disk.specs.Disk.{Files, Honestly};
 ghost use Rattle.echo_disk.specs.Runs.{LeavesOnly, OneStepOn};
 ghost use Rattle.echo_placing.specs.Changes.{ChangesOnly};
 ghost use Rattle.echo_placing.specs.Naming.{HasItsPath};
-ghost use Rattle.echo_placing.specs.Outgoing.{ArePlaced, IsFree};
+ghost use Rattle.echo_placing.specs.Outgoing.{ArePlaced, IsFree, IsOfOne};
 ghost use Rattle.echo_placing.specs.Publishing.{HasPlacingCause, IsApartFrom, Publishes};
 
 use crate::beside::stage_packets;
@@ -35,9 +35,10 @@ pub fn publish<D: Disk, C: Commit<D>>(
     // A crash at any moment leaves no commit and none of the packets at its path, or the commit and each packet whole.
     ensures any_moment { Honestly (D.state disk.new) (LeavesOnly (D.state disk.old) (D.state disk.new)
         (OneStepOn (Publishes (C.change commit.old) packets.now) (D.state disk.old))) }
+    ensures changes { ChangesOnly (λ m. (C.change commit.old).own m ⊎ IsOfOne packets.now m) (D.state disk.old) (D.state disk.new) }
     ensures cause { HasPlacingCause (D.failures disk.old) (D.failures disk.new) result }
 {
-    if !stage_packets(disk, folder, packets)? {
+    if !stage_packets(alloc, disk, folder, packets)? {
         return Err(PlacingError::Taken);
     }
     commit.commit(disk)?;

@@ -13,5 +13,6 @@ mod reading;
 mod writing;
 
 pub use locked::FileLock;
+pub use paths::{folder_of, path_beside};
 pub use reading::{StationFiles, StationPaths, lock_station};
 pub use writing::write_base;

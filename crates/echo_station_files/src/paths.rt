@@ -10,7 +10,7 @@ use echo_status::Fault;
 use std::alloc::{AllocError, Global};
 
 /// The folder of a path: all of it up to its last slash.
-pub(crate) fn folder_of(path: &[u8]) -> &[u8]
+pub fn folder_of(path: &[u8]) -> &[u8]
     ensures { IsIn result.now path.now }
 {
     let mut end = path.len();
@@ -21,7 +21,7 @@ pub(crate) fn folder_of(path: &[u8]) -> &[u8]
 }
 
 /// The path beside a path that the system of this name writes.
-pub(crate) fn path_beside(alloc: Global, path: &[u8], own: &[u8]) -> Result<Vec<u8>, AllocError>
+pub fn path_beside(alloc: Global, path: &[u8], own: &[u8]) -> Result<Vec<u8>, AllocError>
     ensures { IfOk result (λ beside. beside.items ≡ path_beside path.now own.now) }
 {
     let mut beside = Vec::from_slice(alloc, path)?;

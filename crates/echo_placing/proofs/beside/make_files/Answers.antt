@@ -1,11 +1,12 @@
-use Rattle.std.proofs.Common.{get_or, ◌<◌, length, arith, refl}
+use Rattle.std.proofs.Common.{get_or, ◌≡◌, ◌<◌, length, arith, refl, subst, sym}
 use Rattle.std.proofs.lemmas.List.Elements.{AllWithin-from_all, AllWithin-none}
 use Rattle.echo_disk.specs.Steps.{TornMaking}
 use Rattle.echo_placing.specs.Changes.{ChangesOnly}
 use Rattle.echo_placing.specs.Outgoing.{AreApart, IsBesideOne, IsMade, IsNamedBeside}
+use Rattle.echo_placing.specs.declared.outgoing.Outgoing.{Outgoing}
 use Rattle.echo_placing.proofs.Changes.{only_call, only_start, then_only}
 use Rattle.echo_placing.proofs.Each.{ahead, among, behind, here}
-use Rattle.echo_placing.proofs.Packets.{nobody, apart_back, At, beside_one, made_stays, named_stays}
+use Rattle.echo_placing.proofs.Packets.{apart_back, At, beside_one, made_stays, named_stays}
 use Rattle.echo_placing.proofs.beside.make_files.Goals as goal
 
 pub packets-init : goal.packets-init
@@ -24,18 +25,22 @@ packets-preserved g c =
     let packets = c.args.packets.now in
     let pairs = c.requires.apart in
     let i = c.packets.packet-index in
-    let x = get_or packets i nobody in
+    let z = c.packet-item.result in
+    let x = get_or packets i z in
+    let is : z ≡ x = c.packet-item.is in
     let lt : i < length packets = omega arith in
     let inv = c.packets.invariant in
     let d0 = g.D.Disk.state c.args.disk.now in
     let d = g.D.Disk.state c.packets.disk in
     let e = g.D.Disk.state c.create.new.self in
     let now = c.create.ensures in
-    let one : ChangesOnly (At x) d e = only_call (At x) d e x.beside.now TornMaking refl (here (IsNamedBeside d) packets i nobody lt inv.named) now.beside now.crash now.named now.flushed now.alone now.time in
+    let named = subst (IsNamedBeside d) (sym is) (here (IsNamedBeside d) packets i z lt inv.named) in
+    let one : ChangesOnly (At x) d e =
+    subst (λ (p : Outgoing). ChangesOnly (At p) d e) is (only_call (At z) d e z.beside.now TornMaking refl named now.beside now.crash now.named now.flushed now.alone now.time) in
     record {
-      changes = then_only (IsBesideOne packets) d0 d e inv.changes (beside_one packets x (among packets i nobody lt) d e one);
-      made = behind AreApart apart_back packets pairs i nobody lt (IsMade d) (IsMade e) (made_stays d e x one) (record { empty = c.in_ok-create.ensures.made; alone = c.in_ok-create.ensures.own }) inv.made;
-      named = ahead AreApart apart_back packets pairs i nobody lt (IsNamedBeside d) (IsNamedBeside e) (named_stays d e x one) inv.named;
+      changes = then_only (IsBesideOne packets) d0 d e inv.changes (beside_one packets x (among packets i z lt) d e one);
+      made = behind AreApart apart_back packets pairs i z lt (IsMade d) (IsMade e) (made_stays d e x one) (subst (IsMade e) is (record { empty = c.in_ok-create.ensures.made; alone = c.in_ok-create.ensures.own })) inv.made;
+      named = ahead AreApart apart_back packets pairs i z lt (IsNamedBeside d) (IsNamedBeside e) (named_stays d e x one) inv.named;
       cause = omega (arith, now.cause.later, inv.cause);
     }
 
@@ -44,11 +49,15 @@ returns-in_err-create-clause-changes g c =
     let packets = c.args.packets.now in
     let pairs = c.requires.apart in
     let i = c.packets.packet-index in
-    let x = get_or packets i nobody in
+    let z = c.packet-item.result in
+    let x = get_or packets i z in
+    let is : z ≡ x = c.packet-item.is in
     let lt : i < length packets = omega arith in
     let inv = c.packets.invariant in
     let d = g.D.Disk.state c.packets.disk in
     let e = g.D.Disk.state c.create.new.self in
     let now = c.create.ensures in
-    let one : ChangesOnly (At x) d e = only_call (At x) d e x.beside.now TornMaking refl (here (IsNamedBeside d) packets i nobody lt inv.named) now.beside now.crash now.named now.flushed now.alone now.time in
-    then_only (IsBesideOne packets) (g.D.Disk.state c.args.disk.now) d e inv.changes (beside_one packets x (among packets i nobody lt) d e one)
+    let named = subst (IsNamedBeside d) (sym is) (here (IsNamedBeside d) packets i z lt inv.named) in
+    let one : ChangesOnly (At x) d e =
+    subst (λ (p : Outgoing). ChangesOnly (At p) d e) is (only_call (At z) d e z.beside.now TornMaking refl named now.beside now.crash now.named now.flushed now.alone now.time) in
+    then_only (IsBesideOne packets) (g.D.Disk.state c.args.disk.now) d e inv.changes (beside_one packets x (among packets i z lt) d e one)

@@ -1,6 +1,6 @@
 use Rattle.std.proofs.Common.{◌∙◌, get_or}
 use Rattle.echo_placing.specs.Outgoing.{IsBesideOne}
-use Rattle.echo_placing.proofs.Published.{committed_moments, named_moments, own_not_beside, staged_moments, still_comes, still_staged}
+use Rattle.echo_placing.proofs.Published.{committed_moments, named_moments, own_not_beside, staged_moments, still_comes, still_staged, touched_committed, touched_named, touched_staged}
 use Rattle.echo_placing.proofs.publishing.publish.Goals as goal
 
 pub commit-requires : goal.commit-requires
@@ -118,3 +118,51 @@ returns-then-not-branch-2-clause-taken g c honest is free =
     let h1 = c.commit.ensures.changes.honest (c.name_packets.ensures.changes.honest honest) in
     c.in_ok-name_packets.ensures.taken honest c.if-not-branch-2.true
     (λ k z lt. c.commit.ensures.changes.seen (get_or packets k z).path.now (apart k z lt).path ∙ c.in_ok-stage_packets.ensures.free h1 c.if-not-branch.false k z lt)
+
+pub returns-in_err-stage_packets-clause-changes : goal.returns-in_err-stage_packets-clause-changes
+returns-in_err-stage_packets-clause-changes g c =
+    let change = g.C.Commit.change c.args.commit.now in
+    let packets = c.args.packets.now in
+    let d0 = g.D.Disk.state c.args.disk.now in
+    let d1 = g.D.Disk.state c.stage_packets.new.disk in
+    touched_staged change packets d0 d1 c.stage_packets.ensures.changes
+
+pub returns-then-not-branch-clause-changes : goal.returns-then-not-branch-clause-changes
+returns-then-not-branch-clause-changes g c =
+    let change = g.C.Commit.change c.args.commit.now in
+    let packets = c.args.packets.now in
+    let d0 = g.D.Disk.state c.args.disk.now in
+    let d1 = g.D.Disk.state c.stage_packets.new.disk in
+    touched_staged change packets d0 d1 c.stage_packets.ensures.changes
+
+pub returns-in_err-commit-clause-changes : goal.returns-in_err-commit-clause-changes
+returns-in_err-commit-clause-changes g c =
+    let change = g.C.Commit.change c.args.commit.now in
+    let packets = c.args.packets.now in
+    let d0 = g.D.Disk.state c.args.disk.now in
+    let d1 = g.D.Disk.state c.stage_packets.new.disk in
+    touched_committed change packets d0 d1 (g.D.Disk.state c.commit.new.disk) c.stage_packets.ensures.changes c.commit.ensures.changes
+
+pub returns-in_err-name_packets-clause-changes : goal.returns-in_err-name_packets-clause-changes
+returns-in_err-name_packets-clause-changes g c =
+    let change = g.C.Commit.change c.args.commit.now in
+    let packets = c.args.packets.now in
+    let d0 = g.D.Disk.state c.args.disk.now in
+    let d1 = g.D.Disk.state c.stage_packets.new.disk in
+    touched_named change packets d0 d1 (g.D.Disk.state c.commit.new.disk) (g.D.Disk.state c.name_packets.new.disk) c.stage_packets.ensures.changes c.commit.ensures.changes c.name_packets.ensures.changes
+
+pub returns-then-not-branch-2-clause-changes : goal.returns-then-not-branch-2-clause-changes
+returns-then-not-branch-2-clause-changes g c =
+    let change = g.C.Commit.change c.args.commit.now in
+    let packets = c.args.packets.now in
+    let d0 = g.D.Disk.state c.args.disk.now in
+    let d1 = g.D.Disk.state c.stage_packets.new.disk in
+    touched_named change packets d0 d1 (g.D.Disk.state c.commit.new.disk) (g.D.Disk.state c.name_packets.new.disk) c.stage_packets.ensures.changes c.commit.ensures.changes c.name_packets.ensures.changes
+
+pub returns-clause-changes : goal.returns-clause-changes
+returns-clause-changes g c =
+    let change = g.C.Commit.change c.args.commit.now in
+    let packets = c.args.packets.now in
+    let d0 = g.D.Disk.state c.args.disk.now in
+    let d1 = g.D.Disk.state c.stage_packets.new.disk in
+    touched_named change packets d0 d1 (g.D.Disk.state c.commit.new.disk) (g.D.Disk.state c.name_packets.new.disk) c.stage_packets.ensures.changes c.commit.ensures.changes c.name_packets.ensures.changes

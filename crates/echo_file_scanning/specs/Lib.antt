@@ -1,0 +1,4 @@
+pub mod Sending
+pub mod Listing
+pub mod Left
+pub mod Scanning

@@ -1,0 +1,69 @@
+-- The packets of a scan, on their way to their paths.
+use Rattle.std.specs.Prelude.{◌≡◌, ◌≢◌, ◌⊎◌, ◌<◌, ℕ, List, ◌++◌, length, get_or, All, Contains, Option, Some}
+use Rattle.echo_disk.specs.Disk.{DiskState, Files}
+use Rattle.echo_changing.specs.PacketFiles.{PacketFile}
+use Rattle.echo_placing.specs.Changes.{DifferAt, HasOnDisk}
+use Rattle.echo_placing.specs.declared.outgoing.Outgoing.{Outgoing}
+use Rattle.echo_station_files.specs.Paths.{path_beside}
+use Rattle.echo_file_changing.specs.Putting.{IsOfBase}
+use Rattle.echo_file_scanning.specs.declared.sending.TwoPaths.{TwoPaths}
+
+-- a byte of a packet's name: no slash, and no tilde, which stands in what is beside a name
+pub record IsNameByte (b : ℕ) : Type 0 where
+  pub no_slash : b ≢ 47
+  pub no_tilde : b ≢ 126
+
+-- the path that a packet of this name is to have in the folder, and the one beside it, at which it stands before
+abbrev pub two_paths : List ℕ → List ℕ → List ℕ → TwoPaths
+two_paths folder own name = record { path = folder ++ name; beside = path_beside (folder ++ name) own }
+
+-- those of a packet's file
+abbrev pub file_paths : List ℕ → List ℕ → PacketFile → TwoPaths
+file_paths folder own sent = two_paths folder own sent.name
+
+-- they have two paths that are not the same
+abbrev pub HaveOtherPaths : TwoPaths → TwoPaths → Type 0
+HaveOtherPaths one other = one.path ≢ other.path
+
+-- neither path is that of the base file or the one beside it
+pub record IsOffBase (base beside : List ℕ) (two : TwoPaths) : Type 0 where
+  pub path : IsOfBase base beside two.path → ⊥
+  pub beside_path : IsOfBase base beside two.beside → ⊥
+
+-- the packet that goes to these paths is this file
+pub record IsSent (sent : PacketFile) (two : TwoPaths) (packet : Outgoing) : Type 0 where
+  pub path : packet.path.now ≡ two.path
+  pub beside : packet.beside.now ≡ two.beside
+  pub file : packet.file.now ≡ sent
+
+-- so are the packets these files, one by one
+pub record AreSent (files : List PacketFile) (paths : List TwoPaths) (packets : List Outgoing) : Type 0 where
+  pub as_many : length packets ≡ length files
+  pub each : (k : ℕ) (f : PacketFile) (t : TwoPaths) (p : Outgoing) → k < length files → IsSent (get_or files k f) (get_or paths k t) (get_or packets k p)
+
+-- the packet is on the disk, at its path, with just its bytes
+abbrev pub IsAtItsPath : List ℕ → DiskState → PacketFile → Type 0
+IsAtItsPath folder disk sent = HasOnDisk disk (folder ++ sent.name) sent.bytes
+
+-- it stands whole at one of its two paths
+abbrev pub StandsWhole : List ℕ → List ℕ → Files → PacketFile → Type 0
+StandsWhole folder own c sent = (c (folder ++ sent.name) ≡ Some sent.bytes) ⊎ (c (path_beside (folder ++ sent.name) own) ≡ Some sent.bytes)
+
+-- its path has what it had
+abbrev pub IsUntouched : List ℕ → Files → Files → PacketFile → Type 0
+IsUntouched folder before after sent = after (folder ++ sent.name) ≡ before (folder ++ sent.name)
+
+-- one of the two paths of a packet
+abbrev pub IsOfPacket : List ℕ → List ℕ → List PacketFile → List ℕ → Type 0
+IsOfPacket folder own files m = (sent : PacketFile) × Contains files sent × All IsNameByte sent.name × ((m ≡ path_beside (folder ++ sent.name) own) ⊎ (m ≡ folder ++ sent.name))
+
+-- one of these, or the path of the base file or the one beside it
+abbrev pub IsOfScan : List ℕ → List ℕ → List ℕ → List PacketFile → List ℕ → Type 0
+IsOfScan base folder own files m = IsOfBase base (path_beside base own) m ⊎ IsOfPacket folder own files m
+
+-- What a crash meanwhile may leave: the base file as it was and no packet at its path, or the base file of the bytes that the scan
+-- left and each packet whole. Beside their paths files may be anything, and all else is as it was.
+pub record MaySend (base folder own : List ℕ) (left : Option (List ℕ)) (files : List PacketFile) (before after : Files) : Type 0 where
+  pub others : DifferAt (IsOfScan base folder own files) before after
+  pub either : ((after base ≡ before base) × All (IsUntouched folder before after) files)
+      ⊎ ((bytes : List ℕ) × (left ≡ Some bytes) × (after base ≡ Some bytes) × All (StandsWhole folder own after) files)

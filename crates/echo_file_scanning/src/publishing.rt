@@ -1,0 +1,97 @@
+//! The packets and the base of a scan are put in place.
+ghost use Rattle.std.specs.Prelude.{◌≡◌, ◌≢◌, All, Some, OnOk};
+ghost use Rattle.echo_disk.specs.Disk.{Files, Honestly};
+ghost use Rattle.echo_disk.specs.Runs.{LeavesOnly, OneStepOn};
+ghost use Rattle.echo_placing.specs.Changes.{ChangesOnly};
+ghost use Rattle.echo_placing.specs.Publishing.{HasPlacingCause};
+ghost use Rattle.echo_placing.specs.Replacing.{Replaces};
+ghost use Rattle.echo_station_files.specs.Paths.{path_beside};
+ghost use Rattle.echo_file_changing.specs.Putting.{IsOfBase};
+ghost use Rattle.echo_file_scanning.specs.Sending.{IsAtItsPath, IsOfScan, MaySend};
+
+use crate::fitting::{all_differ, are_names, are_off_base};
+use crate::sending::{outgoing_of, paths_of};
+use echo_changing::PacketFile;
+use echo_disk::Disk;
+use echo_placing::{PlacingError, Replacing, publish, replace_file};
+use echo_station_files::{folder_of, path_beside};
+use std::alloc::Global;
+
+// Puts these bytes in the place of those of the base file.
+fn publish_base<D: Disk>(
+    alloc: Global,
+    disk: &mut D,
+    base: &[u8],
+    own: &[u8],
+    bytes: &[u8],
+) -> Result<(), PlacingError>
+    requires { All (λ b. b ≢ 47) own.now }
+    ensures committed { OnOk result ((c : Files) → (D.state disk.new).may_leave c → c base.now ≡ Some bytes.now) }
+    ensures any_moment { LeavesOnly (D.state disk.old) (D.state disk.new)
+        (OneStepOn (Replaces base.now (path_beside base.now own.now) bytes.now) (D.state disk.old)) }
+    ensures changes { ChangesOnly (IsOfBase base.now (path_beside base.now own.now)) (D.state disk.old) (D.state disk.new) }
+    ensures cause { HasPlacingCause (D.failures disk.old) (D.failures disk.new) result }
+{
+    let beside = path_beside(alloc, base, own)?;
+    replace_file(disk, folder_of(base), base, &beside, bytes)?;
+    Ok(())
+}
+
+// Puts the packets of a scan into the folder, and these bytes in the place of those of the base file.
+fn publish_packets<D: Disk>(
+    alloc: Global,
+    disk: &mut D,
+    base: &[u8],
+    own: &[u8],
+    folder: &[u8],
+    files: &[PacketFile],
+    bytes: &[u8],
+) -> Result<(), PlacingError>
+    requires { All (λ b. b ≢ 47) own.now }
+    ensures sent { Honestly (D.state disk.new) (OnOk result (All (IsAtItsPath folder.now (D.state disk.new)) files.now)) }
+    ensures committed { OnOk result ((c : Files) → (D.state disk.new).may_leave c → c base.now ≡ Some bytes.now) }
+    ensures any_moment { Honestly (D.state disk.new) (LeavesOnly (D.state disk.old) (D.state disk.new)
+        (OneStepOn (MaySend base.now folder.now own.now (Some bytes.now) files.now) (D.state disk.old))) }
+    ensures changes { ChangesOnly (IsOfScan base.now folder.now own.now files.now) (D.state disk.old) (D.state disk.new) }
+    ensures cause { HasPlacingCause (D.failures disk.old) (D.failures disk.new) result }
+{
+    let beside = path_beside(alloc, base, own)?;
+    let paths = paths_of(alloc, folder, own, files)?;
+    if !are_names(files) || !all_differ(&paths) || !are_off_base(&paths, base, &beside) {
+        return Err(PlacingError::Taken);
+    }
+    let packets = outgoing_of(alloc, files, &paths)?;
+    let mut commit = Replacing {
+        folder: folder_of(base),
+        path: base,
+        beside: &beside,
+        bytes,
+    };
+    publish(alloc, disk, folder, &packets, &mut commit)
+}
+
+/// Puts the packets of a scan into the folder, and these bytes in the place of those of the base file. Where there is no
+/// packet the folder need not be there.
+pub(crate) fn publish_scan<D: Disk>(
+    alloc: Global,
+    disk: &mut D,
+    base: &[u8],
+    own: &[u8],
+    folder: &[u8],
+    files: &[PacketFile],
+    bytes: &[u8],
+) -> Result<(), PlacingError>
+    requires { All (λ b. b ≢ 47) own.now }
+    ensures sent { Honestly (D.state disk.new) (OnOk result (All (IsAtItsPath folder.now (D.state disk.new)) files.now)) }
+    ensures committed { OnOk result ((c : Files) → (D.state disk.new).may_leave c → c base.now ≡ Some bytes.now) }
+    ensures any_moment { Honestly (D.state disk.new) (LeavesOnly (D.state disk.old) (D.state disk.new)
+        (OneStepOn (MaySend base.now folder.now own.now (Some bytes.now) files.now) (D.state disk.old))) }
+    ensures changes { ChangesOnly (IsOfScan base.now folder.now own.now files.now) (D.state disk.old) (D.state disk.new) }
+    ensures cause { HasPlacingCause (D.failures disk.old) (D.failures disk.new) result }
+{
+    if files.is_empty() {
+        publish_base(alloc, disk, base, own, bytes)
+    } else {
+        publish_packets(alloc, disk, base, own, folder, files, bytes)
+    }
+}
