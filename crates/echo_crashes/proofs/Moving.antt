@@ -105,13 +105,14 @@ is-scanned stamp i run s there moment =
       delivered = run.delivered;
     }) run moment)
 
-some-waits : (s : System) (stamp : Stamp) (packets : List PacketFile) → packets ≡ map (file_sent s.cursor) (scanned s.file s.base s.cursor stamp)
-    → (q : PacketFile) → Among q packets → s.cursor < length s.base
-some-waits s stamp packets made q h = elim (cases_lt s.cursor (length s.base)) [
+-- where there are packets something waited
+pub some-waits : (file : LinkFile) (base : List Filed) (cursor : ℕ) (stamp : Stamp) (packets : List PacketFile) → packets ≡ map (file_sent cursor) (scanned file base cursor stamp)
+    → (q : PacketFile) → Among q packets → cursor < length base
+some-waits file base cursor stamp packets made q h = elim (cases_lt cursor (length base)) [
   | inl less ↦ less
   | inr past ↦ (
       let P : List PacketFile → Type 0 = λ qs. Among q qs in
-      absurd (subst P (made ∙ ap (map (file_sent s.cursor)) (none-scanned s.file s.base s.cursor stamp past)) h))
+      absurd (subst P (made ∙ ap (map (file_sent cursor)) (none-scanned file base cursor stamp past)) h))
 ]
 
 pub moves : (stamp : Stamp) (net new : Net) (i : ℕ) (run : Run) (t : Paired HasFiles net.stations run.systems) (scans : Scans stamp net i new) → Moved stamp i run scans.done.files.packets
@@ -122,7 +123,7 @@ moves stamp net new i run stations scans =
     let same : right.system ≡ state_of s = called-on scans.station s scans.call right.system has answered.so.right.1 right.given in
     let made : scans.done.files.packets ≡ map (file_sent s.cursor) (scanned s.file s.base s.cursor stamp) =
     ap (λ (f : Files). f.packets) (answered.are ∙ right.left) ∙ ap (λ (x : SystemState). map (file_sent x.cursor) (scanned x.file x.base x.cursor stamp)) same in
-    record { s = s; there = there; makes = is-scanned stamp i run s there right.moment; less = some-waits s stamp scans.done.files.packets made }
+    record { s = s; there = there; makes = is-scanned stamp i run s there right.moment; less = some-waits s.file s.base s.cursor stamp scans.done.files.packets made }
 
 -- the cursor is at the end of the base
 pub now-cursor : (stamp : Stamp) (i : ℕ) (run : Run) (packets : List PacketFile) → (known : Moved stamp i run packets)

@@ -23,7 +23,7 @@ use Rattle.echo_crashes.proofs.Moving.{moves, now-cursor}
 use Rattle.echo_crashes.proofs.Tracking.{cursor_of, cursors, holds-too, nth-map}
 
 -- the net with more packet files
-abbrev with_packets : Net → List (List ℕ) → Net
+abbrev pub with_packets : Net → List (List ℕ) → Net
 with_packets net more = record { stations = net.stations; packets = net.packets ++ more; delivered = net.delivered; postings = net.postings }
 
 -- the cursor of a system is that of the base file of its station

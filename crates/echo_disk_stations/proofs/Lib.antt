@@ -1,3 +1,3 @@
-mod Leading
+pub mod Leading
 mod Events
 mod Tosses

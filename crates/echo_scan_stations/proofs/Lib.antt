@@ -1,0 +1,4 @@
+mod Touched
+mod Parted
+mod Bases
+mod Scans

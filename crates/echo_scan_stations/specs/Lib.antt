@@ -1,0 +1,2 @@
+pub mod AfterScans
+pub mod ScansAsMay
