@@ -8,6 +8,7 @@ use echo_addr::Address;
 use echo_base::{Base, BaseFault};
 use echo_base_folder::{Seen, Unread, fill, log_end, look, open_for};
 use echo_files::flush_path;
+use echo_folder_changing::Found;
 use echo_folder_store::FolderStore;
 use echo_keys::SipDigest;
 use echo_real_disk::{RealDisk, Unknown};
@@ -19,6 +20,22 @@ use std::{fs, io};
 
 /// A base folder on the files of the system.
 pub type BaseFolder<'r> = FolderStore<RealDisk<&'r HostRuntime, Unknown>, SipDigest>;
+
+/// What is found of a base folder before it is opened, and the path that its files have before their names.
+#[derive(Drop)]
+pub struct FoundFolder {
+    pub path: String,
+    pub found: Found,
+}
+
+/// What is found of the base folder with this path, and a key for its digests.
+pub fn found_in<'a>(rt: &HostRuntime, base: &'a str) -> Result<FoundFolder, Fault<'a>> {
+    let strange = is_strange(rt, base)?;
+    let path = folder_path(rt, base)?;
+    let key = drawn_key(rt)?;
+    let found = Found { strange, key };
+    Ok(FoundFolder { path, found })
+}
 
 /// Whether the path is that of a folder.
 pub fn is_folder(rt: &HostRuntime, path: &str) -> bool {
@@ -66,8 +83,8 @@ pub fn fill_folder<'a>(
     }
 }
 
-// Flushes the folder in which a base folder of so many messages stands: one without any may have been made just now.
-fn flush_name<'a>(rt: &HostRuntime, base: &'a str, messages: usize) -> Result<(), Fault<'a>> {
+/// Flushes the folder in which a base folder of so many messages stands: one without any may have been made just now.
+pub fn flush_name<'a>(rt: &HostRuntime, base: &'a str, messages: usize) -> Result<(), Fault<'a>> {
     if messages > 0 {
         return Ok(());
     }

@@ -21,6 +21,7 @@ mod loading;
 mod locks;
 mod on_file;
 mod on_folder;
+mod opened;
 mod packets;
 mod paths;
 mod placing;

@@ -2,9 +2,10 @@
 //! folder, so that runs with other link files, or `convert`, do not change it meanwhile.
 ghost use Rattle.std.specs.Prelude.{IfOk};
 
-use crate::expecting::expected_keys;
-use crate::folders::{BaseFolder, cursor_there, look_into, open_own};
-use crate::locks::locked_folder;
+use crate::folders::{BaseFolder, FoundFolder, cursor_there, found_in, look_into, open_own};
+use crate::locks::{LinkLock, locked_folder};
+use crate::opened::Opened;
+use crate::packets::PacketPaths;
 use crate::paths::PathName;
 use crate::placing::{Outbound, drop_packets, name_packets, packet_paths, stage_packets};
 use crate::progress::Progress;
@@ -13,18 +14,18 @@ use crate::stopped::finish_stopped;
 use crate::telling::Telling;
 use echo_addr::Items;
 use echo_base::BaseFault;
-use echo_changing::{Answer, NewMessage, PacketFile, PacketFiles};
+use echo_changing::{Answer, NewMessage, PacketFile};
 use echo_device::Sink;
+use echo_folder_changing::{FolderPlace, post_free_in, post_in, purge_in, reply_in, toss_in};
 use echo_keys::SipDigest;
 use echo_links::LinkFile;
 use echo_mailing::{Letter, MailWords, letter_in};
 use echo_packet::Limits;
+use echo_real_disk::{RealDisk, Unknown};
 use echo_status::{Fault, Status};
 use echo_steps::Stamp;
 use echo_store::{Store, StoreError};
-use echo_store_changing::{
-    Stop, commit_on, post_free_on, post_on, purge_on, reply_on, scan_on, toss_on,
-};
+use echo_store_changing::{Stop, commit_on, scan_on};
 use std::fs::File;
 
 /// What is to be answered: the number of the message, the words of the answer, and its body.
@@ -53,40 +54,20 @@ struct Station<'r> {
     store: BaseFolder<'r>,
 }
 
-// Reads the link file and opens the folder. What stopped reading before comes behind the faults of both.
-fn open_station<'a, 'r>(
-    rt: &'r HostRuntime,
-    place: Place<'a>,
-    stopped: Option<Fault<'a>>,
-) -> Result<Station<'r>, Fault<'a>>
+// Reads the link file and opens the folder.
+fn open_station<'a, 'r>(rt: &'r HostRuntime, place: Place<'a>) -> Result<Station<'r>, Fault<'a>>
     ensures { IfOk result (λ station. (⟦<BaseFolder<'r> as Store>⟧.state station.store).is_ready) }
 {
     let (locked, bytes) = locked_links(rt, place.links)?;
-    station_of(rt, locked, &bytes, place.base, stopped)
-}
-
-// The same of a link file that is locked and read.
-fn station_of<'a, 'r>(
-    rt: &'r HostRuntime,
-    locked: File,
-    links: &[u8],
-    base: &'a str,
-    stopped: Option<Fault<'a>>,
-) -> Result<Station<'r>, Fault<'a>>
-    ensures { IfOk result (λ station. (⟦<BaseFolder<'r> as Store>⟧.state station.store).is_ready) }
-{
-    let links = LinkFile::read(rt.alloc(), links)?;
-    let folder = locked_folder(rt, base)?;
-    let store = open_own(rt, base, links.system())?;
-    match stopped {
-        Some(fault) => Err(fault),
-        None => Ok(Station {
-            locked,
-            folder,
-            links,
-            store,
-        }),
-    }
+    let links = LinkFile::read(rt.alloc(), &bytes)?;
+    let folder = locked_folder(rt, place.base)?;
+    let store = open_own(rt, place.base, links.system())?;
+    Ok(Station {
+        locked,
+        folder,
+        links,
+        store,
+    })
 }
 
 // Why a command stopped. Where a message is damaged it is told which one is the first.
@@ -109,25 +90,56 @@ fn damaged_in<'a>(rt: &HostRuntime, base: &'a str) -> Fault<'a> {
     }
 }
 
-// The status of a command on the folder, and the lock is let go.
-fn ended<'a, E: Sink>(
-    rt: &HostRuntime,
-    station: Station<'_>,
-    base: &'a str,
-    done: Result<(), Stop<'a>>,
-    errors: &mut E,
-) -> Status {
-    let status = match done {
-        Ok(()) => Status::Good,
-        Err(stop) => fault_of(rt, base, stop).report(errors),
-    };
-    both_let_go(station, status)
-}
-
 // Lets both locks go.
 fn both_let_go(station: Station<'_>, status: Status) -> Status {
     let _ = station.folder.unlock();
     let_go(station.locked, status)
+}
+
+// The path of the folder, what is found of it, and what is done with it once it is open. Where that cannot be had, the
+// fault comes behind those of the link file and of the locks.
+fn begun<'a, 'b, 'r>(
+    rt: &'r HostRuntime,
+    place: Place<'a>,
+    toss: Option<Tossing<'b>>,
+) -> Result<(FoundFolder, Opened<'a, 'b, 'r>), Fault<'a>> {
+    match found_in(rt, place.base) {
+        Ok(found) => Ok((found, Opened::new(rt, place.base, toss))),
+        Err(fault) => {
+            lock_both(rt, place)?;
+            Err(fault)
+        }
+    }
+}
+
+// Judges the link file under its lock, and takes that of the folder.
+fn lock_both<'a>(rt: &HostRuntime, place: Place<'a>) -> Result<(), Fault<'a>> {
+    let (_locked, bytes) = locked_links(rt, place.links)?;
+    let _links = LinkFile::read(rt.alloc(), &bytes)?;
+    let _held = locked_folder(rt, place.base)?;
+    Ok(())
+}
+
+// The status of a command that ended so on the folder.
+fn status_of<'a, E: Sink>(
+    rt: &HostRuntime,
+    base: &'a str,
+    done: Result<(), Stop<'a>>,
+    errors: &mut E,
+) -> Status {
+    match done {
+        Ok(()) => Status::Good,
+        Err(stop) => fault_of(rt, base, stop).report(errors),
+    }
+}
+
+// The paths of a station, whose folder has files with this path before their names.
+fn place_of<'a>(place: Place<'a>, path: &'a str) -> FolderPlace<'a> {
+    FolderPlace {
+        links: place.links,
+        base: place.base,
+        path: path.as_bytes(),
+    }
 }
 
 /// `post`.
@@ -139,31 +151,44 @@ pub fn post_there<'a, W: Sink, E: Sink>(
     out: &mut W,
     errors: &mut E,
 ) -> Status {
-    match open_station(rt, place, stopped) {
-        Ok(mut station) => {
-            let done = post_in(rt, &mut station, asked, out);
-            ended(rt, station, place.base, done, errors)
-        }
-        Err(fault) => fault.report(errors),
-    }
-}
-
-// Posts at the system.
-fn post_in<'a, 'r, W: Sink>(
-    rt: &HostRuntime,
-    station: &mut Station<'r>,
-    asked: Posting<'_>,
-    out: &mut W,
-) -> Result<(), Stop<'a>>
-    requires { (⟦<BaseFolder<'r> as Store>⟧.state station.old.store).is_ready }
-{
+    let (FoundFolder { path, found }, mut opened) = match begun(rt, place, None) {
+        Ok(begun) => begun,
+        Err(fault) => return fault.report(errors),
+    };
+    let at = place_of(place, path.as_str());
+    let (mut lock, mut held) = (LinkLock::new(rt), LinkLock::new(rt));
+    let disk = RealDisk::new(rt, Unknown);
     let Posting { words, free, body } = asked;
-    let Station { links, store, .. } = station;
-    if free {
-        post_free_on(rt.alloc(), words, links, store, body, out)
+    let ended = if free {
+        post_free_in::<_, SipDigest, _, _, _, _>(
+            rt.alloc(),
+            disk,
+            &mut lock,
+            &mut held,
+            at,
+            found,
+            stopped,
+            &mut opened,
+            words,
+            body,
+            out,
+        )
     } else {
-        post_on(rt.alloc(), words, links, store, body, out)
-    }
+        post_in::<_, SipDigest, _, _, _, _>(
+            rt.alloc(),
+            disk,
+            &mut lock,
+            &mut held,
+            at,
+            found,
+            stopped,
+            &mut opened,
+            words,
+            body,
+            out,
+        )
+    };
+    status_of(rt, place.base, ended.done, errors)
 }
 
 /// `post --mail`: the mail is judged once the link file can be read, and what the files hold last.
@@ -175,20 +200,12 @@ pub fn post_mail_there<'a, W: Sink, E: Sink>(
     out: &mut W,
     errors: &mut E,
 ) -> Status {
-    let (locked, links) = match locked_links(rt, place.links) {
-        Ok(read) => read,
-        Err(fault) => return fault.report(errors),
-    };
-    let letter = match letter_in(rt.alloc(), mail, asked.spare, asked.charset) {
-        Ok(letter) => letter,
-        Err(fault) => return fault.report(errors),
-    };
-    match station_of(rt, locked, &links, place.base, None) {
-        Ok(mut station) => {
-            let done = post_in(rt, &mut station, posting_in(&letter, asked), out);
-            ended(rt, station, place.base, done, errors)
-        }
-        Err(fault) => fault.report(errors),
+    match letter_in(rt.alloc(), mail, asked.spare, asked.charset) {
+        Ok(letter) => post_there(rt, place, posting_in(&letter, asked), None, out, errors),
+        Err(fault) => match locked_links(rt, place.links) {
+            Ok(_) => fault.report(errors),
+            Err(first) => first.report(errors),
+        },
     }
 }
 
@@ -218,19 +235,33 @@ pub fn reply_there<'a, W: Sink, E: Sink>(
     out: &mut W,
     errors: &mut E,
 ) -> Status {
-    match open_station(rt, place, stopped) {
-        Ok(mut station) => {
-            let Replying {
-                index,
-                answer,
-                body,
-            } = asked;
-            let Station { links, store, .. } = &mut station;
-            let done = reply_on(rt.alloc(), index, answer, links, store, body, out);
-            ended(rt, station, place.base, done, errors)
-        }
-        Err(fault) => fault.report(errors),
-    }
+    let (FoundFolder { path, found }, mut opened) = match begun(rt, place, None) {
+        Ok(begun) => begun,
+        Err(fault) => return fault.report(errors),
+    };
+    let at = place_of(place, path.as_str());
+    let (mut lock, mut held) = (LinkLock::new(rt), LinkLock::new(rt));
+    let disk = RealDisk::new(rt, Unknown);
+    let Replying {
+        index,
+        answer,
+        body,
+    } = asked;
+    let ended = reply_in::<_, SipDigest, _, _, _, _>(
+        rt.alloc(),
+        disk,
+        &mut lock,
+        &mut held,
+        at,
+        found,
+        stopped,
+        &mut opened,
+        index,
+        answer,
+        body,
+        out,
+    );
+    status_of(rt, place.base, ended.done, errors)
 }
 
 /// `purge`.
@@ -240,48 +271,69 @@ pub fn purge_there<W: Sink, E: Sink>(
     out: &mut W,
     errors: &mut E,
 ) -> Status {
-    match open_station(rt, place, None) {
-        Ok(mut station) => {
-            let done = purge_on(rt.alloc(), &mut station.store, out);
-            ended(rt, station, place.base, done, errors)
-        }
-        Err(fault) => fault.report(errors),
-    }
-}
-
-// Tells the folder which messages the packets have.
-fn expect<'r>(rt: &HostRuntime, by: Tossing<'_>, store: &mut BaseFolder<'r>)
-    requires { (⟦<BaseFolder<'r> as Store>⟧.state store.old).is_ready }
-    ensures { (⟦<BaseFolder<'r> as Store>⟧.state store.new).is_ready }
-{
-    if let Ok(keys) = expected_keys(rt, by.names, by.limits, store.len()) {
-        store.expect(&keys);
-    }
+    let (FoundFolder { path, found }, mut opened) = match begun(rt, place, None) {
+        Ok(begun) => begun,
+        Err(fault) => return fault.report(errors),
+    };
+    let at = place_of(place, path.as_str());
+    let (mut lock, mut held) = (LinkLock::new(rt), LinkLock::new(rt));
+    let disk = RealDisk::new(rt, Unknown);
+    let ended = purge_in::<_, SipDigest, _, _, _, _>(
+        rt.alloc(),
+        disk,
+        &mut lock,
+        &mut held,
+        at,
+        found,
+        &mut opened,
+        out,
+    );
+    status_of(rt, place.base, ended.done, errors)
 }
 
 /// `toss`: what ends it at a packet is reported once the folder is committed.
-pub fn toss_there<'a, P: PacketFiles<'a>, W: Sink, E: Sink>(
+pub fn toss_there<'a, W: Sink, E: Sink>(
     rt: &HostRuntime,
     place: Place<'a>,
     by: Tossing<'_>,
     stopped: Option<Fault<'a>>,
-    packets: &mut P,
+    packets: &mut PacketPaths<'a>,
     out: &mut W,
     errors: &mut E,
 ) -> Status {
-    let mut station = match open_station(rt, place, stopped) {
-        Ok(station) => station,
+    let toss = if stopped.is_none() { Some(by) } else { None };
+    let mut packets = PacketPaths {
+        rt: packets.rt,
+        names: packets.names,
+        packets: packets.packets,
+        progress: packets.progress,
+    };
+    let (FoundFolder { path, found }, mut opened) = match begun(rt, place, toss) {
+        Ok(begun) => begun,
         Err(fault) => return fault.report(errors),
     };
-    let Station { links, store, .. } = &mut station;
-    expect(rt, by, store);
-    let done = toss_on(rt.alloc(), by.limits, by.each, links, store, packets, out);
-    let status = match done {
-        Ok(None) => Status::Good,
+    let at = place_of(place, path.as_str());
+    let (mut lock, mut held) = (LinkLock::new(rt), LinkLock::new(rt));
+    let disk = RealDisk::new(rt, Unknown);
+    let ended = toss_in::<_, SipDigest, _, _, _, _, _>(
+        rt.alloc(),
+        disk,
+        &mut lock,
+        &mut held,
+        at,
+        found,
+        stopped,
+        &mut opened,
+        by.limits,
+        by.each,
+        &mut packets,
+        out,
+    );
+    match ended.done {
         Ok(Some(fault)) => fault.report(errors),
+        Ok(None) => Status::Good,
         Err(stop) => fault_of(rt, place.base, stop).report(errors),
-    };
-    both_let_go(station, status)
+    }
 }
 
 /// `scan`: the packets stand beside their names before the folder is committed, and get them then.
@@ -299,7 +351,7 @@ pub fn scan_there<'a, W: Sink, E: Sink>(
         folder: held,
         links,
         store,
-    } = match open_station(rt, place, None) {
+    } = match open_station(rt, place) {
         Ok(station) => station,
         Err(fault) => return fault.report(errors),
     };
