@@ -8,13 +8,13 @@ use echo_station_files::StationFiles;
 
 /// What a command is given of a station's files, and the own name.
 #[derive(Drop)]
-pub(crate) struct Handing<'a, S> {
+pub struct Handing<'a, S> {
     pub own: Items<u8>,
     pub given: Given<'a, S>,
 }
 
 /// The files are handed to a command.
-pub(crate) fn hand_over<'a, S>(files: StationFiles<'a>, hasher: S) -> Handing<'a, S>
+pub fn hand_over<'a, S>(files: StationFiles<'a>, hasher: S) -> Handing<'a, S>
     ensures own { result.own ≡ files.entry.own }
     ensures given { result.given ≡ record { links = files.entry.links; base = files.entry.base; stopped = files.entry.stopped } }
 {

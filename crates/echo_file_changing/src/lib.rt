@@ -15,7 +15,9 @@ mod putting;
 mod replying;
 mod tossing;
 
+pub use handing::{Handing, hand_over};
 pub use posting::{post_at, post_free_at};
 pub use purging::purge_at;
+pub use putting::put_base;
 pub use replying::reply_at;
 pub use tossing::{toss_at, toss_each_at};

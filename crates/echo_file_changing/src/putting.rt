@@ -15,7 +15,7 @@ use std::alloc::Global;
 
 /// Puts the base that a command left in the place of the base file, and answers what the command met. A base that
 /// cannot be put in place is answered instead: what the command met comes again once the disk is mended.
-pub(crate) fn put_base<'a, D: Disk>(
+pub fn put_base<'a, D: Disk>(
     alloc: Global,
     disk: &mut D,
     base: &'a str,

@@ -15,7 +15,7 @@ const OWNER_ALONE: u32 = 0o600;
 
 /// What a file keeps when other bytes take its name.
 #[derive(Drop)]
-pub(crate) struct Access {
+pub struct Access {
     pub permissions: Permissions,
     pub owner: u32,
     pub group: u32,
@@ -44,8 +44,8 @@ pub(crate) fn make_beside<R: Files>(
     }
 }
 
-// Makes a file that was not there, and follows no link.
-fn make_new<R: Files>(files: &R, path: &str) -> io::Result<R::File> {
+/// Makes a file that was not there, for its owner alone, and follows no link.
+pub fn make_new<R: Files>(files: &R, path: &str) -> io::Result<R::File> {
     OpenOptions::new()
         .write(true)
         .create_new(true)
@@ -53,9 +53,9 @@ fn make_new<R: Files>(files: &R, path: &str) -> io::Result<R::File> {
         .open(files, path)
 }
 
-// A fault, unless a stopped run left the file: a regular one that begins as what is to be written does,
-// or ends before that shows.
-fn check_left<R: Files>(
+/// A fault, unless a stopped run left the file: a regular one that begins as what is to be written does,
+/// or ends before that shows.
+pub fn check_left<R: Files>(
     alloc: Global,
     files: &R,
     path: &str,
@@ -77,7 +77,7 @@ fn check_left<R: Files>(
 
 /// What the file that is to be replaced keeps, if there is one. It has to be a regular file that may be
 /// written.
-pub(crate) fn access_of<R: Files>(files: &R, path: &str) -> Result<Option<Access>, OutputFault> {
+pub fn access_of<R: Files>(files: &R, path: &str) -> Result<Option<Access>, OutputFault> {
     match fs::metadata(files, path) {
         Ok(found) if found.is_file() && !found.permissions().readonly() => {
             OpenOptions::new().write(true).open(files, path)?;
@@ -94,7 +94,7 @@ pub(crate) fn access_of<R: Files>(files: &R, path: &str) -> Result<Option<Access
 }
 
 /// Gives a file the access of the one that it replaces. Its owner and group are set where that is allowed.
-pub(crate) fn give_access<F: OpenFile + Owned>(file: &F, access: Access) -> io::Result<()> {
+pub fn give_access<F: OpenFile + Owned>(file: &F, access: Access) -> io::Result<()> {
     file.set_owner(access.owner, access.group);
     file.set_permissions(access.permissions)
 }

@@ -17,11 +17,14 @@ mod reading;
 mod staging;
 mod writing;
 
+pub use beside::{Access, access_of, check_left, give_access, make_new};
 pub use input::{InputFault, read_whole};
 pub use owned::Owned;
 pub use reading::{open_regular, read_file, read_file_if_there};
 pub use staging::{drop_staged, name_staged, stage_file};
-pub use writing::{NewFile, OutputFault, create_file, flush_folder, flush_path, replace_file};
+pub use writing::{
+    NewFile, OutputFault, create_file, flush_folder, flush_path, replace_file, target_of,
+};
 
 #[cfg(test)]
 mod tests;

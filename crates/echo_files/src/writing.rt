@@ -187,8 +187,8 @@ pub(crate) fn tidied<R: Files>(
     done
 }
 
-// The path of the file that is to be written: that which a symbolic link leads to, else the path.
-fn target_of<R: Files>(alloc: Global, files: &R, path: &str) -> Result<String, OutputFault> {
+/// The path of the file that is to be written: that which a symbolic link leads to, else the path.
+pub fn target_of<R: Files>(alloc: Global, files: &R, path: &str) -> Result<String, OutputFault> {
     match fs::symlink_metadata(files, path) {
         Ok(found) if found.is_symlink() => Ok(files.canonicalize(alloc, path)?.into_string()),
         Ok(_) => Ok(String::from_str(alloc, path)?),

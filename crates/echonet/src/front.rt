@@ -1,10 +1,16 @@
 //! The front of a base file: numbers of four bytes, low byte first.
 
+use echo_device::{Watched, fill_from};
+use std::fs;
+
 /// Where the cursor stands.
 const CURSOR: usize = 8;
 
 /// Where the number of messages stands.
 const MESSAGES: usize = 12;
+
+/// How many bytes there are up to the end of that number.
+const TO_MESSAGES: usize = MESSAGES + 4;
 
 /// How many bytes there are up to the end of the cursor.
 pub const TO_CURSOR: usize = CURSOR + 4;
@@ -17,6 +23,18 @@ pub fn cursor_in(base: Option<&[u8]>) -> u64 {
 /// How many messages a base file says that it has; none where there is no file.
 pub fn messages_in(base: Option<&[u8]>) -> u64 {
     number_at(base, MESSAGES)
+}
+
+/// The same of the base file with this path; none where that cannot be read.
+pub fn messages_at(rt: &HostRuntime, path: &str) -> u64 {
+    let Ok(file) = fs::open(rt, path) else {
+        return 0;
+    };
+    let mut front = [0u8; TO_MESSAGES];
+    match fill_from(&mut Watched::new(file), &mut front, 0) {
+        Ok(came) => messages_in(Some(&front[..came])),
+        Err(_) => 0,
+    }
 }
 
 // The number at this place; none where the file ends before it does.

@@ -1,12 +1,76 @@
 //! Locks of files and of folders, and the line that says that one is waited for.
+ghost use Rattle.std.specs.Prelude.{◌≡◌, None};
 
+use echo_addr::Items;
 use echo_device::Watched;
+use echo_disk::DiskError;
 use echo_escape::push_word;
+use echo_station_files::FileLock;
 use echo_status::{Fault, print_rest};
 use std::alloc::AllocError;
 use std::fs::{File, TryLockError};
-use std::io::IsTerminal;
-use std::{fs, io};
+use std::io::{ErrorKind, IsTerminal};
+use std::{fs, io, str};
+
+/// The lock of a link file, which is held until this value goes.
+#[derive(Drop)]
+pub struct LinkLock<'r> {
+    rt: &'r HostRuntime,
+    locked: Option<File>,
+    path: Option<Items<u8>>,
+    failures: u64,
+}
+
+impl<'r> LinkLock<'r> {
+    /// No lock is held as yet.
+    pub fn new(rt: &'r HostRuntime) -> LinkLock<'r>
+        ensures { result.path ≡ None }
+    {
+        LinkLock {
+            rt,
+            locked: None,
+            path: None,
+            failures: 0,
+        }
+    }
+}
+
+impl FileLock for LinkLock<'_> {
+    ghost held = { λ lock. lock.path };
+
+    ghost failures = { λ lock. lock.failures };
+
+    fn lock(&mut self, path: &[u8]) -> Result<(), DiskError> {
+        let kept = Items::new(Vec::from_slice(self.rt.alloc(), path)?);
+        match locked_at(self.rt, path) {
+            Ok(file) => {
+                self.locked = Some(file);
+                self.path = Some(kept);
+                Ok(())
+            }
+            Err(DiskError::Memory) => Err(DiskError::Memory),
+            Err(DiskError::Device) => {
+                self.failures = self.failures.saturating_add(1);
+                Err(DiskError::Device)
+            }
+        }
+    }
+}
+
+// The file with this path, open and locked.
+fn locked_at(rt: &HostRuntime, path: &[u8]) -> Result<File, DiskError> {
+    let Ok(path) = str::from_utf8(path) else {
+        return Err(DiskError::Device);
+    };
+    match fs::open(rt, path) {
+        Ok(file) => match lock_file(rt, &file, path) {
+            Ok(()) => Ok(file),
+            Err(_) => Err(DiskError::Device),
+        },
+        Err(error) if error.kind() == ErrorKind::OutOfMemory => Err(DiskError::Memory),
+        Err(_) => Err(DiskError::Device),
+    }
+}
 
 /// Takes the lock of an open file with this path, once no other run holds it. Where one does, and standard error is
 /// a terminal, that is said there.

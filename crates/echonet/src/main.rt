@@ -1,11 +1,13 @@
 //! The program `echonet`: it reads the files that the command line names (`paths`, `inputs`), calls the
 //! commands (`judging`: `links`, which goes on where a file cannot be used), and puts what they leave in place
 //! (`station`, `packets`, `placing`, `stopped`, `stored` for files of one message each, and `jam` for JAM bases;
-//! `folders`, `on_folder`, `expecting` and `listing` where a base is a folder, and `converting`; `front` reads the front of a base file), under
-//! `locks`. `clock` gives the moment and the serial that words leave to it, `progress` tells a terminal how far a
+//! `on_file` and `base_files` where a base is a file; `folders`, `on_folder`, `expecting` and `listing` where it is a
+//! folder, and `converting`; `front` reads the front of a base file), under `locks`. `clock` gives the moment and the
+//! serial that words leave to it, `progress` tells a terminal how far a
 //! command is, `loading` how far the reading of a base file is, and `telling` that of a base folder.
 #![tactic(auto)]
 
+mod base_files;
 mod clock;
 mod converting;
 mod expecting;
@@ -17,6 +19,7 @@ mod judging;
 mod listing;
 mod loading;
 mod locks;
+mod on_file;
 mod on_folder;
 mod packets;
 mod paths;

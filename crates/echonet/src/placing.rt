@@ -10,7 +10,10 @@ use echo_status::{Fault, Status};
 use std::alloc::AllocError;
 use std::str;
 
-/// How many bytes show that a file is a base: `ECHOBAS`.
+/// The bytes that show that a file is a base.
+pub const BASE_START: &[u8] = b"ECHOBAS";
+
+/// How many these are.
 pub const BASE_KNOWN_BY: usize = 7;
 
 /// How many bytes show that a file is a packet of these two systems: their nodes.

@@ -7,6 +7,7 @@ use crate::front::cursor_in;
 use crate::inputs::{MAX_TEXT_FILE, input_fault, read_base, read_file, read_standard_input};
 use crate::loading::Counting;
 use crate::locks::lock_file;
+use crate::on_file::{post_here, purge_here, reply_here, toss_here};
 use crate::on_folder::{
     Replying, Tossing, post_mail_there, post_there, purge_there, reply_there, scan_there,
     toss_there,
@@ -17,9 +18,7 @@ use crate::placing::{Outbound, write_base, write_scan};
 use crate::progress::Progress;
 use echo_addr::{Address, Items};
 use echo_base::BaseFault;
-use echo_changing::{
-    Answer, Given, NewMessage, PacketFiles, post, post_free, purge, reply, scan, toss, toss_each,
-};
+use echo_changing::{Answer, Given, NewMessage, scan};
 use echo_charset::Charset;
 use echo_device::{Sink, Watched};
 use echo_files::read_whole;
@@ -111,15 +110,6 @@ pub fn name_of(rt: &HostRuntime, own: Address) -> Result<String, AllocError> {
     format!(in rt.alloc(); "{zone}.{net}.{node}")
 }
 
-// What is given, where reading stopped for this reason too.
-fn stopped_by<'a, 'p, 'r>(
-    given: Given<'a, Counting<'p, 'r>>,
-    stopped: Option<Fault<'a>>,
-) -> Given<'a, Counting<'p, 'r>> {
-    let stopped = given.stopped.or(stopped);
-    Given { stopped, ..given }
-}
-
 /// `post`: the serial and the stamp are judged first, then the files, then standard input. That is read
 /// before the lock is taken, since it may take its time.
 pub fn run_post<W: Sink, E: Sink>(
@@ -163,21 +153,10 @@ fn post_at<'a, W: Sink, E: Sink>(
     errors: &mut E,
 ) -> Status {
     if is_folder(rt, place.base) {
-        return post_there(rt, place, asked, stopped, out, errors);
-    }
-    let Station { locked, own, given } = match read_station(rt, place, None) {
-        Ok(station) => station,
-        Err(fault) => return fault.report(errors),
-    };
-    let given = stopped_by(given, stopped);
-    let Posting { words, free, body } = asked;
-    let done = if free {
-        post_free(rt.alloc(), words, given, body, out)
+        post_there(rt, place, asked, stopped, out, errors)
     } else {
-        post(rt.alloc(), words, given, body, out)
-    };
-    let status = write_base(rt, own.as_str(), done, place.base, errors);
-    let_go(locked, status)
+        post_here(rt, place, asked, stopped, out, errors)
+    }
 }
 
 // The body of a message, from standard input, and why it was not read.
@@ -272,22 +251,16 @@ pub fn run_reply<W: Sink, E: Sink>(
         links: words.links,
         base: words.base,
     };
-    if is_folder(rt, place.base) {
-        let asked = Replying {
-            index,
-            answer,
-            body: &body,
-        };
-        return reply_there(rt, place, asked, stopped, out, errors);
-    }
-    let Station { locked, own, given } = match read_station(rt, place, None) {
-        Ok(station) => station,
-        Err(fault) => return fault.report(errors),
+    let asked = Replying {
+        index,
+        answer,
+        body: &body,
     };
-    let given = stopped_by(given, stopped);
-    let done = reply(rt.alloc(), index, answer, given, &body, out);
-    let status = write_base(rt, own.as_str(), done, place.base, errors);
-    let_go(locked, status)
+    if is_folder(rt, place.base) {
+        reply_there(rt, place, asked, stopped, out, errors)
+    } else {
+        reply_here(rt, place, asked, stopped, out, errors)
+    }
 }
 
 // What an answer says that its message does not, and the number of that.
@@ -365,15 +338,10 @@ pub fn run_purge<W: Sink, E: Sink>(
         base: base_path,
     };
     if is_folder(rt, base_path) {
-        return purge_there(rt, place, out, errors);
+        purge_there(rt, place, out, errors)
+    } else {
+        purge_here(rt, place, out, errors)
     }
-    let Station { locked, own, given } = match read_station(rt, place, None) {
-        Ok(station) => station,
-        Err(fault) => return fault.report(errors),
-    };
-    let done = purge(rt.alloc(), given, out);
-    let status = write_base(rt, own.as_str(), done, base_path, errors);
-    let_go(locked, status)
 }
 
 /// `scan`: the stamp is judged first. The packets get their names once the base is written.
@@ -441,32 +409,7 @@ pub fn run_toss<W: Sink, E: Sink>(
     if is_folder(rt, place.base) {
         return toss_there(rt, place, by, stopped, &mut packets, out, errors);
     }
-    toss_at(rt, place, by, stopped, &mut packets, progress, out, errors)
-}
-
-// Tosses at a system whose base is a file.
-fn toss_at<'a, P: PacketFiles<'a>, W: Sink, E: Sink>(
-    rt: &HostRuntime,
-    place: Place<'a>,
-    by: Tossing<'_>,
-    stopped: Option<Fault<'a>>,
-    packets: &mut P,
-    progress: &Progress<'_>,
-    out: &mut W,
-    errors: &mut E,
-) -> Status {
-    let Station { locked, own, given } = match read_station(rt, place, Some(progress)) {
-        Ok(station) => station,
-        Err(fault) => return fault.report(errors),
-    };
-    let given = stopped_by(given, stopped);
-    let done = if by.each {
-        toss_each(rt.alloc(), given, by.limits, packets, out)
-    } else {
-        toss(rt.alloc(), given, by.limits, packets, out)
-    };
-    let status = write_base(rt, own.as_str(), done, place.base, errors);
-    let_go(locked, status)
+    toss_here(rt, place, by, stopped, packets, progress, out, errors)
 }
 
 // What is taken of packets.
