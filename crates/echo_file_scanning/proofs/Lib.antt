@@ -5,3 +5,4 @@ pub mod Lefts
 pub mod Cursors
 pub mod Outs
 pub mod ScanRuns
+pub mod Dropped

@@ -1,4 +1,5 @@
 pub mod Sending
+pub mod Dropping
 pub mod Listing
 pub mod Left
 pub mod Scanning

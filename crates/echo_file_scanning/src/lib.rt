@@ -7,11 +7,12 @@
 //! no packet of this scan at its path, or the new base and each packet whole.
 //!
 //! Modules in reading order: `sending` (the packets, each with its two paths), `fitting` (whether these are paths of
-//! their own), `publishing` (packets and base), `listing` (one who lists what was left), `finding` and `finishing` (that
+//! their own), `dropping` (packets that were not published), `publishing` (packets and base), `listing` (one who lists what was left), `finding` and `finishing` (that
 //! is brought to its end), `outgoing` (both), `cursor`, `scan_fault` and `scanning`.
 #![tactic(auto)]
 
 mod cursor;
+mod dropping;
 mod finding;
 mod finishing;
 mod fitting;

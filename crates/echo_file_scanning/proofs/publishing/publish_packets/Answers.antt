@@ -12,8 +12,8 @@ use Rattle.echo_file_scanning.specs.Sending.{HaveOtherPaths, IsOffBase, IsOfScan
 use Rattle.echo_file_scanning.proofs.Sent.{are_apart_from, are_placed, at_its_path, is_of_scan, may_send, on_ok_gives, sent_again}
 use Rattle.echo_file_scanning.proofs.publishing.publish_packets.Goals as goal
 
-pub publish-requires-clause-placed : goal.publish-requires-clause-placed
-publish-requires-clause-placed g c =
+pub put_together-requires-clause-placed : goal.put_together-requires-clause-placed
+put_together-requires-clause-placed g c =
     let files = c.args.files.now in
     let paths = c.in_ok-paths.paths.items in
     let packets = c.deref-4.result.now in
@@ -22,8 +22,8 @@ publish-requires-clause-placed g c =
     (c.are_names.ensures c.if-not-are_names.false) c.requires
     (subst (λ (l : List TwoPaths). AllPairs HaveOtherPaths l) c.deref.ensures.value (c.all_differ.ensures c.if-not-all_differ.false))
 
-pub publish-requires-clause-apart : goal.publish-requires-clause-apart
-publish-requires-clause-apart g c =
+pub put_together-requires-clause-apart : goal.put_together-requires-clause-apart
+put_together-requires-clause-apart g c =
     let files = c.args.files.now in
     let paths = c.in_ok-paths.paths.items in
     let packets = c.deref-4.result.now in
@@ -33,8 +33,8 @@ publish-requires-clause-apart g c =
     (sent_again files paths c.deref-2.result.now c.in_ok-packets.packets.items packets c.deref-2.ensures.value c.deref-4.ensures.value c.in_ok-packets.ensures)
     base c.deref-3.result.now (subst (λ (b : List ℕ). All (IsOffBase base b) paths) (c.deref-else-not-all_differ-2.ensures.value ∙ sym c.deref-3.ensures.value) off)
 
-pub publish-requires-clause-ready : goal.publish-requires-clause-ready
-publish-requires-clause-ready g c =
+pub put_together-requires-clause-ready : goal.put_together-requires-clause-ready
+put_together-requires-clause-ready g c =
     let base = c.args.base.now in
     let own = c.args.own.now in
     let folder = c.folder_of.result.now in
@@ -46,10 +46,10 @@ returns-clause-sent g c = λ honest.
     let files = c.args.files.now in
     let paths = c.in_ok-paths.paths.items in
     let packets = c.deref-4.result.now in
-    on_ok_gives c.publish.result
+    on_ok_gives c.put_together.result
     (at_its_path c.args.folder.now c.args.own.now files paths packets c.in_ok-paths.ensures
-    (sent_again files paths c.deref-2.result.now c.in_ok-packets.packets.items packets c.deref-2.ensures.value c.deref-4.ensures.value c.in_ok-packets.ensures) (g.D.Disk.state c.publish.new.disk))
-    (c.publish.ensures.published honest)
+    (sent_again files paths c.deref-2.result.now c.in_ok-packets.packets.items packets c.deref-2.ensures.value c.deref-4.ensures.value c.in_ok-packets.ensures) (g.D.Disk.state c.put_together.new.disk))
+    (c.put_together.ensures.published honest)
 
 pub returns-clause-any_moment : goal.returns-clause-any_moment
 returns-clause-any_moment g c = λ honest.
@@ -58,7 +58,7 @@ returns-clause-any_moment g c = λ honest.
     let packets = c.deref-4.result.now in
     let sent = sent_again files paths c.deref-2.result.now c.in_ok-packets.packets.items packets c.deref-2.ensures.value c.deref-4.ensures.value c.in_ok-packets.ensures in
     let r : Replacing = record { folder = c.folder_of.result; path = c.args.base; beside = c.deref-3.result; bytes = c.args.bytes } in
-    weaker_steps (g.D.Disk.state c.args.disk.now) (g.D.Disk.state c.publish.new.disk) (Publishes (replacing r) packets) (MaySend c.args.base.now c.args.folder.now c.args.own.now (Some c.args.bytes.now) files) (c.publish.ensures.any_moment honest)
+    weaker_steps (g.D.Disk.state c.args.disk.now) (g.D.Disk.state c.put_together.new.disk) (Publishes (replacing r) packets) (MaySend c.args.base.now c.args.folder.now c.args.own.now (Some c.args.bytes.now) files) (c.put_together.ensures.any_moment honest)
     (may_send c.args.folder.now c.args.own.now files paths packets c.in_ok-paths.ensures sent r c.args.base.now refl (c.deref-3.ensures.value ∙ c.in_ok-beside.ensures) (c.are_names.ensures c.if-not-are_names.false))
 
 pub returns-clause-changes : goal.returns-clause-changes
@@ -68,6 +68,6 @@ returns-clause-changes g c =
     let packets = c.deref-4.result.now in
     let sent = sent_again files paths c.deref-2.result.now c.in_ok-packets.packets.items packets c.deref-2.ensures.value c.deref-4.ensures.value c.in_ok-packets.ensures in
     let r : Replacing = record { folder = c.folder_of.result; path = c.args.base; beside = c.deref-3.result; bytes = c.args.bytes } in
-    wider (λ (m : List ℕ). (replacing r).own m ⊎ IsOfOne packets m) (IsOfScan c.args.base.now c.args.folder.now c.args.own.now files) (g.D.Disk.state c.args.disk.now) (g.D.Disk.state c.publish.new.disk)
+    wider (λ (m : List ℕ). (replacing r).own m ⊎ IsOfOne packets m) (IsOfScan c.args.base.now c.args.folder.now c.args.own.now files) (g.D.Disk.state c.args.disk.now) (g.D.Disk.state c.put_together.new.disk)
     (is_of_scan c.args.folder.now c.args.own.now files paths packets c.in_ok-paths.ensures sent r c.args.base.now refl (c.deref-3.ensures.value ∙ c.in_ok-beside.ensures) (c.are_names.ensures c.if-not-are_names.false))
-    c.publish.ensures.changes
+    c.put_together.ensures.changes

@@ -1,0 +1,85 @@
+//! What stands beside the names of a scan's packets is removed, where its base was not put in place.
+ghost use Rattle.std.specs.Prelude.{◌≡◌, ◌≤◌, true, All, AllPairs, Some, IfOk};
+ghost use Rattle.echo_disk.specs.Disk.{Files, Honestly};
+ghost use Rattle.echo_disk.specs.Runs.{ChangesNothing, LeavesOnly, OneStepOn};
+ghost use Rattle.echo_placing.specs.Changes.{ChangesOnly};
+ghost use Rattle.echo_placing.specs.Outgoing.{AreApart, ArePlaced, IsBesideOne, IsNamedBeside};
+ghost use Rattle.echo_file_scanning.specs.Dropping.{Drops};
+
+use crate::fitting::differ;
+use echo_disk::{Disk, DiskError, read_part};
+use echo_placing::Outgoing;
+use echo_station_files::folder_of;
+use std::alloc::Global;
+
+/// Where the cursor stands in a base file: a number of four bytes.
+const FROM: usize = 8;
+
+const UP_TO: usize = 12;
+
+// Whether the base file has another cursor than these bytes, and whatever a crash leaves.
+fn has_other_cursor<D: Disk>(
+    alloc: Global,
+    disk: &mut D,
+    base: &[u8],
+    bytes: &[u8],
+) -> Result<bool, DiskError>
+    ensures other { Honestly (D.state disk.new) (IfOk result (λ other. other ≡ true → (c : Files) → (D.state disk.new).may_leave c → c base.now ≡ Some bytes.now → ⊥)) }
+    ensures quiet { ChangesNothing (D.state disk.old) (D.state disk.new) }
+    ensures later { D.failures disk.old ≤ D.failures disk.new }
+{
+    if bytes.len() < UP_TO || !disk.exists(base)? || disk.len(base)? < UP_TO {
+        return Ok(false);
+    }
+    disk.sync_folder(folder_of(base))?;
+    disk.sync(base)?;
+    let cursor = read_part(alloc, disk, base, FROM, UP_TO)?;
+    Ok(differ(cursor.as_slice(), &bytes[FROM..UP_TO]))
+}
+
+// Removes the file with this path, where there is one.
+fn drop_one<D: Disk>(disk: &mut D, path: &[u8]) -> Result<(), DiskError>
+    requires { (D.state disk.old).is_named path.now }
+    ensures changes { ChangesOnly (λ m. m ≡ path.now) (D.state disk.old) (D.state disk.new) }
+    ensures later { D.failures disk.old ≤ D.failures disk.new }
+{
+    if !disk.exists(path)? {
+        return Ok(());
+    }
+    disk.remove(path)
+}
+
+// Removes what stands beside the paths of the packets.
+fn drop_each<D: Disk>(disk: &mut D, packets: &[Outgoing<'_>]) -> Result<(), DiskError>
+    requires apart { AllPairs AreApart packets.now }
+    requires named { All (IsNamedBeside (D.state disk.old)) packets.now }
+    ensures changes { ChangesOnly (IsBesideOne packets.now) (D.state disk.old) (D.state disk.new) }
+    ensures later { D.failures disk.old ≤ D.failures disk.new }
+{
+    'packets: for packet in packets {
+        drop_one(disk, packet.beside)?;
+    }
+    Ok(())
+}
+
+/// Removes what stands beside the paths of a scan's packets, where the base file is not of these bytes. What is left the
+/// next scan brings to its end.
+pub(crate) fn drop_packets<D: Disk>(
+    alloc: Global,
+    disk: &mut D,
+    folder: &[u8],
+    base: &[u8],
+    bytes: &[u8],
+    packets: &[Outgoing<'_>],
+) -> Result<(), DiskError>
+    requires { ArePlaced folder.now packets.now }
+    ensures any_moment { Honestly (D.state disk.new) (LeavesOnly (D.state disk.old) (D.state disk.new) (OneStepOn (Drops base.now bytes.now packets.now) (D.state disk.old))) }
+    ensures changes { ChangesOnly (IsBesideOne packets.now) (D.state disk.old) (D.state disk.new) }
+    ensures later { D.failures disk.old ≤ D.failures disk.new }
+{
+    if !has_other_cursor(alloc, disk, base, bytes)? {
+        return Ok(());
+    }
+    disk.sync_folder(folder)?;
+    drop_each(disk, packets)
+}
