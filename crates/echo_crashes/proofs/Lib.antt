@@ -10,3 +10,4 @@ pub mod Elsewhere
 pub mod InFolders
 pub mod OverFolders
 pub mod AllFolders
+pub mod Parted

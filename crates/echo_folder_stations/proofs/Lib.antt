@@ -1,4 +1,4 @@
-mod Committed
+pub mod Committed
 mod Postings
 mod Tosses
-mod Scans
+pub mod Scans

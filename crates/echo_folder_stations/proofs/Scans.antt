@@ -25,7 +25,7 @@ use Rattle.echo_folder_stations.specs.Scans.{ScansAsMay, StandsForScan, with_wai
 use Rattle.echo_folder_stations.proofs.Committed.{commits, folder-after}
 
 -- what stopped scans left is brought to its end, and the folder holds what it held
-ended-too : (file : LinkFile) (base : Base) (i : ℕ) (w : Folders) (n : ℕ) (ended : Disks) (old : StoreState) → IsFolderOf file base i w old → EndsSome n i w.disks ended
+pub ended-too : (file : LinkFile) (base : Base) (i : ℕ) (w : Folders) (n : ℕ) (ended : Disks) (old : StoreState) → IsFolderOf file base i w old → EndsSome n i w.disks ended
     → IsFolderOf file base i (on_disks w ended) old
 ended-too file base i w n ended old at ends = record {
   station = at.station;
@@ -49,7 +49,7 @@ module _ (stamp : Stamp) (file : LinkFile) (base : Base) (packets : List PacketF
   at-end = ended-too file base i w n ended old at ends
 
   -- the packets wait, and the folder is committed
-  moves : (out out_now : Output) → ScansOn stamp (state_in file base) out out_now (Ok packets) → MovesInFolder stamp i (on_disks w ended) after
+  pub moves : (out out_now : Output) → ScansOn stamp (state_in file base) out out_now (Ok packets) → MovesInFolder stamp i (on_disks w ended) after
   moves out out_now answers = record {
     none = none;
     file = file;

@@ -1,4 +1,3 @@
 mod Touched
-mod Parted
 mod Bases
 mod Scans

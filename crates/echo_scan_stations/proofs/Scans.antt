@@ -33,10 +33,10 @@ use Rattle.echo_disk_stations.proofs.Leading.{called}
 use Rattle.echo_file_scanning.specs.Scanning.{IsScanRun, IsSentOut, IsTouchedBy, MayScan}
 use Rattle.echo_file_scanning.specs.Sending.{StandsWhole}
 use Rattle.echo_file_scanning.specs.declared.scan_fault.ScanFault.{ScanFault}
-use Rattle.echo_scan_stations.specs.AfterScans.{AreAfterScan, AreAllBytes, IsAtPath}
+use Rattle.echo_scan_stations.specs.AfterScans.{AreAfterScan, AreAllBytes, IsAtPath, IsBesidePath}
 use Rattle.echo_scan_stations.specs.ScansAsMay.{HasFailed, ScansAsEvent, ScansAsMay}
 use Rattle.echo_scan_stations.proofs.Bases.{scanned-given}
-use Rattle.echo_scan_stations.proofs.Parted.{Parted, all-named, disks_with, parted}
+use Rattle.echo_crashes.proofs.Parted.{Parted, all-named, disks_with, parted}
 use Rattle.echo_scan_stations.proofs.Touched.{left-away, left-off, sent-away}
 
 -- what is known of a scan of a station that left this base
@@ -118,7 +118,7 @@ module _ (stamp : Stamp) (links base folder : List ℕ) (is_true failed : Type 0
     }
 
     -- the files after it, some of its packets at their paths
-    abbrev after : (c : Files) → c links ≡ old.seen links → c base ≡ Some bytes → Parted folder run.own c i k.cursor ended.beside moved.net packets
+    abbrev after : (c : Files) → c links ≡ old.seen links → c base ≡ Some bytes → Parted (IsAtPath folder c) (IsBesidePath folder run.own c) i k.cursor ended.beside moved.net packets
         → AreAfterScan stamp links base folder i d ended c
     after c linked of_base p = record {
       after = disks_with (with_packets moved.net (map bytes_of p.named)) (ended.beside ++ map (beside_of i k.cursor) p.waiting);
@@ -155,7 +155,7 @@ module _ (stamp : Stamp) (links base folder : List ℕ) (is_true failed : Type 0
             let all = recursion_from_All (StandsWhole folder run.own c) run.done.files.packets whole in
             inr
             (after bytes is k c (not-linked c a may ∙ at.durable a before) of_base
-            (parted folder run.own c i k.cursor (length k.messages) k.file k.messages run.done.files.packets ended.beside (with_left ended.net i [] bytes) (now-holds bytes is k)
+            (parted (IsAtPath folder c) (IsBesidePath folder run.own c) i k.cursor (length k.messages) k.file k.messages run.done.files.packets ended.beside (with_left ended.net i [] bytes) (now-holds bytes is k)
             (some-waits k.file k.messages k.cursor stamp run.done.files.packets k.sent) all)))
       ]
 
@@ -168,7 +168,7 @@ module _ (stamp : Stamp) (links base folder : List ℕ) (is_true failed : Type 0
       let linked : c links ≡ old.seen links = not-linked c step.0 step.2 ∙ at.durable step.0 step.1 in
       let all = recursion_from_All (IsAtPath folder c) run.done.files.packets
       (λ j p lt. let file = sent.out.packets j p lt in new.on_disk _ file.named file.flushed c now ∙ file.seen) in
-      let (p, no_more) = all-named folder run.own c i k.cursor (length k.messages) k.file k.messages run.done.files.packets ended.beside (with_left ended.net i [] sent.bytes) (now-holds sent.bytes sent.left k)
+      let (p, no_more) = all-named (IsAtPath folder c) (IsBesidePath folder run.own c) i k.cursor (length k.messages) k.file k.messages run.done.files.packets ended.beside (with_left ended.net i [] sent.bytes) (now-holds sent.bytes sent.left k)
       (some-waits k.file k.messages k.cursor stamp run.done.files.packets k.sent) all in
       (after sent.bytes sent.left k c linked (sent.out.on_disk c now) p, no_more)
 

@@ -1,7 +1,6 @@
 -- Of packets that wait some have their paths: these get their names.
 use Rattle.std.proofs.Common.{◌≡◌, ◌⊎◌, inl, inr, refl, subst, ℕ, suc, ◌<◌, append-nil, append_assoc, List, [], ◌∷◌, ◌++◌, map}
 use Rattle.std.specs.List.{AllByRecursion}
-use Rattle.echo_disk.specs.Disk.{Files}
 use Rattle.echo_filed.specs.Filed.{Filed}
 use Rattle.echo_graph.specs.Walk.{Among}
 use Rattle.echo_links.specs.Links.{LinkFile}
@@ -12,24 +11,23 @@ use Rattle.echo_crashes.specs.Disks.{Beside, Disks, with_packet}
 use Rattle.echo_crashes.specs.Stopping.{EndsOne, EndsSome, beside_of}
 use Rattle.echo_crashes.proofs.Tracking.{holds-too}
 use Rattle.echo_crashes.proofs.Whole.{with_packets}
-use Rattle.echo_scan_stations.specs.AfterScans.{IsAtPath, IsBesidePath}
 
 -- these disks
 abbrev pub disks_with : Net → List Beside → Disks
 disks_with net beside = record { net = net; beside = beside }
 
 -- Of packets that wait behind other files, those at their paths get their names.
-pub record Parted (folder own : List ℕ) (c : Files) (i cursor : ℕ) (before : List Beside) (net : Net) (ps : List PacketFile) : Type 0 where
+pub record Parted (IsAt IsBeside : PacketFile → Type 0) (i cursor : ℕ) (before : List Beside) (net : Net) (ps : List PacketFile) : Type 0 where
   pub steps : ℕ
   pub named : List PacketFile
   pub waiting : List PacketFile
   pub ends : EndsSome steps i (disks_with net (before ++ map (beside_of i cursor) ps)) (disks_with (with_packets net (map bytes_of named)) (before ++ map (beside_of i cursor) waiting))
-  pub at_paths : AllByRecursion (IsAtPath folder c) named
-  pub beside_paths : AllByRecursion (IsBesidePath folder own c) waiting
+  pub at_paths : AllByRecursion IsAt named
+  pub beside_paths : AllByRecursion IsBeside waiting
 
-module _ (folder own : List ℕ) (c : Files) (i cursor most : ℕ) (file : LinkFile) (messages : List Filed) where
+module _ (IsAt IsBeside : PacketFile → Type 0) (i cursor most : ℕ) (file : LinkFile) (messages : List Filed) where
   -- there are none
-  abbrev no-more : (before : List Beside) (net : Net) → Parted folder own c i cursor before net []
+  abbrev no-more : (before : List Beside) (net : Net) → Parted IsAt IsBeside i cursor before net []
   no-more before net = record {
     steps = 0;
     named = [];
@@ -58,8 +56,8 @@ module _ (folder own : List ℕ) (c : Files) (i cursor most : ℕ) (file : LinkF
     stands = refl;
   }
 
-  abbrev one-more : (p : PacketFile) (ps : List PacketFile) (before : List Beside) (net : Net) → StationHolds net i file messages most → cursor < most → IsAtPath folder c p
-      → Parted folder own c i cursor before (with_packet net p.bytes) ps → Parted folder own c i cursor before net (p ∷ ps)
+  abbrev one-more : (p : PacketFile) (ps : List PacketFile) (before : List Beside) (net : Net) → StationHolds net i file messages most → cursor < most → IsAt p
+      → Parted IsAt IsBeside i cursor before (with_packet net p.bytes) ps → Parted IsAt IsBeside i cursor before net (p ∷ ps)
   one-more p ps before net holds less at rest =
       let P : List (List ℕ) → Type 0 = λ all.
       EndsSome rest.steps i (disks_with (with_packet net p.bytes) (before ++ map (beside_of i cursor) ps))
@@ -78,8 +76,8 @@ module _ (folder own : List ℕ) (c : Files) (i cursor most : ℕ) (file : LinkF
       }
 
   -- one that waits
-  one-waits : (p : PacketFile) (ps : List PacketFile) (before : List Beside) (net : Net) → IsBesidePath folder own c p
-      → Parted folder own c i cursor (before ++ beside_of i cursor p ∷ []) net ps → Parted folder own c i cursor before net (p ∷ ps)
+  one-waits : (p : PacketFile) (ps : List PacketFile) (before : List Beside) (net : Net) → IsBeside p
+      → Parted IsAt IsBeside i cursor (before ++ beside_of i cursor p ∷ []) net ps → Parted IsAt IsBeside i cursor before net (p ∷ ps)
   one-waits p ps before net beside rest =
       let b = beside_of i cursor p in
       let now = with_packets net (map bytes_of rest.named) in
@@ -98,7 +96,7 @@ module _ (folder own : List ℕ) (c : Files) (i cursor most : ℕ) (file : LinkF
   then-holds net p holds = holds-too net (with_packet net p.bytes) i file messages most refl holds
 
   pub parted : (ps : List PacketFile) (before : List Beside) (net : Net) → StationHolds net i file messages most → ((q : PacketFile) → Among q ps → cursor < most)
-      → AllByRecursion (λ (p : PacketFile). IsAtPath folder c p ⊎ IsBesidePath folder own c p) ps → Parted folder own c i cursor before net ps
+      → AllByRecursion (λ (p : PacketFile). IsAt p ⊎ IsBeside p) ps → Parted IsAt IsBeside i cursor before net ps
   parted [] before net holds less all = no-more before net
   parted (p ∷ ps) before net holds less (inl at, all) =
       one-more p ps before net holds (less p (inl refl)) at (parted ps before (with_packet net p.bytes) (then-holds net p holds) (λ q h. less q (inr h)) all)
@@ -107,7 +105,7 @@ module _ (folder own : List ℕ) (c : Files) (i cursor most : ℕ) (file : LinkF
 
   -- all of them are at their paths
   pub all-named : (ps : List PacketFile) (before : List Beside) (net : Net) → StationHolds net i file messages most → ((q : PacketFile) → Among q ps → cursor < most)
-      → AllByRecursion (IsAtPath folder c) ps → (whole : Parted folder own c i cursor before net ps) × (whole.waiting ≡ [])
+      → AllByRecursion IsAt ps → (whole : Parted IsAt IsBeside i cursor before net ps) × (whole.waiting ≡ [])
   all-named [] before net holds less all = (no-more before net, refl)
   all-named (p ∷ ps) before net holds less (at, all) =
       let (rest, none) = all-named ps before (with_packet net p.bytes) (then-holds net p holds) (λ q h. less q (inr h)) all in

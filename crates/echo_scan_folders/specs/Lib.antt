@@ -1,0 +1,2 @@
+pub mod AfterSending
+pub mod SendsAsMay
