@@ -85,15 +85,15 @@ fn is_link(rt: &HostRuntime, path: &str) -> bool {
     }
 }
 
-// The path in whose place the file with this path goes, where it is one beside another.
-fn target_beside(path: &str) -> Option<&str> {
+/// The path in whose place the file with this path goes, where it is one beside another.
+pub fn target_beside(path: &str) -> Option<&str> {
     let front = path.strip_suffix(BESIDE)?;
     let (target, _) = front.rsplit_once(".~")?;
     Some(target)
 }
 
-// A fault as an error of the system.
-fn system_error(fault: OutputFault) -> io::Error {
+/// A fault as an error of the system.
+pub fn system_error(fault: OutputFault) -> io::Error {
     match fault {
         OutputFault::Memory => ErrorKind::OutOfMemory.into(),
         OutputFault::Device => ErrorKind::Other.into(),

@@ -1,10 +1,10 @@
 //! The program `echonet`: it reads the files that the command line names (`paths`, `inputs`), calls the
 //! commands (`judging`: `links`, which goes on where a file cannot be used), and puts what they leave in place
 //! (`station`, `packets`, `placing`, `stopped`, `stored` for files of one message each, and `jam` for JAM bases;
-//! `on_file` and `base_files` where a base is a file; `folders`, `on_folder`, `expecting` and `listing` where it is a
-//! folder, and `converting`; `front` reads the front of a base file), under `locks`. `clock` gives the moment and the
-//! serial that words leave to it, `progress` tells a terminal how far a
-//! command is, `loading` how far the reading of a base file is, and `telling` that of a base folder.
+//! `on_file` with `base_files`, and `scan_on_file` with `scan_files` and `left_files`, where a base is a file;
+//! `folders`, `on_folder`, `expecting` and `listing` where it is a folder, and `converting`; `front` reads the front of
+//! a base file), under `locks`. `clock` gives the moment and the serial that words leave to it, `progress` tells a
+//! terminal how far a command is, `loading` how far the reading of a base file is, and `telling` that of a base folder.
 #![tactic(auto)]
 
 mod base_files;
@@ -16,6 +16,7 @@ mod front;
 mod inputs;
 mod jam;
 mod judging;
+mod left_files;
 mod listing;
 mod loading;
 mod locks;
@@ -26,6 +27,8 @@ mod packets;
 mod paths;
 mod placing;
 mod progress;
+mod scan_files;
+mod scan_on_file;
 mod station;
 mod stopped;
 mod stored;

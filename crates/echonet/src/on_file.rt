@@ -27,8 +27,8 @@ fn followed<'a>(rt: &HostRuntime, base: &'a str) -> Result<String, Fault<'a>> {
     }
 }
 
-// The path of the base file, and keys for its hasher. A seed for them that cannot be had is a failed read.
-fn opened<'a>(rt: &HostRuntime, place: Place<'a>) -> Result<(String, RandomState), Fault<'a>> {
+/// The path of the base file, and keys for its hasher. A seed for them that cannot be had is a failed read.
+pub fn opened<'a>(rt: &HostRuntime, place: Place<'a>) -> Result<(String, RandomState), Fault<'a>> {
     let path = followed(rt, place.base)?;
     let keys = RandomState::new(rt).map_err(|_| Fault::Base(BaseFault::Read))?;
     Ok((path, keys))

@@ -2,7 +2,7 @@
 
 use crate::inputs::output_fault;
 use crate::progress::Progress;
-use crate::stopped::{cursor_of, finish_stopped, folder_path};
+use crate::stopped::folder_path;
 use echo_changing::{Done, PacketFile};
 use echo_device::Sink;
 use echo_files::{NewFile, drop_staged, flush_folder, name_staged, replace_file, stage_file};
@@ -24,43 +24,6 @@ const PACKET_KNOWN_BY: usize = 4;
 pub struct Outbound<'a> {
     pub folder: &'a str,
     pub before: u64,
-}
-
-/// Puts a scan in place: its packets beside their names, then the base, then each packet gets its name. Wherever it
-/// is stopped, the next scan into the folder brings it to its end. `own` is the own address, as names of files
-/// have it.
-pub fn write_scan<E: Sink>(
-    rt: &HostRuntime,
-    own: &str,
-    to: Outbound<'_>,
-    done: Done<'_>,
-    base: &str,
-    progress: &Progress<'_>,
-    errors: &mut E,
-) -> Status {
-    if done.fault.is_some() {
-        return write_base(rt, own, done, base, errors);
-    }
-    match finish_stopped(rt, own, Some(base), to, errors) {
-        Status::Good => {}
-        failed => return failed,
-    }
-    let paths = match packet_paths(rt, to.folder, done.files.packets.as_slice()) {
-        Ok(paths) => paths,
-        Err(_) => return Fault::OutOfMemory.report(errors),
-    };
-    let packets = done.files.packets.as_slice();
-    match stage_packets(rt, own, to.folder, packets, &paths, progress, errors) {
-        Status::Good => {}
-        failed => return failed,
-    }
-    match write_base(rt, own, done, base, errors) {
-        Status::Good => name_packets(rt, own, to.folder, &paths, errors),
-        failed => {
-            drop_packets(rt, own, to, cursor_of(rt, base), &paths);
-            failed
-        }
-    }
 }
 
 /// Removes the packets beside their names, where the base is the old one: `now` is how many messages of it were scanned,

@@ -3,7 +3,6 @@
 
 use crate::clock::{moment_of, serial_from};
 use crate::folders::is_folder;
-use crate::front::cursor_in;
 use crate::inputs::{MAX_TEXT_FILE, input_fault, read_base, read_file, read_standard_input};
 use crate::loading::Counting;
 use crate::locks::lock_file;
@@ -14,11 +13,12 @@ use crate::on_folder::{
 };
 use crate::packets::PacketPaths;
 use crate::paths::{PathNames, names_of};
-use crate::placing::{Outbound, write_base, write_scan};
+use crate::placing::write_base;
 use crate::progress::Progress;
+use crate::scan_on_file::scan_here;
 use echo_addr::{Address, Items};
 use echo_base::BaseFault;
-use echo_changing::{Answer, Given, NewMessage, scan};
+use echo_changing::{Answer, Given, NewMessage};
 use echo_charset::Charset;
 use echo_device::{Sink, Watched};
 use echo_files::read_whole;
@@ -366,15 +366,7 @@ pub fn run_scan<'a, W: Sink, E: Sink>(
     if is_folder(rt, base_path) {
         return scan_there(rt, place, stamp, folder, progress, out, errors);
     }
-    let Station { locked, own, given } = match read_station(rt, place, Some(progress)) {
-        Ok(station) => station,
-        Err(fault) => return fault.report(errors),
-    };
-    let before = cursor_in(given.base.as_ref().map(|bytes| bytes.as_slice()));
-    let done = scan(rt.alloc(), stamp, given, out);
-    let to = Outbound { folder, before };
-    let status = write_scan(rt, own.as_str(), to, done, base_path, progress, errors);
-    let_go(locked, status)
+    scan_here(rt, place, stamp, folder, progress, out, errors)
 }
 
 /// `toss`: the limit of a text is judged first, and a list of packets is read before the lock is taken; each

@@ -1,34 +1,23 @@
 //! What a scan that was stopped left in the folder of packets: packets that stand beside their names. The number in
 //! a name is how many messages were scanned before, so it shows whether that scan came to move the cursor.
 
-use crate::front::{TO_CURSOR, cursor_in};
 use crate::inputs::output_fault;
 use crate::placing::Outbound;
-use echo_device::{Sink, Watched, fill_from};
+use echo_addr::Items;
+use echo_device::Sink;
+use echo_disk::DiskError;
+use echo_file_scanning::LeftPacket;
 use echo_files::{drop_staged, flush_folder, flush_path, name_staged};
 use echo_status::{Fault, Status};
 use std::alloc::AllocError;
 use std::io::ErrorKind;
-use std::{fs, io};
+use std::{fs, io, str};
 
 /// A packet that stands beside its path, and how many messages were scanned before it.
 #[derive(Drop)]
 struct Left {
     path: String,
     before: u64,
-}
-
-/// How many messages of the base file with this path were scanned, as it is now, where that can be read.
-pub fn cursor_of(rt: &HostRuntime, base: &str) -> Option<u64> {
-    match fs::open(rt, base) {
-        Ok(file) => {
-            let mut front = [0u8; TO_CURSOR];
-            let came = fill_from(&mut Watched::new(file), &mut front, 0).ok()?;
-            Some(cursor_in(Some(&front[..came])))
-        }
-        Err(error) if error.kind() == ErrorKind::NotFound => Some(0),
-        Err(_) => None,
-    }
 }
 
 /// Brings scans of the system with this address into the folder that were stopped to their end: where the cursor was
@@ -108,6 +97,55 @@ fn packets_left<'a>(rt: &HostRuntime, own: &str, folder: &'a str) -> Result<Vec<
         }
     }
     Ok(found)
+}
+
+/// The packets of the system of this own name that stand beside their names in the folder, as its names say. One that is
+/// not there has none.
+pub fn packets_beside(
+    rt: &HostRuntime,
+    folder: &[u8],
+    own: &[u8],
+) -> Result<Vec<LeftPacket>, DiskError> {
+    let (Ok(folder), Ok(own)) = (str::from_utf8(folder), str::from_utf8(own)) else {
+        return Err(DiskError::Device);
+    };
+    let ending = format!(in rt.alloc(); ".pkt.~{own}~.new")?;
+    let mut found = Vec::new(rt.alloc());
+    let listing = match fs::read_dir(rt, folder) {
+        Ok(listing) => listing,
+        Err(error) if error.kind() == ErrorKind::NotFound => return Ok(found),
+        Err(error) => return Err(unlisted(&error)),
+    };
+    for entry in listing {
+        match entry {
+            Ok(entry) => {
+                if let Some((front, before)) = packet_beside(entry.file_name(), ending.as_str()) {
+                    found.push(left_packet(rt, front, before)?)?;
+                }
+            }
+            // A name that is no text is none of ours.
+            Err(error) if error.kind() == ErrorKind::InvalidFilename => {}
+            Err(error) => return Err(unlisted(&error)),
+        }
+    }
+    Ok(found)
+}
+
+// A packet with this front of its name. No scan moves a cursor past the greatest number of four bytes.
+fn left_packet(rt: &HostRuntime, front: &str, before: u64) -> Result<LeftPacket, AllocError> {
+    let mut name = Vec::from_slice(rt.alloc(), front.as_bytes())?;
+    name.extend_from_slice(b".pkt")?;
+    Ok(LeftPacket {
+        name: Items::new(name),
+        before: u32::try_from(before).unwrap_or(u32::MAX),
+    })
+}
+
+fn unlisted(error: &io::Error) -> DiskError {
+    match error.kind() {
+        ErrorKind::OutOfMemory => DiskError::Memory,
+        _ => DiskError::Device,
+    }
 }
 
 fn listing_fault<'a>(error: &io::Error, folder: &'a str) -> Fault<'a> {
