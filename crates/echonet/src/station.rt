@@ -7,14 +7,14 @@ use crate::front::cursor_in;
 use crate::inputs::{MAX_TEXT_FILE, input_fault, read_base, read_file, read_standard_input};
 use crate::loading::Counting;
 use crate::locks::lock_file;
-use crate::on_file::{post_here, purge_here, reply_here, toss_here};
+use crate::on_file::{post_here, post_mail_here, purge_here, reply_here, toss_here};
 use crate::on_folder::{
     Replying, Tossing, post_mail_there, post_there, purge_there, reply_there, scan_there,
     toss_there,
 };
 use crate::packets::PacketPaths;
 use crate::paths::{PathNames, names_of};
-use crate::placing::{Outbound, write_base, write_scan};
+use crate::placing::{Outbound, write_scan};
 use crate::progress::Progress;
 use echo_addr::{Address, Items};
 use echo_base::BaseFault;
@@ -23,7 +23,7 @@ use echo_charset::Charset;
 use echo_device::{Sink, Watched};
 use echo_files::read_whole;
 use echo_links::{LinkFault, LinkFile};
-use echo_mailing::{LetterFault, MailWords, Spare, post_mail};
+use echo_mailing::{LetterFault, MailWords, Spare};
 use echo_numbered::refuse_message;
 use echo_packet::Limits;
 use echo_post_words::new_message;
@@ -197,17 +197,10 @@ pub fn run_post_mail<W: Sink, E: Sink>(
         base: words.base,
     };
     if is_folder(rt, place.base) {
-        return post_mail_there(rt, place, asked, &mail, out, errors);
+        post_mail_there(rt, place, asked, &mail, out, errors)
+    } else {
+        post_mail_here(rt, place, asked, &mail, out, errors)
     }
-    let Station { locked, own, given } = match read_station(rt, place, None) {
-        Ok(station) => station,
-        Err(fault) => return fault.report(errors),
-    };
-    let status = match post_mail(rt.alloc(), &mail, asked, given, out) {
-        Ok(done) => write_base(rt, own.as_str(), done, place.base, errors),
-        Err(fault) => fault.report(errors),
-    };
-    let_go(locked, status)
 }
 
 // What is asked of a mail, and its bytes.
