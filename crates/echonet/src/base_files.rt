@@ -2,7 +2,7 @@
 //! takes no other file's place than that of one that a stopped run left, and goes where a command fails.
 
 use crate::placing::BASE_START;
-use echo_files::{OutputFault, access_of, check_left, give_access, make_new};
+use echo_files::{Access, OutputFault, access_of, check_left, give_access, make_new};
 use std::alloc::Allocator;
 use std::cell::Cell;
 use std::fs::{File, Metadata, OpenOptions};
@@ -43,13 +43,18 @@ impl<'r> BaseFiles<'r> {
         }
     }
 
-    // Makes the file beside another, whose mode it gets, and whose owner where that is allowed. A symbolic link is not
-    // replaced: where it leads to a file, that file's path is given.
-    fn make(&self, path: &str, target: &str) -> io::Result<File> {
+    // What the file that is to be replaced keeps, if there is one. A symbolic link is not replaced: where it leads to a
+    // file, that file's path is given.
+    fn access_at(&self, target: &str) -> io::Result<Option<Access>> {
         if is_link(self.rt, target) {
             return Err(ErrorKind::Other.into());
         }
-        let access = access_of(self.rt, target).map_err(system_error)?;
+        access_of(self.rt, target).map_err(system_error)
+    }
+
+    // Makes the file beside another, whose mode it gets, and whose owner where that is allowed.
+    fn make(&self, path: &str, target: &str) -> io::Result<File> {
+        let access = self.access_at(target)?;
         let made = Made {
             path: String::from_str(self.rt.alloc(), path)?,
             file: make_new(self.rt, path)?,
@@ -138,10 +143,11 @@ impl Files for BaseFiles<'_> {
         Ok(())
     }
 
-    // What has the path of a file beside another stays, unless a stopped run left it.
+    // What has the path of a file beside another stays, unless a stopped run left it, and that other may be replaced.
     fn remove_file(&self, path: &str) -> io::Result<()> {
-        if target_beside(path).is_some() {
+        if let Some(target) = target_beside(path) {
             self.rt.symlink_metadata(path)?;
+            let _ = self.access_at(target)?;
             check_left(self.rt.alloc(), self.rt, path, BASE_START).map_err(system_error)?;
         }
         self.rt.remove_file(path)

@@ -3,22 +3,11 @@
 use echo_device::{Watched, fill_from};
 use std::fs;
 
-/// Where the cursor stands.
-const CURSOR: usize = 8;
-
 /// Where the number of messages stands.
 const MESSAGES: usize = 12;
 
 /// How many bytes there are up to the end of that number.
 const TO_MESSAGES: usize = MESSAGES + 4;
-
-/// How many bytes there are up to the end of the cursor.
-pub const TO_CURSOR: usize = CURSOR + 4;
-
-/// How many messages of a base file were scanned; none where there is no file.
-pub fn cursor_in(base: Option<&[u8]>) -> u64 {
-    number_at(base, CURSOR)
-}
 
 /// How many messages a base file says that it has; none where there is no file.
 pub fn messages_in(base: Option<&[u8]>) -> u64 {

@@ -3,7 +3,7 @@
 use crate::paths::{PathName, PathNames};
 use echo_addr::Items;
 use echo_device::Watched;
-use echo_files::{InputFault, OutputFault, read_file_if_there, read_whole};
+use echo_files::{InputFault, OutputFault, read_whole};
 use echo_status::Fault;
 
 /// How many bytes a packet given to `show`, or a nodelist, may have.
@@ -60,11 +60,6 @@ pub fn read_standard_input<'a>(rt: &HostRuntime, most: usize) -> Result<Vec<u8>,
     read_whole(rt.alloc(), &mut Watched::new(rt.reader()), most).map_err(|fault| input_fault(
         fault, "-",
     ))
-}
-
-/// The bytes of a base, none where the file does not exist.
-pub fn read_base<'a>(rt: &HostRuntime, path: &'a str) -> Result<Option<Vec<u8>>, Fault<'a>> {
-    read_file_if_there(rt.alloc(), rt, path, usize::MAX).map_err(|fault| input_fault(fault, path))
 }
 
 /// The bytes of a script.

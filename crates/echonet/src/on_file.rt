@@ -11,7 +11,9 @@ use crate::station::{Place, Posting};
 use echo_base::BaseFault;
 use echo_device::Sink;
 use echo_file_changing::{post_at, post_free_at, purge_at, reply_at, toss_at, toss_each_at};
+use echo_file_mailing::mail_at;
 use echo_files::{OutputFault, target_of};
+use echo_mailing::MailWords;
 use echo_real_disk::{RealDisk, Unknown};
 use echo_station_files::StationPaths;
 use echo_status::{Fault, Status};
@@ -77,16 +79,15 @@ pub fn post_here<'a, W: Sink, E: Sink>(
     let files = BaseFiles::new(rt);
     let mut disk = RealDisk::new(&files, Unknown);
     let mut lock = LinkLock::new(rt);
-    let hasher = Counting::new(keys, None, None);
     let alloc = rt.alloc();
     let Posting { words, free, body } = asked;
     let done = if free {
         post_free_at(
-            alloc, &mut disk, &mut lock, at, hasher, words, body, stopped, out,
+            alloc, &mut disk, &mut lock, at, keys, words, body, stopped, out,
         )
     } else {
         post_at(
-            alloc, &mut disk, &mut lock, at, hasher, words, body, stopped, out,
+            alloc, &mut disk, &mut lock, at, keys, words, body, stopped, out,
         )
     };
     ended(&files, place, at.base, done, errors)
@@ -112,7 +113,6 @@ pub fn reply_here<'a, W: Sink, E: Sink>(
     let files = BaseFiles::new(rt);
     let mut disk = RealDisk::new(&files, Unknown);
     let mut lock = LinkLock::new(rt);
-    let hasher = Counting::new(keys, None, None);
     let alloc = rt.alloc();
     let Replying {
         index,
@@ -120,7 +120,7 @@ pub fn reply_here<'a, W: Sink, E: Sink>(
         body,
     } = asked;
     let done = reply_at(
-        alloc, &mut disk, &mut lock, at, hasher, index, answer, body, stopped, out,
+        alloc, &mut disk, &mut lock, at, keys, index, answer, body, stopped, out,
     );
     ended(&files, place, at.base, done, errors)
 }
@@ -143,9 +143,34 @@ pub fn purge_here<W: Sink, E: Sink>(
     let files = BaseFiles::new(rt);
     let mut disk = RealDisk::new(&files, Unknown);
     let mut lock = LinkLock::new(rt);
-    let hasher = Counting::new(keys, None, None);
-    let done = purge_at(rt.alloc(), &mut disk, &mut lock, at, hasher, out);
+    let done = purge_at(rt.alloc(), &mut disk, &mut lock, at, keys, out);
     ended(&files, place, at.base, done, errors)
+}
+
+/// `post --mail`.
+pub fn post_mail_here<W: Sink, E: Sink>(
+    rt: &HostRuntime,
+    place: Place<'_>,
+    asked: MailWords<'_>,
+    mail: &[u8],
+    out: &mut W,
+    errors: &mut E,
+) -> Status {
+    let (path, keys) = match opened(rt, place) {
+        Ok(opened) => opened,
+        Err(fault) => return fault.report(errors),
+    };
+    let at = StationPaths {
+        links: place.links,
+        base: path.as_str(),
+    };
+    let files = BaseFiles::new(rt);
+    let mut disk = RealDisk::new(&files, Unknown);
+    let mut lock = LinkLock::new(rt);
+    match mail_at(rt.alloc(), &mut disk, &mut lock, at, keys, asked, mail, out) {
+        Ok(done) => ended(&files, place, at.base, done, errors),
+        Err(fault) => fault.report(errors),
+    }
 }
 
 /// `toss`.

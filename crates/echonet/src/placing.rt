@@ -3,9 +3,9 @@
 use crate::inputs::output_fault;
 use crate::progress::Progress;
 use crate::stopped::folder_path;
-use echo_changing::{Done, PacketFile};
+use echo_changing::PacketFile;
 use echo_device::Sink;
-use echo_files::{NewFile, drop_staged, flush_folder, name_staged, replace_file, stage_file};
+use echo_files::{NewFile, drop_staged, flush_folder, name_staged, stage_file};
 use echo_status::{Fault, Status};
 use std::alloc::AllocError;
 use std::str;
@@ -157,31 +157,5 @@ fn flushed<E: Sink>(rt: &HostRuntime, folder: &str, paths: &[String], errors: &m
     match flush_folder(rt, folder) {
         Ok(()) => Status::Good,
         Err(fault) => output_fault(fault, folder).report(errors),
-    }
-}
-
-/// Puts the base in place, where there is one to write, and answers the status. A base that cannot be put in
-/// place is reported in place of what the command met: that comes again once the disk is mended.
-pub fn write_base<E: Sink>(
-    rt: &HostRuntime,
-    own: &str,
-    done: Done<'_>,
-    path: &str,
-    errors: &mut E,
-) -> Status {
-    if let Some(bytes) = &done.files.base {
-        let new = NewFile {
-            path,
-            own,
-            bytes: bytes.as_slice(),
-            known_by: BASE_KNOWN_BY,
-        };
-        if let Err(fault) = replace_file(rt.alloc(), rt, new) {
-            return output_fault(fault, path).report(errors);
-        }
-    }
-    match done.fault {
-        Some(fault) => fault.report(errors),
-        None => Status::Good,
     }
 }

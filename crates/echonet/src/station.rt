@@ -3,27 +3,23 @@
 
 use crate::clock::{moment_of, serial_from};
 use crate::folders::is_folder;
-use crate::inputs::{MAX_TEXT_FILE, input_fault, read_base, read_file, read_standard_input};
-use crate::loading::Counting;
+use crate::inputs::{MAX_TEXT_FILE, input_fault, read_file, read_standard_input};
 use crate::locks::lock_file;
-use crate::on_file::{post_here, purge_here, reply_here, toss_here};
+use crate::on_file::{post_here, post_mail_here, purge_here, reply_here, toss_here};
 use crate::on_folder::{
     Replying, Tossing, post_mail_there, post_there, purge_there, reply_there, scan_there,
     toss_there,
 };
 use crate::packets::PacketPaths;
 use crate::paths::{PathNames, names_of};
-use crate::placing::write_base;
 use crate::progress::Progress;
 use crate::scan_on_file::scan_here;
-use echo_addr::{Address, Items};
-use echo_base::BaseFault;
-use echo_changing::{Answer, Given, NewMessage};
+use echo_addr::Address;
+use echo_changing::{Answer, NewMessage};
 use echo_charset::Charset;
 use echo_device::{Sink, Watched};
 use echo_files::read_whole;
-use echo_links::{LinkFault, LinkFile};
-use echo_mailing::{LetterFault, MailWords, Spare, post_mail};
+use echo_mailing::{LetterFault, MailWords, Spare};
 use echo_numbered::refuse_message;
 use echo_packet::Limits;
 use echo_post_words::new_message;
@@ -32,7 +28,6 @@ use echo_steps::Stamp;
 use echo_stored::{StoredFault, read_stored};
 use echo_words::{PostMailWords, PostStoredWords, PostWords, ReplyWords, TossWords};
 use std::alloc::AllocError;
-use std::collections::hash_map::RandomState;
 use std::fs::File;
 use std::{fs, io};
 
@@ -41,15 +36,6 @@ use std::{fs, io};
 pub struct Place<'a> {
     pub links: &'a str,
     pub base: &'a str,
-}
-
-// The link file of a system, locked, the own address as names of files have it, and what is read of the
-// link file and of the base.
-#[derive(Drop)]
-struct Station<'a, 'p, 'r> {
-    locked: File,
-    own: String,
-    given: Given<'a, Counting<'p, 'r>>,
 }
 
 /// The link file under its lock.
@@ -67,40 +53,6 @@ fn open_fault<'a>(error: &io::Error, path: &'a str) -> Fault<'a> {
     match error.kind() {
         io::ErrorKind::OutOfMemory => Fault::OutOfMemory,
         _ => Fault::CannotUse(path),
-    }
-}
-
-// Reads the files of a system. A seed for the hasher that cannot be had is a failed read. Where a progress is given it
-// is told how many messages of the base were read.
-fn read_station<'a, 'p, 'r>(
-    rt: &HostRuntime,
-    place: Place<'a>,
-    progress: Option<&'p Progress<'r>>,
-) -> Result<Station<'a, 'p, 'r>, Fault<'a>> {
-    let (locked, links) = locked_links(rt, place.links)?;
-    let own = own_name(rt, &links)?;
-    let keys = RandomState::new(rt).map_err(|_| Fault::Base(BaseFault::Read))?;
-    let (base, stopped) = match read_base(rt, place.base) {
-        Ok(found) => (found.map(|bytes| Items::new(bytes)), None),
-        Err(fault) => (None, Some(fault)),
-    };
-    let bytes = base.as_ref().map(|bytes| bytes.as_slice());
-    let hasher = Counting::new(keys, progress, bytes);
-    let given = Given {
-        links: Items::new(links),
-        base,
-        stopped,
-        hasher,
-    };
-    Ok(Station { locked, own, given })
-}
-
-// The own address, as `1.10.2`. A faulty link file has none, and then nothing is written.
-fn own_name<'a>(rt: &HostRuntime, links: &[u8]) -> Result<String, Fault<'a>> {
-    match LinkFile::read(rt.alloc(), links) {
-        Ok(read) => Ok(name_of(rt, read.system())?),
-        Err(LinkFault::Memory) => Err(Fault::OutOfMemory),
-        Err(_) => Ok(String::new(rt.alloc())),
     }
 }
 
@@ -197,17 +149,10 @@ pub fn run_post_mail<W: Sink, E: Sink>(
         base: words.base,
     };
     if is_folder(rt, place.base) {
-        return post_mail_there(rt, place, asked, &mail, out, errors);
+        post_mail_there(rt, place, asked, &mail, out, errors)
+    } else {
+        post_mail_here(rt, place, asked, &mail, out, errors)
     }
-    let Station { locked, own, given } = match read_station(rt, place, None) {
-        Ok(station) => station,
-        Err(fault) => return fault.report(errors),
-    };
-    let status = match post_mail(rt.alloc(), &mail, asked, given, out) {
-        Ok(done) => write_base(rt, own.as_str(), done, place.base, errors),
-        Err(fault) => fault.report(errors),
-    };
-    let_go(locked, status)
 }
 
 // What is asked of a mail, and its bytes.
