@@ -88,7 +88,7 @@ if command -v strace > /dev/null; then
   }
   run strace -o calls -s 16 "$program" scan --at $stamp 1.links 1.base out
   expect "a scan's calls: $(order)" [ "$(order)" = \
-    "line make flush flush make owner owner mode flush rename flush link flush unlink flush end" ]
+    "line flush make flush flush flush make owner owner mode flush flush rename flush link flush unlink flush end" ]
   expect "files beside are made for the owner alone" [ "$(grep -c 'O_EXCL.*0600)' calls)" = 2 ]
 else
   echo "strace is not installed: no order of calls"
