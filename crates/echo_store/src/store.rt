@@ -2,6 +2,7 @@
 ghost use Rattle.std.specs.Prelude.{◌≡◌, ◌<◌, ℕ, not, false, length, take, count_by, slice_get, option_copied, IfOk, OnOk, OnErr};
 ghost use Rattle.std.specs.List.{list_any};
 ghost use Rattle.echo_disk.specs.Disk.{Honestly};
+ghost use Rattle.echo_disk.specs.Runs.{ChangesNothing};
 ghost use Rattle.echo_base.specs.Base.{Base, IsBase, is_known};
 ghost use Rattle.echo_filed.specs.Filed.{has_id, key_of};
 ghost use Rattle.echo_filed.specs.Stubs.{is_stub};
@@ -73,12 +74,13 @@ pub trait Store {
         ensures commits { CommitsNothing (state self.old) (state self.new) }
         ensures cause { HasStoreCause (state self.old) (state self.new) (failures self.old) (failures self.new) result };
 
-    /// Moves the cursor to the end: all messages are scanned.
+    /// Moves the cursor to the end: all messages are scanned. Nothing is written before a commit.
     fn move_to_end(&mut self) -> Result<(), StoreError>
         requires { (state self.old).is_ready }
         ensures moved { Honestly (state self.new).disk ((base : Base) → (state self.old).keeps base → OnOk result ((state self.new).keeps (all_scanned base))) }
         ensures goes_on { OnOk result (GoesOn (state self.old) (state self.new)) }
         ensures undone { OnErr result (Undoes (state self.old) (state self.new)) }
+        ensures quiet { ChangesNothing (state self.old).disk (state self.new).disk }
         ensures commits { CommitsNothing (state self.old) (state self.new) }
         ensures cause { HasStoreCause (state self.old) (state self.new) (failures self.old) (failures self.new) result };
 

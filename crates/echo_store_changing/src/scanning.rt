@@ -1,6 +1,7 @@
 //! The command `scan` on a store.
 ghost use Rattle.std.specs.Prelude.{◌≡◌, OnOk};
 ghost use Rattle.echo_disk.specs.Disk.{Honestly};
+ghost use Rattle.echo_disk.specs.Runs.{ChangesNothing};
 ghost use Rattle.echo_base.specs.Base.{Base};
 ghost use Rattle.echo_status.specs.Devices.{output_of};
 ghost use Rattle.echo_store.specs.Store.{CommitsNothing, GoesOn, HasStoreCause, all_scanned};
@@ -33,6 +34,7 @@ pub fn scan_on<'a, T: Store, W: Sink>(
         → ScansOn stamp (state_in links.now base) (output_of W.contents W.failures W.holds out.old) (output_of W.contents W.failures W.holds out.new) result) }
     ensures moved { Honestly (T.state store.new).disk ((base : Base) → (T.state store.old).keeps base → OnOk result ((T.state store.new).keeps (all_scanned base))) }
     ensures goes_on { OnOk result (GoesOn (T.state store.old) (T.state store.new)) }
+    ensures quiet { ChangesNothing (T.state store.old).disk (T.state store.new).disk }
     ensures commits { CommitsNothing (T.state store.old) (T.state store.new) }
     ensures cause { HasStoreCause (T.state store.old) (T.state store.new) (T.failures store.old) (T.failures store.new) (store_answer result) }
 {

@@ -1,5 +1,6 @@
 ghost use Rattle.std.specs.Prelude.{◌≡◌, true, false, IfErr, IfOk, OnErr, OnOk};
 ghost use Rattle.echo_disk.specs.Disk.{Honestly};
+ghost use Rattle.echo_disk.specs.Runs.{ChangesNothing};
 ghost use Rattle.echo_base.specs.Base.{Base};
 ghost use Rattle.echo_store.specs.Store.{CommitsNothing, GoesOn, HasStoreCause, LooksOn, Undoes, all_scanned};
 ghost use Rattle.echo_steps.specs.Scanning.{ScanStep, scanned};
@@ -34,6 +35,7 @@ pub fn scan_in<T: Store>(
     ensures stop { IfErr result (IsScanStop stamp (T.state store.old) (T.state store.new)) }
     ensures goes_on { OnOk result (GoesOn (T.state store.old) (T.state store.new)) }
     ensures undone { OnErr result (Undoes (T.state store.old) (T.state store.new)) }
+    ensures quiet { ChangesNothing (T.state store.old).disk (T.state store.new).disk }
     ensures commits { CommitsNothing (T.state store.old) (T.state store.new) }
     ensures cause { HasStoreCause (T.state store.old) (T.state store.new) (T.failures store.old) (T.failures store.new) (scan_answer result) }
 {
