@@ -21,7 +21,9 @@ use Rattle.echo_folder_store.proofs.Seen.{at_end, end_holds}
 use Rattle.echo_folder_store.proofs.Staged.{both_runs}
 use Rattle.echo_folder_store.proofs.Stubbed.{new_at}
 use Rattle.echo_base.specs.declared.fault.BaseFault.TheVariants as fault
-use Rattle.echo_base_folder.specs.Filled.{HoldsFront, HoldsMore, IsKept, IsUnfilled, StandsForOneOf, StandsForOneOfOrWasLeft}
+use Rattle.echo_store.specs.declared.store_error.StoreError.{StoreError}
+use Rattle.echo_store.specs.declared.store_error.StoreError.TheVariants as store
+use Rattle.echo_base_folder.specs.Filled.{HoldsFront, HoldsMore, IsKept, IsUnfilled, StandsForOneOf, StandsForOneOfOrWasLeft, unfilled_cause}
 use Rattle.echo_base_folder.specs.Unopened.{IsUnopened}
 use Rattle.echo_base_folder.specs.declared.unread.Unread.{Unread}
 use Rattle.echo_base_folder.specs.declared.unread.Unread.TheVariants as unread
@@ -123,3 +125,10 @@ unfilled_where_unopened strange path files (unread.Wrong fault.Memory) was = was
 unfilled_where_unopened strange path files unread.Memory was = was
 unfilled_where_unopened strange path files unread.Device was = was
 unfilled_where_unopened strange path files (unread.NotOwner address) was = was
+
+-- why it was not filled once it was open
+pub unfilled_as_caused : (strange : Bool) (path : List ℕ) (files : Files) (cause : StoreError) (why : Unread) → why ≡ unfilled_cause cause → IsUnfilled strange path files why
+unfilled_as_caused strange path files store.Memory why is = subst (λ (w : Unread). IsUnfilled strange path files w) (sym is) (inr tt)
+unfilled_as_caused strange path files store.Device why is = subst (λ (w : Unread). IsUnfilled strange path files w) (sym is) (inr tt)
+unfilled_as_caused strange path files store.Damaged why is = subst (λ (w : Unread). IsUnfilled strange path files w) (sym is) (inr tt)
+unfilled_as_caused strange path files store.TooMany why is = subst (λ (w : Unread). IsUnfilled strange path files w) (sym is) tt

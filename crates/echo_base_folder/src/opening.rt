@@ -21,9 +21,7 @@ use echo_addr::Address;
 use echo_base::BaseFault;
 use echo_disk::Disk;
 use echo_folder::FolderError;
-use echo_folder_store::{Folder, FolderStore};
-use echo_keys::Digest;
-use echo_store::Store;
+use echo_folder_store::Folder;
 use std::alloc::Global;
 
 /// What is said of a folder that cannot be opened, and has files as long as its log tells.
@@ -160,28 +158,4 @@ pub fn open_own<D: Disk>(
         Ok(()) => Ok(folder),
         Err(_) => Err(BROKEN),
     }
-}
-
-/// The same as a store, which may be used. On an honest disk it holds the base for which the files stood.
-pub fn open_for<D: Disk + Drop, H: Digest>(
-    alloc: Global,
-    disk: D,
-    path: &[u8],
-    strange: bool,
-    own: Address,
-    key: (u64, u64),
-) -> Result<FolderStore<D, H>, Unread>
-    requires { Honestly (D.state disk) (AreAlone path.now (D.state disk)) }
-    ensures ready { IfOk result (λ store. (⟦<FolderStore<D, H> as Store>⟧.state store).is_ready) }
-    ensures keeps { IfOk result (λ store. Honestly (D.state store.disk) ((base : Base) → StandsForBase H.keyed path.now base (D.state disk).seen
-        → (⟦<FolderStore<D, H> as Store>⟧.state store).keeps base)) }
-    ensures committed { IfOk result (λ store. Honestly (D.state store.disk) ((base : Base) → StandsForBase H.keyed path.now base (D.state disk).seen
-        → (⟦<FolderStore<D, H> as Store>⟧.state store).committed base)) }
-    ensures ours { IfOk result (λ store. store.folder.told.mark.owner ≡ number_of own) }
-    ensures path { IfOk result (λ store. path_of store.folder ≡ path.now) }
-    ensures outside { IfOk result (λ store. KeepsOutside path.now (D.state disk) (D.state store.disk)) }
-{
-    let mut disk = disk;
-    let folder = open_own(alloc, &mut disk, path, strange, own, key)?;
-    Ok(FolderStore::new(alloc, disk, folder))
 }

@@ -56,6 +56,7 @@ module _ (r : Replacing) (folder : List ℕ) (packets : List Outgoing) (placed :
               (λ (at : b (get_or packets k z).path.now ≡ Some (get_or packets k z).file.now.bytes). inl (d.kept all.0 (get_or packets k z).path.now ∙ at))
               (λ (at : b (get_or packets k z).beside.now ≡ Some (get_or packets k z).file.now.bytes). inr (d.kept all.0 (get_or packets k z).beside.now ∙ at))
               (all.1 k z lt),
+          all.2,
         ))
         q.either;
   }

@@ -55,9 +55,16 @@ nothing_these cursor paths d0 d1 cause quiet = record {
   found = map as_left paths;
   lent = all_lent paths;
   over = tt;
+  named = tt;
   any_moment = none_moment cursor (map as_left paths) d0 d1 quiet;
   changes = only_nothing (IsOfLeft (map as_left paths)) d0 d1 quiet;
 }
+
+-- their paths are in the folder
+pub of_left_in : (folder : List ℕ) (found : List Left) → AreLeftIn folder found → (m : List ℕ) → IsOfLeft found m → IsIn folder m
+of_left_in folder found are m (l, is, at) =
+    let one : IsLeftIn folder l = All-contains (IsLeftIn folder) found l are.each is in
+    ⊎_elim (λ e. subst (IsIn folder) (sym e) one.beside_in) (λ e. subst (IsIn folder) (sym e) one.path_in) at
 
 module _ (paths : List LeftPaths) (found : List Left) (lent : AreLent paths found) where
   within : (k : ℕ) → k < length found → k < length paths
@@ -181,6 +188,7 @@ module _ (is_true : Type 0) (base folder own : List ℕ) (cursor : ℕ) (d0 d1 :
     each = λ k z lt. absurd (omega (arith, lt));
     all = tt;
     over = tt;
+    named = tt;
     any_moment = none_moment cursor [] d0 d1 quiet;
     changes = only_nothing (IsOfLeft []) d0 d1 quiet;
   }
@@ -193,6 +201,7 @@ module _ (is_true : Type 0) (base folder own : List ℕ) (cursor : ℕ) (d0 d1 :
       each = λ k z lt. absurd (omega (arith, lt));
       all = let nobody : List Left = [] in left_all paths nobody (record { as_many = sym none; each = λ k w l lt. absurd (omega (arith, lt, none)) }) is_true base folder own d0.seen named listed all;
       over = λ k z lt. absurd (omega (arith, lt));
+      named = λ m is. let (k, lt, at) = is.1 in absurd (omega (arith, lt));
       any_moment = none_moment cursor [] d0 d1 quiet;
       changes = only_nothing (IsOfLeft []) d0 d1 quiet;
     }
@@ -206,6 +215,7 @@ module _ (is_true : Type 0) (base folder own : List ℕ) (cursor : ℕ) (d0 d1 :
           each = left_each paths found ends.lent base folder own named own_plain are is_true d0.seen listed;
           all = on_ok_so result (left_all paths found ends.lent is_true base folder own d0.seen named listed all);
           over = on_ok_over cursor found d0 d1 d2 result quiet.seen ends.over;
+          named = ends.named;
           any_moment = quiet_then d0 d1 d2 (FinishesEach cursor found) (FinishesEach cursor found) quiet (finishes_none cursor found) ends.any_moment (λ a c f. f);
           changes = then_only (IsOfLeft found) d0 d1 d2 (only_nothing (IsOfLeft found) d0 d1 quiet) ends.changes;
         }

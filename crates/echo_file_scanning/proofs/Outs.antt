@@ -17,7 +17,7 @@ use Rattle.echo_file_changing.specs.Putting.{IsOfBase}
 use Rattle.echo_file_scanning.specs.Left.{EndsLeft, IsOfName}
 use Rattle.echo_file_scanning.specs.Scanning.{AreSentOut, IsEnded, IsPutOut, IsTouchedAs, MayScan, SendsOut}
 use Rattle.echo_file_scanning.specs.declared.scan_fault.ScanFault.{ScanFault}
-use Rattle.echo_file_scanning.specs.Sending.{IsAtItsPath, IsOfScan, MaySend}
+use Rattle.echo_file_scanning.specs.Sending.{AreAllBytes, IsAtItsPath, IsOfScan, MaySend}
 use Rattle.echo_file_scanning.proofs.Lefts.{finishes_none}
 
 -- nothing was sent
@@ -51,30 +51,32 @@ module _ (is_true : Type 0) (base folder own : List ℕ) (cursor : ℕ) (files :
   }
 
   all_sent : {T E : Type 0} (d2 : DiskState) (result : Result T E) (ends : EndsLeft is_true base folder own cursor d0 d1 (Ok tt)) → OnOk result (All (IsAtItsPath folder d2) files)
-      → OnOk result ((c : Files) → d2.may_leave c → c base ≡ Some bytes) → ChangesOnly (IsOfScan base folder own files) d1 d2
+      → OnOk result (d2.seen base ≡ Some bytes) → OnOk result ((c : Files) → d2.may_leave c → c base ≡ Some bytes) → OnOk result (AreAllBytes bytes files) → ChangesOnly (IsOfScan base folder own files) d1 d2
       → OnOk result (AreSentOut is_true base folder own cursor ends.found files bytes d0.seen d2)
-  all_sent d2 (Err cause) ends packets committed changes = tt
-  all_sent d2 (Ok value) ends packets committed changes = record {
+  all_sent d2 (Err cause) ends packets seen committed are changes = tt
+  all_sent d2 (Ok value) ends packets seen committed are changes = record {
     all = ends.all;
     between = d1.seen;
     ended = λ k z lt. is_ended cursor d0 d1 (get_or ends.found k z) (ends.over k z lt);
     others = ends.changes.seen;
     packets = packets;
+    seen = seen;
     on_disk = committed;
     beside_these = changes.seen;
+    all_bytes = are;
   }
 
   -- and so it was
   pub sent_after : (d2 : DiskState) (result : Result (Unit {0}) PlacingError) (ends : EndsLeft is_true base folder own cursor d0 d1 (Ok tt))
-      → OnOk result (All (IsAtItsPath folder d2) files) → OnOk result ((c : Files) → d2.may_leave c → c base ≡ Some bytes)
+      → OnOk result (All (IsAtItsPath folder d2) files) → OnOk result (d2.seen base ≡ Some bytes) → OnOk result ((c : Files) → d2.may_leave c → c base ≡ Some bytes) → OnOk result (AreAllBytes bytes files)
       → LeavesOnly d1 d2 (OneStepOn (MaySend base folder own (Some bytes) files) d1) → ChangesOnly (IsOfScan base folder own files) d1 d2
       → SendsOut is_true base folder own cursor files bytes d0 d2 result
-  sent_after d2 result ends packets committed moments changes =
+  sent_after d2 result ends packets seen committed are moments changes =
       let Q = MaySend base folder own (Some bytes) files in
       record {
         found = ends.found;
         each = ends.each;
-        sent = all_sent d2 result ends packets committed changes;
+        sent = all_sent d2 result ends packets seen committed are changes;
         crash = then_steps d0 d1 d2 (FinishesEach cursor ends.found) Q (MayScan base folder own cursor ends.found (Some bytes) files) ends.any_moment moments
             (λ a c f. record { between = c; ends = f; sends = sends_none base folder own (Some bytes) files c }) (λ a b c at left f q. record { between = b; ends = f; sends = q });
       }

@@ -4,6 +4,7 @@ use Rattle.std.specs.Prelude.{Err, IfErr, Ok, OnOk, Result}
 use Rattle.echo_device.specs.Device.{Failed}
 use Rattle.echo_disk.specs.Disk.{DiskState, Files}
 use Rattle.echo_disk.specs.Runs.{ChangesNothing}
+use Rattle.echo_disk.proofs.Moments.{nothing_twice}
 use Rattle.echo_status.specs.Devices.{Output}
 use Rattle.echo_steps.specs.declared.stamp.Stamp.{Stamp}
 use Rattle.echo_changing.specs.declared.leaving.Done.{Done}
@@ -19,7 +20,7 @@ use Rattle.echo_station_files.specs.Paths.{IsOwnName}
 use Rattle.echo_station_files.specs.Reading.{IsBaseRead}
 use Rattle.echo_file_changing.proofs.Runs.{failed_wider, left_before, read_wider}
 use Rattle.echo_file_scanning.specs.Left.{IsLeftOf}
-use Rattle.echo_file_scanning.specs.Scanning.{IsCursorOf, IsPutOut, IsScanRun, IsSentOut, IsTouchedAs, IsTouchedBy, IsWhy, MayScan}
+use Rattle.echo_file_scanning.specs.Scanning.{ChangesNoneWhereMet, IsCursorOf, IsPutOut, IsScanRun, IsSentOut, IsTouchedAs, IsTouchedBy, IsWhy, MayScan}
 use Rattle.echo_file_scanning.specs.declared.scan_fault.ScanFault.{ScanFault}
 use Rattle.echo_file_scanning.specs.declared.scan_fault.ScanFault.TheVariants.{Command, Placing}
 use Rattle.echo_file_scanning.proofs.Lefts.{finishes_none}
@@ -47,6 +48,12 @@ why_wider done some more (Err (Placing Device)) gives is = gives is
 why_wider done some more (Err (Placing Memory)) gives is = tt
 why_wider done some more (Err (Placing Taken)) gives is = tt
 
+-- what changed nothing after calls that did not
+still_unchanged : (d0 d1 d2 : DiskState) (result : Result (Unit {0}) ScanFault) → ChangesNothing d0 d1 → IfErr result (ChangesNoneWhereMet d1 d2) → IfErr result (ChangesNoneWhereMet d0 d2)
+still_unchanged d0 d1 d2 (Ok value) quiet is = tt
+still_unchanged d0 d1 d2 (Err (Command fault)) quiet is = nothing_twice d0 d1 d2 quiet is
+still_unchanged d0 d1 d2 (Err (Placing cause)) quiet is = tt
+
 -- the counts of failures: of the disk, of the lock and of the list
 module _ (f0 f1 f2 l0 l1 g0 g1 : ℕ) (read_later : f0 ≤ f1) (put_later : f1 ≤ f2) where
   abbrev HasFailed : Type 0
@@ -61,8 +68,8 @@ module _ (f0 f1 f2 l0 l1 g0 g1 : ℕ) (read_later : f0 ≤ f1) (put_later : f1 �
   pub scan_run : (T : Files → Type 0) (stamp : Stamp) (links base folder own lent_base lent_own : List ℕ) (handed : Handed) (done : Done) (cursor : ℕ) (d0 d1 d2 : DiskState) (out new_out : Output)
       (result : Result (Unit {0}) ScanFault) → lent_base ≡ base → lent_own ≡ own → d0.seen links ≡ Some handed.links → IsOwnName handed.links own → IsBaseRead d0 base None (Failed f0 f1) handed.base handed.stopped
       → Leaves (ScanAnswers stamp handed out new_out) done → IsCursorOf handed.base cursor → ChangesNothing d0 d1 → IsPutOut (T d1.seen) lent_base folder lent_own cursor done d1 d2 result
-      → IfErr result (IsWhy done (Failed f1 f2 ⊎ Failed g0 g1)) → IsScanRun stamp links base folder (T d0.seen) HasFailed d0 d2 out new_out result
-  scan_run T stamp links base folder own lent_base lent_own handed done cursor d0 d1 d2 out new_out result is_base is_own of_links of_own of_base answer is_cursor quiet put why = record {
+      → IfErr result (IsWhy done (Failed f1 f2 ⊎ Failed g0 g1)) → IfErr result (ChangesNoneWhereMet d1 d2) → IsScanRun stamp links base folder (T d0.seen) HasFailed d0 d2 out new_out result
+  scan_run T stamp links base folder own lent_base lent_own handed done cursor d0 d1 d2 out new_out result is_base is_own of_links of_own of_base answer is_cursor quiet put why unchanged = record {
     handed = handed;
     read = read_wider d0 links base None (Failed f0 f1) HasFailed handed while_read (record { of_links = of_links; of_base = of_base });
     own = own;
@@ -74,6 +81,7 @@ module _ (f0 f1 f2 l0 l1 g0 g1 : ℕ) (read_later : f0 ≤ f1) (put_later : f1 �
     put = put_before T base folder own cursor done result d0 d1 d2 quiet
         (subst (λ (b : List ℕ). IsPutOut (T d1.seen) b folder own cursor done d1 d2 result) is_base (subst (λ (o : List ℕ). IsPutOut (T d1.seen) lent_base folder o cursor done d1 d2 result) is_own put));
     why = why_wider done (Failed f1 f2 ⊎ Failed g0 g1) HasFailed result while_put why;
+    unchanged = still_unchanged d0 d1 d2 result quiet unchanged;
   }
 
 -- which paths are touched

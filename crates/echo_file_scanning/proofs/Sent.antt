@@ -3,12 +3,15 @@ use Rattle.std.proofs.Common.{◌≡◌, ◌≢◌, ◌⊎◌, inl, inr, ⊎_eli
 use Rattle.std.specs.Prelude.{All, AllPairs, Contains, Err, Ok, OnOk, Result}
 use Rattle.std.proofs.lemmas.List.{get_or-map, length-map}
 use Rattle.std.proofs.lemmas.List.Elements.{All-contains, Contains-get_or}
+use Rattle.echo_device.specs.Fixed.{AreBytes}
 use Rattle.echo_disk.specs.Disk.{DiskState, Files, IsIn}
 use Rattle.echo_changing.specs.PacketFiles.{PacketFile}
 use Rattle.echo_placing.specs.Commits.{replacing}
 use Rattle.echo_placing.specs.Naming.{HasItsPath}
 use Rattle.echo_placing.specs.Outgoing.{AreApart, ArePlaced, IsOfOne}
+use Rattle.echo_placing.specs.Outgoing as outgoing
 use Rattle.echo_placing.specs.Publishing.{IsApartFrom, Publishes}
+use Rattle.echo_placing.specs.Replacing.{Replaces}
 use Rattle.echo_placing.specs.declared.commit.Replacing.{Replacing}
 use Rattle.echo_placing.specs.declared.outgoing.Outgoing.{Outgoing}
 use Rattle.echo_placing.proofs.Packets.{nobody}
@@ -16,7 +19,7 @@ use Rattle.echo_station_files.specs.Paths.{path_beside}
 use Rattle.echo_station_files.proofs.BesidePaths.{beside_other}
 use Rattle.echo_file_changing.specs.Putting.{IsOfBase}
 use Rattle.echo_file_scanning.specs.declared.sending.TwoPaths.{TwoPaths}
-use Rattle.echo_file_scanning.specs.Sending.{AreSent, HaveOtherPaths, IsAtItsPath, IsNameByte, IsOfPacket, IsOfScan, IsOffBase, MaySend, file_paths}
+use Rattle.echo_file_scanning.specs.Sending.{AreAllBytes, AreSent, HasBytes, HaveOtherPaths, IsAtItsPath, IsNameByte, IsOfPacket, IsOfScan, IsOffBase, MaySend, file_paths}
 use Rattle.echo_file_scanning.proofs.Names.{four_apart, name_beside_in, name_in}
 
 -- no file
@@ -109,6 +112,10 @@ module _ (folder own : List ℕ) (files : List PacketFile) (paths : List TwoPath
         flushed = subst disk.is_flushed is.path there.flushed;
       }
 
+  -- what it has are bytes
+  pub files_bytes : All outgoing.SendsBytes packets → All HasBytes files
+  files_bytes all k f lt = subst AreBytes (goes k f nobody lt).bytes (all k nobody (back k lt))
+
   -- a path of a packet is one of a file
   pub is_of_file : All (λ (file : PacketFile). All IsNameByte file.name) files → (m : List ℕ) → IsOfOne packets m → IsOfPacket folder own files m
   is_of_file names m (p, is, at) =
@@ -126,8 +133,8 @@ module _ (folder own : List ℕ) (files : List PacketFile) (paths : List TwoPath
     is_of_scan m o = ⊎_elim (λ of_base. inl (⊎_elim (λ e. inl (e ∙ is_beside)) (λ e. inr (e ∙ is_base)) of_base)) (λ of_packet. inr (is_of_file names m of_packet)) o
 
     -- what a crash leaves
-    pub may_send : (a c : Files) → Publishes (replacing r) packets a c → MaySend base folder own (Some r.bytes.now) files a c
-    may_send a c may = record {
+    pub may_send : AreBytes r.bytes.now → (a c : Files) → Publishes (replacing r) packets a c → MaySend base folder own (Some r.bytes.now) files a c
+    may_send are a c may = record {
       others = λ m out. may.others m (λ o. out (is_of_scan m o));
       either = ⊎_elim
           (λ none. inl (
@@ -144,9 +151,26 @@ module _ (folder own : List ℕ) (files : List PacketFile) (paths : List TwoPath
                 (λ (e : c (get_or packets k nobody).path.now ≡ Some (get_or packets k nobody).file.now.bytes). inl (ap c (sym is.path) ∙ e ∙ ap (λ (b : List ℕ). Some b) is.bytes))
                 (λ (e : c (get_or packets k nobody).beside.now ≡ Some (get_or packets k nobody).file.now.bytes). inr (ap c (sym is.beside) ∙ e ∙ ap (λ (b : List ℕ). Some b) is.bytes))
                 (all.1 k nobody (back k lt)),
+            record { of_base = are; of_packets = files_bytes all.2 },
           ))
           may.either;
     }
+
+-- no packet goes out, and the base is put in place
+pub sends_base : (base folder own bytes : List ℕ) (files : List PacketFile) → length files ≡ 0 → AreBytes bytes → (a c : Files) → Replaces base (path_beside base own) bytes a c → MaySend base folder own (Some bytes) files a c
+sends_base base folder own bytes files none are a c r = record {
+  others = λ m out. r.others m (λ of. out (inl of));
+  either = ⊎_elim
+      (λ (was : c base ≡ a base). inl (was, λ k z lt. absurd (omega (arith, lt, none))))
+      (λ (is : c base ≡ Some bytes). inr (
+        bytes,
+        refl,
+        is,
+        λ k z lt. absurd (omega (arith, lt, none)),
+        record { of_base = are; of_packets = λ k z lt. absurd (omega (arith, lt, none)) },
+      ))
+      r.either;
+}
 
 -- the same lists
 pub sent_again : (files : List PacketFile) (paths read : List TwoPaths) (packets lent : List Outgoing) → read ≡ paths → lent ≡ packets → AreSent files read packets → AreSent files paths lent

@@ -66,12 +66,13 @@ pub record AreLent (paths : List LeftPaths) (found : List Left) : Type 0 where
   pub as_many : length found ≡ length paths
   pub each : (k : ℕ) (w : LeftPaths) (l : Left) → k < length paths → IsLent (get_or paths k w) (get_or found k l)
 
--- These are brought to their end. A crash at any moment leaves each packet of a committed scan at one of its two paths at least, and
+-- These are brought to their end, and that is on the disk. A crash at any moment leaves each packet of a committed scan at one of its two paths at least, and
 -- none other at its path.
 pub record EndsThese (cursor : ℕ) (paths : List LeftPaths) (old new : DiskState) (result : Result (Unit {0}) PlacingError) : Type 0 where
   pub found : List Left
   pub lent : AreLent paths found
   pub over : OnOk result (All (IsOver cursor old new) found)
+  pub named : OnOk result ((m : List ℕ) → IsOfLeft found m → new.is_named m)
   pub any_moment : LeavesOnly old new (OneStepOn (FinishesEach cursor found) old)
   pub changes : ChangesOnly (IsOfLeft found) old new
 
@@ -101,6 +102,7 @@ pub record EndsLeft (is_true : Type 0) (base folder own : List ℕ) (cursor : �
   pub each : All (IsLeftOf is_true base folder own) found
   pub all : OnOk result (AreAllLeft is_true base folder own old.seen found)
   pub over : OnOk result (All (IsOver cursor old new) found)
+  pub named : OnOk result ((m : List ℕ) → IsOfLeft found m → new.is_named m)
   pub any_moment : LeavesOnly old new (OneStepOn (FinishesEach cursor found) old)
   pub changes : ChangesOnly (IsOfLeft found) old new
 

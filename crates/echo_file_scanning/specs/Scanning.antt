@@ -22,7 +22,7 @@ use Rattle.echo_station_files.specs.Paths.{IsOwnName, path_beside}
 use Rattle.echo_file_changing.specs.Putting.{IsOfBase}
 use Rattle.echo_file_changing.specs.Reading.{IsHanded}
 use Rattle.echo_file_scanning.specs.Left.{AreAllLeft, IsLeftOf, IsOfName}
-use Rattle.echo_file_scanning.specs.Sending.{IsAtItsPath, IsOfScan, MaySend}
+use Rattle.echo_file_scanning.specs.Sending.{AreAllBytes, IsAtItsPath, IsOfScan, MaySend}
 use Rattle.echo_file_scanning.specs.declared.scan_fault.ScanFault.{ScanFault}
 use Rattle.echo_file_scanning.specs.declared.scan_fault.ScanFault.TheVariants.{Command, Placing}
 
@@ -47,9 +47,11 @@ pub record AreSentOut (is_true : Type 0) (base folder own : List ℕ) (cursor : 
   pub others : DifferAt (IsOfLeft found) old between
   -- each packet of this scan is on the disk, at its path
   pub packets : All (IsAtItsPath folder new) files
-  -- whatever a crash leaves, the base file has these bytes
+  -- the base file has these bytes, whatever a crash leaves
+  pub seen : new.seen base ≡ Some bytes
   pub on_disk : (c : Files) → new.may_leave c → c base ≡ Some bytes
   pub beside_these : DifferAt (IsOfScan base folder own files) between new.seen
+  pub all_bytes : AreAllBytes bytes files
 
 -- What a crash at any moment may leave: what earlier scans left is on its way to its end, and then the base file is as it was and no
 -- packet of this scan at its path, or it has the bytes that the scan left and each packet stands whole at one of its two paths.
@@ -93,6 +95,11 @@ IsWhy done failed (Command fault) = done.fault ≡ Some fault
 IsWhy done failed (Placing Device) = failed
 IsWhy done failed (Placing _) = Unit {0}
 
+-- where the command itself met a fault, nothing was changed
+abbrev pub ChangesNoneWhereMet : DiskState → DiskState → ScanFault → Type 0
+ChangesNoneWhereMet old new (Command fault) = ChangesNothing old new
+ChangesNoneWhereMet old new (Placing cause) = Unit {0}
+
 -- The scan was handed the files that the disk showed, and answered as it may for these; what it left is put in place.
 pub record IsScanRun (stamp : Stamp) (links base folder : List ℕ) (is_true failed : Type 0) (old new : DiskState) (old_out new_out : Output) (result : Result (Unit {0}) ScanFault) : Type 0 where
   pub handed : Handed
@@ -105,6 +112,7 @@ pub record IsScanRun (stamp : Stamp) (links base folder : List ℕ) (is_true fai
   pub of_base : IsCursorOf handed.base cursor
   pub put : IsPutOut is_true base folder own cursor done old new result
   pub why : IfErr result (IsWhy done failed)
+  pub unchanged : IfErr result (ChangesNoneWhereMet old new)
 
 -- The link file cannot be read: nothing is printed, and nothing is changed.
 pub record IsScanUnread (links : List ℕ) (failed : Type 0) (old new : DiskState) (old_out new_out : Output) (result : Result (Unit {0}) ScanFault) : Type 0 where

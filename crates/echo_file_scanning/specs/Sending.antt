@@ -1,5 +1,6 @@
 -- The packets of a scan, on their way to their paths.
 use Rattle.std.specs.Prelude.{◌≡◌, ◌≢◌, ◌⊎◌, ◌<◌, ℕ, List, ◌++◌, length, get_or, All, Contains, Option, Some}
+use Rattle.echo_device.specs.Fixed.{AreBytes}
 use Rattle.echo_disk.specs.Disk.{DiskState, Files}
 use Rattle.echo_changing.specs.PacketFiles.{PacketFile}
 use Rattle.echo_placing.specs.Changes.{DifferAt, HasOnDisk}
@@ -45,6 +46,15 @@ pub record AreSent (files : List PacketFile) (paths : List TwoPaths) (packets : 
 abbrev pub IsAtItsPath : List ℕ → DiskState → PacketFile → Type 0
 IsAtItsPath folder disk sent = HasOnDisk disk (folder ++ sent.name) sent.bytes
 
+-- what it has are bytes
+abbrev pub HasBytes : PacketFile → Type 0
+HasBytes sent = AreBytes sent.bytes
+
+-- What a scan puts in place are bytes: the base file and each packet.
+pub record AreAllBytes (base : List ℕ) (files : List PacketFile) : Type 0 where
+  pub of_base : AreBytes base
+  pub of_packets : All HasBytes files
+
 -- it stands whole at one of its two paths
 abbrev pub StandsWhole : List ℕ → List ℕ → Files → PacketFile → Type 0
 StandsWhole folder own c sent = (c (folder ++ sent.name) ≡ Some sent.bytes) ⊎ (c (path_beside (folder ++ sent.name) own) ≡ Some sent.bytes)
@@ -62,8 +72,8 @@ abbrev pub IsOfScan : List ℕ → List ℕ → List ℕ → List PacketFile →
 IsOfScan base folder own files m = IsOfBase base (path_beside base own) m ⊎ IsOfPacket folder own files m
 
 -- What a crash meanwhile may leave: the base file as it was and no packet at its path, or the base file of the bytes that the scan
--- left and each packet whole. Beside their paths files may be anything, and all else is as it was.
+-- left and each packet whole, all of them bytes. Beside their paths files may be anything, and all else is as it was.
 pub record MaySend (base folder own : List ℕ) (left : Option (List ℕ)) (files : List PacketFile) (before after : Files) : Type 0 where
   pub others : DifferAt (IsOfScan base folder own files) before after
   pub either : ((after base ≡ before base) × All (IsUntouched folder before after) files)
-      ⊎ ((bytes : List ℕ) × (left ≡ Some bytes) × (after base ≡ Some bytes) × All (StandsWhole folder own after) files)
+      ⊎ ((bytes : List ℕ) × (left ≡ Some bytes) × (after base ≡ Some bytes) × All (StandsWhole folder own after) files × AreAllBytes bytes files)

@@ -1,14 +1,14 @@
 //! What stands beside the names of a scan's packets is removed, where its base was not put in place.
-ghost use Rattle.std.specs.Prelude.{◌≡◌, ◌≤◌, true, All, AllPairs, Some, IfOk};
+ghost use Rattle.std.specs.Prelude.{◌≡◌, ◌≤◌, true, Some, IfOk};
 ghost use Rattle.echo_disk.specs.Disk.{Files, Honestly};
 ghost use Rattle.echo_disk.specs.Runs.{ChangesNothing, LeavesOnly, OneStepOn};
 ghost use Rattle.echo_placing.specs.Changes.{ChangesOnly};
-ghost use Rattle.echo_placing.specs.Outgoing.{AreApart, ArePlaced, IsBesideOne, IsNamedBeside};
+ghost use Rattle.echo_placing.specs.Outgoing.{ArePlaced, IsBesideOne};
 ghost use Rattle.echo_file_scanning.specs.Dropping.{Drops};
 
 use crate::fitting::differ;
 use echo_disk::{Disk, DiskError, read_part};
-use echo_placing::Outgoing;
+use echo_placing::{Outgoing, drop_beside};
 use echo_station_files::folder_of;
 use std::alloc::Global;
 
@@ -37,31 +37,6 @@ fn has_other_cursor<D: Disk>(
     Ok(differ(cursor.as_slice(), &bytes[FROM..UP_TO]))
 }
 
-// Removes the file with this path, where there is one.
-fn drop_one<D: Disk>(disk: &mut D, path: &[u8]) -> Result<(), DiskError>
-    requires { (D.state disk.old).is_named path.now }
-    ensures changes { ChangesOnly (λ m. m ≡ path.now) (D.state disk.old) (D.state disk.new) }
-    ensures later { D.failures disk.old ≤ D.failures disk.new }
-{
-    if !disk.exists(path)? {
-        return Ok(());
-    }
-    disk.remove(path)
-}
-
-// Removes what stands beside the paths of the packets.
-fn drop_each<D: Disk>(disk: &mut D, packets: &[Outgoing<'_>]) -> Result<(), DiskError>
-    requires apart { AllPairs AreApart packets.now }
-    requires named { All (IsNamedBeside (D.state disk.old)) packets.now }
-    ensures changes { ChangesOnly (IsBesideOne packets.now) (D.state disk.old) (D.state disk.new) }
-    ensures later { D.failures disk.old ≤ D.failures disk.new }
-{
-    'packets: for packet in packets {
-        drop_one(disk, packet.beside)?;
-    }
-    Ok(())
-}
-
 /// Removes what stands beside the paths of a scan's packets, where the base file is not of these bytes. What is left the
 /// next scan brings to its end.
 pub(crate) fn drop_packets<D: Disk>(
@@ -80,6 +55,5 @@ pub(crate) fn drop_packets<D: Disk>(
     if !has_other_cursor(alloc, disk, base, bytes)? {
         return Ok(());
     }
-    disk.sync_folder(folder)?;
-    drop_each(disk, packets)
+    drop_beside(disk, folder, packets)
 }

@@ -54,7 +54,7 @@ fn end_these<D: Disk>(
 
 /// Brings what earlier scans left beside names to its end, by the cursor of the base file. That is put on the disk
 /// before.
-pub(crate) fn finish_left<D: Disk, L: Listing>(
+pub fn finish_left<D: Disk, L: Listing>(
     alloc: Global,
     disk: &mut D,
     listing: &mut L,

@@ -19,7 +19,7 @@ pub(crate) fn is_name(name: &[u8]) -> bool
 }
 
 /// Whether that is so of each file's name.
-pub(crate) fn are_names(files: &[PacketFile]) -> bool
+pub fn are_names(files: &[PacketFile]) -> bool
     ensures { result ≡ true → All (λ file. All IsNameByte file.name) files.now }
 {
     'files: for file in files {
@@ -31,7 +31,7 @@ pub(crate) fn are_names(files: &[PacketFile]) -> bool
 }
 
 /// Whether two paths are not the same.
-pub(crate) fn differ(one: &[u8], other: &[u8]) -> bool
+pub fn differ(one: &[u8], other: &[u8]) -> bool
     ensures yes { result ≡ true → one.now ≢ other.now }
     ensures no { result ≡ false → one.now ≡ other.now }
 {
@@ -51,7 +51,7 @@ fn is_new(one: &TwoPaths, others: &[TwoPaths]) -> bool
 }
 
 /// Whether no two of the paths are the same.
-pub(crate) fn all_differ(paths: &[TwoPaths]) -> bool
+pub fn all_differ(paths: &[TwoPaths]) -> bool
     ensures { result ≡ true → AllPairs HaveOtherPaths paths.now }
 {
     'paths: for i in 0..paths.len() {

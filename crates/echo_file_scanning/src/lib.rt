@@ -23,6 +23,9 @@ mod scan_fault;
 mod scanning;
 mod sending;
 
+pub use finishing::finish_left;
+pub use fitting::{all_differ, are_names, differ};
 pub use listing::{LeftPacket, Listing};
 pub use scan_fault::ScanFault;
 pub use scanning::scan_at;
+pub use sending::{TwoPaths, outgoing_of, paths_of};

@@ -1,16 +1,17 @@
 //! The packets and the base of a scan are put in place.
 ghost use Rattle.std.specs.Prelude.{◌≡◌, ◌≢◌, ◌⊎◌, All, Some, OnOk};
+ghost use Rattle.echo_device.specs.Fixed.{AreBytes};
 ghost use Rattle.echo_disk.specs.Disk.{Files, Honestly};
 ghost use Rattle.echo_disk.specs.Runs.{LeavesOnly, OneStepOn};
 ghost use Rattle.echo_placing.specs.Changes.{ChangesOnly};
 ghost use Rattle.echo_placing.specs.Commits.{AreTwoIn, replacing};
 ghost use Rattle.echo_placing.specs.Naming.{HasItsPath};
-ghost use Rattle.echo_placing.specs.Outgoing.{ArePlaced, IsOfOne};
+ghost use Rattle.echo_placing.specs.Outgoing.{ArePlaced, SendsBytes, IsOfOne};
 ghost use Rattle.echo_placing.specs.Publishing.{HasPlacingCause, IsApartFrom, Publishes};
 ghost use Rattle.echo_placing.specs.Replacing.{Replaces};
 ghost use Rattle.echo_station_files.specs.Paths.{path_beside};
 ghost use Rattle.echo_file_changing.specs.Putting.{IsOfBase};
-ghost use Rattle.echo_file_scanning.specs.Sending.{IsAtItsPath, IsOfScan, MaySend};
+ghost use Rattle.echo_file_scanning.specs.Sending.{AreAllBytes, IsAtItsPath, IsOfScan, MaySend};
 
 use crate::dropping::drop_packets;
 use crate::fitting::{all_differ, are_names, are_off_base};
@@ -30,6 +31,8 @@ fn publish_base<D: Disk>(
     bytes: &[u8],
 ) -> Result<(), PlacingError>
     requires { All (λ b. b ≢ 47) own.now }
+    ensures bytes { AreBytes bytes.now }
+    ensures seen { OnOk result ((D.state disk.new).seen base.now ≡ Some bytes.now) }
     ensures committed { OnOk result ((c : Files) → (D.state disk.new).may_leave c → c base.now ≡ Some bytes.now) }
     ensures any_moment { LeavesOnly (D.state disk.old) (D.state disk.new)
         (OneStepOn (Replaces base.now (path_beside base.now own.now) bytes.now) (D.state disk.old)) }
@@ -54,7 +57,9 @@ fn put_together<D: Disk>(
     requires apart { All (IsApartFrom (replacing base).own) packets.now }
     requires ready { AreTwoIn base.folder.now base.path.now base.beside.now }
     ensures published { Honestly (D.state disk.new) (OnOk result (All (HasItsPath (D.state disk.new)) packets.now)) }
+    ensures seen { OnOk result ((replacing base.entry).comes (D.state disk.new).seen) }
     ensures committed { OnOk result ((c : Files) → (D.state disk.new).may_leave c → (replacing base.entry).comes c) }
+    ensures bytes { OnOk result (All SendsBytes packets.now) }
     ensures any_moment { Honestly (D.state disk.new) (LeavesOnly (D.state disk.old) (D.state disk.new)
         (OneStepOn (Publishes (replacing base.entry) packets.now) (D.state disk.old))) }
     ensures changes { ChangesOnly (λ m. (replacing base.entry).own m ⊎ IsOfOne packets.now m) (D.state disk.old) (D.state disk.new) }
@@ -82,7 +87,9 @@ fn publish_packets<D: Disk>(
 ) -> Result<(), PlacingError>
     requires { All (λ b. b ≢ 47) own.now }
     ensures sent { Honestly (D.state disk.new) (OnOk result (All (IsAtItsPath folder.now (D.state disk.new)) files.now)) }
+    ensures seen { OnOk result ((D.state disk.new).seen base.now ≡ Some bytes.now) }
     ensures committed { OnOk result ((c : Files) → (D.state disk.new).may_leave c → c base.now ≡ Some bytes.now) }
+    ensures bytes { OnOk result (AreAllBytes bytes.now files.now) }
     ensures any_moment { Honestly (D.state disk.new) (LeavesOnly (D.state disk.old) (D.state disk.new)
         (OneStepOn (MaySend base.now folder.now own.now (Some bytes.now) files.now) (D.state disk.old))) }
     ensures changes { ChangesOnly (IsOfScan base.now folder.now own.now files.now) (D.state disk.old) (D.state disk.new) }
@@ -116,7 +123,9 @@ pub(crate) fn publish_scan<D: Disk>(
 ) -> Result<(), PlacingError>
     requires { All (λ b. b ≢ 47) own.now }
     ensures sent { Honestly (D.state disk.new) (OnOk result (All (IsAtItsPath folder.now (D.state disk.new)) files.now)) }
+    ensures seen { OnOk result ((D.state disk.new).seen base.now ≡ Some bytes.now) }
     ensures committed { OnOk result ((c : Files) → (D.state disk.new).may_leave c → c base.now ≡ Some bytes.now) }
+    ensures bytes { OnOk result (AreAllBytes bytes.now files.now) }
     ensures any_moment { Honestly (D.state disk.new) (LeavesOnly (D.state disk.old) (D.state disk.new)
         (OneStepOn (MaySend base.now folder.now own.now (Some bytes.now) files.now) (D.state disk.old))) }
     ensures changes { ChangesOnly (IsOfScan base.now folder.now own.now files.now) (D.state disk.old) (D.state disk.new) }

@@ -6,7 +6,7 @@ ghost use Rattle.echo_disk.specs.Runs.{ChangesNothing};
 ghost use Rattle.echo_placing.specs.Changes.{ChangesOnly};
 ghost use Rattle.echo_status.specs.Devices.{output_of};
 ghost use Rattle.echo_station_files.specs.Faults.{HaveFailed};
-ghost use Rattle.echo_file_scanning.specs.Scanning.{IsPutOut, IsTouchedAs, IsTouchedBy, IsWhy, ScansOn};
+ghost use Rattle.echo_file_scanning.specs.Scanning.{ChangesNoneWhereMet, IsPutOut, IsTouchedAs, IsTouchedBy, IsWhy, ScansOn};
 
 use crate::cursor::cursor_in;
 use crate::listing::Listing;
@@ -82,6 +82,7 @@ fn put_scan<'a, D: Disk, L: Listing>(
 ) -> Result<(), ScanFault<'a>>
     requires { All (λ b. b ≢ 47) own.now }
     ensures put { Honestly (D.state disk.new) (IsPutOut (L.is_true listing.new (D.state disk.old).seen) base.now folder.now own.now cursor done.entry (D.state disk.old) (D.state disk.new) result) }
+    ensures unchanged { IfErr result (ChangesNoneWhereMet (D.state disk.old) (D.state disk.new)) }
     ensures why { IfErr result (IsWhy done.entry (Failed (D.failures disk.old) (D.failures disk.new) ⊎ Failed (L.failures listing.old) (L.failures listing.new))) }
     ensures changes { ChangesOnly (IsTouchedAs base.now folder.now own.now) (D.state disk.old) (D.state disk.new) }
     ensures later { D.failures disk.old ≤ D.failures disk.new }

@@ -10,7 +10,7 @@ use std::alloc::{AllocError, Global};
 
 /// The path that a packet is to have, and the one beside it at which it stands before.
 #[derive(Drop)]
-pub(crate) struct TwoPaths {
+pub struct TwoPaths {
     pub path: Items<u8>,
     pub beside: Items<u8>,
 }
@@ -34,7 +34,7 @@ pub(crate) fn two_paths(
 }
 
 /// Those of each file.
-pub(crate) fn paths_of(
+pub fn paths_of(
     alloc: Global,
     folder: &[u8],
     own: &[u8],
@@ -51,7 +51,7 @@ pub(crate) fn paths_of(
 }
 
 /// The packets of these files, which go to these paths.
-pub(crate) fn outgoing_of<'a>(
+pub fn outgoing_of<'a>(
     alloc: Global,
     files: &'a [PacketFile],
     paths: &'a [TwoPaths],

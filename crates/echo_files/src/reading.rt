@@ -24,22 +24,6 @@ pub fn read_file<R: Files>(
     }
 }
 
-/// The same, or `None` where no file has the path.
-pub fn read_file_if_there<R: Files>(
-    alloc: Global,
-    files: &R,
-    path: &str,
-    most: usize,
-) -> Result<Option<Vec<u8>>, InputFault>
-    ensures { IfOk result (λ found. IfSome found (λ bytes. length bytes.items ≤ most)) }
-{
-    match fs::open(files, path) {
-        Ok(file) => Ok(Some(read_open(alloc, file, most)?)),
-        Err(error) if is_missing(&error) => Ok(None),
-        Err(error) => Err(input_fault(&error)),
-    }
-}
-
 /// Opens the file with this path, where it is a regular one. A folder or a pipe is a fault at once.
 pub fn open_regular<R: Files>(files: &R, path: &str) -> Result<R::File, InputFault> {
     match fs::metadata(files, path) {

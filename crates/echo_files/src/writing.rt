@@ -1,13 +1,11 @@
-//! Files that are written whole: the bytes go to a file beside it (`beside`), are flushed to the disk, and
-//! take the name at once. Where a step fails the file beside it is removed, and what had the name stays
-//! as it was.
+//! Files that are made whole: the bytes go to a file beside it (`beside`), are flushed to the disk, and get the name at
+//! once. Where a step fails the file beside it is removed, and what had the name stays as it was.
 ghost use Rattle.std.specs.Prelude.{◌≡◌, take, IfErr, OnOk};
 ghost use Rattle.std.specs.Io.KnownBytes.{Appends};
 ghost use Rattle.echo_device.specs.Device.{Failed};
 ghost use Rattle.echo_files.specs.declared.writing.OutputFault.TheVariants.{Device, Memory};
 
-use crate::beside::{Access, access_of, give_access, make_beside, name_beside};
-use crate::owned::Owned;
+use crate::beside::{make_beside, name_beside};
 use crate::reading::is_missing;
 use echo_device::{Failure, Sink, Watched, send};
 use std::alloc::{AllocError, Global};
@@ -60,38 +58,13 @@ impl From<io::Error> for OutputFault {
     }
 }
 
-/// Puts the bytes in place of those of the file with this path, or makes the file, and flushes its folder
-/// to the disk. It keeps its permissions, and its owner where that is allowed. A file that may not be
-/// written is a fault. Where the path is a symbolic link, the file that it leads to is replaced.
-pub fn replace_file<R: Files>(alloc: Global, files: &R, new: NewFile<'_>) -> Result<(), OutputFault>
-where
-    R::File: Owned,
-{
-    let target = target_of(alloc, files, new.path)?;
-    let access = access_of(files, target.as_str())?;
-    let folder = fs::open(files, folder_of(target.as_str()))?;
-    let beside = name_beside(alloc, target.as_str(), new.own)?;
-    let file = make_beside(
-        alloc,
-        files,
-        beside.as_str(),
-        start_of(new.bytes, new.known_by),
-    )?;
-    let done = match write_flushed(file, access, new.bytes) {
-        Ok(()) => give_name(files, beside.as_str(), target.as_str()),
-        failed => failed,
-    };
-    tidied(files, beside.as_str(), done)?;
-    folder.sync_all()?;
-    Ok(())
-}
-
 /// Makes a file of these bytes. That something has the path already is a fault, and that stays. The
 /// folder is flushed by `flush_folder` alone, once for many files.
-pub fn create_file<R: Files>(alloc: Global, files: &R, new: NewFile<'_>) -> Result<(), OutputFault>
-where
-    R::File: Owned,
-{
+pub fn create_file<R: Files>(
+    alloc: Global,
+    files: &R,
+    new: NewFile<'_>,
+) -> Result<(), OutputFault> {
     let beside = name_beside(alloc, new.path, new.own)?;
     let file = make_beside(
         alloc,
@@ -99,7 +72,7 @@ where
         beside.as_str(),
         start_of(new.bytes, new.known_by),
     )?;
-    let done = match write_flushed(file, None, new.bytes) {
+    let done = match write_flushed(file, new.bytes) {
         Ok(()) => give_new_name(files, beside.as_str(), new.path),
         failed => failed,
     };
@@ -120,7 +93,7 @@ pub fn flush_path<R: Files>(alloc: Global, files: &R, path: &str) -> Result<(), 
 }
 
 // The bytes by which a file of its kind is known.
-pub(crate) fn start_of(bytes: &[u8], known_by: usize) -> &[u8]
+fn start_of(bytes: &[u8], known_by: usize) -> &[u8]
     ensures { result.now ≡ take known_by bytes.now }
 {
     &bytes[..known_by.min(bytes.len())]
@@ -135,12 +108,6 @@ fn folder_of(path: &str) -> &str {
     }
 }
 
-// Gives the file beside it the name of the file that it replaces.
-fn give_name<R: Files>(files: &R, beside: &str, target: &str) -> Result<(), OutputFault> {
-    fs::rename(files, beside, target)?;
-    Ok(())
-}
-
 // Gives the file beside it a name that nothing has.
 fn give_new_name<R: Files>(files: &R, beside: &str, path: &str) -> Result<(), OutputFault> {
     fs::hard_link(files, beside, path)?;
@@ -149,14 +116,7 @@ fn give_new_name<R: Files>(files: &R, beside: &str, path: &str) -> Result<(), Ou
 }
 
 // Writes a file that was just made, and flushes it to the disk.
-pub(crate) fn write_flushed<F: Write + OpenFile + Owned + Drop>(
-    file: F,
-    access: Option<Access>,
-    bytes: &[u8],
-) -> Result<(), OutputFault> {
-    if let Some(access) = access {
-        give_access(&file, access)?;
-    }
+fn write_flushed<F: Write + OpenFile + Drop>(file: F, bytes: &[u8]) -> Result<(), OutputFault> {
     let mut device = Watched::new(file);
     put_bytes(&mut device, bytes)?;
     device.into_inner().sync_all()?;
@@ -174,7 +134,7 @@ fn put_bytes<W: Sink>(device: &mut W, bytes: &[u8]) -> Result<(), OutputFault>
 }
 
 // Removes the file beside it where that was not given the name.
-pub(crate) fn tidied<R: Files>(
+fn tidied<R: Files>(
     files: &R,
     beside: &str,
     done: Result<(), OutputFault>,

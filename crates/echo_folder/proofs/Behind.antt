@@ -1,5 +1,5 @@
 -- What a crash leaves while more is written behind the bytes that count.
-use Rattle.std.proofs.Common.{◌≡◌, ◌≢◌, ◌≤◌, inl, inr, ℕ, ◌+◌, min, List, [], ◌∷◌, ◌++◌, length, take, drop, Option, sym, ◌∙◌, ap, subst, arith, append_assoc, length-append, length-take}
+use Rattle.std.proofs.Common.{◌≡◌, ◌≢◌, ◌≤◌, inl, inr, ℕ, ◌+◌, min, List, [], ◌∷◌, ◌++◌, length, take, drop, Option, refl, sym, ◌∙◌, ap, subst, arith, append_assoc, length-append, length-take}
 use Rattle.std.proofs.lemmas.Bool.{cases_eq}
 use Rattle.std.proofs.lemmas.List.{take_at, take-take, take-append-le}
 use Rattle.std.specs.Prelude.{IsSome}
@@ -69,6 +69,41 @@ module _ (d0 d : DiskState) (path : List ℕ) (end : End) (told : Told) (staged 
   abbrev pub now : BaseBytes
   now = base_at d0 path end.told
 
+  -- files of which that of the messages is another, with the same front
+  messages_stand : (a c : Files) → StandsFor path now a → a (log_of path) ≡ d0.seen (log_of path) → ((m : List ℕ) → m ≢ messages_of path told.number → c m ≡ a m)
+      → (IsSome (a (messages_of path told.number)) → IsSome (c (messages_of path told.number)))
+      → (length now.messages ≤ told.messages → IsFrontOf now.messages (bytes_in (a (messages_of path told.number))) → IsFrontOf now.messages (bytes_in (c (messages_of path told.number)))) → StandsFor path now c
+  messages_stand a c was a_is same there front =
+      let bodies = staged.log.bodies in
+      let number = (last_told bodies).number in
+      let a_log : IsLog bodies (bytes_in (a (log_of path))) = shut_log bodies 0 [] (bytes_in (a (log_of path))) staged.log.sizes (omega arith) (ap bytes_in a_is ∙ staged.log.log) in
+      let by = tells_by path now a bodies was a_log in
+      let o_same = same (keys_of path number) (keys_not_messages path number told.number) in
+      let behind : number ≡ told.number → length now.messages ≤ told.messages =
+      λ (is : number ≡ told.number). omega (arith, by.1.messages_long, ap (λ (t : Told). t.messages) staged.log.told, staged.messages_behind (sym is ∙ ap (λ (t : Told). t.number) staged.log.told)) in
+      let Kept : ℕ → Type 0 = λ k. (IsSome (a (messages_of path k)) → IsSome (c (messages_of path k))) × IsFrontOf now.messages (bytes_in (c (messages_of path k))) in
+      let fronts : Kept number =
+      elim (cases_eq number told.number) [
+        | inl is ↦ subst Kept (sym is) (there, front (behind is) (subst (λ (k : ℕ). IsFrontOf now.messages (bytes_in (a (messages_of path k)))) is by.1.messages))
+        | inr ne ↦
+            let same_file = same (messages_of path number) (λ e. ne (messages_of-injective path number told.number e)) in
+            (subst (λ f. IsSome f) (sym same_file), subst (λ f. IsFrontOf now.messages (bytes_in f)) (sym same_file) by.1.messages)
+      ] in
+      record {
+        bodies = bodies;
+        log = subst (λ f. IsLog bodies (bytes_in f)) (sym (same (log_of path) (log_not_messages path told.number))) a_log;
+        there = AreThere-kept path bodies a c fronts.0 (subst (λ f. IsSome f) (sym o_same)) by.0;
+        tells = record {
+          messages_long = by.1.messages_long;
+          keys_long = by.1.keys_long;
+          cursor = by.1.cursor;
+          mark = by.1.mark;
+          digit = by.1.digit;
+          messages = fronts.1;
+          keys = subst (λ f. IsFrontOf now.keys (bytes_in f)) (sym o_same) by.1.keys;
+        };
+      }
+
   messages_torn : (n : ℕ) (c : Files) → OneStepOn (ChangesFile d0 (messages_of path told.number) (TornWrite told.messages n)) d0 c → StandsAlone path d0 now c
   messages_torn n c from =
       let a = from.0 in
@@ -76,40 +111,11 @@ module _ (d0 d : DiskState) (path : List ℕ) (end : End) (told : Told) (staged 
       let file = messages_of path told.number in
       let file_named = staged.log.named file (messages_in path told.number) in
       let same : (m : List ℕ) → m ≢ file → c m ≡ a m = λ m ne. changed.beside m ne (inl file_named) in
-      let bodies = staged.log.bodies in
-      let number = (last_told bodies).number in
       let a_is = d0.on_disk (log_of path) staged.log.on_disk.named staged.log.on_disk.flushed a from.1 in
-      let a_log : IsLog bodies (bytes_in (a (log_of path))) = shut_log bodies 0 [] (bytes_in (a (log_of path))) staged.log.sizes (omega arith) (ap bytes_in a_is ∙ staged.log.log) in
-      let by = tells_by path now a bodies (staged.stands a from.1) a_log in
-      let k_same = same (keys_of path number) (keys_not_messages path number told.number) in
-      let behind : number ≡ told.number → length now.messages ≤ told.messages =
-      λ (is : number ≡ told.number). omega (arith, by.1.messages_long, ap (λ (t : Told). t.messages) staged.log.told, staged.messages_behind (sym is ∙ ap (λ (t : Told). t.number) staged.log.told)) in
-      let fronts : (IsSome (a (messages_of path number)) → IsSome (c (messages_of path number))) × IsFrontOf now.messages (bytes_in (c (messages_of path number))) =
-      elim (cases_eq number told.number) [
-        | inl is ↦
-            let torn : TornWrite told.messages n (a (messages_of path number)) (c (messages_of path number)) =
-            subst (λ (k : ℕ). TornWrite told.messages n (a (messages_of path k)) (c (messages_of path k))) (sym is) (changed.within file_named) in
-            (torn.there, front_torn now.messages told.messages n (a (messages_of path number)) (c (messages_of path number)) (behind is) by.1.messages torn)
-        | inr ne ↦
-            let m_same = same (messages_of path number) (λ e. ne (messages_of-injective path number told.number e)) in
-            (subst (λ f. IsSome f) (sym m_same), subst (λ f. IsFrontOf now.messages (bytes_in f)) (sym m_same) by.1.messages)
-      ] in
+      let torn = changed.within file_named in
       record {
         outside = λ m out named flushed. same m (λ e. out (subst (λ (l : List ℕ). IsIn path l) (sym e) (messages_in path told.number))) ∙ d0.on_disk m named flushed a from.1;
-        stands = record {
-          bodies = bodies;
-          log = subst (λ f. IsLog bodies (bytes_in f)) (sym (same (log_of path) (log_not_messages path told.number))) a_log;
-          there = AreThere-kept path bodies a c fronts.0 (subst (λ f. IsSome f) (sym k_same)) by.0;
-          tells = record {
-            messages_long = by.1.messages_long;
-            keys_long = by.1.keys_long;
-            cursor = by.1.cursor;
-            mark = by.1.mark;
-            digit = by.1.digit;
-            messages = fronts.1;
-            keys = subst (λ f. IsFrontOf now.keys (bytes_in f)) (sym k_same) by.1.keys;
-          };
-        };
+        stands = messages_stand a c (staged.stands a from.1) a_is same torn.there (λ le is. front_torn now.messages told.messages n (a file) (c file) le is torn);
       }
 
   pub messages_run : (n : ℕ) → Elapses d0 d → LeavesOneStepOn (ChangesFile d0 (messages_of path told.number) (TornWrite told.messages n)) d0 d → LeavesOnly d0 d (StandsAlone path d0 now)
@@ -148,6 +154,9 @@ module _ (d0 d : DiskState) (path : List ℕ) (end : End) (told : Told) (staged 
         record {
           log = log_kept d0 d path (messages_of path told.number) end (log_not_messages path told.number) kept staged.log;
           stands = λ c left. subst (λ (b : BaseBytes). StandsFor path b c) (sym messages_same) (messages_torn (length bytes) c (crash c left)).stands;
+          shown = subst (λ (b : BaseBytes). StandsFor path b d.seen) (sym messages_same)
+              (messages_stand d0.seen d.seen staged.shown refl kept.seen (λ was. there)
+              (λ le is. written_front (bytes_in (d0.seen (messages_of path told.number))) bytes (bytes_in (d.seen (messages_of path told.number))) told.messages (length now.messages) le staged.messages_long written ∙ is));
           digit = staged.digit;
           messages_there = there;
           keys_there = subst (λ f. IsSome f) (sym k_same) staged.keys_there;
@@ -159,6 +168,41 @@ module _ (d0 d : DiskState) (path : List ℕ) (end : End) (told : Told) (staged 
           keys_behind = staged.keys_behind;
         }
 
+  -- files of which that of the keys is another, with the same front
+  keys_stand : (a c : Files) → StandsFor path now a → a (log_of path) ≡ d0.seen (log_of path) → ((m : List ℕ) → m ≢ keys_of path told.number → c m ≡ a m)
+      → (IsSome (a (keys_of path told.number)) → IsSome (c (keys_of path told.number)))
+      → (length now.keys ≤ told.keys → IsFrontOf now.keys (bytes_in (a (keys_of path told.number))) → IsFrontOf now.keys (bytes_in (c (keys_of path told.number)))) → StandsFor path now c
+  keys_stand a c was a_is same there front =
+      let bodies = staged.log.bodies in
+      let number = (last_told bodies).number in
+      let a_log : IsLog bodies (bytes_in (a (log_of path))) = shut_log bodies 0 [] (bytes_in (a (log_of path))) staged.log.sizes (omega arith) (ap bytes_in a_is ∙ staged.log.log) in
+      let by = tells_by path now a bodies was a_log in
+      let o_same = same (messages_of path number) (messages_not_keys path number told.number) in
+      let behind : number ≡ told.number → length now.keys ≤ told.keys =
+      λ (is : number ≡ told.number). omega (arith, by.1.keys_long, ap (λ (t : Told). t.keys) staged.log.told, staged.keys_behind (sym is ∙ ap (λ (t : Told). t.number) staged.log.told)) in
+      let Kept : ℕ → Type 0 = λ k. (IsSome (a (keys_of path k)) → IsSome (c (keys_of path k))) × IsFrontOf now.keys (bytes_in (c (keys_of path k))) in
+      let fronts : Kept number =
+      elim (cases_eq number told.number) [
+        | inl is ↦ subst Kept (sym is) (there, front (behind is) (subst (λ (k : ℕ). IsFrontOf now.keys (bytes_in (a (keys_of path k)))) is by.1.keys))
+        | inr ne ↦
+            let same_file = same (keys_of path number) (λ e. ne (keys_of-injective path number told.number e)) in
+            (subst (λ f. IsSome f) (sym same_file), subst (λ f. IsFrontOf now.keys (bytes_in f)) (sym same_file) by.1.keys)
+      ] in
+      record {
+        bodies = bodies;
+        log = subst (λ f. IsLog bodies (bytes_in f)) (sym (same (log_of path) (log_not_keys path told.number))) a_log;
+        there = AreThere-kept path bodies a c (subst (λ f. IsSome f) (sym o_same)) fronts.0 by.0;
+        tells = record {
+          messages_long = by.1.messages_long;
+          keys_long = by.1.keys_long;
+          cursor = by.1.cursor;
+          mark = by.1.mark;
+          digit = by.1.digit;
+          keys = fronts.1;
+          messages = subst (λ f. IsFrontOf now.messages (bytes_in f)) (sym o_same) by.1.messages;
+        };
+      }
+
   keys_torn : (n : ℕ) (c : Files) → OneStepOn (ChangesFile d0 (keys_of path told.number) (TornWrite told.keys n)) d0 c → StandsAlone path d0 now c
   keys_torn n c from =
       let a = from.0 in
@@ -166,40 +210,11 @@ module _ (d0 d : DiskState) (path : List ℕ) (end : End) (told : Told) (staged 
       let file = keys_of path told.number in
       let file_named = staged.log.named file (keys_in path told.number) in
       let same : (m : List ℕ) → m ≢ file → c m ≡ a m = λ m ne. changed.beside m ne (inl file_named) in
-      let bodies = staged.log.bodies in
-      let number = (last_told bodies).number in
       let a_is = d0.on_disk (log_of path) staged.log.on_disk.named staged.log.on_disk.flushed a from.1 in
-      let a_log : IsLog bodies (bytes_in (a (log_of path))) = shut_log bodies 0 [] (bytes_in (a (log_of path))) staged.log.sizes (omega arith) (ap bytes_in a_is ∙ staged.log.log) in
-      let by = tells_by path now a bodies (staged.stands a from.1) a_log in
-      let m_same = same (messages_of path number) (messages_not_keys path number told.number) in
-      let behind : number ≡ told.number → length now.keys ≤ told.keys =
-      λ (is : number ≡ told.number). omega (arith, by.1.keys_long, ap (λ (t : Told). t.keys) staged.log.told, staged.keys_behind (sym is ∙ ap (λ (t : Told). t.number) staged.log.told)) in
-      let fronts : (IsSome (a (keys_of path number)) → IsSome (c (keys_of path number))) × IsFrontOf now.keys (bytes_in (c (keys_of path number))) =
-      elim (cases_eq number told.number) [
-        | inl is ↦
-            let torn : TornWrite told.keys n (a (keys_of path number)) (c (keys_of path number)) =
-            subst (λ (k : ℕ). TornWrite told.keys n (a (keys_of path k)) (c (keys_of path k))) (sym is) (changed.within file_named) in
-            (torn.there, front_torn now.keys told.keys n (a (keys_of path number)) (c (keys_of path number)) (behind is) by.1.keys torn)
-        | inr ne ↦
-            let k_same = same (keys_of path number) (λ e. ne (keys_of-injective path number told.number e)) in
-            (subst (λ f. IsSome f) (sym k_same), subst (λ f. IsFrontOf now.keys (bytes_in f)) (sym k_same) by.1.keys)
-      ] in
+      let torn = changed.within file_named in
       record {
         outside = λ m out named flushed. same m (λ e. out (subst (λ (l : List ℕ). IsIn path l) (sym e) (keys_in path told.number))) ∙ d0.on_disk m named flushed a from.1;
-        stands = record {
-          bodies = bodies;
-          log = subst (λ f. IsLog bodies (bytes_in f)) (sym (same (log_of path) (log_not_keys path told.number))) a_log;
-          there = AreThere-kept path bodies a c (subst (λ f. IsSome f) (sym m_same)) fronts.0 by.0;
-          tells = record {
-            keys_long = by.1.keys_long;
-            messages_long = by.1.messages_long;
-            cursor = by.1.cursor;
-            mark = by.1.mark;
-            digit = by.1.digit;
-            keys = fronts.1;
-            messages = subst (λ f. IsFrontOf now.messages (bytes_in f)) (sym m_same) by.1.messages;
-          };
-        };
+        stands = keys_stand a c (staged.stands a from.1) a_is same torn.there (λ le is. front_torn now.keys told.keys n (a file) (c file) le is torn);
       }
 
   pub keys_run : (n : ℕ) → Elapses d0 d → LeavesOneStepOn (ChangesFile d0 (keys_of path told.number) (TornWrite told.keys n)) d0 d → LeavesOnly d0 d (StandsAlone path d0 now)
@@ -238,6 +253,9 @@ module _ (d0 d : DiskState) (path : List ℕ) (end : End) (told : Told) (staged 
         record {
           log = log_kept d0 d path (keys_of path told.number) end (log_not_keys path told.number) kept staged.log;
           stands = λ c left. subst (λ (b : BaseBytes). StandsFor path b c) (sym keys_same) (keys_torn (length bytes) c (crash c left)).stands;
+          shown = subst (λ (b : BaseBytes). StandsFor path b d.seen) (sym keys_same)
+              (keys_stand d0.seen d.seen staged.shown refl kept.seen (λ was. there)
+              (λ le is. written_front (bytes_in (d0.seen (keys_of path told.number))) bytes (bytes_in (d.seen (keys_of path told.number))) told.keys (length now.keys) le staged.keys_long written ∙ is));
           digit = staged.digit;
           keys_there = there;
           messages_there = subst (λ f. IsSome f) (sym m_same) staged.messages_there;

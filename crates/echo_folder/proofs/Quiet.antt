@@ -1,7 +1,7 @@
 -- A base folder on a disk that has not changed.
 use Rattle.std.proofs.Common.{◌≡◌, ◌≤◌, ℕ, List, length, take, sym, ◌∙◌, ap, subst}
 use Rattle.std.specs.Prelude.{IsSome}
-use Rattle.echo_disk.specs.Disk.{DiskState, bytes_in}
+use Rattle.echo_disk.specs.Disk.{DiskState, Files, bytes_in}
 use Rattle.echo_disk.specs.Runs.{ChangesNothing}
 use Rattle.echo_folder.specs.Names.{log_of, messages_of, keys_of}
 use Rattle.echo_folder.specs.Standing.{BaseBytes, StandsFor, base_at}
@@ -18,6 +18,10 @@ base_quiet d e path told quiet = λ i. record {
   cursor = told.cursor;
   mark = told.mark;
 }
+
+-- the same is seen
+seen_quiet : (d e : DiskState) → ChangesNothing d e → e.seen ≡ d.seen
+seen_quiet d e quiet = λ i m. quiet.seen m i
 
 -- what is staged is so still
 pub staged_quiet : (d e : DiskState) (path : List ℕ) (end : End) (told : Told) → ChangesNothing d e → IsStaged d path end told → IsStaged e path end told
@@ -36,6 +40,7 @@ staged_quiet d e path end told quiet was =
         named = λ m inside. quiet.named m (λ h. h) (was.log.named m inside);
       };
       stands = λ c left. subst (λ (b : BaseBytes). StandsFor path b c) same (was.stands c (quiet.no_more c left));
+      shown = subst (λ (f : Files). StandsFor path (base_at e path end.told) f) (sym (seen_quiet d e quiet)) (subst (λ (b : BaseBytes). StandsFor path b d.seen) same was.shown);
       digit = was.digit;
       messages_there = subst (λ f. IsSome f) (sym messages) was.messages_there;
       keys_there = subst (λ f. IsSome f) (sym keys) was.keys_there;

@@ -1,5 +1,5 @@
 -- A base folder at rest: nothing is staged yet.
-use Rattle.std.proofs.Common.{◌≡◌, List, ℕ, [], sym, ◌∙◌, ap, subst, arith}
+use Rattle.std.proofs.Common.{◌≡◌, List, ℕ, [], sym, ◌∙◌, ap, subst, arith, refl}
 use Rattle.std.specs.Prelude.{IsSome}
 use Rattle.echo_disk.specs.Disk.{DiskState, Files, bytes_in}
 use Rattle.echo_folder.specs.Names.{log_of, messages_of, keys_of}
@@ -37,6 +37,7 @@ pub rest_staged : (d : DiskState) (path : List ℕ) (end : End) (cursor : ℕ) (
 rest_staged d path end cursor mark rest = record {
   log = rest.log;
   stands = rest_stands d path end rest;
+  shown = rest_same d path end rest d.seen refl refl refl;
   digit = rest.digit;
   messages_there = rest.messages_on.there;
   keys_there = rest.keys_on.there;

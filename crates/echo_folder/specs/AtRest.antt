@@ -27,10 +27,12 @@ pub record IsAtRest (disk : DiskState) (path : List ℕ) (end : End) : Type 0 wh
   pub messages_on : IsOnDisk disk (messages_of path end.told.number)
   pub keys_on : IsOnDisk disk (keys_of path end.told.number)
 
--- So much was written and is not yet told: each crash leaves the base that the log tells, and the files have the bytes of the next one.
+-- So much was written and is not yet told: each crash leaves the base that the log tells, which is seen too, and the files have the bytes
+-- of the next one.
 pub record IsStaged (disk : DiskState) (path : List ℕ) (end : End) (told : Told) : Type 0 where
   pub log : IsLogAt disk path end
   pub stands : (c : Files) → disk.may_leave c → StandsFor path (base_at disk path end.told) c
+  pub shown : StandsFor path (base_at disk path end.told) disk.seen
   pub digit : told.number < 10
   pub messages_there : IsSome (disk.seen (messages_of path told.number))
   pub keys_there : IsSome (disk.seen (keys_of path told.number))

@@ -1,5 +1,5 @@
 -- A command on a store that was begun, as one on the folder.
-use Rattle.std.proofs.Common.{inl, inr, ⊎_elim, ◌∙◌, ℕ, Bool, List, Result, Ok, Err, ap}
+use Rattle.std.proofs.Common.{inl, inr, ⊎_elim, ◌∙◌, ℕ, Bool, List, Option, Result, Ok, Err, ap}
 use Rattle.std.specs.Prelude.{IfErr, IsErrOf, OnOk}
 use Rattle.echo_base.specs.Base.{Base}
 use Rattle.echo_disk.specs.Disk.{DiskState, Files, IsIn}
@@ -8,6 +8,9 @@ use Rattle.echo_disk.proofs.Moments.{then_nothing, then_run, weaker_run}
 use Rattle.echo_folder.specs.Moments.{KeepsOutside, SameOutside}
 use Rattle.echo_folder.proofs.Gates.{outside_quiet, outside_twice}
 use Rattle.echo_folder_store.specs.Held.{StandsForBase, StandsForBaseAlone, StandsForBaseOrWasLeft}
+use Rattle.echo_folder_store.specs.Opened.{committed_by}
+use Rattle.echo_folder_store.specs.State.{state_of, where_so}
+use Rattle.echo_folder_store.specs.declared.folder.Folder.{Folder}
 use Rattle.echo_links.specs.Links.{LinkFile}
 use Rattle.echo_store.specs.Store.{HasStoreCause, KeepsBeside, LooksOn, SameBesideStore, StandsBeside, StandsForEither, StoreState}
 use Rattle.echo_store.specs.declared.store_error.StoreError.TheVariants as error
@@ -17,6 +20,16 @@ use Rattle.echo_store_changing.specs.declared.stop.Stop.{Stop}
 use Rattle.echo_store_changing.specs.declared.stop.Stop.TheVariants.{Met, Store}
 use Rattle.echo_folder_changing.specs.Opening.{IsBegun, IsOfFolder}
 use Rattle.echo_folder_changing.specs.Running.{IsKept, IsRun, IsRunOn, LeavesWhereMet, MadeOrWasLeft}
+
+-- what a store has committed is seen
+abbrev pub IsShown : StoreState → Type 0
+IsShown s = (base : Base) → s.committed base → s.stands base s.disk.seen
+
+-- so it is of a folder that may be used
+pub store_shown : {A : Type 0} (d : DiskState) (keyed : ℕ → ℕ → List ℕ → ℕ) (f : Folder) (alone : Option Base) (so : Type 0) (result : Result A Stop) → d.is_honest
+    → OnOk result (where_so (state_of d keyed f alone) so).is_ready → OnOk result (IsShown (where_so (state_of d keyed f alone) so))
+store_shown d keyed f alone so (Ok done) honest ready = λ base holds. record { bytes = committed_by d f; stands = (ready.0.opened honest).staged.shown; holds = holds }
+store_shown d keyed f alone so (Err why) honest ready = tt
 
 -- a look at the store leaves it begun
 pub looks_begun : (keyed : ℕ → ℕ → List ℕ → ℕ) (links path : List ℕ) (strange : Bool) (d0 : DiskState) (s0 s1 : StoreState) (file : LinkFile) → LooksOn s0 s1
@@ -85,23 +98,24 @@ module _ (keyed : ℕ → ℕ → List ℕ → ℕ) (links path : List ℕ) (str
           stands = ⊎_elim (λ was. inl ((of.stands base c).0 was)) (λ made. inr (made.0, made.1, (of.stands made.0 c).0 made.2)) s.stands;
         }))
 
-    kept_run : {A : Type 0} (Makes : Base → Type 0) (May : Base → Base → Type 0) (result : Result A Stop) → s1.disk.is_honest → OnOk result (HasCommitted Makes s1) → OnOk result s1.is_ready → MayMake May s0 s1
+    kept_run : {A : Type 0} (Makes : Base → Type 0) (May : Base → Base → Type 0) (result : Result A Stop) → s1.disk.is_honest → OnOk result (HasCommitted Makes s1) → OnOk result s1.is_ready → OnOk result (IsShown s1) → MayMake May s0 s1
         → OnOk result (IsKept keyed path Makes s1.disk)
-    kept_run Makes May (Ok done) honest committed ready crash = record {
+    kept_run Makes May (Ok done) honest committed ready shown crash = record {
       next = committed.next;
       made = committed.made;
+      seen = (of.stands committed.next s1.disk.seen).0 ((crash.same.stands committed.next s1.disk.seen).0 (shown committed.next committed.committed));
       stands = λ c left. (of.stands committed.next c).0 ((crash.same.stands committed.next c).0 (s1.stays honest ready committed.next committed.committed c left));
     }
-    kept_run Makes May (Err why) honest committed ready crash = tt
+    kept_run Makes May (Err why) honest committed ready shown crash = tt
 
     pub run_on : {A : Type 0} (IsAnswer : Type 0) (Makes : Base → Type 0) (May : Base → Base → Type 0) (result : Result A Stop) (before now : ℕ) → s1.disk.is_honest → (s0.keeps base → IsAnswer)
-        → (s0.keeps base → OnOk result (HasCommitted Makes s1)) → OnOk result s1.is_ready → IfErr result (LeavesWhereMet keyed path d0 s1.disk base) → MayMake May s0 s1
+        → (s0.keeps base → OnOk result (HasCommitted Makes s1)) → OnOk result s1.is_ready → OnOk result (IsShown s1) → IfErr result (LeavesWhereMet keyed path d0 s1.disk base) → MayMake May s0 s1
         → HasStoreCause s0 s1 before now (store_answer result) → IsRunOn IsAnswer Makes (May base) keyed path d0 s1.disk base result
-    run_on IsAnswer Makes May result before now honest answers committed ready met crash cause =
+    run_on IsAnswer Makes May result before now honest answers committed ready shown met crash cause =
         let keeps = begun.keeps base stands in
         record {
           answer = answers keeps;
-          kept = kept_run Makes May result honest (committed keeps) ready crash;
+          kept = kept_run Makes May result honest (committed keeps) ready shown crash;
           met = met;
           crash = made_run May honest crash;
           whole = λ is. cause.damaged honest (ap (λ r. store_answer r) is) base keeps;

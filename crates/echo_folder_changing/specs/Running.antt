@@ -15,10 +15,11 @@ use Rattle.echo_store_changing.specs.declared.stop.Stop.{Stop}
 use Rattle.echo_store_changing.specs.declared.stop.Stop.TheVariants.{Met, Store}
 use Rattle.echo_folder_changing.specs.Opening.{AreLinks, IsLockedOut, IsShut}
 
--- whatever a crash leaves, the folder's files stand for a base that the command makes
+-- the folder's files stand for a base that the command makes, as they are seen and whatever a crash leaves
 pub record IsKept (keyed : ℕ → ℕ → List ℕ → ℕ) (path : List ℕ) (IsMade : Base → Type 0) (now : DiskState) : Type 0 where
   pub next : Base
   pub made : IsMade next
+  pub seen : StandsForBase keyed path next now.seen
   pub stands : (c : Files) → now.may_leave c → StandsForBase keyed path next c
 
 -- the base from before, or one that the command makes; nothing outside the folder has changed

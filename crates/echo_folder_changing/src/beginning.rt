@@ -24,14 +24,14 @@ use std::alloc::Global;
 
 /// The link file of a station, and its folder as a store, which may be used.
 #[derive(Drop)]
-pub(crate) struct Begun<D: Disk, H: Digest> {
+pub struct Begun<D: Disk, H: Digest> {
     pub links: LinkFile,
     pub store: FolderStore<D, H>,
 }
 
 /// The disk, and why no command is run on it.
 #[derive(Drop)]
-pub(crate) struct Stopped<'a, D> {
+pub struct Stopped<'a, D> {
     pub disk: D,
     pub fault: Fault<'a>,
 }
@@ -92,7 +92,7 @@ fn prepared<'a, S: Store, P: Preparing<'a, S>>(
 }
 
 /// Opens the station, and hands its store to the program. `unread` is why something that is read before was not.
-pub(crate) fn begin<
+pub fn begin<
     'a,
     D: Disk + Drop,
     H: Digest,

@@ -19,6 +19,7 @@ mod purging;
 mod replying;
 mod tossing;
 
+pub use beginning::{Begun, Stopped, begin};
 pub use place::{Ended, FolderPlace, Found};
 pub use posting::{post_free_in, post_in};
 pub use preparing::Preparing;

@@ -67,6 +67,7 @@ module _ (path : List ℕ) (paths : List ℕ → Type 0) (apart : (m : List ℕ)
           stands = λ c left.
               let from = left_now d e (OneStepOn (DifferAt paths) d) run.any_moment c left in
               subst (λ (b : BaseBytes). StandsFor path b c) same (stands_apart (base_at d path end.told) from.0 c from.2 (was.stands from.0 from.1));
+          shown = subst (λ (b : BaseBytes). StandsFor path b e.seen) same (stands_apart (base_at d path end.told) d.seen e.seen run.seen was.shown);
           digit = was.digit;
           messages_there = subst (λ f. IsSome f) (sym messages) was.messages_there;
           keys_there = subst (λ f. IsSome f) (sym keys) was.keys_there;

@@ -1,3 +1,3 @@
 pub mod Apart
 pub mod Published
-pub mod Stored
+pub mod Staged

@@ -11,7 +11,7 @@ use Rattle.echo_folder_store.specs.Opened.{IsOpen, committed_by, held_by, path_o
 use Rattle.echo_folder_store.specs.declared.folder.Folder.{Folder}
 use Rattle.echo_placing.specs.Changes.{ChangesOnly, DifferAt}
 use Rattle.echo_placing.specs.Naming.{NamesEach}
-use Rattle.echo_placing.specs.Outgoing.{ArePlaced, IsBesideOne, IsOfOne, IsStaged}
+use Rattle.echo_placing.specs.Outgoing.{ArePlaced, SendsBytes, IsBesideOne, IsOfOne, IsStaged}
 use Rattle.echo_placing.specs.Publishing.{IsApartFrom}
 use Rattle.echo_placing.specs.declared.outgoing.Outgoing.{Outgoing}
 use Rattle.echo_placing.proofs.Changes.{left_there}
@@ -20,7 +20,7 @@ use Rattle.echo_folder_publishing.specs.Publishing.{IsAsBefore, IsCommitted, Kee
 use Rattle.echo_folder_publishing.proofs.Apart.{committed_apart, held_apart, open_apart, stands_apart}
 
 -- what is so of each moment of a run, twice
-both_left : (old new : DiskState) (P Q : Files → Type 0) → LeavesOnly old new P → LeavesOnly old new Q → LeavesOnly old new (λ c. P c × Q c)
+pub both_left : (old new : DiskState) (P Q : Files → Type 0) → LeavesOnly old new P → LeavesOnly old new Q → LeavesOnly old new (λ c. P c × Q c)
 both_left old new P Q one two = record {
   later = one.later;
   each = λ c left. (one.each c left, two.each c left);
@@ -67,7 +67,7 @@ module _ (f : Folder) (outbound : List ℕ) (packets : List Outgoing) (placed : 
       committed = committed_apart f (IsBesideOne packets) inside_not_beside d0 d1 staging;
     }
 
-    module _ (d2 : DiskState) (staged : All (IsStaged d1) packets) where
+    module _ (d2 : DiskState) (bytes : All SendsBytes packets) (staged : All (IsStaged d1) packets) where
       -- and the folder is committed
       pub committed_moments : LeavesOutside (path_of f) d1 d2 → LeavesOnly d1 d2 (IsBeforeOrAfter (path_of f) d1 (committed_by d1 f) (held_by d1 f)) → LeavesOnly d0 d2 (OneStepOn P d0)
       committed_moments outside commits =
@@ -95,6 +95,7 @@ module _ (f : Folder) (outbound : List ℕ) (packets : List Outgoing) (placed : 
                     λ k z lt.
                         let p = get_or packets k z in
                         inr (from.2 p.beside.now (apart k z lt).beside (staged k z lt).file.named ∙ left_there d1 p.beside.now p.file.now.bytes (staged k z lt).file from.0 from.1),
+                    bytes,
                   ))
                   q.0.stands;
             },
@@ -120,9 +121,9 @@ module _ (f : Folder) (outbound : List ℕ) (packets : List Outgoing) (placed : 
     of_apart m inside = inside_not_of m (subst (λ (p : List ℕ). IsIn p m) same inside)
 
     -- and the packets get their paths
-    pub named_moments : (first next : BaseBytes) → IsOpen d2 g → committed_by d2 g ≡ next → LeavesOnly d0 d2 (OneStepOn (PublishesWith (path_of f) packets d0 first next) d0)
+    pub named_moments : All SendsBytes packets → (first next : BaseBytes) → IsOpen d2 g → committed_by d2 g ≡ next → LeavesOnly d0 d2 (OneStepOn (PublishesWith (path_of f) packets d0 first next) d0)
         → LeavesOnly d2 d3 (OneStepOn (NamesEach packets) d2) → LeavesOnly d0 d3 (OneStepOn (PublishesWith (path_of f) packets d0 first next) d0)
-    named_moments first next opened is run names =
+    named_moments bytes first next opened is run names =
         let step = PublishesWith (path_of f) packets d0 first next in
         then_run d0 d2 d3 (OneStepOn step d0) (OneStepOn (NamesEach packets) d2) run names
         (λ c from.
@@ -133,7 +134,7 @@ module _ (f : Folder) (outbound : List ℕ) (packets : List Outgoing) (placed : 
           at.1,
           record {
             others = λ m out other named. from.2.others m other ∙ at.2.others m out other named;
-            either = inr (stands_apart (path_of f) (IsOfOne packets) inside_not_of next from.0 c from.2.others left, from.2.whole);
+            either = inr (stands_apart (path_of f) (IsOfOne packets) inside_not_of next from.0 c from.2.others left, from.2.whole, bytes);
           },
         ))
 

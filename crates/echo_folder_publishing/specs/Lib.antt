@@ -1,2 +1,1 @@
 pub mod Publishing
-pub mod Storing

@@ -6,7 +6,7 @@ use Rattle.echo_folder.specs.Standing.{BaseBytes, StandsFor}
 use Rattle.echo_folder_store.specs.Opened.{IsOpen, committed_by, held_by}
 use Rattle.echo_folder_store.specs.declared.folder.Folder.{Folder}
 use Rattle.echo_placing.specs.Naming.{StandsWhole}
-use Rattle.echo_placing.specs.Outgoing.{IsOfOne}
+use Rattle.echo_placing.specs.Outgoing.{SendsBytes, IsOfOne}
 use Rattle.echo_placing.specs.Publishing.{IsUntouched}
 use Rattle.echo_placing.specs.declared.outgoing.Outgoing.{Outgoing}
 use Rattle.echo_placing.specs.declared.placing_error.PlacingError.TheVariants as placing
@@ -14,11 +14,11 @@ use Rattle.echo_store.specs.declared.store_error.StoreError.TheVariants as store
 use Rattle.echo_folder_publishing.specs.declared.unpublished.Unpublished.{Unpublished}
 use Rattle.echo_folder_publishing.specs.declared.unpublished.Unpublished.TheVariants.{Packets, Folder as OfFolder}
 
--- The base from before the commit, and no packet of these at its path; or the base that was held, and each packet whole at its
--- path or beside it. What else a path led to on the disk is as it was.
+-- The base from before the commit, and no packet of these at its path; or the base that was held, and each packet, which is
+-- bytes, whole at its path or beside it. What else a path led to on the disk is as it was.
 pub record PublishesWith (path : List ℕ) (packets : List Outgoing) (old : DiskState) (first next : BaseBytes) (before after : Files) : Type 0 where
   pub others : (m : List ℕ) → (IsIn path m → ⊥) → (IsOfOne packets m → ⊥) → old.is_named m → after m ≡ before m
-  pub either : (StandsFor path first after × All (IsUntouched before after) packets) ⊎ (StandsFor path next after × All (StandsWhole after) packets)
+  pub either : (StandsFor path first after × All (IsUntouched before after) packets) ⊎ (StandsFor path next after × All (StandsWhole after) packets × All SendsBytes packets)
 
 -- the folder is open, and what it held is committed
 pub record IsCommitted (old new : DiskState) (before after : Folder) : Type 0 where

@@ -2,6 +2,7 @@
 use echo_disk::DiskError;
 use echo_placing::PlacingError;
 use echo_store::StoreError;
+use std::alloc::AllocError;
 use thiserror::Error;
 
 /// Why packets and the commit of a base folder were not put on the disk.
@@ -35,5 +36,28 @@ impl From<StoreError> for Unpublished {
 
     fn from(cause: StoreError) -> Unpublished {
         Unpublished::Folder(cause)
+    }
+}
+
+impl From<AllocError> for Unpublished {
+    ghost use Rattle.std.specs.Prelude.{◌≡◌};
+    ghost use Rattle.echo_folder_publishing.specs.declared.unpublished.Unpublished.TheVariants.{Packets};
+    ghost use Rattle.echo_placing.specs.declared.placing_error.PlacingError.TheVariants.{Memory};
+
+    ghost from_gives = { λ _ e. e ≡ Packets Memory };
+
+    fn from(_refused: AllocError) -> Unpublished {
+        Unpublished::Packets(PlacingError::Memory)
+    }
+}
+
+impl From<PlacingError> for Unpublished {
+    ghost use Rattle.std.specs.Prelude.{◌≡◌};
+    ghost use Rattle.echo_folder_publishing.specs.declared.unpublished.Unpublished.TheVariants.{Packets};
+
+    ghost from_gives = { λ cause e. e ≡ Packets cause };
+
+    fn from(cause: PlacingError) -> Unpublished {
+        Unpublished::Packets(cause)
     }
 }

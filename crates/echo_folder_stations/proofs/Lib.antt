@@ -1,4 +1,4 @@
 pub mod Committed
-mod Postings
-mod Tosses
+pub mod Postings
+pub mod Tosses
 pub mod Scans

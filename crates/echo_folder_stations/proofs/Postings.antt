@@ -24,7 +24,7 @@ use Rattle.echo_folder_stations.proofs.Committed.{LeadsTo, commits, crash, done}
 
 module _ (file : LinkFile) (base : Base) (i : ℕ) (w : Folders) (store : StoreState) (at : IsFolderOf file base i w store) where
   -- a posting leads on
-  posts-lead : (IsCommand : Command → Type 0) (words : NewMessage) (body : List ℕ) (next : Base) → IsCommand (Post words body) → CanBeSaved next → Posts file words body base next → LeadsTo IsCommand i w next
+  pub posts-lead : (IsCommand : Command → Type 0) (words : NewMessage) (body : List ℕ) (next : Base) → IsCommand (Post words body) → CanBeSaved next → Posts file words body base next → LeadsTo IsCommand i w next
   posts-lead IsCommand words body next is saved posts =
       let net = with_posting w.disks.net i (file_of next) (posted file words.tag.now (draft_given words body) words.serial words.stamp) in
       let disks : Disks = record { net = net; beside = w.disks.beside } in
@@ -45,7 +45,7 @@ module _ (file : LinkFile) (base : Base) (i : ℕ) (w : Folders) (store : StoreS
       }
 
   -- so does a purge
-  purges-lead : (next : Base) → CanBeSaved next → Purges base next → LeadsTo IsPurge i w next
+  pub purges-lead : (next : Base) → CanBeSaved next → Purges base next → LeadsTo IsPurge i w next
   unfolding purged
   purges-lead next saved purges =
       let net = with_left w.disks.net i [] (file_of next) in
@@ -76,7 +76,7 @@ free-posts-as-may old new file words body base i w at saved makes =
     }
 
 -- the words of an answer are posted
-replies-lead : (file : LinkFile) (index : ℕ) (answer : Answer) (body : List ℕ) (base : Base) (i : ℕ) (w : Folders) (store : StoreState) → IsFolderOf file base i w store
+pub replies-lead : (file : LinkFile) (index : ℕ) (answer : Answer) (body : List ℕ) (base : Base) (i : ℕ) (w : Folders) (store : StoreState) → IsFolderOf file base i w store
     → (next : Base) → CanBeSaved next → Replies file index answer body base next → LeadsTo (IsReplyTo answer body) i w next
 replies-lead file index answer body base i w store at next saved replies = leads-by answer.free replies.made
   where

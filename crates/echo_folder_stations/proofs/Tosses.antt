@@ -22,7 +22,7 @@ use Rattle.echo_folder_stations.specs.OnStores.{IsFolderOf}
 use Rattle.echo_folder_stations.proofs.Committed.{LeadsTo, commits, crash, done}
 
 -- a toss leads on
-tosses-lead : {R : Type 0} (device : R → Device) (noting : Bool) (limits : Limits) (file : LinkFile) (files : List Coming) (indexes : List ℕ) (base : Base) (i : ℕ) (w : Folders) (store : StoreState)
+pub tosses-lead : {R : Type 0} (device : R → Device) (noting : Bool) (limits : Limits) (file : LinkFile) (files : List Coming) (indexes : List ℕ) (base : Base) (i : ℕ) (w : Folders) (store : StoreState)
     → IsFolderOf file base i w store → Paired (IsPacketAt w.disks.net.packets) indexes files → (next : Base) → CanBeSaved next
     → Tosses noting limits device file files base next → LeadsTo (IsToss indexes) i w next
 tosses-lead device noting limits file files indexes base i w store at are next saved t =

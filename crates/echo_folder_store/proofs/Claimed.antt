@@ -27,6 +27,7 @@ claimed_open d f mark was = record {
   staged = record {
     log = was.staged.log;
     stands = was.staged.stands;
+    shown = was.staged.shown;
     digit = was.staged.digit;
     messages_there = was.staged.messages_there;
     keys_there = was.staged.keys_there;

@@ -8,7 +8,7 @@ use Rattle.echo_disk.proofs.Moments.{left_now}
 use Rattle.echo_placing.specs.Changes.{ChangesOnly, DifferAt}
 use Rattle.echo_placing.specs.Commits.{Change, Commits}
 use Rattle.echo_placing.specs.Naming.{NamesEach}
-use Rattle.echo_placing.specs.Outgoing.{ArePlaced, IsBesideOne, IsOfOne, IsStaged}
+use Rattle.echo_placing.specs.Outgoing.{ArePlaced, SendsBytes, IsBesideOne, IsOfOne, IsStaged}
 use Rattle.echo_placing.specs.Publishing.{IsApartFrom, Publishes}
 use Rattle.echo_placing.specs.declared.outgoing.Outgoing.{Outgoing}
 use Rattle.echo_placing.proofs.Changes.{left_there, stays_on_disk, then_only, then_steps, weaker_steps, wider}
@@ -38,7 +38,7 @@ module _ (change : Change) (folder : List ℕ) (packets : List Outgoing) (placed
     pub staged_moments : LeavesOnly d0 d1 (OneStepOn P d0)
     staged_moments = weaker_steps d0 d1 (DifferAt (IsBesideOne packets)) P staging.any_moment staged_step
 
-    module _ (staged : All (IsStaged d1) packets) (committing : ChangesOnly change.own d1 d2) where
+    module _ (bytes : All SendsBytes packets) (staged : All (IsStaged d1) packets) (committing : ChangesOnly change.own d1 d2) where
       -- and the commit is made
       pub committed_moments : LeavesOnly d1 d2 (OneStepOn (Commits change) d1) → LeavesOnly d0 d2 (OneStepOn P d0)
       committed_moments commits =
@@ -54,6 +54,7 @@ module _ (change : Change) (folder : List ℕ) (packets : List Outgoing) (placed
                 (λ comes. inr (
                   comes,
                   λ k z lt. inr (q.others (get_or packets k z).beside.now (apart k z lt).beside ∙ left_there d1 (get_or packets k z).beside.now (get_or packets k z).file.now.bytes (staged k z lt).file b left),
+                  bytes,
                 ))
                 q.either;
           })
@@ -68,12 +69,12 @@ module _ (change : Change) (folder : List ℕ) (packets : List Outgoing) (placed
 
   module _ (d0 d2 d3 : DiskState) (comes : (c : Files) → d2.may_leave c → change.comes c) where
     -- and the packets get their paths
-    pub named_moments : LeavesOnly d0 d2 (OneStepOn P d0) → LeavesOnly d2 d3 (OneStepOn (NamesEach packets) d2) → LeavesOnly d0 d3 (OneStepOn P d0)
-    named_moments run naming =
+    pub named_moments : All SendsBytes packets → LeavesOnly d0 d2 (OneStepOn P d0) → LeavesOnly d2 d3 (OneStepOn (NamesEach packets) d2) → LeavesOnly d0 d3 (OneStepOn P d0)
+    named_moments bytes run naming =
         then_steps d0 d2 d3 P (NamesEach packets) P run naming (λ a b r. r)
         (λ a b c at left r q. record {
           others = λ m out. q.others m (λ o. out (inr o)) ∙ r.others m out;
-          either = inr (change.same_comes b c (λ m own. q.others m (own_not_of m own)) (comes b left), q.whole);
+          either = inr (change.same_comes b c (λ m own. q.others m (own_not_of m own)) (comes b left), q.whole, bytes);
         })
 
     pub still_comes : ChangesOnly (IsOfOne packets) d2 d3 → (c : Files) → d3.may_leave c → change.comes c

@@ -1,5 +1,6 @@
 -- Packets on the way to their paths.
 use Rattle.std.specs.Prelude.{◌≡◌, ◌≢◌, ◌⊎◌, ℕ, List, [], All, AllPairs, Contains, Some, None}
+use Rattle.echo_device.specs.Fixed.{AreBytes}
 use Rattle.echo_disk.specs.Disk.{DiskState, IsIn}
 use Rattle.echo_placing.specs.Changes.{HasOnDisk}
 use Rattle.echo_placing.specs.declared.outgoing.Outgoing.{Outgoing}
@@ -29,6 +30,10 @@ pub record IsPlaced (folder : List ℕ) (p : Outgoing) : Type 0 where
 pub record ArePlaced (folder : List ℕ) (packets : List Outgoing) : Type 0 where
   pub each : All (IsPlaced folder) packets
   pub apart : AllPairs AreApart packets
+
+-- what it is to have are bytes
+abbrev pub SendsBytes : Outgoing → Type 0
+SendsBytes p = AreBytes p.file.now.bytes
 
 -- nothing has the packet's path
 abbrev pub IsFree : DiskState → Outgoing → Type 0

@@ -3,7 +3,7 @@ ghost use Rattle.std.specs.Prelude.{◌≡◌, true, false, All, AllPairs, IfOk,
 ghost use Rattle.echo_disk.specs.Disk.{Honestly};
 ghost use Rattle.echo_disk.specs.Runs.{ChangesNothing, HasCause, KeepsNamed};
 ghost use Rattle.echo_placing.specs.Changes.{ChangesOnly};
-ghost use Rattle.echo_placing.specs.Outgoing.{AreApart, ArePlaced, IsBesideOne, IsFilled, IsFree, IsMade, IsNamedBeside, IsStaged};
+ghost use Rattle.echo_placing.specs.Outgoing.{AreApart, ArePlaced, SendsBytes, IsBesideOne, IsFilled, IsFree, IsMade, IsNamedBeside, IsStaged};
 
 use crate::outgoing::Outgoing;
 use crate::staging::fill_file;
@@ -48,6 +48,7 @@ fn fill_files<D: Disk>(
     requires apart { AllPairs AreApart packets.now }
     requires made { All (IsMade (D.state disk.old)) packets.now }
     requires named { All (IsNamedBeside (D.state disk.old)) packets.now }
+    ensures bytes { OnOk result (All SendsBytes packets.now) }
     ensures filled { OnOk result (All (IsFilled (D.state disk.new)) packets.now) }
     ensures named { KeepsNamed (λ m. ⊥) (D.state disk.old) (D.state disk.new) }
     ensures changes { ChangesOnly (IsBesideOne packets.now) (D.state disk.old) (D.state disk.new) }
@@ -69,6 +70,7 @@ pub fn stage_packets<D: Disk>(
     packets: &[Outgoing<'_>],
 ) -> Result<bool, DiskError>
     requires { ArePlaced folder.now packets.now }
+    ensures bytes { IfOk result (λ free. free ≡ true → All SendsBytes packets.now) }
     ensures staged { IfOk result (λ free. free ≡ true → All (IsStaged (D.state disk.new)) packets.now) }
     ensures free { Honestly (D.state disk.new) (IfOk result (λ free. free ≡ true → All (IsFree (D.state disk.new)) packets.now)) }
     ensures taken { Honestly (D.state disk.new) (IfOk result (λ free. free ≡ false → All (IsFree (D.state disk.old)) packets.now → ⊥)) }

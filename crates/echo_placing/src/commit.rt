@@ -16,6 +16,7 @@ pub trait Commit<D: Disk> {
     /// Makes the change. At `Ok` it is on the disk.
     fn commit(&mut self, disk: &mut D) -> Result<(), DiskError>
         requires { (change self.old).is_ready (D.state disk.old) }
+        ensures seen { OnOk result ((change self.old).comes (D.state disk.new).seen) }
         ensures committed { OnOk result ((c : Files) → (D.state disk.new).may_leave c → (change self.old).comes c) }
         ensures any_moment { LeavesOnly (D.state disk.old) (D.state disk.new) (OneStepOn (Commits (change self.old)) (D.state disk.old)) }
         ensures changes { ChangesOnly (change self.old).own (D.state disk.old) (D.state disk.new) }

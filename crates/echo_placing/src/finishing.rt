@@ -1,6 +1,6 @@
 //! What a publishing that was stopped left beside the paths of its packets is brought to its end.
-ghost use Rattle.std.specs.Prelude.{◌≡◌, ◌⊎◌, true, false, All, IfOk, OnOk};
-ghost use Rattle.echo_disk.specs.Disk.{Honestly};
+ghost use Rattle.std.specs.Prelude.{◌≡◌, ◌⊎◌, ℕ, List, true, false, All, IfOk, OnOk};
+ghost use Rattle.echo_disk.specs.Disk.{Honestly, IsIn};
 ghost use Rattle.echo_disk.specs.Runs.{HasCause, LeavesOnly, OneStepOn};
 ghost use Rattle.echo_placing.specs.Changes.{ChangesOnly};
 ghost use Rattle.echo_placing.specs.Finishing.{AreLeftIn, AreNamed, Finishes, FinishesEach, IsFreeOf, IsLeftIn, IsOfLeft, IsOver, IsThere, KeepsFile};
@@ -58,6 +58,7 @@ pub fn finish_stopped<D: Disk>(
     ensures over { Honestly (D.state disk.new) (IfOk result (λ all. all ≡ true → All (IsOver cursor (D.state disk.old) (D.state disk.new)) found.now)) }
     ensures kept { Honestly (D.state disk.new) (OnOk result (All (KeepsFile (D.state disk.old) (D.state disk.new)) found.now)) }
     ensures taken { Honestly (D.state disk.new) (IfOk result (λ all. all ≡ false → All (IsFreeOf (D.state disk.old)) found.now → ⊥)) }
+    ensures named { OnOk result ((m : List ℕ) → IsIn folder.now m → (D.state disk.new).is_named m) }
 
     // A crash at any moment leaves each packet of a committed scan at one of its two paths at least, and none other at its path.
     ensures any_moment { Honestly (D.state disk.new) (LeavesOnly (D.state disk.old) (D.state disk.new) (OneStepOn (FinishesEach cursor found.now) (D.state disk.old))) }

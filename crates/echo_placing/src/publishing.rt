@@ -4,7 +4,7 @@ ghost use Rattle.echo_disk.specs.Disk.{Files, Honestly};
 ghost use Rattle.echo_disk.specs.Runs.{LeavesOnly, OneStepOn};
 ghost use Rattle.echo_placing.specs.Changes.{ChangesOnly};
 ghost use Rattle.echo_placing.specs.Naming.{HasItsPath};
-ghost use Rattle.echo_placing.specs.Outgoing.{ArePlaced, IsFree, IsOfOne};
+ghost use Rattle.echo_placing.specs.Outgoing.{ArePlaced, SendsBytes, IsFree, IsOfOne};
 ghost use Rattle.echo_placing.specs.Publishing.{HasPlacingCause, IsApartFrom, Publishes};
 
 use crate::beside::stage_packets;
@@ -29,7 +29,9 @@ pub fn publish<D: Disk, C: Commit<D>>(
     requires apart { All (IsApartFrom (C.change commit.old).own) packets.now }
     requires ready { (C.change commit.old).is_ready (D.state disk.old) }
     ensures published { Honestly (D.state disk.new) (OnOk result (All (HasItsPath (D.state disk.new)) packets.now)) }
+    ensures seen { OnOk result ((C.change commit.old).comes (D.state disk.new).seen) }
     ensures committed { OnOk result ((c : Files) → (D.state disk.new).may_leave c → (C.change commit.old).comes c) }
+    ensures bytes { OnOk result (All SendsBytes packets.now) }
     ensures taken { Honestly (D.state disk.new) (IsErrOf result PlacingError.Taken → All (IsFree (D.state disk.old)) packets.now → ⊥) }
 
     // A crash at any moment leaves no commit and none of the packets at its path, or the commit and each packet whole.

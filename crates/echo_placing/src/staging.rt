@@ -1,5 +1,6 @@
 //! A file that is written and put on the disk, before it is settled that it is wanted.
 ghost use Rattle.std.specs.Prelude.{◌≡◌, ℕ, List, [], Some, OnOk};
+ghost use Rattle.echo_device.specs.Fixed.{AreBytes};
 ghost use Rattle.echo_disk.specs.Disk.{IsIn};
 ghost use Rattle.echo_disk.specs.Runs.{HasCause, KeepsNamed};
 ghost use Rattle.echo_placing.specs.Changes.{ChangesOnly, HasOnDisk};
@@ -11,6 +12,7 @@ pub fn fill_file<D: Disk>(disk: &mut D, path: &[u8], bytes: &[u8]) -> Result<(),
     requires empty { (D.state disk.old).seen path.now ≡ Some [] }
     requires named { (D.state disk.old).is_named path.now }
     requires alone { (D.state disk.old).is_alone path.now }
+    ensures bytes { AreBytes bytes.now }
     ensures filled { OnOk result (HasOnDisk (D.state disk.new) path.now bytes.now) }
     ensures named { KeepsNamed (λ m. ⊥) (D.state disk.old) (D.state disk.new) }
     ensures changes { ChangesOnly (λ m. m ≡ path.now) (D.state disk.old) (D.state disk.new) }

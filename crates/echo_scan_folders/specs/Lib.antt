@@ -1,2 +1,2 @@
-pub mod AfterSending
-pub mod SendsAsMay
+pub mod AfterScans
+pub mod ScansAsMay

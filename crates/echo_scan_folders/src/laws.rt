@@ -1,14 +1,13 @@
-//! What holds where the packets of a scan and the commit of its base folder are put on a disk together. The law is the
-//! contract of a function that does nothing, and speaks of a store before the scan and with its packets made, and of a
-//! disk afterwards.
-ghost use Rattle.echo_scan_folders.specs.SendsAsMay.{SendsAsMay};
+//! What holds of `scan` on a base folder of a disk. The law is the contract of a function that does nothing, and speaks of
+//! a disk before a scan and after it.
+ghost use Rattle.echo_scan_folders.specs.ScansAsMay.{ScansInAsMay};
 
 use echo_disk::Disk;
-use echo_store::Store;
+use echo_file_scanning::Listing;
 
-/// A crash at any moment leaves what the folder held, and none of the packets at its path, or the folder and the packets
-/// as the law over crashes allows after the scan: each packet that stands whole at its path has its name, and each other
-/// one waits, whole beside its path.
-pub fn scans_with_packets<T: Store, D: Disk>(_old: &T, _made: &T, _disk: &D)
-    ensures { SendsAsMay (T.state _old.now) (T.state _made.now) (D.state _disk.now) }
+/// `scan` on the folder of a station: a crash at any moment leaves what one before it might have left, or the link file
+/// and the folder as before the command or as the law over crashes allows, with each of its packets at its path or
+/// waiting beside it. Where it ended well each has its path, and the next command finds the station so.
+pub fn scans_in_folder_as_may<D: Disk, G: Listing>(_old: &D, _new: &D, _listing: &G)
+    ensures { ScansInAsMay (G.is_true _listing.now) (D.state _old.now) (D.state _new.now) }
 {}

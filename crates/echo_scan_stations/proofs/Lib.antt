@@ -1,3 +1,4 @@
 mod Touched
 mod Bases
 mod Scans
+mod Ended

@@ -1,22 +1,15 @@
 -- The files of a disk after a scan of a station.
-use Rattle.std.specs.Prelude.{◌≡◌, ◌++◌, ℕ, List, map, Some, IfSome}
+use Rattle.std.specs.Prelude.{◌≡◌, ◌++◌, ℕ, List, [], map, Some}
 use Rattle.std.specs.List.{AllByRecursion}
-use Rattle.echo_disk.specs.Disk.{Files}
-use Rattle.echo_packet.specs.Header.{AreBytes}
+use Rattle.echo_disk.specs.Disk.{DiskState, Files}
 use Rattle.echo_steps.specs.declared.stamp.Stamp.{Stamp}
-use Rattle.echo_changing.specs.declared.leaving.Files as leaving
 use Rattle.echo_changing.specs.PacketFiles.{PacketFile}
 use Rattle.echo_stations.specs.Commands.{Scan}
 use Rattle.echo_stations.specs.Nets.{bytes_of}
 use Rattle.echo_crashes.specs.Disks.{Disks, HasCursor}
 use Rattle.echo_crashes.specs.Stopping.{LeadsFar, beside_of}
 use Rattle.echo_station_files.specs.Paths.{IsOwnName, path_beside}
-use Rattle.echo_disk_stations.specs.OnDisks.{Shows}
-
--- what is to be written is bytes
-pub record AreAllBytes (files : leaving.Files) : Type 0 where
-  pub base : IfSome files.base AreBytes
-  pub packets : AllByRecursion (λ file. AreBytes file.bytes) files.packets
+use Rattle.echo_disk_stations.specs.OnDisks.{IsStationAt, Shows}
 
 -- the packet stands whole at its path
 abbrev pub IsAtPath : List ℕ → Files → PacketFile → Type 0
@@ -42,3 +35,9 @@ pub record AreAfterScan (stamp : Stamp) (links base folder : List ℕ) (i : ℕ)
   pub wait : after.beside ≡ ended.beside ++ map (beside_of i cursor) waiting
   pub at_paths : AllByRecursion (IsAtPath folder c) named
   pub beside_paths : AllByRecursion (IsBesidePath folder own c) waiting
+
+-- The disk shows the files of the station after a scan of which no packet waits, and the next command finds it so.
+pub record IsAfterScan (stamp : Stamp) (links base folder : List ℕ) (i : ℕ) (d ended : Disks) (new : DiskState) : Type 0 where
+  pub scan : AreAfterScan stamp links base folder i d ended new.seen
+  pub none_waits : scan.waiting ≡ []
+  pub at : IsStationAt links base i new scan.after

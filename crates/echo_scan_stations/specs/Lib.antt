@@ -1,2 +1,3 @@
 pub mod AfterScans
 pub mod ScansAsMay
+pub mod CanEnd

@@ -16,6 +16,6 @@ mod writing;
 
 pub use links::{lock_at, lock_links};
 pub use locked::FileLock;
-pub use paths::{folder_of, path_beside};
+pub use paths::{folder_of, path_beside, system_name};
 pub use reading::{StationFiles, StationPaths, lock_station};
 pub use writing::write_base;

@@ -38,10 +38,19 @@ pub(crate) fn own_name<'a>(alloc: Global, links: &[u8]) -> Result<Vec<u8>, Fault
     ensures err { IfErr result (λ fault. fault ≡ OutOfMemory) }
 {
     match LinkFile::read(alloc, links) {
-        Ok(file) => Ok(dotted(alloc, file.system())?),
+        Ok(file) => Ok(system_name(alloc, &file)?),
         Err(LinkFault::Memory) => Err(Fault::OutOfMemory),
         Err(_) => Ok(Vec::new(alloc)),
     }
+}
+
+/// The own system of a link file that was read, as names of files have it.
+pub fn system_name(alloc: Global, links: &LinkFile) -> Result<Vec<u8>, AllocError>
+    ensures own { IfOk result (λ own. own.items ≡ dotted links.now.system) }
+    ensures plain { IfOk result (λ own. All (λ b. b ≢ 47) own.items) }
+{
+    let name = dotted(alloc, links.system())?;
+    Ok(name)
 }
 
 // A system in the name of a file.

@@ -1,7 +1,6 @@
 //! The files of the system, as a base file is replaced on them: the file beside it is made with its mode and owner,
 //! takes no other file's place than that of one that a stopped run left, and goes where a command fails.
 
-use crate::placing::BASE_START;
 use echo_files::{Access, OutputFault, access_of, check_left, give_access, make_new};
 use std::alloc::Allocator;
 use std::cell::Cell;
@@ -9,6 +8,9 @@ use std::fs::{File, Metadata, OpenOptions};
 use std::io::ErrorKind;
 use std::rt::Files;
 use std::{fs, io};
+
+/// The bytes that show that a file is a base.
+pub const BASE_START: &[u8] = b"ECHOBAS";
 
 /// What the path of a file beside another ends in.
 const BESIDE: &str = "~.new";

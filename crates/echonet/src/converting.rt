@@ -1,9 +1,9 @@
 //! `convert`: the base file or the base folder of the messages that another base has.
 
+use crate::base_files::BASE_START;
 use crate::folders::{base_bytes, fill_folder, is_empty, is_folder};
 use crate::inputs::output_fault;
 use crate::locks::locked_folder;
-use crate::placing::BASE_KNOWN_BY;
 use echo_base::{Base, BaseFault};
 use echo_device::{Sink, Watched};
 use echo_files::{NewFile, create_file, flush_folder};
@@ -59,7 +59,7 @@ fn save_file<'a>(rt: &HostRuntime, base: &Base<RandomState>, to: &'a str) -> Res
         path: to,
         own: OWN,
         bytes: &bytes,
-        known_by: BASE_KNOWN_BY,
+        known_by: BASE_START.len(),
     };
     create_file(rt.alloc(), rt, new).map_err(|fault| output_fault(fault, to))?;
     let folder = match to.rsplit_once('/') {

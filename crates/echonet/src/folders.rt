@@ -1,25 +1,18 @@
 //! Base folders: which BASE is one, and its files.
-ghost use Rattle.std.specs.Prelude.{IfOk};
-
 use crate::inputs::{output_fault, read_file};
 use crate::locks::folder_fault;
-use crate::stopped::folder_path;
-use echo_addr::Address;
+use crate::paths::folder_path;
 use echo_base::{Base, BaseFault};
-use echo_base_folder::{Seen, Unread, fill, log_end, look, open_for};
+use echo_base_folder::{Seen, Unread, fill, log_end, look};
 use echo_files::flush_path;
 use echo_folder_changing::Found;
-use echo_folder_store::FolderStore;
 use echo_keys::SipDigest;
 use echo_real_disk::{RealDisk, Unknown};
 use echo_status::Fault;
-use echo_store::Store;
 use std::collections::hash_map::RandomState;
 use std::hash::{BuildHasher, Hasher};
+use std::os::unix::fs::MetadataExt;
 use std::{fs, io};
-
-/// A base folder on the files of the system.
-pub type BaseFolder<'r> = FolderStore<RealDisk<&'r HostRuntime, Unknown>, SipDigest>;
 
 /// What is found of a base folder before it is opened, and the path that its files have before their names.
 #[derive(Drop)]
@@ -45,24 +38,11 @@ pub fn is_folder(rt: &HostRuntime, path: &str) -> bool {
     }
 }
 
-/// The base folder with this path, opened to be changed by the system with this address.
-pub fn open_own<'a, 'r>(
-    rt: &'r HostRuntime,
-    base: &'a str,
-    own: Address,
-) -> Result<BaseFolder<'r>, Fault<'a>>
-    ensures { IfOk result (λ store. (⟦<BaseFolder<'r> as Store>⟧.state store).is_ready) }
-{
-    let strange = is_strange(rt, base)?;
-    let path = folder_path(rt, base)?;
-    let key = drawn_key(rt)?;
-    let disk = RealDisk::new(rt, Unknown);
-    match open_for(rt.alloc(), disk, path.as_bytes(), strange, own, key) {
-        Ok(store) => {
-            flush_name(rt, base, store.len())?;
-            Ok(store)
-        }
-        Err(why) => Err(why.fault(base)),
+/// Whether two paths lead to one folder.
+pub fn are_one_folder(rt: &HostRuntime, one: &str, other: &str) -> bool {
+    match (fs::metadata(rt, one), fs::metadata(rt, other)) {
+        (Ok(one), Ok(other)) => (one.dev(), one.ino()) == (other.dev(), other.ino()),
+        _ => false,
     }
 }
 
@@ -118,15 +98,6 @@ pub fn is_empty<'a>(rt: &HostRuntime, base: &'a str) -> Result<bool, Fault<'a>> 
         Err(Unread::Wrong(_)) => Ok(false),
         Err(why) => Err(why.fault(base)),
     }
-}
-
-/// How many messages of the base folder were scanned, as it is now, where that can be read.
-pub fn cursor_there(rt: &HostRuntime, base: &str) -> Option<u64> {
-    let strange = is_strange(rt, base).ok()?;
-    let path = folder_path(rt, base).ok()?;
-    let mut disk = RealDisk::new(rt, Unknown);
-    let end = log_end(rt.alloc(), &mut disk, path.as_bytes(), strange).ok()?;
-    Some(end.told.cursor)
 }
 
 // A key for digests, as two halves. A seed that cannot be had is a failed read.

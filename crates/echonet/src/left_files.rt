@@ -1,12 +1,14 @@
-//! The packets that earlier scans left beside their names, listed.
+//! The packets that earlier scans left beside their names, listed. The number in a name is how many messages were scanned
+//! before, so it shows whether that scan came to move the cursor.
 ghost use Rattle.std.specs.Prelude.{◌≡◌, IfOk};
 ghost use Rattle.echo_file_scanning.specs.Listing.{AreListed};
 
-use crate::stopped::packets_beside;
 use echo_addr::Items;
 use echo_disk::DiskError;
 use echo_file_scanning::{LeftPacket, Listing};
 use std::alloc::{AllocError, Global};
+use std::io::ErrorKind;
+use std::{fs, io, str};
 
 /// What is told of a folder, and how often it could not be read.
 #[derive(Drop)]
@@ -78,4 +80,61 @@ impl Listing for LeftFiles<'_> {
             }
         }
     }
+}
+
+// The packets of the system of this own name that stand beside their names in the folder, as its names say. One that is
+// not there has none.
+fn packets_beside(
+    rt: &HostRuntime,
+    folder: &[u8],
+    own: &[u8],
+) -> Result<Vec<LeftPacket>, DiskError> {
+    let (Ok(folder), Ok(own)) = (str::from_utf8(folder), str::from_utf8(own)) else {
+        return Err(DiskError::Device);
+    };
+    let ending = format!(in rt.alloc(); ".pkt.~{own}~.new")?;
+    let mut found = Vec::new(rt.alloc());
+    let listing = match fs::read_dir(rt, folder) {
+        Ok(listing) => listing,
+        Err(error) if error.kind() == ErrorKind::NotFound => return Ok(found),
+        Err(error) => return Err(unlisted(&error)),
+    };
+    for entry in listing {
+        match entry {
+            Ok(entry) => {
+                if let Some((front, before)) = packet_beside(entry.file_name(), ending.as_str()) {
+                    found.push(left_packet(rt, front, before)?)?;
+                }
+            }
+            // A name that is no text is none of ours.
+            Err(error) if error.kind() == ErrorKind::InvalidFilename => {}
+            Err(error) => return Err(unlisted(&error)),
+        }
+    }
+    Ok(found)
+}
+
+// A packet with this front of its name. No scan moves a cursor past the greatest number of four bytes.
+fn left_packet(rt: &HostRuntime, front: &str, before: u64) -> Result<LeftPacket, AllocError> {
+    let mut name = Vec::from_slice(rt.alloc(), front.as_bytes())?;
+    name.extend_from_slice(b".pkt")?;
+    Ok(LeftPacket {
+        name: Items::new(name),
+        before: u32::try_from(before).unwrap_or(u32::MAX),
+    })
+}
+
+fn unlisted(error: &io::Error) -> DiskError {
+    match error.kind() {
+        ErrorKind::OutOfMemory => DiskError::Memory,
+        _ => DiskError::Device,
+    }
+}
+
+// What stands before `.pkt` in the name of a packet beside its own, and the number at its end.
+fn packet_beside<'n>(name: &'n str, ending: &str) -> Option<(&'n str, u64)> {
+    let front = name.strip_suffix(ending)?;
+    let (_, number) = front.rsplit_once('.')?;
+    let before = number.parse::<u64>().ok()?;
+    Some((front, before))
 }

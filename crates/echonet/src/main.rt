@@ -25,14 +25,13 @@ mod on_folder;
 mod opened;
 mod packets;
 mod paths;
-mod placing;
 mod progress;
 mod scan_files;
 mod scan_on_file;
+mod scan_on_folder;
 mod station;
-mod stopped;
 mod stored;
-mod telling;
+mod unplaced;
 
 use converting::run_convert;
 use echo_base::BaseFault;

@@ -1,20 +1,13 @@
 //! The commands that change a base folder: under the lock of the link file, as on a base file, and under that of the
 //! folder, so that runs with other link files, or `convert`, do not change it meanwhile.
-ghost use Rattle.std.specs.Prelude.{IfOk};
-
-use crate::folders::{BaseFolder, FoundFolder, cursor_there, found_in, look_into, open_own};
+use crate::folders::{FoundFolder, found_in, look_into};
 use crate::locks::{LinkLock, locked_folder};
 use crate::opened::Opened;
 use crate::packets::PacketPaths;
 use crate::paths::PathName;
-use crate::placing::{Outbound, drop_packets, name_packets, packet_paths, stage_packets};
-use crate::progress::Progress;
-use crate::station::{Place, Posting, let_go, locked_links, name_of};
-use crate::stopped::finish_stopped;
-use crate::telling::Telling;
-use echo_addr::Items;
+use crate::station::{Place, Posting, locked_links};
 use echo_base::BaseFault;
-use echo_changing::{Answer, NewMessage, PacketFile};
+use echo_changing::{Answer, NewMessage};
 use echo_device::Sink;
 use echo_folder_changing::{FolderPlace, post_free_in, post_in, purge_in, reply_in, toss_in};
 use echo_keys::SipDigest;
@@ -23,10 +16,8 @@ use echo_mailing::{Letter, MailWords, letter_in};
 use echo_packet::Limits;
 use echo_real_disk::{RealDisk, Unknown};
 use echo_status::{Fault, Status};
-use echo_steps::Stamp;
-use echo_store::{Store, StoreError};
-use echo_store_changing::{Stop, commit_on, scan_on};
-use std::fs::File;
+use echo_store::StoreError;
+use echo_store_changing::Stop;
 
 /// What is to be answered: the number of the message, the words of the answer, and its body.
 #[derive(Clone, Copy)]
@@ -45,33 +36,8 @@ pub struct Tossing<'a> {
     pub each: bool,
 }
 
-// The link file of a system and its base folder, both locked, what the link file says, and what the folder holds.
-#[derive(Drop)]
-struct Station<'r> {
-    locked: File,
-    folder: File,
-    links: LinkFile,
-    store: BaseFolder<'r>,
-}
-
-// Reads the link file and opens the folder.
-fn open_station<'a, 'r>(rt: &'r HostRuntime, place: Place<'a>) -> Result<Station<'r>, Fault<'a>>
-    ensures { IfOk result (λ station. (⟦<BaseFolder<'r> as Store>⟧.state station.store).is_ready) }
-{
-    let (locked, bytes) = locked_links(rt, place.links)?;
-    let links = LinkFile::read(rt.alloc(), &bytes)?;
-    let folder = locked_folder(rt, place.base)?;
-    let store = open_own(rt, place.base, links.system())?;
-    Ok(Station {
-        locked,
-        folder,
-        links,
-        store,
-    })
-}
-
-// Why a command stopped. Where a message is damaged it is told which one is the first.
-fn fault_of<'a>(rt: &HostRuntime, base: &'a str, stop: Stop<'a>) -> Fault<'a> {
+/// Why a command stopped. Where a message is damaged it is told which one is the first.
+pub fn fault_of<'a>(rt: &HostRuntime, base: &'a str, stop: Stop<'a>) -> Fault<'a> {
     match stop {
         Stop::Store(StoreError::Damaged) => damaged_in(rt, base),
         other => other.fault(base),
@@ -90,15 +56,9 @@ fn damaged_in<'a>(rt: &HostRuntime, base: &'a str) -> Fault<'a> {
     }
 }
 
-// Lets both locks go.
-fn both_let_go(station: Station<'_>, status: Status) -> Status {
-    let _ = station.folder.unlock();
-    let_go(station.locked, status)
-}
-
-// The path of the folder, what is found of it, and what is done with it once it is open. Where that cannot be had, the
-// fault comes behind those of the link file and of the locks.
-fn begun<'a, 'b, 'r>(
+/// The path of the folder, what is found of it, and what is done with it once it is open. Where that cannot be had, the
+/// fault comes behind those of the link file and of the locks.
+pub fn begun<'a, 'b, 'r>(
     rt: &'r HostRuntime,
     place: Place<'a>,
     toss: Option<Tossing<'b>>,
@@ -133,8 +93,8 @@ fn status_of<'a, E: Sink>(
     }
 }
 
-// The paths of a station, whose folder has files with this path before their names.
-fn place_of<'a>(place: Place<'a>, path: &'a str) -> FolderPlace<'a> {
+/// The paths of a station, whose folder has files with this path before their names.
+pub fn place_of<'a>(place: Place<'a>, path: &'a str) -> FolderPlace<'a> {
     FolderPlace {
         links: place.links,
         base: place.base,
@@ -333,83 +293,5 @@ pub fn toss_there<'a, W: Sink, E: Sink>(
         Ok(Some(fault)) => fault.report(errors),
         Ok(None) => Status::Good,
         Err(stop) => fault_of(rt, place.base, stop).report(errors),
-    }
-}
-
-/// `scan`: the packets stand beside their names before the folder is committed, and get them then.
-pub fn scan_there<'a, W: Sink, E: Sink>(
-    rt: &HostRuntime,
-    place: Place<'a>,
-    stamp: Stamp,
-    folder: &'a str,
-    progress: &Progress<'_>,
-    out: &mut W,
-    errors: &mut E,
-) -> Status {
-    let Station {
-        locked,
-        folder: held,
-        links,
-        store,
-    } = match open_station(rt, place) {
-        Ok(station) => station,
-        Err(fault) => return fault.report(errors),
-    };
-    let to = Outbound {
-        folder,
-        before: store.cursor() as u64,
-    };
-    let mut telling = Telling { store, progress };
-    let done = scan_on(rt.alloc(), stamp, &links, &mut telling, out);
-    let Telling { store, .. } = telling;
-    let mut station = Station {
-        locked,
-        folder: held,
-        links,
-        store,
-    };
-    let status = match done {
-        Ok(packets) => put_in_place(rt, &mut station, place.base, to, &packets, progress, errors),
-        Err(stop) => fault_of(rt, place.base, stop).report(errors),
-    };
-    both_let_go(station, status)
-}
-
-// Brings stopped scans to their end, stages the packets, commits the folder, and names the packets.
-fn put_in_place<'r, E: Sink>(
-    rt: &HostRuntime,
-    station: &mut Station<'r>,
-    base: &str,
-    to: Outbound<'_>,
-    packets: &Items<PacketFile>,
-    progress: &Progress<'_>,
-    errors: &mut E,
-) -> Status
-    requires { (⟦<BaseFolder<'r> as Store>⟧.state station.old.store).is_ready }
-{
-    let name = match name_of(rt, station.links.system()) {
-        Ok(name) => name,
-        Err(_) => return Fault::OutOfMemory.report(errors),
-    };
-    let own = name.as_str();
-    match finish_stopped(rt, own, None, to, errors) {
-        Status::Good => {}
-        failed => return failed,
-    }
-    let packets = packets.as_slice();
-    let paths = match packet_paths(rt, to.folder, packets) {
-        Ok(paths) => paths,
-        Err(_) => return Fault::OutOfMemory.report(errors),
-    };
-    match stage_packets(rt, own, to.folder, packets, &paths, progress, errors) {
-        Status::Good => {}
-        failed => return failed,
-    }
-    match commit_on(&mut station.store) {
-        Ok(()) => name_packets(rt, own, to.folder, &paths, errors),
-        Err(stop) => {
-            drop_packets(rt, own, to, cursor_there(rt, base), &paths);
-            fault_of(rt, base, stop).report(errors)
-        }
     }
 }

@@ -2,10 +2,13 @@
 ghost use Rattle.std.specs.Prelude.{None};
 
 use crate::expecting::expected_keys;
-use crate::folders::{BaseFolder, flush_name};
+use crate::folders::{are_one_folder, flush_name};
 use crate::on_folder::Tossing;
+use echo_disk::Disk;
 use echo_filed::Key;
 use echo_folder_changing::Preparing;
+use echo_folder_store::FolderStore;
+use echo_keys::SipDigest;
 use echo_status::Fault;
 use echo_store::Store;
 
@@ -16,6 +19,8 @@ pub struct Opened<'a, 'b, 'r> {
     rt: &'r HostRuntime,
     base: &'a str,
     toss: Option<Tossing<'b>>,
+    // The folder of packets, which is to be another one.
+    outbound: Option<&'a str>,
     met: Option<Fault<'a>>,
 }
 
@@ -30,8 +35,27 @@ impl<'a, 'b, 'r> Opened<'a, 'b, 'r> {
             rt,
             base,
             toss,
+            outbound: None,
             met: None,
         }
+    }
+
+    /// The same, where packets go into this folder.
+    pub fn apart_from(self, outbound: &'a str) -> Opened<'a, 'b, 'r> {
+        Opened {
+            outbound: Some(outbound),
+            ..self
+        }
+    }
+
+    // Whether the folder can be used: its name is put on the disk where it has no messages, and packets do not go into it.
+    fn settle(&self, messages: usize) -> Result<(), Fault<'a>> {
+        if let Some(outbound) = self.outbound {
+            if are_one_folder(self.rt, self.base, outbound) {
+                return Err(Fault::CannotUse(outbound));
+            }
+        }
+        flush_name(self.rt, self.base, messages)
     }
 
     // The keys of the messages that the packets have, where a folder with so many messages is told them.
@@ -45,13 +69,13 @@ impl<'a, 'b, 'r> Opened<'a, 'b, 'r> {
     }
 }
 
-impl<'a, 'r> Preparing<'a, BaseFolder<'r>> for Opened<'a, '_, 'r> {
+impl<'a, D: Disk> Preparing<'a, FolderStore<D, SipDigest>> for Opened<'a, '_, '_> {
     ghost met = { λ opened. opened.met };
 
-    fn prepare(&mut self, store: &mut BaseFolder<'r>) -> Result<(), Fault<'a>> {
+    fn prepare(&mut self, store: &mut FolderStore<D, SipDigest>) -> Result<(), Fault<'a>> {
         let keys = self.keys(store.len());
         store.expect(&keys);
-        match flush_name(self.rt, self.base, store.len()) {
+        match self.settle(store.len()) {
             Ok(()) => Ok(()),
             Err(fault) => {
                 self.met = Some(fault);

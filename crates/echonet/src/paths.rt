@@ -105,3 +105,12 @@ fn printed(rt: &HostRuntime, path: &[u8]) -> Result<String, AllocError> {
     push_word(&mut bytes, path)?;
     String::from_str(rt.alloc(), str::from_utf8(&bytes).unwrap_or(""))
 }
+
+/// The folder, and a `/` where it ends in none.
+pub fn folder_path(rt: &HostRuntime, folder: &str) -> Result<String, AllocError> {
+    let mut path = String::from_str(rt.alloc(), folder)?;
+    if !folder.ends_with('/') {
+        path.push('/')?;
+    }
+    Ok(path)
+}

@@ -5,10 +5,11 @@ use crate::left_files::LeftFiles;
 use crate::loading::Counting;
 use crate::locks::LinkLock;
 use crate::on_file::opened;
+use crate::paths::folder_path;
 use crate::progress::Progress;
 use crate::scan_files::ScanFiles;
 use crate::station::Place;
-use crate::stopped::folder_path;
+use crate::unplaced::named;
 use echo_device::Sink;
 use echo_file_scanning::{ScanFault, scan_at};
 use echo_placing::PlacingError;
@@ -83,24 +84,4 @@ pub fn scan_here<W: Sink, E: Sink>(
             }
         }
     }
-}
-
-// The path at which a call failed, by the name that was given: of the folder, of the base, or of a packet.
-fn named<'n>(
-    place: Place<'n>,
-    base: &str,
-    folder: &'n str,
-    slashed: &str,
-    met: &'n str,
-) -> &'n str {
-    if met == slashed {
-        return folder;
-    }
-    if met == base || met == "." || (met.ends_with('/') && base.starts_with(met)) {
-        return place.base;
-    }
-    let Some((packet, _)) = met.rsplit_once(".~") else {
-        return met;
-    };
-    if packet == base { place.base } else { packet }
 }

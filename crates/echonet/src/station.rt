@@ -7,14 +7,13 @@ use crate::inputs::{MAX_TEXT_FILE, input_fault, read_file, read_standard_input};
 use crate::locks::lock_file;
 use crate::on_file::{post_here, post_mail_here, purge_here, reply_here, toss_here};
 use crate::on_folder::{
-    Replying, Tossing, post_mail_there, post_there, purge_there, reply_there, scan_there,
-    toss_there,
+    Replying, Tossing, post_mail_there, post_there, purge_there, reply_there, toss_there,
 };
 use crate::packets::PacketPaths;
 use crate::paths::{PathNames, names_of};
 use crate::progress::Progress;
 use crate::scan_on_file::scan_here;
-use echo_addr::Address;
+use crate::scan_on_folder::scan_there;
 use echo_changing::{Answer, NewMessage};
 use echo_charset::Charset;
 use echo_device::{Sink, Watched};
@@ -27,7 +26,6 @@ use echo_status::{Fault, LIMITS, Status, limits_for, number_of};
 use echo_steps::Stamp;
 use echo_stored::{StoredFault, read_stored};
 use echo_words::{PostMailWords, PostStoredWords, PostWords, ReplyWords, TossWords};
-use std::alloc::AllocError;
 use std::fs::File;
 use std::{fs, io};
 
@@ -54,12 +52,6 @@ fn open_fault<'a>(error: &io::Error, path: &'a str) -> Fault<'a> {
         io::ErrorKind::OutOfMemory => Fault::OutOfMemory,
         _ => Fault::CannotUse(path),
     }
-}
-
-/// An address as names of files have it.
-pub fn name_of(rt: &HostRuntime, own: Address) -> Result<String, AllocError> {
-    let Address { zone, net, node } = own;
-    format!(in rt.alloc(); "{zone}.{net}.{node}")
 }
 
 /// `post`: the serial and the stamp are judged first, then the files, then standard input. That is read
@@ -355,10 +347,4 @@ fn toss_limits<'a>(text_limit: Option<&str>) -> Result<Limits, Fault<'a>> {
         Some(word) => Ok(limits_for(number_of(word)?)),
         None => Ok(LIMITS),
     }
-}
-
-/// Lets the lock go; the end of the program would, too.
-pub fn let_go(locked: File, status: Status) -> Status {
-    let _ = locked.unlock();
-    status
 }

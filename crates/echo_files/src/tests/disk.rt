@@ -1,6 +1,5 @@
 //! A file system in memory, of which some calls fail.
 
-use crate::Owned;
 use std::alloc::{AllocError, Allocator, Global};
 use std::cell::{RefCell, RefMut};
 use std::fs::{Metadata, OpenFile, OpenOptions, Permissions};
@@ -29,8 +28,6 @@ pub struct State {
     calls: u64,
     from: u64,
     to: u64,
-    /// How many bytes a file had when its permissions were set.
-    pub allowed_at: Option<usize>,
     /// The call that flushed the folder last.
     pub flushed_at: Option<u64>,
 }
@@ -44,7 +41,6 @@ impl State {
             calls: 0,
             from,
             to,
-            allowed_at: None,
             flushed_at: None,
         }
     }
@@ -198,16 +194,7 @@ impl OpenFile for Opened<'_> {
     }
 
     fn set_permissions(&self, _perm: Permissions) -> io::Result<()> {
-        let mut state = called(self.state)?;
-        let size = state.size(self.name.as_str())?;
-        state.allowed_at = Some(size);
-        Ok(())
-    }
-}
-
-impl Owned for Opened<'_> {
-    fn set_owner(&self, _owner: u32, _group: u32) {
-        let _ = called(self.state);
+        Err(io::Error::from(ErrorKind::Unsupported))
     }
 }
 
@@ -252,15 +239,8 @@ impl<'a> Files for Disk<'a> {
         Err(io::Error::from(ErrorKind::Unsupported))
     }
 
-    fn rename(&self, from: &str, to: &str) -> io::Result<()> {
-        let mut state = called(self.state)?;
-        let bytes = match state.bytes(from) {
-            Some(bytes) => Vec::from_slice(state.alloc, bytes)?,
-            None => return Err(io::Error::from(ErrorKind::NotFound)),
-        };
-        let _ = state.remove(to);
-        state.put(to, &bytes)?;
-        state.remove(from)
+    fn rename(&self, _from: &str, _to: &str) -> io::Result<()> {
+        Err(io::Error::from(ErrorKind::Unsupported))
     }
 
     fn hard_link(&self, original: &str, link: &str) -> io::Result<()> {

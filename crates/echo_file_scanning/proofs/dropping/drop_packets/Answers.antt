@@ -1,6 +1,5 @@
 use Rattle.std.proofs.Common.{◌<◌, ℕ, length}
 use Rattle.echo_disk.specs.Disk.{Files}
-use Rattle.echo_disk.proofs.Moments.{nothing_twice}
 use Rattle.echo_placing.specs.Outgoing.{IsBesideOne}
 use Rattle.echo_placing.proofs.Changes.{only_nothing, then_only}
 use Rattle.echo_file_scanning.proofs.Dropped.{all_dropped, nothing_dropped}
@@ -13,17 +12,14 @@ returns-clause-any_moment g c = λ honest.
     let packets = c.args.packets.now in
     let d0 = g.D.Disk.state c.args.disk.now in
     let d1 = g.D.Disk.state c.has_other_cursor.new.disk in
-    let d2 = g.D.Disk.state c.sync_folder.new.self in
-    let d3 = g.D.Disk.state c.drop_each.new.disk in
-    let h1 = c.sync_folder.ensures.quiet.honest (c.drop_each.ensures.changes.honest honest) in
-    all_dropped base bytes packets d0 d2 d3 (nothing_twice d0 d1 d2 c.has_other_cursor.ensures.quiet c.sync_folder.ensures.quiet)
-    (λ f left. c.in_ok-has_other_cursor.ensures.other h1 c.if-not-branch.false f (c.sync_folder.ensures.quiet.no_more f left)) c.drop_each.ensures.changes
+    let d2 = g.D.Disk.state c.drop_beside.new.disk in
+    let h1 = c.drop_beside.ensures.changes.honest honest in
+    all_dropped base bytes packets d0 d1 d2 c.has_other_cursor.ensures.quiet (λ f left. c.in_ok-has_other_cursor.ensures.other h1 c.if-not-branch.false f left) c.drop_beside.ensures.changes
 
 pub returns-clause-changes : goal.returns-clause-changes
 returns-clause-changes g c =
     let at = IsBesideOne c.args.packets.now in
     let d0 = g.D.Disk.state c.args.disk.now in
     let d1 = g.D.Disk.state c.has_other_cursor.new.disk in
-    let d2 = g.D.Disk.state c.sync_folder.new.self in
-    let d3 = g.D.Disk.state c.drop_each.new.disk in
-    then_only at d0 d1 d3 (only_nothing at d0 d1 c.has_other_cursor.ensures.quiet) (then_only at d1 d2 d3 (only_nothing at d1 d2 c.sync_folder.ensures.quiet) c.drop_each.ensures.changes)
+    let d2 = g.D.Disk.state c.drop_beside.new.disk in
+    then_only at d0 d1 d2 (only_nothing at d0 d1 c.has_other_cursor.ensures.quiet) c.drop_beside.ensures.changes

@@ -19,7 +19,7 @@ returns-clause-sends g c = λ honest.
     let d2 = g.D.Disk.state c.publish_scan.new.disk in
     let sent = c.publish_scan.ensures in
     sent_after (g.L.Listing.is_true c.finish_left.new.listing d.seen) c.args.base.now c.args.folder.now c.args.own.now c.args.cursor c.args.files.now c.args.bytes.now d d1 d2 c.publish_scan.result
-    (c.in_ok-finish_left.ensures.ends (sent.changes.honest honest)) (sent.sent honest) sent.committed (sent.any_moment honest) sent.changes
+    (c.in_ok-finish_left.ensures.ends (sent.changes.honest honest)) (sent.sent honest) sent.seen sent.committed sent.bytes (sent.any_moment honest) sent.changes
 
 pub returns-clause-changes : goal.returns-clause-changes
 returns-clause-changes g c =

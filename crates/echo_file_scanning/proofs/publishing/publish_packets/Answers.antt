@@ -1,4 +1,4 @@
-use Rattle.std.proofs.Common.{◌⊎◌, ◌∙◌, List, All, Some, ℕ, refl, subst, sym}
+use Rattle.std.proofs.Common.{◌⊎◌, ◌∙◌, List, All, Some, ℕ, arith, refl, subst, sym}
 use Rattle.std.specs.Prelude.{AllPairs}
 use Rattle.echo_disk.specs.Disk.{IsIn}
 use Rattle.echo_placing.specs.Commits.{replacing}
@@ -9,7 +9,7 @@ use Rattle.echo_placing.proofs.Changes.{weaker_steps, wider}
 use Rattle.echo_station_files.proofs.BesidePaths.{beside_in, beside_other}
 use Rattle.echo_file_scanning.specs.declared.sending.TwoPaths.{TwoPaths}
 use Rattle.echo_file_scanning.specs.Sending.{HaveOtherPaths, IsOffBase, IsOfScan, MaySend}
-use Rattle.echo_file_scanning.proofs.Sent.{are_apart_from, are_placed, at_its_path, is_of_scan, may_send, on_ok_gives, sent_again}
+use Rattle.echo_file_scanning.proofs.Sent.{are_apart_from, are_placed, at_its_path, files_bytes, is_of_scan, may_send, on_ok_gives, sent_again}
 use Rattle.echo_file_scanning.proofs.publishing.publish_packets.Goals as goal
 
 pub put_together-requires-clause-placed : goal.put_together-requires-clause-placed
@@ -59,7 +59,7 @@ returns-clause-any_moment g c = λ honest.
     let sent = sent_again files paths c.deref-2.result.now c.in_ok-packets.packets.items packets c.deref-2.ensures.value c.deref-4.ensures.value c.in_ok-packets.ensures in
     let r : Replacing = record { folder = c.folder_of.result; path = c.args.base; beside = c.deref-3.result; bytes = c.args.bytes } in
     weaker_steps (g.D.Disk.state c.args.disk.now) (g.D.Disk.state c.put_together.new.disk) (Publishes (replacing r) packets) (MaySend c.args.base.now c.args.folder.now c.args.own.now (Some c.args.bytes.now) files) (c.put_together.ensures.any_moment honest)
-    (may_send c.args.folder.now c.args.own.now files paths packets c.in_ok-paths.ensures sent r c.args.base.now refl (c.deref-3.ensures.value ∙ c.in_ok-beside.ensures) (c.are_names.ensures c.if-not-are_names.false))
+    (may_send c.args.folder.now c.args.own.now files paths packets c.in_ok-paths.ensures sent r c.args.base.now refl (c.deref-3.ensures.value ∙ c.in_ok-beside.ensures) (c.are_names.ensures c.if-not-are_names.false) (λ i. omega (arith, c.type_inv.bytes i)))
 
 pub returns-clause-changes : goal.returns-clause-changes
 returns-clause-changes g c =
@@ -71,3 +71,11 @@ returns-clause-changes g c =
     wider (λ (m : List ℕ). (replacing r).own m ⊎ IsOfOne packets m) (IsOfScan c.args.base.now c.args.folder.now c.args.own.now files) (g.D.Disk.state c.args.disk.now) (g.D.Disk.state c.put_together.new.disk)
     (is_of_scan c.args.folder.now c.args.own.now files paths packets c.in_ok-paths.ensures sent r c.args.base.now refl (c.deref-3.ensures.value ∙ c.in_ok-beside.ensures) (c.are_names.ensures c.if-not-are_names.false))
     c.put_together.ensures.changes
+
+pub returns-clause-bytes : goal.returns-clause-bytes
+returns-clause-bytes g c =
+    let files = c.args.files.now in
+    let paths = c.in_ok-paths.paths.items in
+    let packets = c.deref-4.result.now in
+    let sent = sent_again files paths c.deref-2.result.now c.in_ok-packets.packets.items packets c.deref-2.ensures.value c.deref-4.ensures.value c.in_ok-packets.ensures in
+    on_ok_gives c.put_together.result (λ all. record { of_base = λ i. omega (arith, c.type_inv.bytes i); of_packets = files_bytes c.args.folder.now c.args.own.now files paths packets c.in_ok-paths.ensures sent all }) c.put_together.ensures.bytes

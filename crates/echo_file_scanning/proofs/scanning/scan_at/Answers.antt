@@ -18,7 +18,7 @@ returns-clause-runs g c = λ honest.
     (g.L.Listing.is_true c.put_scan.new.listing) c.args.stamp c.args.at.links.now c.args.at.base.now c.args.folder.now files.own c.as_bytes.result.now c.as_slice.result.now handed c.scan-done.result c.cursor_in-cursor.result
     d0 d1 d2 _ _ c.put_scan.result c.as_bytes.ensures.value c.as_slice.ensures
     read.of_links read.own read.of_base
-    c.scan-done.ensures c.cursor_in-cursor.ensures c.lock_station.ensures.quiet (put.put honest) put.why)
+    c.scan-done.ensures c.cursor_in-cursor.ensures c.lock_station.ensures.quiet (put.put honest) put.why put.unchanged)
 
 pub returns-clause-changes : goal.returns-clause-changes
 returns-clause-changes g c =

@@ -7,6 +7,7 @@ use Rattle.echo_disk.proofs.Moments.{then_nothing, left_now}
 use Rattle.echo_folder.specs.Names.{IsBeside, folder_of, log_of, messages_of, keys_of}
 use Rattle.echo_folder.specs.Standing.{BaseBytes, StandsFor, base_at}
 use Rattle.echo_folder.proofs.Paths.{log_not_messages, log_not_keys, messages_not_keys, keys_not_messages, messages_of-injective, keys_of-injective, messages_in, keys_in}
+use Rattle.echo_folder.proofs.Rested.{rest_same}
 use Rattle.echo_folder.proofs.Renewed.{FilesAlone, alone_first, alone_changed, alone_stands, alone_run, same_base}
 use Rattle.echo_folder.proofs.anew.stage_anew.Goals as goal
 
@@ -255,7 +256,9 @@ returns-clause-staged g c honest =
     let run_3 = then_nothing d0 d2 d3 (FilesAlone d0 path end rest) run_2 quiet in
     let seen_1 : (m : List ℕ) → m ≢ messages_of path number → d1.seen m ≡ d0.seen m = λ m ne. c.create.ensures.beside m (λ is. ne (is ∙ messages)) in
     let seen_2 : (m : List ℕ) → m ≢ keys_of path number → d2.seen m ≡ d1.seen m = λ m ne. c.create-2.ensures.beside m (λ is. ne (is ∙ keys)) in
-    let same : base_at d3 path end.told ≡ base_at d0 path end.told = same_base d0 d3 path end (quiet.seen (messages_of path n) ∙ seen_2 (messages_of path n) (messages_not_keys path n number) ∙ seen_1 (messages_of path n) other_m) (quiet.seen (keys_of path n) ∙ seen_2 (keys_of path n) other_k ∙ seen_1 (keys_of path n) (keys_not_messages path n number)) in
+    let m_same : d3.seen (messages_of path n) ≡ d0.seen (messages_of path n) = quiet.seen (messages_of path n) ∙ seen_2 (messages_of path n) (messages_not_keys path n number) ∙ seen_1 (messages_of path n) other_m in
+    let k_same : d3.seen (keys_of path n) ≡ d0.seen (keys_of path n) = quiet.seen (keys_of path n) ∙ seen_2 (keys_of path n) other_k ∙ seen_1 (keys_of path n) (keys_not_messages path n number) in
+    let same : base_at d3 path end.told ≡ base_at d0 path end.told = same_base d0 d3 path end m_same k_same in
     let log_1 : log_of path ≢ c.deref.result.now = λ is. log_not_messages path number (is ∙ messages) in
     let log_2 : log_of path ≢ c.deref-2.result.now = λ is. log_not_keys path number (is ∙ keys) in
     let log_seen : d3.seen (log_of path) ≡ d0.seen (log_of path) = quiet.seen (log_of path) ∙ c.create-2.ensures.beside (log_of path) log_2 ∙ c.create.ensures.beside (log_of path) log_1 in
@@ -281,6 +284,7 @@ returns-clause-staged g c honest =
         named = subst (λ (p : List ℕ). (m : List ℕ) → IsIn p m → d3.is_named m) c.deref-3.ensures.value c.in_ok-sync_folder.ensures.durable;
       };
       stands = λ f left. subst (λ (b : BaseBytes). StandsFor path b f) (sym same) (alone_stands d0 path end rest f (left_now d0 d3 (FilesAlone d0 path end rest) run_3 f left)).stands;
+      shown = subst (λ (b : BaseBytes). StandsFor path b d3.seen) (sym same) (rest_same d0 path end rest d3.seen log_seen m_same k_same);
       digit = c.requires.digit;
       messages_there = subst (λ f. IsSome f) (sym m_made) refl;
       keys_there = subst (λ f. IsSome f) (sym k_made) refl;

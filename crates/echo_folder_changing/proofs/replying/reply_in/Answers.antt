@@ -3,7 +3,7 @@ use Rattle.echo_folder.specs.Moments.{KeepsOutside}
 use Rattle.echo_folder_store.specs.State.{IsIndexed, state_of, where_so}
 use Rattle.echo_folder_changing.specs.Opening.{HaveFailed}
 use Rattle.echo_folder_changing.proofs.Opened.{failed_wider}
-use Rattle.echo_folder_changing.proofs.Ran.{met_none, outside_after, ran, run_on}
+use Rattle.echo_folder_changing.proofs.Ran.{met_none, outside_after, ran, run_on, store_shown}
 use Rattle.echo_store_changing.specs.Stops.{store_answer}
 use Rattle.echo_folder_changing.proofs.replying.reply_in.Goals as goal
 
@@ -31,6 +31,7 @@ returns-in-Ok-clause-runs g c =
     inl (ran keyed links path strange failed d0 s0 s1 file _ _ _ c.reply_on-done.result begun
     (λ base stands.
     run_on keyed links path strange d0 file s0 s1 begun of base stands _ _ _ c.reply_on-done.result f1 f2 honest (did.answers honest base) (did.committed honest base) did.ready
+    (store_shown (g.D.Disk.state after.disk) keyed after.folder after.alone (IsIndexed (g.D.Disk.state after.disk) after.folder after.index) c.reply_on-done.result honest did.ready)
     (met_none keyed links path strange d0 file s0 s1 begun of base stands c.reply_on-done.result honest did.met) did.crash did.cause)
     (λ is. inl (failed_wider f0 f1 f2 f2 c.in-Ok.ensures.later (omega arith) (did.cause.failed (ap (λ r. store_answer r) is))))))
 

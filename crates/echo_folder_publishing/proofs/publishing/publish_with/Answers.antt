@@ -13,8 +13,8 @@ commit-requires-clause-opened g c honest =
     let placed = c.requires.placed in
     let apart = c.requires.apart in
     let d0 = g.D.Disk.state c.args.disk.now in
-    let d1 = g.D.Disk.state c.stage_packets.new.disk in
-    let staging = c.stage_packets.ensures.changes in
+    let d1 = g.D.Disk.state c.stage_or_drop.new.disk in
+    let staging = c.stage_or_drop.ensures.changes in
     let h1 = honest in
     let h0 = staging.honest h1 in
     let opened = c.requires.opened h0 in
@@ -28,50 +28,50 @@ name_packets-requires-clause-staged g c =
     let placed = c.requires.placed in
     let apart = c.requires.apart in
     let d0 = g.D.Disk.state c.args.disk.now in
-    let d1 = g.D.Disk.state c.stage_packets.new.disk in
-    let staging = c.stage_packets.ensures.changes in
+    let d1 = g.D.Disk.state c.stage_or_drop.new.disk in
+    let staging = c.stage_or_drop.ensures.changes in
     let d2 = g.D.Disk.state c.commit.new.disk in
     let f2 = c.commit.new.self in
-    let staged = c.in_ok-stage_packets.ensures.staged c.if-not-branch.false in
+    let staged = c.in_ok-stage_or_drop.ensures.staged c.if-not-branch.false in
     still_staged f outbound packets placed apart d1 d2 staged c.commit.ensures.outside
 
-pub returns-in_err-stage_packets-clause-any_moment : goal.returns-in_err-stage_packets-clause-any_moment
-returns-in_err-stage_packets-clause-any_moment g c honest =
+pub returns-in_err-stage_or_drop-clause-any_moment : goal.returns-in_err-stage_or_drop-clause-any_moment
+returns-in_err-stage_or_drop-clause-any_moment g c honest =
     let f = c.args.folder.now in
     let packets = c.args.packets.now in
     let outbound = c.args.outbound.now in
     let placed = c.requires.placed in
     let apart = c.requires.apart in
     let d0 = g.D.Disk.state c.args.disk.now in
-    let d1 = g.D.Disk.state c.stage_packets.new.disk in
-    let staging = c.stage_packets.ensures.changes in
+    let d1 = g.D.Disk.state c.stage_or_drop.new.disk in
+    let staging = c.stage_or_drop.ensures.changes in
     let h1 = honest in
     let h0 = staging.honest h1 in
     let opened = c.requires.opened h0 in
     staged_moments f outbound packets placed apart d0 d1 opened staging
 
-pub returns-in_err-stage_packets-clause-apart : goal.returns-in_err-stage_packets-clause-apart
-returns-in_err-stage_packets-clause-apart g c =
+pub returns-in_err-stage_or_drop-clause-apart : goal.returns-in_err-stage_or_drop-clause-apart
+returns-in_err-stage_or_drop-clause-apart g c =
     let f = c.args.folder.now in
     let packets = c.args.packets.now in
     let outbound = c.args.outbound.now in
     let placed = c.requires.placed in
     let apart = c.requires.apart in
     let d0 = g.D.Disk.state c.args.disk.now in
-    let d1 = g.D.Disk.state c.stage_packets.new.disk in
-    let staging = c.stage_packets.ensures.changes in
+    let d1 = g.D.Disk.state c.stage_or_drop.new.disk in
+    let staging = c.stage_or_drop.ensures.changes in
     kept_staged (path_of f) packets d0 d1 staging
 
-pub returns-in_err-stage_packets-clause-left : goal.returns-in_err-stage_packets-clause-left
-returns-in_err-stage_packets-clause-left g c honest =
+pub returns-in_err-stage_or_drop-clause-left : goal.returns-in_err-stage_or_drop-clause-left
+returns-in_err-stage_or_drop-clause-left g c honest =
     let f = c.args.folder.now in
     let packets = c.args.packets.now in
     let outbound = c.args.outbound.now in
     let placed = c.requires.placed in
     let apart = c.requires.apart in
     let d0 = g.D.Disk.state c.args.disk.now in
-    let d1 = g.D.Disk.state c.stage_packets.new.disk in
-    let staging = c.stage_packets.ensures.changes in
+    let d1 = g.D.Disk.state c.stage_or_drop.new.disk in
+    let staging = c.stage_or_drop.ensures.changes in
     let h1 = honest in
     let h0 = staging.honest h1 in
     let opened = c.requires.opened h0 in
@@ -86,8 +86,8 @@ returns-then-not-branch-clause-any_moment g c honest =
     let placed = c.requires.placed in
     let apart = c.requires.apart in
     let d0 = g.D.Disk.state c.args.disk.now in
-    let d1 = g.D.Disk.state c.stage_packets.new.disk in
-    let staging = c.stage_packets.ensures.changes in
+    let d1 = g.D.Disk.state c.stage_or_drop.new.disk in
+    let staging = c.stage_or_drop.ensures.changes in
     let h1 = honest in
     let h0 = staging.honest h1 in
     let opened = c.requires.opened h0 in
@@ -101,8 +101,8 @@ returns-then-not-branch-clause-apart g c =
     let placed = c.requires.placed in
     let apart = c.requires.apart in
     let d0 = g.D.Disk.state c.args.disk.now in
-    let d1 = g.D.Disk.state c.stage_packets.new.disk in
-    let staging = c.stage_packets.ensures.changes in
+    let d1 = g.D.Disk.state c.stage_or_drop.new.disk in
+    let staging = c.stage_or_drop.ensures.changes in
     kept_staged (path_of f) packets d0 d1 staging
 
 pub returns-then-not-branch-clause-left : goal.returns-then-not-branch-clause-left
@@ -113,8 +113,8 @@ returns-then-not-branch-clause-left g c honest =
     let placed = c.requires.placed in
     let apart = c.requires.apart in
     let d0 = g.D.Disk.state c.args.disk.now in
-    let d1 = g.D.Disk.state c.stage_packets.new.disk in
-    let staging = c.stage_packets.ensures.changes in
+    let d1 = g.D.Disk.state c.stage_or_drop.new.disk in
+    let staging = c.stage_or_drop.ensures.changes in
     let h1 = honest in
     let h0 = staging.honest h1 in
     let opened = c.requires.opened h0 in
@@ -128,16 +128,17 @@ returns-in_err-commit-clause-any_moment g c honest =
     let placed = c.requires.placed in
     let apart = c.requires.apart in
     let d0 = g.D.Disk.state c.args.disk.now in
-    let d1 = g.D.Disk.state c.stage_packets.new.disk in
-    let staging = c.stage_packets.ensures.changes in
+    let d1 = g.D.Disk.state c.stage_or_drop.new.disk in
+    let staging = c.stage_or_drop.ensures.changes in
     let d2 = g.D.Disk.state c.commit.new.disk in
     let f2 = c.commit.new.self in
-    let staged = c.in_ok-stage_packets.ensures.staged c.if-not-branch.false in
+    let bytes = c.in_ok-stage_or_drop.ensures.bytes c.if-not-branch.false in
+    let staged = c.in_ok-stage_or_drop.ensures.staged c.if-not-branch.false in
     let h2 = honest in
     let h1 = c.commit.ensures.outside.honest h2 in
     let h0 = staging.honest h1 in
     let opened = c.requires.opened h0 in
-    committed_moments f outbound packets placed apart d0 d1 opened staging d2 staged c.commit.ensures.leaves (c.commit.ensures.any_moment h2)
+    committed_moments f outbound packets placed apart d0 d1 opened staging d2 bytes staged c.commit.ensures.leaves (c.commit.ensures.any_moment h2)
 
 pub returns-in_err-commit-clause-apart : goal.returns-in_err-commit-clause-apart
 returns-in_err-commit-clause-apart g c =
@@ -147,8 +148,8 @@ returns-in_err-commit-clause-apart g c =
     let placed = c.requires.placed in
     let apart = c.requires.apart in
     let d0 = g.D.Disk.state c.args.disk.now in
-    let d1 = g.D.Disk.state c.stage_packets.new.disk in
-    let staging = c.stage_packets.ensures.changes in
+    let d1 = g.D.Disk.state c.stage_or_drop.new.disk in
+    let staging = c.stage_or_drop.ensures.changes in
     let d2 = g.D.Disk.state c.commit.new.disk in
     kept_committed (path_of f) packets d0 d1 d2 (kept_staged (path_of f) packets d0 d1 staging) c.commit.ensures.outside
 
@@ -160,11 +161,12 @@ returns-in_err-name_packets-clause-any_moment g c honest =
     let placed = c.requires.placed in
     let apart = c.requires.apart in
     let d0 = g.D.Disk.state c.args.disk.now in
-    let d1 = g.D.Disk.state c.stage_packets.new.disk in
-    let staging = c.stage_packets.ensures.changes in
+    let d1 = g.D.Disk.state c.stage_or_drop.new.disk in
+    let staging = c.stage_or_drop.ensures.changes in
     let d2 = g.D.Disk.state c.commit.new.disk in
     let f2 = c.commit.new.self in
-    let staged = c.in_ok-stage_packets.ensures.staged c.if-not-branch.false in
+    let bytes = c.in_ok-stage_or_drop.ensures.bytes c.if-not-branch.false in
+    let staged = c.in_ok-stage_or_drop.ensures.staged c.if-not-branch.false in
     let d3 = g.D.Disk.state c.name_packets.new.disk in
     let naming = c.name_packets.ensures.changes in
     let h3 = honest in
@@ -178,8 +180,8 @@ returns-in_err-name_packets-clause-any_moment g c honest =
       held = c.in_ok-commit.ensures.same h2 ∙ before.held;
       committed = c.in_ok-commit.ensures.committed h2 ∙ before.held;
     } in
-    named_moments f outbound packets placed apart d0 d2 d3 f2 c.commit.ensures.path naming (committed_by d0 f) (held_by d0 f) is.opened is.committed
-    (committed_moments f outbound packets placed apart d0 d1 opened staging d2 staged c.commit.ensures.leaves (c.commit.ensures.any_moment h2))
+    named_moments f outbound packets placed apart d0 d2 d3 f2 c.commit.ensures.path naming bytes (committed_by d0 f) (held_by d0 f) is.opened is.committed
+    (committed_moments f outbound packets placed apart d0 d1 opened staging d2 bytes staged c.commit.ensures.leaves (c.commit.ensures.any_moment h2))
     (c.name_packets.ensures.any_moment h3)
 
 pub returns-in_err-name_packets-clause-apart : goal.returns-in_err-name_packets-clause-apart
@@ -190,8 +192,8 @@ returns-in_err-name_packets-clause-apart g c =
     let placed = c.requires.placed in
     let apart = c.requires.apart in
     let d0 = g.D.Disk.state c.args.disk.now in
-    let d1 = g.D.Disk.state c.stage_packets.new.disk in
-    let staging = c.stage_packets.ensures.changes in
+    let d1 = g.D.Disk.state c.stage_or_drop.new.disk in
+    let staging = c.stage_or_drop.ensures.changes in
     let d2 = g.D.Disk.state c.commit.new.disk in
     let d3 = g.D.Disk.state c.name_packets.new.disk in
     let naming = c.name_packets.ensures.changes in
@@ -205,11 +207,11 @@ returns-in_err-name_packets-clause-left g c honest =
     let placed = c.requires.placed in
     let apart = c.requires.apart in
     let d0 = g.D.Disk.state c.args.disk.now in
-    let d1 = g.D.Disk.state c.stage_packets.new.disk in
-    let staging = c.stage_packets.ensures.changes in
+    let d1 = g.D.Disk.state c.stage_or_drop.new.disk in
+    let staging = c.stage_or_drop.ensures.changes in
     let d2 = g.D.Disk.state c.commit.new.disk in
     let f2 = c.commit.new.self in
-    let staged = c.in_ok-stage_packets.ensures.staged c.if-not-branch.false in
+    let staged = c.in_ok-stage_or_drop.ensures.staged c.if-not-branch.false in
     let d3 = g.D.Disk.state c.name_packets.new.disk in
     let naming = c.name_packets.ensures.changes in
     let h3 = honest in
@@ -234,11 +236,12 @@ returns-then-not-branch-2-clause-any_moment g c honest =
     let placed = c.requires.placed in
     let apart = c.requires.apart in
     let d0 = g.D.Disk.state c.args.disk.now in
-    let d1 = g.D.Disk.state c.stage_packets.new.disk in
-    let staging = c.stage_packets.ensures.changes in
+    let d1 = g.D.Disk.state c.stage_or_drop.new.disk in
+    let staging = c.stage_or_drop.ensures.changes in
     let d2 = g.D.Disk.state c.commit.new.disk in
     let f2 = c.commit.new.self in
-    let staged = c.in_ok-stage_packets.ensures.staged c.if-not-branch.false in
+    let bytes = c.in_ok-stage_or_drop.ensures.bytes c.if-not-branch.false in
+    let staged = c.in_ok-stage_or_drop.ensures.staged c.if-not-branch.false in
     let d3 = g.D.Disk.state c.name_packets.new.disk in
     let naming = c.name_packets.ensures.changes in
     let h3 = honest in
@@ -252,8 +255,8 @@ returns-then-not-branch-2-clause-any_moment g c honest =
       held = c.in_ok-commit.ensures.same h2 ∙ before.held;
       committed = c.in_ok-commit.ensures.committed h2 ∙ before.held;
     } in
-    named_moments f outbound packets placed apart d0 d2 d3 f2 c.commit.ensures.path naming (committed_by d0 f) (held_by d0 f) is.opened is.committed
-    (committed_moments f outbound packets placed apart d0 d1 opened staging d2 staged c.commit.ensures.leaves (c.commit.ensures.any_moment h2))
+    named_moments f outbound packets placed apart d0 d2 d3 f2 c.commit.ensures.path naming bytes (committed_by d0 f) (held_by d0 f) is.opened is.committed
+    (committed_moments f outbound packets placed apart d0 d1 opened staging d2 bytes staged c.commit.ensures.leaves (c.commit.ensures.any_moment h2))
     (c.name_packets.ensures.any_moment h3)
 
 pub returns-then-not-branch-2-clause-apart : goal.returns-then-not-branch-2-clause-apart
@@ -264,8 +267,8 @@ returns-then-not-branch-2-clause-apart g c =
     let placed = c.requires.placed in
     let apart = c.requires.apart in
     let d0 = g.D.Disk.state c.args.disk.now in
-    let d1 = g.D.Disk.state c.stage_packets.new.disk in
-    let staging = c.stage_packets.ensures.changes in
+    let d1 = g.D.Disk.state c.stage_or_drop.new.disk in
+    let staging = c.stage_or_drop.ensures.changes in
     let d2 = g.D.Disk.state c.commit.new.disk in
     let d3 = g.D.Disk.state c.name_packets.new.disk in
     let naming = c.name_packets.ensures.changes in
@@ -279,11 +282,11 @@ returns-then-not-branch-2-clause-left g c honest =
     let placed = c.requires.placed in
     let apart = c.requires.apart in
     let d0 = g.D.Disk.state c.args.disk.now in
-    let d1 = g.D.Disk.state c.stage_packets.new.disk in
-    let staging = c.stage_packets.ensures.changes in
+    let d1 = g.D.Disk.state c.stage_or_drop.new.disk in
+    let staging = c.stage_or_drop.ensures.changes in
     let d2 = g.D.Disk.state c.commit.new.disk in
     let f2 = c.commit.new.self in
-    let staged = c.in_ok-stage_packets.ensures.staged c.if-not-branch.false in
+    let staged = c.in_ok-stage_or_drop.ensures.staged c.if-not-branch.false in
     let d3 = g.D.Disk.state c.name_packets.new.disk in
     let naming = c.name_packets.ensures.changes in
     let h3 = honest in
@@ -307,11 +310,12 @@ returns-clause-any_moment g c honest =
     let placed = c.requires.placed in
     let apart = c.requires.apart in
     let d0 = g.D.Disk.state c.args.disk.now in
-    let d1 = g.D.Disk.state c.stage_packets.new.disk in
-    let staging = c.stage_packets.ensures.changes in
+    let d1 = g.D.Disk.state c.stage_or_drop.new.disk in
+    let staging = c.stage_or_drop.ensures.changes in
     let d2 = g.D.Disk.state c.commit.new.disk in
     let f2 = c.commit.new.self in
-    let staged = c.in_ok-stage_packets.ensures.staged c.if-not-branch.false in
+    let bytes = c.in_ok-stage_or_drop.ensures.bytes c.if-not-branch.false in
+    let staged = c.in_ok-stage_or_drop.ensures.staged c.if-not-branch.false in
     let d3 = g.D.Disk.state c.name_packets.new.disk in
     let naming = c.name_packets.ensures.changes in
     let h3 = honest in
@@ -325,8 +329,8 @@ returns-clause-any_moment g c honest =
       held = c.in_ok-commit.ensures.same h2 ∙ before.held;
       committed = c.in_ok-commit.ensures.committed h2 ∙ before.held;
     } in
-    named_moments f outbound packets placed apart d0 d2 d3 f2 c.commit.ensures.path naming (committed_by d0 f) (held_by d0 f) is.opened is.committed
-    (committed_moments f outbound packets placed apart d0 d1 opened staging d2 staged c.commit.ensures.leaves (c.commit.ensures.any_moment h2))
+    named_moments f outbound packets placed apart d0 d2 d3 f2 c.commit.ensures.path naming bytes (committed_by d0 f) (held_by d0 f) is.opened is.committed
+    (committed_moments f outbound packets placed apart d0 d1 opened staging d2 bytes staged c.commit.ensures.leaves (c.commit.ensures.any_moment h2))
     (c.name_packets.ensures.any_moment h3)
 
 pub returns-clause-apart : goal.returns-clause-apart
@@ -337,8 +341,8 @@ returns-clause-apart g c =
     let placed = c.requires.placed in
     let apart = c.requires.apart in
     let d0 = g.D.Disk.state c.args.disk.now in
-    let d1 = g.D.Disk.state c.stage_packets.new.disk in
-    let staging = c.stage_packets.ensures.changes in
+    let d1 = g.D.Disk.state c.stage_or_drop.new.disk in
+    let staging = c.stage_or_drop.ensures.changes in
     let d2 = g.D.Disk.state c.commit.new.disk in
     let d3 = g.D.Disk.state c.name_packets.new.disk in
     let naming = c.name_packets.ensures.changes in
@@ -352,11 +356,11 @@ returns-clause-committed g c honest =
     let placed = c.requires.placed in
     let apart = c.requires.apart in
     let d0 = g.D.Disk.state c.args.disk.now in
-    let d1 = g.D.Disk.state c.stage_packets.new.disk in
-    let staging = c.stage_packets.ensures.changes in
+    let d1 = g.D.Disk.state c.stage_or_drop.new.disk in
+    let staging = c.stage_or_drop.ensures.changes in
     let d2 = g.D.Disk.state c.commit.new.disk in
     let f2 = c.commit.new.self in
-    let staged = c.in_ok-stage_packets.ensures.staged c.if-not-branch.false in
+    let staged = c.in_ok-stage_or_drop.ensures.staged c.if-not-branch.false in
     let d3 = g.D.Disk.state c.name_packets.new.disk in
     let naming = c.name_packets.ensures.changes in
     let h3 = honest in
@@ -380,14 +384,14 @@ returns-then-not-branch-2-clause-taken g c honest =
     let placed = c.requires.placed in
     let apart = c.requires.apart in
     let d0 = g.D.Disk.state c.args.disk.now in
-    let d1 = g.D.Disk.state c.stage_packets.new.disk in
-    let staging = c.stage_packets.ensures.changes in
+    let d1 = g.D.Disk.state c.stage_or_drop.new.disk in
+    let staging = c.stage_or_drop.ensures.changes in
     let d2 = g.D.Disk.state c.commit.new.disk in
     let f2 = c.commit.new.self in
-    let staged = c.in_ok-stage_packets.ensures.staged c.if-not-branch.false in
+    let staged = c.in_ok-stage_or_drop.ensures.staged c.if-not-branch.false in
     let d3 = g.D.Disk.state c.name_packets.new.disk in
     let naming = c.name_packets.ensures.changes in
     λ is free.
     let h1 = c.commit.ensures.outside.honest (naming.honest honest) in
     c.in_ok-name_packets.ensures.taken honest c.if-not-branch-2.true
-    (λ k z lt. c.commit.ensures.outside.seen (get_or packets k z).path.now (apart k z lt).path ∙ c.in_ok-stage_packets.ensures.free h1 c.if-not-branch.false k z lt)
+    (λ k z lt. c.commit.ensures.outside.seen (get_or packets k z).path.now (apart k z lt).path ∙ c.in_ok-stage_or_drop.ensures.free h1 c.if-not-branch.false k z lt)

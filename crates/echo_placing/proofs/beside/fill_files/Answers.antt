@@ -1,6 +1,7 @@
 use Rattle.std.proofs.Common.{get_or, ◌≡◌, ◌<◌, ◌∙◌, ℕ, List, length, arith, subst, sym}
 use Rattle.std.proofs.lemmas.List.Elements.{AllWithin-from_all, AllWithin-none}
-use Rattle.echo_placing.specs.Outgoing.{AreApart, IsBesideOne, IsFilled, IsMade, IsNamedBeside}
+use Rattle.echo_device.specs.Fixed.{AreBytes}
+use Rattle.echo_placing.specs.Outgoing.{AreApart, SendsBytes, IsBesideOne, IsFilled, IsMade, IsNamedBeside}
 use Rattle.echo_placing.specs.Changes.{ChangesOnly, HasOnDisk}
 use Rattle.echo_placing.specs.declared.outgoing.Outgoing.{Outgoing}
 use Rattle.echo_placing.proofs.Changes.{only_start, then_only}
@@ -15,6 +16,7 @@ packets-init g c =
     record {
       changes = only_start (IsBesideOne packets) d;
       named = λ m none is. is;
+      bytes = AllWithin-none SendsBytes packets 0;
       filled = AllWithin-none (IsFilled d) packets 0;
       made = AllWithin-from_all (IsMade d) packets c.requires.made;
       cause = omega arith;
@@ -61,6 +63,8 @@ packets-preserved g c =
     record {
       changes = then_only (IsBesideOne packets) d0 d e inv.changes (beside_one packets x (among packets i z lt) d e one);
       named = λ m none was. c.fill_file.ensures.named m none (inv.named m none was);
+      bytes = behind AreApart apart_back packets pairs i z lt SendsBytes SendsBytes (λ y away was. was)
+          (subst SendsBytes is (subst AreBytes (c.deref.ensures.value ∙ c.in_ok-bytes.ensures) c.fill_file.ensures.bytes)) inv.bytes;
       filled = behind AreApart apart_back packets pairs i z lt (IsFilled d) (IsFilled e) (filled_stays d e x one) (subst (IsFilled e) is (subst (λ (b : List ℕ). HasOnDisk e z.beside.now b) (c.deref.ensures.value ∙ c.in_ok-bytes.ensures) c.in_ok-fill_file.ensures.filled)) inv.filled;
       made = ahead AreApart apart_back packets pairs i z lt (IsMade d) (IsMade e) (made_stays d e x one) inv.made;
       cause = omega (arith, c.fill_file.ensures.cause.later, inv.cause);

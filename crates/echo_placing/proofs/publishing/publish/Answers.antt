@@ -1,6 +1,6 @@
 use Rattle.std.proofs.Common.{◌∙◌, get_or}
 use Rattle.echo_placing.specs.Outgoing.{IsBesideOne}
-use Rattle.echo_placing.proofs.Published.{committed_moments, named_moments, own_not_beside, staged_moments, still_comes, still_staged, touched_committed, touched_named, touched_staged}
+use Rattle.echo_placing.proofs.Published.{committed_moments, named_moments, own_not_beside, own_not_of, staged_moments, still_comes, still_staged, touched_committed, touched_named, touched_staged}
 use Rattle.echo_placing.proofs.publishing.publish.Goals as goal
 
 pub commit-requires : goal.commit-requires
@@ -13,7 +13,7 @@ commit-requires g c =
 pub name_packets-requires-clause-staged : goal.name_packets-requires-clause-staged
 name_packets-requires-clause-staged g c =
     still_staged (g.C.Commit.change c.args.commit.now) c.args.folder.now c.args.packets.now c.requires.placed c.requires.apart (g.D.Disk.state c.args.disk.now) (g.D.Disk.state c.stage_packets.new.disk)
-    (g.D.Disk.state c.commit.new.disk) c.stage_packets.ensures.changes (c.in_ok-stage_packets.ensures.staged c.if-not-branch.false) c.commit.ensures.changes
+    (g.D.Disk.state c.commit.new.disk) c.stage_packets.ensures.changes (c.in_ok-stage_packets.ensures.bytes c.if-not-branch.false) (c.in_ok-stage_packets.ensures.staged c.if-not-branch.false) c.commit.ensures.changes
 
 pub returns-in_err-stage_packets-clause-any_moment : goal.returns-in_err-stage_packets-clause-any_moment
 returns-in_err-stage_packets-clause-any_moment g c honest =
@@ -47,7 +47,7 @@ returns-in_err-commit-clause-any_moment g c honest =
     let d0 = g.D.Disk.state c.args.disk.now in
     let d1 = g.D.Disk.state c.stage_packets.new.disk in
     let d2 = g.D.Disk.state c.commit.new.disk in
-    committed_moments change folder packets placed apart d0 d1 d2 c.stage_packets.ensures.changes (c.in_ok-stage_packets.ensures.staged c.if-not-branch.false) c.commit.ensures.changes c.commit.ensures.any_moment
+    committed_moments change folder packets placed apart d0 d1 d2 c.stage_packets.ensures.changes (c.in_ok-stage_packets.ensures.bytes c.if-not-branch.false) (c.in_ok-stage_packets.ensures.staged c.if-not-branch.false) c.commit.ensures.changes c.commit.ensures.any_moment
 
 pub returns-in_err-name_packets-clause-any_moment : goal.returns-in_err-name_packets-clause-any_moment
 returns-in_err-name_packets-clause-any_moment g c honest =
@@ -60,8 +60,8 @@ returns-in_err-name_packets-clause-any_moment g c honest =
     let d1 = g.D.Disk.state c.stage_packets.new.disk in
     let d2 = g.D.Disk.state c.commit.new.disk in
     let d3 = g.D.Disk.state c.name_packets.new.disk in
-    named_moments change folder packets placed apart d0 d2 d3 c.in_ok-commit.ensures.committed
-    (committed_moments change folder packets placed apart d0 d1 d2 c.stage_packets.ensures.changes (c.in_ok-stage_packets.ensures.staged c.if-not-branch.false) c.commit.ensures.changes c.commit.ensures.any_moment) (c.name_packets.ensures.any_moment honest)
+    named_moments change folder packets placed apart d0 d2 d3 c.in_ok-commit.ensures.committed (c.in_ok-stage_packets.ensures.bytes c.if-not-branch.false)
+    (committed_moments change folder packets placed apart d0 d1 d2 c.stage_packets.ensures.changes (c.in_ok-stage_packets.ensures.bytes c.if-not-branch.false) (c.in_ok-stage_packets.ensures.staged c.if-not-branch.false) c.commit.ensures.changes c.commit.ensures.any_moment) (c.name_packets.ensures.any_moment honest)
 
 pub returns-then-not-branch-2-clause-any_moment : goal.returns-then-not-branch-2-clause-any_moment
 returns-then-not-branch-2-clause-any_moment g c honest =
@@ -74,8 +74,8 @@ returns-then-not-branch-2-clause-any_moment g c honest =
     let d1 = g.D.Disk.state c.stage_packets.new.disk in
     let d2 = g.D.Disk.state c.commit.new.disk in
     let d3 = g.D.Disk.state c.name_packets.new.disk in
-    named_moments change folder packets placed apart d0 d2 d3 c.in_ok-commit.ensures.committed
-    (committed_moments change folder packets placed apart d0 d1 d2 c.stage_packets.ensures.changes (c.in_ok-stage_packets.ensures.staged c.if-not-branch.false) c.commit.ensures.changes c.commit.ensures.any_moment) (c.name_packets.ensures.any_moment honest)
+    named_moments change folder packets placed apart d0 d2 d3 c.in_ok-commit.ensures.committed (c.in_ok-stage_packets.ensures.bytes c.if-not-branch.false)
+    (committed_moments change folder packets placed apart d0 d1 d2 c.stage_packets.ensures.changes (c.in_ok-stage_packets.ensures.bytes c.if-not-branch.false) (c.in_ok-stage_packets.ensures.staged c.if-not-branch.false) c.commit.ensures.changes c.commit.ensures.any_moment) (c.name_packets.ensures.any_moment honest)
 
 pub returns-clause-any_moment : goal.returns-clause-any_moment
 returns-clause-any_moment g c honest =
@@ -88,8 +88,8 @@ returns-clause-any_moment g c honest =
     let d1 = g.D.Disk.state c.stage_packets.new.disk in
     let d2 = g.D.Disk.state c.commit.new.disk in
     let d3 = g.D.Disk.state c.name_packets.new.disk in
-    named_moments change folder packets placed apart d0 d2 d3 c.in_ok-commit.ensures.committed
-    (committed_moments change folder packets placed apart d0 d1 d2 c.stage_packets.ensures.changes (c.in_ok-stage_packets.ensures.staged c.if-not-branch.false) c.commit.ensures.changes c.commit.ensures.any_moment) (c.name_packets.ensures.any_moment honest)
+    named_moments change folder packets placed apart d0 d2 d3 c.in_ok-commit.ensures.committed (c.in_ok-stage_packets.ensures.bytes c.if-not-branch.false)
+    (committed_moments change folder packets placed apart d0 d1 d2 c.stage_packets.ensures.changes (c.in_ok-stage_packets.ensures.bytes c.if-not-branch.false) (c.in_ok-stage_packets.ensures.staged c.if-not-branch.false) c.commit.ensures.changes c.commit.ensures.any_moment) (c.name_packets.ensures.any_moment honest)
 
 pub returns-clause-committed : goal.returns-clause-committed
 returns-clause-committed g c =
@@ -103,6 +103,13 @@ returns-clause-committed g c =
     let d2 = g.D.Disk.state c.commit.new.disk in
     let d3 = g.D.Disk.state c.name_packets.new.disk in
     still_comes change folder packets placed apart d0 d2 d3 c.in_ok-commit.ensures.committed c.name_packets.ensures.changes
+
+pub returns-clause-seen : goal.returns-clause-seen
+returns-clause-seen g c =
+    let change = g.C.Commit.change c.args.commit.now in
+    let d2 = g.D.Disk.state c.commit.new.disk in
+    let d3 = g.D.Disk.state c.name_packets.new.disk in
+    change.same_comes d2.seen d3.seen (λ m own. c.name_packets.ensures.changes.seen m (own_not_of change c.args.folder.now c.args.packets.now c.requires.placed c.requires.apart m own)) c.in_ok-commit.ensures.seen
 
 pub returns-then-not-branch-2-clause-taken : goal.returns-then-not-branch-2-clause-taken
 returns-then-not-branch-2-clause-taken g c honest is free =

@@ -1,0 +1,2 @@
+mod Leading
+pub mod Commands

@@ -1,0 +1,2 @@
+pub mod InFolders
+pub mod AsMay

@@ -1,0 +1,4 @@
+pub mod Folders
+pub mod Stops
+pub mod Sending
+pub mod Scanning

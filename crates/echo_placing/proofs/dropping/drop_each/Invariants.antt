@@ -1,0 +1,13 @@
+-- The packets from here on are as they were.
+use Rattle.std.proofs.Common.{◌≤◌, length}
+use Rattle.std.specs.List.{AllWithin}
+use Rattle.echo_placing.specs.Changes.{ChangesOnly}
+use Rattle.echo_placing.specs.Outgoing.{IsBesideOne, IsNamedBeside}
+use Rattle.echo_placing.proofs.dropping.drop_each.Given as goal
+
+abbrev pub invariant-packets : goal.invariant-packets
+invariant-packets g l = record {
+  changes : ChangesOnly (IsBesideOne l.packets) (g.D.Disk.state l.fn.disk) (g.D.Disk.state l.disk);
+  named : AllWithin (IsNamedBeside (g.D.Disk.state l.disk)) l.packets l.packet-index (length l.packets);
+  later : g.D.Disk.failures l.fn.disk ≤ g.D.Disk.failures l.disk;
+}

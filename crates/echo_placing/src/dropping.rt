@@ -1,0 +1,46 @@
+//! What stands beside the paths of packets is removed.
+ghost use Rattle.std.specs.Prelude.{◌≡◌, ◌≤◌, All, AllPairs};
+ghost use Rattle.echo_placing.specs.Changes.{ChangesOnly};
+ghost use Rattle.echo_placing.specs.Outgoing.{AreApart, ArePlaced, IsBesideOne, IsNamedBeside};
+
+use crate::outgoing::Outgoing;
+use echo_disk::{Disk, DiskError};
+
+// Removes the file with this path, where there is one.
+fn drop_one<D: Disk>(disk: &mut D, path: &[u8]) -> Result<(), DiskError>
+    requires { (D.state disk.old).is_named path.now }
+    ensures changes { ChangesOnly (λ m. m ≡ path.now) (D.state disk.old) (D.state disk.new) }
+    ensures later { D.failures disk.old ≤ D.failures disk.new }
+{
+    if !disk.exists(path)? {
+        return Ok(());
+    }
+    disk.remove(path)
+}
+
+// Removes what stands beside the paths of the packets, each of which is on the disk or not as it is seen.
+fn drop_each<D: Disk>(disk: &mut D, packets: &[Outgoing<'_>]) -> Result<(), DiskError>
+    requires apart { AllPairs AreApart packets.now }
+    requires named { All (IsNamedBeside (D.state disk.old)) packets.now }
+    ensures changes { ChangesOnly (IsBesideOne packets.now) (D.state disk.old) (D.state disk.new) }
+    ensures later { D.failures disk.old ≤ D.failures disk.new }
+{
+    'packets: for packet in packets {
+        drop_one(disk, packet.beside)?;
+    }
+    Ok(())
+}
+
+/// Removes what stands beside the paths of the packets, which are of this folder.
+pub fn drop_beside<D: Disk>(
+    disk: &mut D,
+    folder: &[u8],
+    packets: &[Outgoing<'_>],
+) -> Result<(), DiskError>
+    requires { ArePlaced folder.now packets.now }
+    ensures changes { ChangesOnly (IsBesideOne packets.now) (D.state disk.old) (D.state disk.new) }
+    ensures later { D.failures disk.old ≤ D.failures disk.new }
+{
+    disk.sync_folder(folder)?;
+    drop_each(disk, packets)
+}
