@@ -2,7 +2,7 @@
 ghost use Rattle.std.specs.Prelude.{◌≡◌, ◌*◌, ◌++◌, length};
 ghost use Rattle.std.specs.List.{flat_map};
 ghost use Rattle.echo_packet.specs.Header.{IsHeader, header_bytes, word};
-ghost use Rattle.echo_packet.specs.Message.{numbers};
+ghost use Rattle.echo_packet.specs.Message.{numbers, readdressed};
 
 use crate::header::{HEADER_BYTES, Header};
 use crate::packed::Packed;
@@ -50,18 +50,19 @@ pub(crate) fn write_header(header: &Header, out: &mut [u8])
     out.copy_from_slice(&bytes);
 }
 
-/// The bytes of a message that stand before its strings: the number 2, the six numbers, DateTime.
+/// The bytes of the message for the system of this node and net that stand before its strings: the
+/// number 2, the six numbers, DateTime.
 #[tactic(auto, unfolding(crate::specs::Message::numbers))]
-pub(crate) fn fixed_bytes(message: &Packed) -> [u8; FIXED_BYTES]
-    ensures { result ≡ (word 2 ++ numbers message.now) ++ message.now.date }
+pub(crate) fn fixed_bytes(message: &Packed, dest_node: u16, dest_net: u16) -> [u8; FIXED_BYTES]
+    ensures { result ≡ (word 2 ++ numbers (readdressed message.now dest_node dest_net)) ++ message.now.date }
 {
     let mut bytes = [0u8; FIXED_BYTES];
     let numbers = [
         2,
         message.orig_node(),
-        message.dest_node(),
+        dest_node,
         message.orig_net(),
-        message.dest_net(),
+        dest_net,
         message.attribute(),
         message.cost(),
     ];

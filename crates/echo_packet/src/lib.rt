@@ -4,7 +4,7 @@
 //! bytes theirs are; else it answers the one fault that the input has, with its place. A
 //! `PacketReader` does so over any source, message by message, and takes no byte beyond them.
 //!
-//! Modules in reading order: `header` (the 58 bytes in front), `holding` and `packed` (one message), `limits`,
+//! Modules in reading order: `header` (the 58 bytes in front), `packed` (one message), `copy` (one for one system), `limits`,
 //! `fault` (what may be wrong, and where), `field` (one field from a source), `message` (one
 //! message), `reader` (a packet, message by message), `reading` (a packet in a slice), `encoding`,
 //! `sending` and `writer` (a packet is written), and `laws` (what holds of the definitions).
@@ -19,11 +19,11 @@
 //! ```
 #![tactic(auto)]
 
+mod copy;
 mod encoding;
 mod fault;
 mod field;
 mod header;
-mod holding;
 mod laws;
 mod limits;
 mod message;
@@ -33,6 +33,7 @@ mod reading;
 mod sending;
 mod writer;
 
+pub use copy::PackedCopy;
 pub use fault::{Field, PacketFault, Unfinished};
 pub use header::{HEADER_BYTES, Header};
 pub use laws::{header_laws, one_answer, one_next_fault, whole_runs, written_packet_reads_back};

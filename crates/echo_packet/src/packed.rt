@@ -1,15 +1,13 @@
 ghost use Rattle.std.specs.Prelude.{◌≡◌, ◌≤◌, ◌↔◌, length, IsTrue, IfOk, IfErr, IfSome, IsNone, Err, Some};
-ghost use Rattle.echo_packet.specs.Message.{HasNoZero, Message, IsMessage, IsString, AreStrings, IsFirstBad, max_name, max_subject, readdressed};
+ghost use Rattle.echo_packet.specs.Message.{HasNoZero, Message, IsMessage, IsString, AreStrings, IsFirstBad, max_name, max_subject};
 ghost use Rattle.echo_packet.specs.declared.fault.Field.{Field};
 ghost use Rattle.echo_packet.specs.declared.fault.PacketFault.TheVariants.{BadField};
 
 use crate::fault::{Field, PacketFault};
-use crate::holding::{Holding, Strings};
 use crate::limits::{MAX_NAME, MAX_SUBJECT};
 use echo_addr::Items;
 use echo_device::are_bytes;
 use memchr::memchr;
-use std::alloc::{AllocError, Global};
 use std::marker::Model;
 
 /// A packed message: three strings and a text without 00, of which the names have at most `MAX_NAME`
@@ -23,7 +21,10 @@ pub struct Packed {
     attribute: u16,
     cost: u16,
     date: [u8; 20],
-    strings: Holding,
+    to_name: Items<u8>,
+    from_name: Items<u8>,
+    subject: Items<u8>,
+    text: Items<u8>,
 }
 
 impl Model for Packed {
@@ -132,12 +133,10 @@ impl Packed {
             attribute,
             cost,
             date,
-            strings: Holding::Own(Strings {
-                to_name: Items::new(to_name),
-                from_name: Items::new(from_name),
-                subject: Items::new(subject),
-                text: Items::new(text),
-            }),
+            to_name: Items::new(to_name),
+            from_name: Items::new(from_name),
+            subject: Items::new(subject),
+            text: Items::new(text),
         }
     }
 
@@ -194,21 +193,21 @@ impl Packed {
     pub fn to_name(&self) -> &[u8]
         ensures { result.now ≡ self.now.to_name }
     {
-        self.strings.strings().to_name.as_slice()
+        self.to_name.as_slice()
     }
 
     /// fromUserName, without its 00.
     pub fn from_name(&self) -> &[u8]
         ensures { result.now ≡ self.now.from_name }
     {
-        self.strings.strings().from_name.as_slice()
+        self.from_name.as_slice()
     }
 
     /// The subject, without its 00.
     pub fn subject(&self) -> &[u8]
         ensures { result.now ≡ self.now.subject }
     {
-        self.strings.strings().subject.as_slice()
+        self.subject.as_slice()
     }
 
     /// The text, without its 00.
@@ -216,43 +215,6 @@ impl Packed {
         ensures text { result.now ≡ self.now.text }
         ensures message { IsMessage (length self.now.text) self.now }
     {
-        self.strings.strings().text.as_slice()
-    }
-    /// The same message. The copies that `copy_for` makes of it share its strings.
-    pub fn shared(self, alloc: Global) -> Result<Packed, AllocError>
-        ensures { IfOk result (λ same. same ≡ self) }
-    {
-        Ok(Packed {
-            orig_node: self.orig_node,
-            dest_node: self.dest_node,
-            orig_net: self.orig_net,
-            dest_net: self.dest_net,
-            attribute: self.attribute,
-            cost: self.cost,
-            date: self.date,
-            strings: self.strings.shared(alloc)?,
-        })
-    }
-
-    /// The same message for the system of this node and net. Takes memory only where the message is
-    /// not shared.
-    pub fn copy_for(
-        &self,
-        alloc: Global,
-        dest_node: u16,
-        dest_net: u16,
-    ) -> Result<Packed, AllocError>
-        ensures { IfOk result (λ copy. copy ≡ readdressed self.now dest_node dest_net) }
-    {
-        Ok(Packed {
-            orig_node: self.orig_node,
-            dest_node,
-            orig_net: self.orig_net,
-            dest_net,
-            attribute: self.attribute,
-            cost: self.cost,
-            date: self.date,
-            strings: self.strings.again(alloc)?,
-        })
+        self.text.as_slice()
     }
 }

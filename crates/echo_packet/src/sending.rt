@@ -3,7 +3,7 @@
 ghost use Rattle.std.specs.Prelude.{◌≡◌, length, OnOk, OnErr};
 ghost use Rattle.echo_device.specs.Device.{Failed, Sends};
 ghost use Rattle.echo_packet.specs.Header.{IsHeader, header_bytes, word};
-ghost use Rattle.echo_packet.specs.Message.{IsMessage, zero_ended, message_bytes};
+ghost use Rattle.echo_packet.specs.Message.{IsMessage, zero_ended, message_bytes, readdressed};
 
 use crate::encoding::{fixed_bytes, write_header};
 use crate::header::{HEADER_BYTES, Header};
@@ -32,18 +32,21 @@ fn send_string<W: Sink>(writer: &mut W, string: &[u8], sent: &mut u64) -> Result
     send(writer, &[0], sent)
 }
 
-/// Writes the bytes of a message. Adds to `sent` how many went out.
+/// Writes the bytes of the message for the system of this node and net. Adds to `sent` how many went
+/// out.
 pub fn send_message<W: Sink>(
     writer: &mut W,
     message: &Packed,
+    dest_node: u16,
+    dest_net: u16,
     sent: &mut u64,
 ) -> Result<(), Failure>
-    ensures bytes { Sends (W.contents writer.old) (W.contents writer.new) result (message_bytes message.now) sent.old sent.new }
+    ensures bytes { Sends (W.contents writer.old) (W.contents writer.new) result (message_bytes (readdressed message.now dest_node dest_net)) sent.old sent.new }
     ensures ok { OnOk result (W.failures writer.new ≡ W.failures writer.old) }
     ensures err { OnErr result (Failed (W.failures writer.old) (W.failures writer.new)) }
-    ensures message { OnOk result (IsMessage (length message.now.text) message.now) }
+    ensures message { OnOk result (IsMessage (length message.now.text) (readdressed message.now dest_node dest_net)) }
 {
-    send(writer, &fixed_bytes(message), sent)?;
+    send(writer, &fixed_bytes(message, dest_node, dest_net), sent)?;
     send_string(writer, message.to_name(), sent)?;
     send_string(writer, message.from_name(), sent)?;
     send_string(writer, message.subject(), sent)?;

@@ -3,9 +3,10 @@ ghost use Rattle.std.specs.Io.KnownBytes.{Appends};
 ghost use Rattle.echo_device.specs.Device.{Failed, Sends};
 ghost use Rattle.echo_packet.specs.declared.fault.PacketFault.TheVariants.{Stopped, Write};
 ghost use Rattle.echo_packet.specs.Header.{IsHeader, header_bytes, word};
-ghost use Rattle.echo_packet.specs.Message.{IsMessage, message_bytes};
+ghost use Rattle.echo_packet.specs.Message.{IsMessage, message_bytes, readdressed};
 ghost use Rattle.echo_packet.specs.Writer.{IsCutOff, bytes_sent, has_stopped, writer_below};
 
+use crate::copy::PackedCopy;
 use crate::fault::{PacketFault, Unfinished};
 use crate::header::Header;
 use crate::packed::Packed;
@@ -59,10 +60,49 @@ impl<W: Sink + Drop> PacketWriter<W> {
         ensures message { OnOk result (IsMessage (length message.now.text) message.now) }
         ensures stopped { has_stopped self.old ≡ true → (result ≡ Err Stopped) × (self.new ≡ self.old) }
     {
+        self.put_for(message, message.dest_node(), message.dest_net())
+    }
+
+    /// Writes a copy, as `put` writes a message.
+    pub fn put_copy(&mut self, copy: &PackedCopy) -> Result<(), PacketFault>
+        ensures bytes { has_stopped self.old ≡ false → Sends (W.contents (writer_below self.old)) (W.contents (writer_below self.new)) result (message_bytes copy.now) (bytes_sent self.old) (bytes_sent self.new) }
+        ensures ok { OnOk result (has_stopped self.new ≡ false) }
+        ensures same { OnOk result (W.failures (writer_below self.new) ≡ W.failures (writer_below self.old)) }
+        ensures fault { has_stopped self.old ≡ false → IfErr result (λ fault. fault ≡ Write (bytes_sent self.new)) }
+        ensures failed { has_stopped self.old ≡ false → OnErr result (Failed (W.failures (writer_below self.old)) (W.failures (writer_below self.new))) }
+        ensures stops { OnErr result (has_stopped self.new ≡ true) }
+        ensures message { OnOk result (IsMessage (length copy.now.text) copy.now) }
+        ensures stopped { has_stopped self.old ≡ true → (result ≡ Err Stopped) × (self.new ≡ self.old) }
+    {
+        self.put_for(copy.message(), copy.dest_node(), copy.dest_net())
+    }
+
+    // Writes the message for the system of this node and net.
+    fn put_for(
+        &mut self,
+        message: &Packed,
+        dest_node: u16,
+        dest_net: u16,
+    ) -> Result<(), PacketFault>
+        ensures bytes { has_stopped self.old ≡ false → Sends (W.contents (writer_below self.old)) (W.contents (writer_below self.new)) result (message_bytes (readdressed message.now dest_node dest_net)) (bytes_sent self.old) (bytes_sent self.new) }
+        ensures ok { OnOk result (has_stopped self.new ≡ false) }
+        ensures same { OnOk result (W.failures (writer_below self.new) ≡ W.failures (writer_below self.old)) }
+        ensures fault { has_stopped self.old ≡ false → IfErr result (λ fault. fault ≡ Write (bytes_sent self.new)) }
+        ensures failed { has_stopped self.old ≡ false → OnErr result (Failed (W.failures (writer_below self.old)) (W.failures (writer_below self.new))) }
+        ensures stops { OnErr result (has_stopped self.new ≡ true) }
+        ensures message { OnOk result (IsMessage (length message.now.text) (readdressed message.now dest_node dest_net)) }
+        ensures stopped { has_stopped self.old ≡ true → (result ≡ Err Stopped) × (self.new ≡ self.old) }
+    {
         if self.stopped {
             return Err(PacketFault::Stopped);
         }
-        match send_message(&mut self.writer, message, &mut self.sent) {
+        match send_message(
+            &mut self.writer,
+            message,
+            dest_node,
+            dest_net,
+            &mut self.sent,
+        ) {
             Ok(()) => Ok(()),
             Err(Failure) => {
                 self.stopped = true;

@@ -3,14 +3,14 @@ ghost use Rattle.echo_packet.specs.Packet.{PacketOf};
 
 use echo_addr::Items;
 use echo_device::Watched;
-use echo_packet::{HEADER_BYTES, Header, Packed, PacketWriter};
+use echo_packet::{HEADER_BYTES, Header, PackedCopy, PacketWriter};
 use std::alloc::{AllocError, Global};
 
 /// A packet for one address: its header and its messages in order.
 #[derive(Debug, Drop)]
 pub struct Packet {
     pub header: Header,
-    pub messages: Items<Packed>,
+    pub messages: Items<PackedCopy>,
 }
 
 // The bytes of a packet beside its messages: the header, and 00 00.
@@ -20,11 +20,12 @@ const AROUND: usize = HEADER_BYTES + 2;
 const FIXED: usize = 38;
 
 // Room for the bytes of a packet with these messages.
-fn room_for(alloc: Global, messages: &[Packed]) -> Result<Vec<u8>, AllocError>
+fn room_for(alloc: Global, messages: &[PackedCopy]) -> Result<Vec<u8>, AllocError>
     ensures { IfOk result (λ room. room.items ≡ []) }
 {
     let mut size = AROUND;
-    'messages: for message in messages {
+    'messages: for copy in messages {
+        let message = copy.message();
         size = size
             .saturating_add(FIXED)
             .saturating_add(message.to_name().len())
@@ -45,7 +46,7 @@ impl Packet {
             return Err(AllocError);
         };
         'messages: for message in self.messages.as_slice() {
-            let Ok(()) = writer.put(message) else {
+            let Ok(()) = writer.put_copy(message) else {
                 return Err(AllocError);
             };
         }

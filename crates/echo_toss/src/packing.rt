@@ -10,7 +10,7 @@ use crate::outgoing::Outgoing;
 use crate::sets::address_set;
 use echo_addr::{Address, Items};
 use echo_links::LinkFile;
-use echo_packet::{Header, Packed};
+use echo_packet::{Header, PackedCopy};
 use echo_steps::{Packet, Stamp};
 use std::alloc::{AllocError, Global};
 use std::marker::Model;
@@ -18,7 +18,7 @@ use std::marker::Model;
 // A message as it goes out, which its copies share, and the addresses that it goes to, as a set.
 #[derive(Drop)]
 struct Ready {
-    message: Packed,
+    message: PackedCopy,
     targets: Items<Address>,
 }
 
@@ -77,7 +77,7 @@ fn made_ready(alloc: Global, one: Outgoing) -> Result<Ready, AllocError>
 {
     let Outgoing { message, targets } = one;
     Ok(Ready {
-        message: message.shared(alloc)?,
+        message: PackedCopy::new(alloc, message)?,
         targets: Items::new(address_set(targets.into_vec())),
     })
 }
@@ -114,7 +114,7 @@ fn packet_to(
     let copies = ready.iter().filter(|one| goes_to(*one, address)).count();
     let mut messages = Vec::with_capacity(alloc, copies)?;
     'ready: for one in ready {
-        push_copy(alloc, address, one, &mut messages)?;
+        push_copy(address, one, &mut messages)?;
     }
     Ok(Packet {
         header: header_to(links, stamp, address),
@@ -124,15 +124,14 @@ fn packet_to(
 
 // Puts the copy of the message, where it goes to the address, at the end.
 fn push_copy(
-    alloc: Global,
     address: Address,
     one: &Ready,
-    messages: &mut Vec<Packed>,
+    messages: &mut Vec<PackedCopy>,
 ) -> Result<(), AllocError>
     ensures { OnOk result (messages.new.items ≡ messages.old.items ++ map (ready_copy address) (filter (goes_ready address) (one.now ∷ []))) }
 {
     if goes_to(one, address) {
-        messages.push(one.message.copy_for(alloc, address.node, address.net)?)?;
+        messages.push(one.message.copy_for(address.node, address.net)?)?;
     }
     Ok(())
 }

@@ -1,4 +1,4 @@
-use Rattle.std.proofs.Common.{ℕ, List, ◌+◌, ◌++◌, ◌∷◌, [], refl, ◌∙◌, ap, arith, subst}
+use Rattle.std.proofs.Common.{ℕ, List, ◌+◌, ◌++◌, ◌∷◌, [], refl, ◌∙◌, arith, subst}
 use Rattle.std.proofs.lemmas.Result.{err_from_is_err_and}
 use Rattle.echo_packet.proofs.Slices.{slice-opens, slice-gives, slice-ends}
 use Rattle.echo_print.specs.Shown.{end_line, header_lines}
@@ -6,7 +6,7 @@ use Rattle.echo_status.specs.Devices.{output_of}
 use Rattle.echo_status.specs.Ended.{CannotPrint}
 use Rattle.echo_status.specs.Limits.{show_limits}
 use Rattle.echo_status.specs.Lines.{PassesOn}
-use Rattle.echo_reading.proofs.Printed.{end_printed, front_refused, header_printed, message_printed, message_refused, never_read, no_header, not_printed, shorter}
+use Rattle.echo_reading.proofs.Printed.{end_printed, front_refused, header_printed, message_printed, message_refused, never_read, no_header, no_memory, not_printed, shorter}
 use Rattle.echo_reading.proofs.Pushed.{added_behind}
 use Rattle.echo_reading.proofs.showing.show_packet.Goals as goal
 
@@ -53,6 +53,22 @@ messages-smaller g c =
     let so = c.messages.invariant.printed.so_far in
     let taken = rw c.in-Some.is at (c.in_ok-message.ensures.taken so.reading) in
     shorter c.messages.reader.source.now c.next.new.self.source.now c.in-Some.message taken
+
+pub returns-in_err-push_message : goal.returns-in_err-push_message
+returns-in_err-push_message g c =
+    let before = c.messages.invariant in
+    let p = err_from_is_err_and c.from_residual-in_err-push_message.result c.from_residual-in_err-push_message.ensures.1 in
+    rw (p.1, p.2)
+    (no_memory c.args.bytes.now _ _ _ _ _ _ _ _ _ (output_of g.W.Write.contents g.W.Sink.failures g.W.Sink.holds c.args.out.now) (output_of g.W.Write.contents g.W.Sink.failures g.W.Sink.holds c.messages.out) _ _ _
+    before.printed refl c.in_err-push_message.ensures.err before.failed)
+
+pub returns-in_err-append-2 : goal.returns-in_err-append-2
+returns-in_err-append-2 g c =
+    let before = c.messages.invariant in
+    let p = err_from_is_err_and c.from_residual-in_err-append-2.result c.from_residual-in_err-append-2.ensures.1 in
+    rw (p.1, p.2)
+    (no_memory c.args.bytes.now _ _ _ _ _ _ _ _ _ (output_of g.W.Write.contents g.W.Sink.failures g.W.Sink.holds c.args.out.now) (output_of g.W.Write.contents g.W.Sink.failures g.W.Sink.holds c.messages.out) _ _ _
+    before.printed c.in_err-append-2.ensures.items tt before.failed)
 
 pub returns-in_err-pass_on : goal.returns-in_err-pass_on
 returns-in_err-pass_on g c =

@@ -18,11 +18,11 @@ messages-preserved c =
     let within : i < length ms = subst (λ (l : List Message). i < length l) same c.messages-test.true in
     let is : m ≡ get_or ms i m = c.message-item.is ∙ ap (λ (l : List Message). get_or l i m) same in
     record {
-      goes_on = c.in-Ok-put.ensures.ok;
+      goes_on = c.in-Ok-put_copy.ensures.ok;
       bytes = one_more_written ms i m (header_bytes c.args.self.now.header) (watched_device (writer_below c.messages.writer)).items
-          (watched_device (writer_below c.put.new.self)).items within is c.messages.invariant.bytes
-          (c.in-Ok-put.ensures.bytes c.messages.invariant.goes_on).0;
-      each = one_more_whole ms i m within is c.messages.invariant.each c.in-Ok-put.ensures.message;
+          (watched_device (writer_below c.put_copy.new.self)).items within is c.messages.invariant.bytes
+          (c.in-Ok-put_copy.ensures.bytes c.messages.invariant.goes_on).0;
+      each = one_more_whole ms i m within is c.messages.invariant.each c.in-Ok-put_copy.ensures.message;
     }
 
 pub returns : goal.returns
