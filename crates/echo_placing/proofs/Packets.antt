@@ -5,7 +5,7 @@ use Rattle.std.proofs.lemmas.List.Elements.{at_read}
 use Rattle.std.specs.Prelude.{Contains}
 use Rattle.echo_disk.specs.Disk.{DiskState}
 use Rattle.echo_placing.specs.Changes.{ChangesOnly, HasOnDisk}
-use Rattle.echo_placing.specs.Outgoing.{AreApart, ArePlaced, IsBesideOne, IsMade, IsNamedBeside, IsOfOne}
+use Rattle.echo_placing.specs.Outgoing.{AreApart, ArePlaced, IsBesideOne, IsGoneBeside, IsMade, IsNamedBeside, IsOfOne}
 use Rattle.echo_placing.specs.declared.outgoing.Outgoing.{Outgoing}
 use Rattle.echo_placing.proofs.Changes.{stays_on_disk, wider}
 
@@ -46,6 +46,9 @@ module _ (d e : DiskState) (x : Outgoing) (run : ChangesOnly (At x) d e) (y : Ou
 
   pub named_stays : IsNamedBeside d y → IsNamedBeside e y
   named_stays was = run.named y.beside.now (λ at. apart.besides (sym at)) was
+
+  pub gone_stays : IsGoneBeside d y → IsGoneBeside e y
+  gone_stays was = run.seen y.beside.now (λ at. apart.besides (sym at)) ∙ was
 
   pub filled_stays : HasOnDisk d y.beside.now y.file.now.bytes → HasOnDisk e y.beside.now y.file.now.bytes
   filled_stays was = stays_on_disk (At x) d e y.beside.now y.file.now.bytes run (λ at. apart.besides (sym at)) was

@@ -43,6 +43,10 @@ IsFree disk p = disk.seen p.path.now ≡ None
 abbrev pub IsNamedBeside : DiskState → Outgoing → Type 0
 IsNamedBeside disk p = disk.is_named p.beside.now
 
+-- nothing stands beside it
+abbrev pub IsGoneBeside : DiskState → Outgoing → Type 0
+IsGoneBeside disk p = disk.seen p.beside.now ≡ None
+
 -- an empty file stands beside it
 pub record IsMade (disk : DiskState) (p : Outgoing) : Type 0 where
   pub empty : disk.seen p.beside.now ≡ Some []

@@ -1,7 +1,8 @@
 //! What stands beside the paths of packets is removed.
-ghost use Rattle.std.specs.Prelude.{◌≡◌, ◌≤◌, All, AllPairs};
+ghost use Rattle.std.specs.Prelude.{◌≡◌, ◌≤◌, All, AllPairs, None, OnOk};
+ghost use Rattle.echo_disk.specs.Disk.{Honestly};
 ghost use Rattle.echo_placing.specs.Changes.{ChangesOnly};
-ghost use Rattle.echo_placing.specs.Outgoing.{AreApart, ArePlaced, IsBesideOne, IsNamedBeside};
+ghost use Rattle.echo_placing.specs.Outgoing.{AreApart, ArePlaced, IsBesideOne, IsGoneBeside, IsNamedBeside};
 
 use crate::outgoing::Outgoing;
 use echo_disk::{Disk, DiskError};
@@ -9,6 +10,7 @@ use echo_disk::{Disk, DiskError};
 // Removes the file with this path, where there is one.
 fn drop_one<D: Disk>(disk: &mut D, path: &[u8]) -> Result<(), DiskError>
     requires { (D.state disk.old).is_named path.now }
+    ensures gone { Honestly (D.state disk.new) (OnOk result ((D.state disk.new).seen path.now ≡ None)) }
     ensures changes { ChangesOnly (λ m. m ≡ path.now) (D.state disk.old) (D.state disk.new) }
     ensures later { D.failures disk.old ≤ D.failures disk.new }
 {
@@ -22,6 +24,7 @@ fn drop_one<D: Disk>(disk: &mut D, path: &[u8]) -> Result<(), DiskError>
 fn drop_each<D: Disk>(disk: &mut D, packets: &[Outgoing<'_>]) -> Result<(), DiskError>
     requires apart { AllPairs AreApart packets.now }
     requires named { All (IsNamedBeside (D.state disk.old)) packets.now }
+    ensures gone { Honestly (D.state disk.new) (OnOk result (All (IsGoneBeside (D.state disk.new)) packets.now)) }
     ensures changes { ChangesOnly (IsBesideOne packets.now) (D.state disk.old) (D.state disk.new) }
     ensures later { D.failures disk.old ≤ D.failures disk.new }
 {
@@ -38,6 +41,7 @@ pub fn drop_beside<D: Disk>(
     packets: &[Outgoing<'_>],
 ) -> Result<(), DiskError>
     requires { ArePlaced folder.now packets.now }
+    ensures gone { Honestly (D.state disk.new) (OnOk result (All (IsGoneBeside (D.state disk.new)) packets.now)) }
     ensures changes { ChangesOnly (IsBesideOne packets.now) (D.state disk.old) (D.state disk.new) }
     ensures later { D.failures disk.old ≤ D.failures disk.new }
 {

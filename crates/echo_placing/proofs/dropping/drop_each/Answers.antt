@@ -1,18 +1,18 @@
-use Rattle.std.proofs.Common.{◌≡◌, ◌<◌, arith, get_or, length, subst, sym}
+use Rattle.std.proofs.Common.{◌<◌, arith, get_or, length, subst, sym}
 use Rattle.std.proofs.lemmas.List.Elements.{AllWithin-from_all}
 use Rattle.echo_placing.specs.Changes.{ChangesOnly}
-use Rattle.echo_placing.specs.Outgoing.{AreApart, IsBesideOne, IsNamedBeside}
+use Rattle.echo_placing.specs.Outgoing.{AreApart, IsBesideOne, IsGoneBeside, IsNamedBeside}
 use Rattle.echo_placing.specs.declared.outgoing.Outgoing.{Outgoing}
 use Rattle.echo_placing.proofs.Changes.{only_start, then_only}
-use Rattle.echo_placing.proofs.Each.{ahead, among, here}
-use Rattle.echo_placing.proofs.Packets.{At, apart_back, beside_one, named_stays}
+use Rattle.echo_placing.proofs.Each.{ahead, among, behind, here}
+use Rattle.echo_placing.proofs.Packets.{At, apart_back, beside_one, gone_stays, named_stays}
 use Rattle.echo_placing.proofs.dropping.drop_each.Goals as goal
 
 pub packets-init : goal.packets-init
 packets-init g c =
     let packets = c.args.packets.now in
     let d = g.D.Disk.state c.args.disk.now in
-    record { changes = only_start (IsBesideOne packets) d; named = AllWithin-from_all (IsNamedBeside d) packets c.requires.named; later = omega arith }
+    record { changes = only_start (IsBesideOne packets) d; gone = λ honest k z low high. absurd (omega (arith, high)); named = AllWithin-from_all (IsNamedBeside d) packets c.requires.named; later = omega arith }
 
 pub drop_one-requires : goal.drop_one-requires
 drop_one-requires g c =
@@ -37,6 +37,7 @@ packets-preserved g c =
     let one : ChangesOnly (At x) d e = subst (λ (p : Outgoing). ChangesOnly (At p) d e) c.packet-item.is c.drop_one.ensures.changes in
     record {
       changes = then_only (IsBesideOne packets) d0 d e inv.changes (beside_one packets x (among packets i z lt) d e one);
+      gone = λ honest. behind AreApart apart_back packets pairs i z lt (IsGoneBeside d) (IsGoneBeside e) (gone_stays d e x one) (subst (IsGoneBeside e) c.packet-item.is (c.in_ok-drop_one.ensures.gone honest)) (inv.gone (one.honest honest));
       named = ahead AreApart apart_back packets pairs i z lt (IsNamedBeside d) (IsNamedBeside e) (named_stays d e x one) inv.named;
       later = omega (arith, c.drop_one.ensures.later, inv.later);
     }

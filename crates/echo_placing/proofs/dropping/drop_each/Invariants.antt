@@ -1,13 +1,15 @@
--- The packets from here on are as they were.
+-- Nothing stands beside the packets up to here, and those from here on are as they were.
 use Rattle.std.proofs.Common.{◌≤◌, length}
 use Rattle.std.specs.List.{AllWithin}
 use Rattle.echo_placing.specs.Changes.{ChangesOnly}
-use Rattle.echo_placing.specs.Outgoing.{IsBesideOne, IsNamedBeside}
+use Rattle.echo_disk.specs.Disk.{Honestly}
+use Rattle.echo_placing.specs.Outgoing.{IsBesideOne, IsGoneBeside, IsNamedBeside}
 use Rattle.echo_placing.proofs.dropping.drop_each.Given as goal
 
 abbrev pub invariant-packets : goal.invariant-packets
 invariant-packets g l = record {
   changes : ChangesOnly (IsBesideOne l.packets) (g.D.Disk.state l.fn.disk) (g.D.Disk.state l.disk);
+  gone : Honestly (g.D.Disk.state l.disk) (AllWithin (IsGoneBeside (g.D.Disk.state l.disk)) l.packets 0 l.packet-index);
   named : AllWithin (IsNamedBeside (g.D.Disk.state l.disk)) l.packets l.packet-index (length l.packets);
   later : g.D.Disk.failures l.fn.disk ≤ g.D.Disk.failures l.disk;
 }

@@ -1,4 +1,4 @@
-use Rattle.std.proofs.Common.{◌≡◌, ◌⊎◌, ◌<◌, ◌∙◌, ℕ, List, get_or, false, inr, true, ⊎_elim, length, arith, subst}
+use Rattle.std.proofs.Common.{◌≡◌, ◌⊎◌, ◌<◌, ◌∙◌, get_or, false, inr, true, ⊎_elim, length, arith, subst}
 use Rattle.std.proofs.lemmas.Bool.{and_parts}
 use Rattle.echo_placing.specs.Changes.{ChangesOnly}
 use Rattle.echo_placing.specs.Naming.{HasItsPath, HasMoved, IsTaken, Names, NamesEach, StandsWhole, StaysThere}
