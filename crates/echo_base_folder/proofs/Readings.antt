@@ -1,5 +1,5 @@
 -- A message that was read of a base folder is one of the base.
-use Rattle.std.proofs.Common.{◌≡◌, ◌∙◌, ◌+◌, ◌-◌, ◌*◌, ◌/◌, ◌<◌, ◌≤◌, ℕ, zero, suc, List, [], ◌∷◌, Option, Some, length, get_or, nat_eq, sym, ap, subst, arith}
+use Rattle.std.proofs.Common.{◌≡◌, ◌∙◌, ◌+◌, ◌-◌, ◌/◌, ◌<◌, ◌≤◌, ℕ, zero, suc, List, [], ◌∷◌, Option, Some, length, get_or, nat_eq, sym, ap, subst, arith}
 use Rattle.std.specs.Prelude.{◌↔◌, IsTrue, slice_get, unwrap_or}
 use Rattle.std.proofs.lemmas.Bool.{cond-true, eq-eqb, eqb-true, lt-ltb}
 use Rattle.echo_filed.specs.Filed.{Filed}
@@ -7,7 +7,7 @@ use Rattle.echo_filed.specs.declared.stored.Version.TheVariants.{Second}
 use Rattle.echo_filed.specs.Stored.{Stored, message_in}
 use Rattle.echo_base.specs.Base.{Base}
 use Rattle.echo_folder.specs.Standing.{BaseBytes}
-use Rattle.echo_keys.specs.Keys.{StandWhereTold, digested, digest_at, place_at, place_behind}
+use Rattle.echo_keys.specs.Keys.{StandWhereTold, digested, place_at, place_behind}
 use Rattle.echo_keys.proofs.Told.{tells_each}
 use Rattle.echo_folder_store.specs.Held.{digest_by}
 use Rattle.echo_folder_store.proofs.Bases.{told_where}

@@ -1,5 +1,5 @@
 -- Each command on the folder of a station.
-use Rattle.std.proofs.Common.{◌≡◌, inl, inr, ⊎_elim, refl, ℕ, List, Option, None, Result, Ok}
+use Rattle.std.proofs.Common.{◌≡◌, inl, inr, ⊎_elim, refl, ℕ, List, None, Ok}
 use Rattle.std.specs.Prelude.{slice_get}
 use Rattle.echo_base.specs.Base.{Base}
 use Rattle.echo_disk.specs.Disk.{DiskState}

@@ -17,7 +17,7 @@ use Rattle.echo_stations.proofs.Pairs.{changed-there}
 use Rattle.echo_crashes.specs.Folders.{Folders, file_of}
 use Rattle.echo_store_changing.specs.declared.stop.Stop.{Stop}
 use Rattle.echo_store_changing.specs.declared.stop.Stop.TheVariants.{Met}
-use Rattle.echo_folder_changing.specs.Running.{IsKept, IsNotRun, IsRun, IsRunOn, LeavesWhereMet, MadeOrWasLeft, RunsIn, StandsForMadeAlone}
+use Rattle.echo_folder_changing.specs.Running.{IsKept, IsNotRun, IsRun, IsRunOn, LeavesWhereMet, MadeOrWasLeft, RunsIn}
 use Rattle.echo_folder_stations.proofs.Committed.{LeadsTo, MadeOrHeld, becomes, led}
 use Rattle.echo_disk_folders.specs.InFolders.{AreAsMay, DoesAsMay, IsAfter, IsFolderAt, IsLinkedOn, ShowsFolder}
 

@@ -1,6 +1,5 @@
 -- A command on the files of a disk: it reads, and then puts in place what it left.
 use Rattle.std.proofs.Common.{◌≡◌, ◌≤◌, inl, inr, ⊎_elim, ◌∙◌, ℕ, List, Option, Some, Result, Err, IfSome, refl, sym, subst, arith}
-use Rattle.std.proofs.lemmas.Bool.{cases_lt}
 use Rattle.echo_device.specs.Device.{Failed}
 use Rattle.echo_device.specs.Fixed.{AreBytes}
 use Rattle.echo_disk.specs.Disk.{DiskState}
@@ -14,6 +13,7 @@ use Rattle.echo_changing.specs.Handed.{Handed}
 use Rattle.echo_placing.specs.Changes.{ChangesOnly}
 use Rattle.echo_placing.specs.Replacing.{Replaces}
 use Rattle.echo_placing.proofs.Changes.{only_nothing, then_only, wider}
+use Rattle.echo_station_files.proofs.Failures.{failed_wider}
 use Rattle.echo_station_files.specs.Faults.{FailsAt, HaveFailed, LinksUnread}
 use Rattle.echo_station_files.specs.Paths.{IsOwnName, path_beside}
 use Rattle.echo_station_files.specs.Reading.{AreRead}
@@ -43,11 +43,6 @@ left_before d0 d1 d2 P quiet run none =
       before = λ t c le left. ⊎_elim (λ was. inl was) (λ now. inr (c, now, none c)) (quiet.run.before t c le left);
     } in
     then_run d0 d1 d2 (OneStepOn P d0) (OneStepOn P d1) started run (λ c step. (step.0, quiet.no_more step.0 step.1, step.2))
-
--- a failure in a part of a run is one in the run
-pub failed_wider : (a b c d : ℕ) → a ≤ b → c ≤ d → Failed b c → Failed a d
-failed_wider a b c d before after (inl rose) = inl (omega arith)
-failed_wider a b c d before after (inr (most, same)) = ⊎_elim (λ rose. inl rose) (λ not. inr (omega arith, omega arith)) (cases_lt a d)
 
 -- the files were read, the command answered, and what it left was put in place
 module _ (d0 d1 d2 : DiskState) (links base own : List ℕ) (failed part : Type 0) (more : part → failed) where

@@ -1,12 +1,11 @@
 -- What earlier scans left, as it is brought to its end.
 use Rattle.std.proofs.Common.{◌≡◌, ◌≢◌, ◌⊎◌, inl, inr, ⊎_elim, ◌∙◌, ◌<◌, ℕ, List, [], ◌++◌, ap, arith, get_or, length, map, refl, subst, sym}
-use Rattle.std.specs.Prelude.{All, AllPairs, Contains, Err, IsSome, Ok, OnOk, Option, Result}
-use Rattle.std.proofs.lemmas.List.{get_or-map, get_or_default, length-map}
+use Rattle.std.specs.Prelude.{All, Contains, Err, IsSome, Ok, OnOk, Result}
+use Rattle.std.proofs.lemmas.List.{get_or-map, length-map}
 use Rattle.std.proofs.lemmas.List.Elements.{All-contains, Contains-get_or}
 use Rattle.echo_disk.specs.Disk.{DiskState, Files, IsIn}
 use Rattle.echo_disk.specs.Runs.{ChangesNothing, LeavesOnly, OneStepOn}
 use Rattle.echo_disk.proofs.Moments.{no_call, weaker_run}
-use Rattle.echo_placing.specs.Changes.{ChangesOnly}
 use Rattle.echo_placing.specs.Finishing.{AreAway, AreLeftIn, FinishesEach, IsLeftIn, IsOfLeft, IsOver, IsThere}
 use Rattle.echo_placing.specs.declared.finishing.Left.{Left}
 use Rattle.echo_placing.specs.declared.placing_error.PlacingError.{PlacingError}

@@ -7,13 +7,11 @@ use Rattle.echo_disk.specs.Runs.{LeavesOnly, OneStepOn}
 use Rattle.echo_disk.proofs.Moments.{no_call}
 use Rattle.echo_changing.specs.declared.leaving.Done.{Done}
 use Rattle.echo_changing.specs.PacketFiles.{PacketFile}
-use Rattle.echo_placing.specs.Changes.{ChangesOnly, DifferAt}
-use Rattle.echo_placing.specs.Finishing.{FinishesEach, IsOfLeft, IsOver}
+use Rattle.echo_placing.specs.Changes.{ChangesOnly}
+use Rattle.echo_placing.specs.Finishing.{FinishesEach, IsOver}
 use Rattle.echo_placing.specs.declared.finishing.Left.{Left}
 use Rattle.echo_placing.specs.declared.placing_error.PlacingError.{PlacingError}
 use Rattle.echo_placing.proofs.Changes.{then_only, then_steps, weaker_steps, wider}
-use Rattle.echo_station_files.specs.Paths.{path_beside}
-use Rattle.echo_file_changing.specs.Putting.{IsOfBase}
 use Rattle.echo_file_scanning.specs.Left.{EndsLeft, IsOfName}
 use Rattle.echo_file_scanning.specs.Scanning.{AreSentOut, IsEnded, IsPutOut, IsTouchedAs, MayScan, SendsOut}
 use Rattle.echo_file_scanning.specs.declared.scan_fault.ScanFault.{ScanFault}

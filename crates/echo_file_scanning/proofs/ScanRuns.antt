@@ -12,13 +12,13 @@ use Rattle.echo_changing.specs.Files.{Leaves}
 use Rattle.echo_changing.specs.Handed.{Handed}
 use Rattle.echo_changing.specs.Scanned.{ScanAnswers}
 use Rattle.echo_placing.specs.Changes.{ChangesOnly}
-use Rattle.echo_placing.specs.declared.placing_error.PlacingError.{PlacingError}
 use Rattle.echo_placing.specs.declared.placing_error.PlacingError.TheVariants.{Device, Memory, Taken}
 use Rattle.echo_placing.proofs.Changes.{only_nothing, then_only, wider}
 use Rattle.echo_station_files.specs.Faults.{HaveFailed}
 use Rattle.echo_station_files.specs.Paths.{IsOwnName}
 use Rattle.echo_station_files.specs.Reading.{IsBaseRead}
-use Rattle.echo_file_changing.proofs.Runs.{failed_wider, left_before, read_wider}
+use Rattle.echo_station_files.proofs.Failures.{failed_wider}
+use Rattle.echo_file_changing.proofs.Runs.{left_before, read_wider}
 use Rattle.echo_file_scanning.specs.Left.{IsLeftOf}
 use Rattle.echo_file_scanning.specs.Scanning.{ChangesNoneWhereMet, IsCursorOf, IsPutOut, IsScanRun, IsSentOut, IsTouchedAs, IsTouchedBy, IsWhy, MayScan}
 use Rattle.echo_file_scanning.specs.declared.scan_fault.ScanFault.{ScanFault}

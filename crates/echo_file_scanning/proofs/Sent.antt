@@ -1,5 +1,5 @@
 -- Packets that go out, as the files of a scan.
-use Rattle.std.proofs.Common.{◌≡◌, ◌≢◌, ◌⊎◌, inl, inr, ⊎_elim, ◌∙◌, ◌<◌, ℕ, List, [], ◌++◌, get_or, length, map, refl, sym, subst, ap, Option, Some, arith}
+use Rattle.std.proofs.Common.{◌≡◌, ◌≢◌, ◌⊎◌, inl, inr, ⊎_elim, ◌∙◌, ◌<◌, ℕ, List, [], ◌++◌, get_or, length, map, refl, sym, subst, ap, Some, arith}
 use Rattle.std.specs.Prelude.{All, AllPairs, Contains, Err, Ok, OnOk, Result}
 use Rattle.std.proofs.lemmas.List.{get_or-map, length-map}
 use Rattle.std.proofs.lemmas.List.Elements.{All-contains, Contains-get_or}
@@ -19,7 +19,7 @@ use Rattle.echo_station_files.specs.Paths.{path_beside}
 use Rattle.echo_station_files.proofs.BesidePaths.{beside_other}
 use Rattle.echo_file_changing.specs.Putting.{IsOfBase}
 use Rattle.echo_file_scanning.specs.declared.sending.TwoPaths.{TwoPaths}
-use Rattle.echo_file_scanning.specs.Sending.{AreAllBytes, AreSent, HasBytes, HaveOtherPaths, IsAtItsPath, IsNameByte, IsOfPacket, IsOfScan, IsOffBase, MaySend, file_paths}
+use Rattle.echo_file_scanning.specs.Sending.{AreSent, HasBytes, HaveOtherPaths, IsAtItsPath, IsNameByte, IsOfPacket, IsOfScan, IsOffBase, MaySend, file_paths}
 use Rattle.echo_file_scanning.proofs.Names.{four_apart, name_beside_in, name_in}
 
 -- no file

@@ -1,8 +1,6 @@
 -- A folder that is opened after a look at the disk.
-use Rattle.std.proofs.Common.{◌≡◌, ◌≤◌, inl, inr, ⊎_elim, ◌∙◌, ℕ, Bool, List, arith, subst, sym}
-use Rattle.std.proofs.lemmas.Bool.{cases_lt}
+use Rattle.std.proofs.Common.{◌≡◌, inl, inr, ⊎_elim, ◌∙◌, ℕ, Bool, List, subst, sym}
 use Rattle.echo_addr.specs.declared.address.Address.{Address}
-use Rattle.echo_device.specs.Device.{Failed}
 use Rattle.echo_base.specs.Base.{Base}
 use Rattle.echo_disk.specs.Disk.{DiskState, Files}
 use Rattle.echo_disk.specs.Runs.{ChangesNothing, LeavesOnly}
@@ -37,11 +35,6 @@ quiet_then keyed path base d e f quiet run =
     }))
     (λ was. inr (quiet.no_more c was))
     left)
-
--- a failure in a part of a run is one in the run
-pub failed_wider : (a b c d : ℕ) → a ≤ b → c ≤ d → Failed b c → Failed a d
-failed_wider a b c d before after (inl rose) = inl (omega arith)
-failed_wider a b c d before after (inr (most, same)) = ⊎_elim (λ rose. inl rose) (λ not. inr (omega arith, omega arith)) (cases_lt a d)
 
 left_alone : (d e f : DiskState) (why : Unread) → ChangesNothing d e → IsLeftAlone e f why → IsLeftAlone d f why
 left_alone d e f (unread.NotOwner address) quiet left = nothing_twice d e f quiet left

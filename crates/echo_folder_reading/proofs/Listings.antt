@@ -1,6 +1,6 @@
 -- What `list` prints of a base folder, message by message.
-use Rattle.std.proofs.Common.{◌≡◌, ◌∙◌, ◌+◌, ◌≤◌, ◌<◌, ◌++◌, ℕ, zero, suc, false, List, [], ◌∷◌, length, Option, None, Some, get_or, refl, sym, ap, subst, arith, inr, ⊎_elim}
-use Rattle.std.specs.Prelude.{slice_get, if◌then◌else◌, nat_le, ◌&&◌}
+use Rattle.std.proofs.Common.{◌≡◌, ◌∙◌, ◌+◌, ◌≤◌, ◌<◌, ◌++◌, ℕ, zero, suc, List, [], length, Option, None, Some, get_or, refl, sym, ap, subst, arith, inr, ⊎_elim}
+use Rattle.std.specs.Prelude.{slice_get, if◌then◌else◌, ◌&&◌}
 use Rattle.std.proofs.lemmas.Bool.{cases_lt, lt-leb}
 use Rattle.std.proofs.lemmas.Option.{slice_get-get_or}
 use Rattle.echo_filed.specs.Filed.{Filed}

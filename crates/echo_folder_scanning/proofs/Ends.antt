@@ -1,6 +1,6 @@
 -- What earlier scans left comes to its end, and then the packets of a scan and the commit of its folder are put on the disk.
-use Rattle.std.proofs.Common.{◌≡◌, ◌≢◌, ◌⊎◌, inl, inr, ⊎_elim, ◌∙◌, ◌<◌, ℕ, List, [], All, ap, arith, get_or, length, refl, subst, sym}
-use Rattle.std.specs.Prelude.{Contains, Err, Ok, OnOk, Result}
+use Rattle.std.proofs.Common.{◌≡◌, ◌≢◌, ◌⊎◌, inl, inr, ⊎_elim, ◌∙◌, ℕ, List, [], All, arith, get_or, length, subst}
+use Rattle.std.specs.Prelude.{Err, Ok, OnOk, Result}
 use Rattle.std.proofs.lemmas.Bool.{cases_lt}
 use Rattle.echo_disk.specs.Disk.{DiskState, Files, IsIn}
 use Rattle.echo_disk.specs.Runs.{LeavesOnly, OneStepOn}
@@ -11,7 +11,6 @@ use Rattle.echo_folder_publishing.specs.Publishing.{IsCommitted}
 use Rattle.echo_folder_publishing.proofs.Apart.{committed_apart, held_apart, open_apart, stands_apart}
 use Rattle.echo_folder_store.specs.Opened.{IsOpen, committed_by, held_by, path_of}
 use Rattle.echo_folder_store.specs.declared.folder.Folder.{Folder}
-use Rattle.echo_placing.specs.Changes.{ChangesOnly}
 use Rattle.echo_placing.specs.Finishing.{FinishesEach, IsOfLeft, IsOver}
 use Rattle.echo_placing.specs.declared.finishing.Left.{Left}
 use Rattle.echo_placing.specs.declared.placing_error.PlacingError.{PlacingError}

@@ -1,5 +1,5 @@
 -- Packets that earlier scans left, which stand outside the base folder.
-use Rattle.std.proofs.Common.{◌≡◌, ◌≢◌, ◌⊎◌, inl, inr, ⊎_elim, ◌∙◌, ◌<◌, ◌≤◌, ℕ, zero, suc, List, ◌++◌, ap, arith, get_or, length, refl, subst, sym}
+use Rattle.std.proofs.Common.{◌≡◌, ◌≢◌, ◌⊎◌, inl, inr, ⊎_elim, ◌∙◌, ◌<◌, ◌≤◌, ℕ, zero, suc, List, ◌++◌, arith, get_or, length, refl, subst, sym}
 use Rattle.std.specs.Prelude.{All, Contains}
 use Rattle.std.proofs.lemmas.Bool.{cases_lt}
 use Rattle.std.proofs.lemmas.List.Elements.{All-contains, Contains-get_or, at_read}
@@ -11,7 +11,6 @@ use Rattle.echo_placing.proofs.Ended.{AtLeft, nothing_left}
 use Rattle.echo_station_files.specs.Paths.{path_beside}
 use Rattle.echo_station_files.proofs.BesidePaths.{beside_in}
 use Rattle.echo_file_scanning.specs.Left as file
-use Rattle.echo_file_scanning.specs.Listing.{IsNumbered}
 use Rattle.echo_file_scanning.specs.Sending.{IsNameByte, IsOffBase, two_paths}
 use Rattle.echo_file_scanning.proofs.Names.{name_beside_in, name_in}
 use Rattle.echo_folder_scanning.specs.Sending.{AreAllLeft, IsLeftOf}

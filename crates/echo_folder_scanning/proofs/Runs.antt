@@ -1,6 +1,6 @@
 -- A scan of a base folder: the folder was opened, the store was scanned, and what came of it was put in place.
-use Rattle.std.proofs.Common.{◌≡◌, ◌≤◌, ◌⊎◌, inl, inr, ⊎_elim, ◌∙◌, ℕ, Bool, List, Result, Ok, Err, ap, arith, refl, subst, sym}
-use Rattle.std.specs.Prelude.{IfErr, IsErrOf, OnOk}
+use Rattle.std.proofs.Common.{◌≡◌, ◌⊎◌, inl, inr, ⊎_elim, ◌∙◌, ℕ, Bool, List, Result, Ok, Err, ap, refl, subst}
+use Rattle.std.specs.Prelude.{IfErr, IsErrOf}
 use Rattle.echo_base.specs.Base.{Base}
 use Rattle.echo_changing.specs.PacketFiles.{PacketFile}
 use Rattle.echo_disk.specs.Disk.{DiskState, Files, IsIn}
@@ -11,7 +11,6 @@ use Rattle.echo_folder_publishing.specs.declared.unpublished.Unpublished.TheVari
 use Rattle.echo_folder_store.specs.Held.{StandsForBase, StandsForBaseAlone, StandsForBaseOrWasLeft}
 use Rattle.echo_links.specs.Links.{LinkFile}
 use Rattle.echo_placing.specs.Finishing.{IsOfLeft}
-use Rattle.echo_placing.specs.declared.finishing.Left.{Left}
 use Rattle.echo_placing.specs.declared.placing_error.PlacingError.TheVariants as placing
 use Rattle.echo_file_scanning.proofs.Lefts.{finishes_none}
 use Rattle.echo_station_files.specs.Faults.{FailsAt, LinksUnread}
@@ -28,8 +27,8 @@ use Rattle.echo_store_changing.specs.declared.stop.Stop.{Stop}
 use Rattle.echo_store_changing.specs.declared.stop.Stop.TheVariants.{Met, Store}
 use Rattle.echo_toss.specs.PacketsIn.{state_in}
 use Rattle.echo_folder_changing.specs.Opening.{IsBegun, IsLockedOut, IsOfFolder, IsShut}
-use Rattle.echo_folder_scanning.specs.Scanning.{IsPutIn, IsScanRun, MayLeave, MayLeaveOrWasLeft}
-use Rattle.echo_folder_scanning.specs.Sending.{AreSentOut, IsTouched, KeepsBut, MayScan, SendsOut}
+use Rattle.echo_folder_scanning.specs.Scanning.{IsPutIn, IsScanRun, MayLeaveOrWasLeft}
+use Rattle.echo_folder_scanning.specs.Sending.{IsTouched, KeepsBut, MayScan, SendsOut}
 use Rattle.echo_folder_scanning.specs.Stops.{IsOfPlacing, stop_of}
 use Rattle.echo_folder_scanning.specs.declared.scan_stop.ScanStop.{ScanStop}
 use Rattle.echo_folder_scanning.specs.declared.scan_stop.ScanStop.TheVariants.{Command, Placing}

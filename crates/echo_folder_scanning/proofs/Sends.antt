@@ -1,6 +1,6 @@
 -- The packets of a scan and the commit of its folder.
-use Rattle.std.proofs.Common.{◌≡◌, ◌≢◌, inl, inr, ⊎_elim, ◌∙◌, ◌<◌, ℕ, List, ◌++◌, Some, ap, arith, get_or, length, map, refl, subst, sym}
-use Rattle.std.specs.Prelude.{All, AllPairs}
+use Rattle.std.proofs.Common.{◌≡◌, inl, inr, ⊎_elim, ◌∙◌, ◌<◌, ℕ, List, Some, ap, arith, get_or, length, map, refl, subst, sym}
+use Rattle.std.specs.Prelude.{All}
 use Rattle.echo_disk.specs.Disk.{DiskState, Files, IsIn}
 use Rattle.echo_disk.specs.Runs.{LeavesOnly, OneStepOn}
 use Rattle.echo_disk.proofs.Moments.{weaker_run}

@@ -1,5 +1,5 @@
 -- What is put in place of an open folder, as of a store on it.
-use Rattle.std.proofs.Common.{◌≡◌, ℕ, List, Option, Result, sym, subst}
+use Rattle.std.proofs.Common.{ℕ, List, Option, Result}
 use Rattle.echo_base.specs.Base.{Base}
 use Rattle.echo_changing.specs.PacketFiles.{PacketFile}
 use Rattle.echo_disk.specs.Disk.{DiskState, IsIn}
@@ -8,7 +8,6 @@ use Rattle.echo_folder_store.specs.Held.{StandsForBase}
 use Rattle.echo_folder_store.specs.Opened.{committed_by, held_by, path_of}
 use Rattle.echo_folder_store.specs.State.{state_of, where_so}
 use Rattle.echo_folder_store.specs.declared.folder.Folder.{Folder}
-use Rattle.echo_store.specs.Store.{StoreState}
 use Rattle.echo_folder_scanning.specs.Sending.{SendsOut}
 use Rattle.echo_folder_scanning.proofs.Ends.{sends_wider}
 

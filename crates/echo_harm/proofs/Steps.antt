@@ -11,7 +11,6 @@ use Rattle.echo_steps.specs.declared.outcome.Outcome.TheVariants as outcome
 use Rattle.echo_steps.specs.declared.packet.Packet.{Packet}
 use Rattle.echo_links.specs.Links.{LinkFile}
 use Rattle.echo_filed.specs.Filed.{Filed}
-use Rattle.echo_steps.specs.Posting.{posting}
 use Rattle.echo_steps.specs.Tossing.{received, sender_of, toss_outcome, tossing, where_filed}
 use Rattle.echo_run.specs.Event.{RunEvent}
 use Rattle.echo_run.specs.Run.{System, Run, after_event, after_events, filing, run_of, start, taking, tossing_at}

@@ -1,5 +1,5 @@
 -- The id in a line that `export` writes, as the value of an answer's field.
-use Rattle.std.proofs.Common.{◌≡◌, ℕ, ◌<◌, List, ◌∷◌, ◌++◌, Some, None, Bool, true, if◌then◌else◌, length, sym, ap, arith, ◌∙◌, append_assoc, length-append, refl}
+use Rattle.std.proofs.Common.{◌≡◌, ℕ, ◌<◌, List, ◌++◌, Some, None, Bool, true, if◌then◌else◌, length, sym, ap, arith, ◌∙◌, append_assoc, length-append, refl}
 use Rattle.std.specs.Prelude.{codes}
 use Rattle.std.specs.List.{prefix_len}
 use Rattle.std.proofs.lemmas.List.{append_cancel_right, reverse-append}

@@ -1,11 +1,11 @@
 -- What `show` answers, from what its parts do.
-use Rattle.std.proofs.Common.{◌≡◌, ℕ, Bool, true, List, [], ◌++◌, Option, Result, Ok, Err, refl, sym, ap, subst, ◌∙◌, inl, inr}
+use Rattle.std.proofs.Common.{◌≡◌, ℕ, Bool, true, List, [], Option, Result, Ok, Err, refl, sym, subst, ◌∙◌, inl, inr}
 use Rattle.std.specs.Io.KnownBytes.{Appends}
 use Rattle.echo_status.specs.declared.fault.Fault.{Fault}
 use Rattle.echo_status.specs.declared.status.Status.{Status}
 use Rattle.echo_status.specs.Devices.{Output}
 use Rattle.echo_status.specs.Ended.{CannotPrint, PassesAll, IsOutOfMemory}
-use Rattle.echo_status.specs.Lines.{PassesOn, WritesFront}
+use Rattle.echo_status.specs.Lines.{WritesFront}
 use Rattle.echo_status.proofs.Lines.{begun_after, begun_kept, nothing_begun, sent_after}
 use Rattle.echo_reading.specs.Showing.{AllShown, DecodeAnswers, FirstShown, IsCutShort, PacketAnswers, PacketPasses, ShowAnswers, ShownBefore, SomeShown, Stands}
 use Rattle.echo_reading.specs.Written.{AddsLines, BeginsLines, WritesLines}

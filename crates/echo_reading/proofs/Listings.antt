@@ -9,7 +9,7 @@ use Rattle.echo_filed.specs.Filed.{Filed}
 use Rattle.echo_status.specs.declared.fault.Fault.{Fault}
 use Rattle.echo_status.specs.declared.status.Status.TheVariants.{Good}
 use Rattle.echo_status.specs.Devices.{Output}
-use Rattle.echo_status.specs.Ended.{CannotPrint, IsBegun, PassesAll, Stops}
+use Rattle.echo_status.specs.Ended.{CannotPrint, IsBegun, PassesAll}
 use Rattle.echo_status.specs.Lines.{PassesOn, WritesFront}
 use Rattle.echo_status.proofs.Lines.{begun_after, begun_more, front_more, passed_more, sent_after}
 use Rattle.echo_reading.specs.Listing.{IsBaseListed, ListAnswers}

@@ -1,5 +1,5 @@
 -- Lines that were added to those kept back, which are on their way to standard output.
-use Rattle.std.proofs.Common.{◌≡◌, ℕ, ◌+◌, ◌-◌, ◌≤◌, List, [], ◌++◌, Option, Result, Ok, Err, OnErr, refl, sym, ap, subst, ◌∙◌, append_assoc, append-nil, zero, suc, arith}
+use Rattle.std.proofs.Common.{◌≡◌, ℕ, ◌+◌, ◌-◌, ◌≤◌, List, [], ◌++◌, Option, Result, Ok, Err, OnErr, sym, ap, subst, ◌∙◌, append_assoc, append-nil, zero, suc, arith}
 use Rattle.echo_print.specs.Pushed.{Pushes}
 use Rattle.echo_status.specs.Lines.{PassesOn, WritesFront}
 use Rattle.echo_status.proofs.Lines.{alone, front_more, none_passed}

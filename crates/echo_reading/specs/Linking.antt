@@ -1,5 +1,5 @@
 -- What `links` answers.
-use Rattle.std.specs.Prelude.{◌≡◌, ◌&&◌, Bool, true, List, is_none, if◌then◌else◌, Result}
+use Rattle.std.specs.Prelude.{◌≡◌, Bool, List, is_none, if◌then◌else◌, Result}
 use Rattle.std.specs.List.{list_all}
 use Rattle.echo_links.specs.LinkLines.{file_fault}
 use Rattle.echo_status.specs.Devices.{Output}

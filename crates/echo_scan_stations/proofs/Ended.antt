@@ -4,8 +4,8 @@ use Rattle.std.proofs.lemmas.Bool.{cases_eq, cases_lt}
 use Rattle.echo_graph.specs.Walk.{Among}
 use Rattle.echo_graph.proofs.Reached.{Among-push_cases}
 use Rattle.echo_stations.specs.Nets.{Net}
-use Rattle.echo_crashes.specs.Disks.{Beside, Disks, HasCursor, naming}
-use Rattle.echo_crashes.specs.Stopping.{EndsOne, EndsSome, HasNoneBeside}
+use Rattle.echo_crashes.specs.Disks.{Beside, HasCursor, naming}
+use Rattle.echo_crashes.specs.Stopping.{EndsOne, HasNoneBeside}
 use Rattle.echo_crashes.proofs.Parted.{disks_with}
 use Rattle.echo_scan_stations.specs.CanEnd.{CanEnd, LeftCanEnd}
 

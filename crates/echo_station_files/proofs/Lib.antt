@@ -1,2 +1,3 @@
 pub mod BesidePaths
+pub mod Failures
 pub mod Sizes

@@ -1,8 +1,6 @@
-use Rattle.std.proofs.Common.{◌<◌, ℕ, length}
-use Rattle.echo_disk.specs.Disk.{Files}
 use Rattle.echo_placing.specs.Outgoing.{IsBesideOne}
 use Rattle.echo_placing.proofs.Changes.{only_nothing, then_only}
-use Rattle.echo_file_scanning.proofs.Dropped.{all_dropped, nothing_dropped}
+use Rattle.echo_file_scanning.proofs.Dropped.{all_dropped}
 use Rattle.echo_file_scanning.proofs.dropping.drop_packets.Goals as goal
 
 pub returns-clause-any_moment : goal.returns-clause-any_moment

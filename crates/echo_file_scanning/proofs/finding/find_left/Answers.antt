@@ -1,4 +1,4 @@
-use Rattle.std.proofs.Common.{◌≡◌, ◌<◌, ℕ, List, arith, get_or, length, sym}
+use Rattle.std.proofs.Common.{◌<◌, ℕ, List, arith, get_or, length, sym}
 use Rattle.std.specs.Prelude.{Contains}
 use Rattle.std.proofs.lemmas.List.Elements.{AllWithin-more, at_read}
 use Rattle.echo_disk.proofs.Moments.{nothing_twice}

@@ -5,7 +5,8 @@ use Rattle.echo_base_folder.specs.Ours.{IsOfOther}
 use Rattle.echo_device.specs.Device.{Failed}
 use Rattle.echo_disk.specs.Disk.{Files}
 use Rattle.echo_folder_changing.specs.Opening.{HaveFailed}
-use Rattle.echo_folder_changing.proofs.Opened.{failed_wider, not_opened, quiet_stands, quiet_then, seen_same}
+use Rattle.echo_station_files.proofs.Failures.{failed_wider}
+use Rattle.echo_folder_changing.proofs.Opened.{not_opened, quiet_stands, quiet_then, seen_same}
 use Rattle.echo_folder_changing.proofs.opening.open_station.Goals as goal
 
 pub returns-in_err-folder-clause-any_moment : goal.returns-in_err-folder-clause-any_moment

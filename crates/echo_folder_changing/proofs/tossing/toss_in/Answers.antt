@@ -2,7 +2,7 @@ use Rattle.std.proofs.Common.{ap, arith, inl, inr, refl, subst, sym}
 use Rattle.echo_folder.specs.Moments.{KeepsOutside}
 use Rattle.echo_folder_store.specs.State.{IsIndexed, state_of, where_so}
 use Rattle.echo_folder_changing.specs.Opening.{HaveFailed}
-use Rattle.echo_folder_changing.proofs.Opened.{failed_wider}
+use Rattle.echo_station_files.proofs.Failures.{failed_wider}
 use Rattle.echo_folder_changing.proofs.Ran.{met_none, outside_after, ran, run_on, store_shown}
 use Rattle.echo_store_changing.specs.Stops.{store_answer}
 use Rattle.echo_folder_changing.proofs.Tossed.{toss_answers, toss_commits}

@@ -1,5 +1,4 @@
 use Rattle.std.proofs.Common.{◌≡◌, ◌∙◌, inl, arith, length, sym}
-use Rattle.std.specs.Prelude.{OnOk}
 use Rattle.std.proofs.lemmas.Bool.{eqb-true}
 use Rattle.echo_disk.specs.Disk.{IsIn}
 use Rattle.echo_folder_store.specs.Opened.{path_of}

@@ -1,4 +1,4 @@
-use Rattle.std.proofs.Common.{◌≡◌, ◌≢◌, ◌∙◌, ℕ, All, Err, List, Ok, ap, inl, refl, subst, sym}
+use Rattle.std.proofs.Common.{◌≢◌, ◌∙◌, ℕ, All, Err, List, Ok, ap, inl, subst, sym}
 use Rattle.std.proofs.lemmas.Result.{err_from_is_err_and}
 use Rattle.echo_disk.specs.Disk.{IsIn}
 use Rattle.echo_folder.specs.Standing.{StandsFor}

@@ -1,4 +1,4 @@
-use Rattle.std.proofs.Common.{List, subst, sym}
+use Rattle.std.proofs.Common.{subst}
 use Rattle.echo_disk.specs.Disk.{IsIn}
 use Rattle.echo_folder.specs.Standing.{StandsFor}
 use Rattle.echo_folder_store.specs.Opened.{committed_by, held_by, path_of}

@@ -4,7 +4,7 @@ use Rattle.echo_disk.specs.Disk.{IsIn}
 use Rattle.echo_folder_store.specs.State.{IsIndexed, state_of, where_so}
 use Rattle.echo_store_changing.specs.declared.stop.Stop.TheVariants.{Met}
 use Rattle.echo_folder_changing.specs.Opening.{HaveFailed}
-use Rattle.echo_folder_changing.proofs.Opened.{failed_wider}
+use Rattle.echo_station_files.proofs.Failures.{failed_wider}
 use Rattle.echo_folder_scanning.specs.Sending.{IsTouched, KeepsBut}
 use Rattle.echo_folder_scanning.proofs.Runs.{locked_wider, looked_kept, put_kept, put_wider, ran_err, ran_ok, shut_wider}
 use Rattle.echo_folder_scanning.proofs.scanning.scan_in.Goals as goal

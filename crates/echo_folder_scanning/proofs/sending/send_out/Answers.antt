@@ -1,4 +1,3 @@
-use Rattle.std.proofs.Common.{Ok, refl}
 use Rattle.std.proofs.lemmas.Result.{err_from_is_err_and}
 use Rattle.echo_disk.specs.Disk.{IsIn}
 use Rattle.echo_folder_store.specs.Opened.{path_of}

@@ -1,8 +1,5 @@
-use Rattle.std.proofs.Common.{◌≡◌, ◌++◌, List, map, inr, inl, refl, subst}
-use Rattle.std.specs.List.{flat_map}
+use Rattle.std.proofs.Common.{inr, inl, refl}
 use Rattle.std.proofs.lemmas.Result.{err_from_is_err_and}
-use Rattle.echo_changing.specs.Scanned.{file_sent, line_sent}
-use Rattle.echo_steps.specs.declared.packet.Packet.{Packet}
 use Rattle.echo_toss.specs.PacketsIn.{state_in}
 use Rattle.echo_store_changing.proofs.Scans.{scan_caused, scan_stopped, scanned_at}
 use Rattle.echo_store_changing.proofs.scanning.scan_on.Goals as goal

@@ -1,6 +1,6 @@
 use Rattle.std.proofs.Common.{◌≡◌, ◌∙◌, List, ℕ, sym, ap}
 use Rattle.std.specs.Prelude.{option_copied}
-use Rattle.echo_filed.specs.Filed.{Filed, key_of}
+use Rattle.echo_filed.specs.Filed.{key_of}
 use Rattle.echo_keys.specs.Keys.{digest_at, digested, digested_key}
 use Rattle.echo_keys.proofs.Digests.{of_key}
 use Rattle.echo_base_folder.proofs.Readings.{one_there, same_number}

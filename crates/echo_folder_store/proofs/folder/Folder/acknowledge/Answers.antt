@@ -1,5 +1,4 @@
-use Rattle.std.proofs.Common.{ℕ, List, subst, ◌∙◌}
-use Rattle.std.proofs.lemmas.Result.{on_ok_weaker}
+use Rattle.std.proofs.Common.{ℕ, List, subst}
 use Rattle.echo_disk.specs.Runs.{LeavesOnly}
 use Rattle.echo_folder.specs.Moments.{IsBeforeOrAfter, KeepsOutside, LeavesOutside}
 use Rattle.echo_folder.proofs.Gates.{outside_twice}

@@ -1,7 +1,7 @@
 use Rattle.std.proofs.Common.{refl}
-use Rattle.echo_folder_store.specs.Opened.{IsWritten, path_of}
+use Rattle.echo_folder_store.specs.Opened.{IsWritten}
 use Rattle.echo_folder_store.specs.declared.folder.Folder.{Folder}
-use Rattle.echo_folder_store.proofs.Staged.{nothing_left, out_committed, out_held, out_open, outside_same}
+use Rattle.echo_folder_store.proofs.Staged.{out_held, out_open}
 use Rattle.echo_folder_store.proofs.folder.Folder.write_out.Goals as goal
 
 pub returns-clause-opened : goal.returns-clause-opened

@@ -1,5 +1,5 @@
-use Rattle.echo_store.proofs.Runs.{no_look, quiet_disk}
-use Rattle.echo_folder_store.specs.State.{IsIndexed, state_of, where_so}
+use Rattle.echo_store.proofs.Runs.{quiet_disk}
+use Rattle.echo_folder_store.specs.State.{IsIndexed, state_of}
 use Rattle.echo_folder_store.proofs.Stated.{looks}
 use Rattle.echo_folder_store.proofs.WhereSo.{looks_where}
 use Rattle.echo_folder_store.proofs.folder_store.FolderStore.expect_one.Goals as goal

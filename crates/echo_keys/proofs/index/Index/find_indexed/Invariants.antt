@@ -1,4 +1,3 @@
-use Rattle.std.proofs.Common.{◌≡◌, ◌≢◌, ◌+◌, ◌≤◌, ◌<◌, ℕ, length}
 use Rattle.echo_keys.specs.Index.{IsIndexOf}
 use Rattle.echo_keys.proofs.Indexed.{IsReached}
 use Rattle.echo_keys.proofs.index.Index.find_indexed.Given as goal
