@@ -23,7 +23,7 @@ LEAST_SECONDS = 0.5
 # What the program may take beside what it takes for each byte of its input.
 LEAST_KILOBYTES = 16_384
 # So many bytes of memory for each byte of the input.
-MOST_BYTES = {"show": 4, "hex": 4, "toss": 24, "base": 48, "nodelist": 64, "check": 32, "picture": 32,
+MOST_BYTES = {"show": 4, "hex": 4, "toss": 24, "base": 24, "nodelist": 64, "check": 32, "picture": 32,
               "replay": 64, "post": 32}
 SMALL_LIMIT = 1_048_000
 
