@@ -1,9 +1,14 @@
-//! Tests of the files of a base folder: on a disk in memory a crash before each call, with what was not synced torn
-//! in several ways, and what is found then; and on files of the system.
+//! Tests of what keeps files on a disk.
+//!
+//! On a disk in memory: a base folder and a base file with a crash before each call of a command, and with writes that
+//! were not synced torn in several ways. On a file system that fails at each call: files read and made whole. On files of
+//! the system: the disk of the program, and a base folder on it.
 #![tactic(auto)]
 
 #[cfg(test)]
 mod bases;
+#[cfg(test)]
+mod commands;
 #[cfg(test)]
 mod crashes;
 #[cfg(test)]
@@ -12,3 +17,9 @@ mod files;
 mod on_real_files;
 #[cfg(test)]
 mod random;
+#[cfg(test)]
+mod real_disk;
+#[cfg(test)]
+mod station;
+#[cfg(test)]
+mod system_files;

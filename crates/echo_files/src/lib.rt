@@ -20,6 +20,3 @@ pub use input::{InputFault, read_whole};
 pub use owned::Owned;
 pub use reading::{open_regular, read_file};
 pub use writing::{NewFile, OutputFault, create_file, flush_folder, flush_path, target_of};
-
-#[cfg(test)]
-mod tests;

@@ -11,8 +11,6 @@ mod kept;
 mod real_disk;
 mod start;
 mod system;
-#[cfg(test)]
-mod tests;
 mod trace;
 
 pub use real_disk::RealDisk;

@@ -1,5 +1,6 @@
-use crate::{NoFiles, RealDisk};
+//! The disk of the program, on files of the system.
 use echo_disk::{Disk, DiskError};
+use echo_real_disk::{NoFiles, RealDisk};
 use std::fs;
 use std::test::Fail;
 

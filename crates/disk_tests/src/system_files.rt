@@ -1,8 +1,11 @@
+//! Files read and made whole, on a file system of which each call fails in turn.
 mod disk;
 
-use super::*;
 use disk::{Disk, State};
 use echo_device::{Trial, Watched};
+use echo_files::{
+    InputFault, NewFile, OutputFault, create_file, flush_folder, read_file, read_whole,
+};
 use std::alloc::Global;
 use std::cell::RefCell;
 use std::test::Fail;
