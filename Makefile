@@ -22,7 +22,7 @@ ours := $(shell sed -n 's/^\([a-z_]*\):.*/\1/p' crates.txt)
 # Proves crates and what they stand on side by side, as many as memory holds: first those with the longest chain of others
 # behind them. make takes their number from a command line alone. What has to be proved anew is known to the make that is
 # called here. Words: crates, and what else to make.
-prove = @mkdir -p bin && scripts/order.sh $(1) > bin/order && \
+prove = +@mkdir -p bin && scripts/order.sh $(1) > bin/order && \
   $(MAKE) --no-print-directory --jobs=$$(scripts/jobs.sh) proving=1 $$(sed 's/^\([a-z_]*\).*/bin\/proved\/\1/' bin/order) $(2)
 
 all: bin/echonet
