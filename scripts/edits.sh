@@ -1,8 +1,9 @@
 #!/usr/bin/env bash
 # Tries the edits that the gate leaves out: those of edits/CRATE, each of which the prover has to refuse. Words: crates;
-# none: all that have such edits. Libraries that are not built yet are proved first, once for each crate above them.
+# none: all that have such edits. The variable `jobs` is how many crates are tried at a time. Libraries that are not built yet
+# are proved first, once for each crate above them.
 set -u
-cd "$(dirname "$0")/.."
+cd "$(dirname "$0")/.." || exit 3
 mkdir -p bin/edits
 room=$(mktemp -d "$PWD/bin/edits/XXXXXX")
 export room

@@ -5,7 +5,7 @@
 #
 # Two runs of `rt` wait for each other where both need some crate. So each crate is proved in a tree of its own.
 set -u
-cd "$(dirname "$0")/.."
+cd "$(dirname "$0")/.." || exit 3
 top=$PWD
 name=$1 kind=${2:-lib}
 log=$top/bin/$name.log
