@@ -9,21 +9,21 @@
 # outside (docs/TRIALS.md). `make install` puts what was built, the program, its page, the scripts, the documents
 # and what shells complete, under PREFIX, or under DESTDIR and PREFIX, and `make uninstall` takes it away; `make
 # deb` makes a Debian package of the same.
-.PHONY: all test demo show-examples cases story net-test manual-test small-nets follow interop trials install uninstall deb toolchain clean
+.PHONY: all test edits edit-table times seconds demo show-examples cases story net-test manual-test small-nets follow interop trials install uninstall deb toolchain clean
 PREFIX = /usr/local
 
 # The program that the examples are run with. After the gate that is the one that it built and left in
 # crates/echonet/out.
 program ?= bin/echonet
 
-# The crates that the program stands on, lowest first.
 lower = $(shell sed -n 's/^$(1):\(.*\)/\1/p' crates.txt)
 ours := $(shell sed -n 's/^\([a-z_]*\):.*/\1/p' crates.txt)
-closure = $(shell scripts/below.sh $(1))
-needed := $(call closure,echonet)
-# And with the programs that trials run: one replays events, one crashes commands on a disk in memory.
-tried := $(sort $(needed) $(call closure,bench) $(call closure,disk_trials))
-counted := $(if $(filter bin/proved/bench,$(MAKECMDGOALS)),$(tried),$(needed))
+
+# Proves crates and what they stand on side by side, as many as memory holds: first those with the longest chain of others
+# behind them. make takes their number from a command line alone. What has to be proved anew is known to the make that is
+# called here. Words: crates, and what else to make.
+prove = +@mkdir -p bin && scripts/order.sh $(1) > bin/order && \
+  $(MAKE) --no-print-directory --jobs=$$(scripts/jobs.sh) proving=1 $$(sed 's/^\([a-z_]*\).*/bin\/proved\/\1/' bin/order) $(2)
 
 all: bin/echonet
 
@@ -34,27 +34,39 @@ ifdef proving
 # One rule for each crate: it is proved after those that it stands on.
 define crate_rule
 bin/proved/$(1): crates.txt $$(shell find crates/$(1) -name out -prune -o \( -name '*.rt' -o -name '*.antt' \) -print) $$(patsubst %,bin/proved/%,$$(filter $$(ours),$$(call lower,$(1)))) | toolchain
-	@scripts/prove.sh $(1) $$(words $$(counted)) $$(or $$(run_$(1)),lib)
+	@scripts/prove.sh $(1) $$(run_$(1))
 endef
 # How a program is run once it is built.
 run_echonet = run --help
 run_bench = run
 run_disk_trials = run
-$(foreach name,$(tried),$(eval $(call crate_rule,$(name))))
+$(foreach name,$(ours),$(eval $(call crate_rule,$(name))))
 
 bin/echonet: bin/proved/echonet
 	@cp crates/echonet/out/echonet bin/echonet
 else
-# The crates are proved side by side, two more than there are processors, since those on which little stands give way to
-# the others: make takes their number from a command line alone. What has to be proved anew is known to the make
-# that is called here.
 .PHONY: bin/echonet
+# With the programs that trials run: one replays events, one crashes commands on a disk in memory.
 bin/echonet: toolchain
-	@$(MAKE) --no-print-directory --jobs=$$(($$(nproc) + 2)) proving=1 bin/echonet $(if $(filter trials,$(MAKECMDGOALS)),bin/proved/bench bin/proved/disk_trials)
+	$(call prove,echonet $(if $(filter trials,$(MAKECMDGOALS)),bench disk_trials),bin/echonet)
 endif
 
 test: toolchain
 	rt ci
+
+edits: toolchain
+	$(call prove,$(or $(only),$(notdir $(wildcard edits/*))))
+	scripts/edits.sh $(only)
+
+edit-table:
+	scripts/edit_table.sh | sed -i -e '/^<!-- edits -->/,/^<!-- end of edits -->/{//!d}' -e '/^<!-- edits -->/r /dev/stdin' docs/PROOFS.md
+
+times: toolchain
+	@mkdir -p bin
+	python3 scripts/gate_times.py bin/times.md rt ci
+
+seconds:
+	scripts/seconds.sh
 
 demo: bin/echonet
 	bin/echonet show --hex - < examples/packets/sixty-byte.hex

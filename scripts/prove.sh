@@ -1,49 +1,16 @@
 #!/usr/bin/env bash
-# Proves one crate and says so in one line; what the prover prints goes to bin/NAME.log. Words: the
-# crate, the number of all, and `lib`, or `run` for a program, which is built, and the words to run it with.
+# Proves one crate and says so in one line; what the prover prints goes to bin/NAME.log, and to bin/times/NAME how long a
+# whole proof took: the seconds of the clock and of the processor. Words: the crate, and `lib`, or `run` for a program,
+# which is built, and the words to run it with. bin/order has the crates to prove, with their processes and niceness.
 #
-# Two runs of `rt` wait for each other where both need some crate. So each crate is proved in a tree of its own,
-# which has the crate and, as hard links, the sources and the built libraries of those below it.
+# Two runs of `rt` wait for each other where both need some crate. So each crate is proved in a tree of its own.
 set -u
-cd "$(dirname "$0")/.."
+cd "$(dirname "$0")/.." || exit 3
 top=$PWD
-name=$1 total=$2 kind=${3:-lib}
+name=$1 kind=${2:-lib}
 log=$top/bin/$name.log
 tree=$top/bin/trees/$name
-mkdir -p bin/proved
-
-# How many crates stand one on another above a crate, at most: the longer that chain, the sooner it is wanted. And
-# by how many crates the longest chain through it is shorter than the longest of all.
-chains() {
-  awk -v wanted="$1" '
-    /^[a-z_]*:/ { split($0, parts, ":"); uses[parts[1]] = parts[2] " " }
-    function height(crate, most, other, above) {
-      if (crate in heights) return heights[crate]
-      most = 0
-      for (other in uses)
-        if (index(uses[other], " " crate " ")) {
-          above = height(other) + 1
-          if (above > most) most = above
-        }
-      return heights[crate] = most
-    }
-    function depth(crate, most, list, n, i, under) {
-      if (crate in depths) return depths[crate]
-      most = 0
-      n = split(uses[crate], list, " ")
-      for (i = 1; i <= n; i++)
-        if (list[i] in uses) {
-          under = depth(list[i]) + 1
-          if (under > most) most = under
-        }
-      return depths[crate] = most
-    }
-    END {
-      for (crate in uses)
-        if (height(crate) + depth(crate) > longest) longest = height(crate) + depth(crate)
-      print height(wanted), longest - height(wanted) - depth(wanted)
-    }' crates.txt
-}
+mkdir -p bin/proved bin/times
 
 # Puts what is kept of earlier runs back, however this one ends.
 put_back() {
@@ -58,39 +25,21 @@ put_back
 trap put_back EXIT
 trap 'exit 3' HUP INT TERM
 
-mkdir -p "$tree"
-for crate in $(scripts/below.sh "$name"); do
-  grep "^$crate:" crates.txt >> "$tree/crates.txt"
-  mkdir -p "$tree/crates/$crate/out"
-  for part in "crates/$crate"/*; do
-    if [ "$part" != "crates/$crate/out" ]; then cp -al "$part" "$tree/crates/$crate"; fi
-  done
-  if [ "$crate" != "$name" ] && [ -d "crates/$crate/out/rlib" ]; then
-    cp -al "crates/$crate/out/rlib" "$tree/crates/$crate/out"
-  fi
-done
-rmdir "$tree/crates/$name/out"
+scripts/tree.sh "$tree" "$name"
+whole=yes
+if [ -d "crates/$name/out/incremental" ]; then whole=no; fi
 if [ -d "crates/$name/out" ]; then mv -T "crates/$name/out" "$tree/crates/$name/out"; fi
 
-# A crate on which little stands gives way to the others.
-read -r above shorter < <(chains "$name")
-spare=$((18 - 2 * above))
-[ "$spare" -ge 0 ] || spare=0
+read -r jobs spare < <(awk -v name="$name" '$1 == name { print $2, $3 }' bin/order)
 renice -n "$spare" $$ > /dev/null 2>&1
-
-# Each process loads all that stands below the crate, which takes a third of the time. So only a crate for which others
-# wait is proved by many.
-case $shorter in
-  0) jobs=4 ;;
-  1) jobs=2 ;;
-  *) jobs=1 ;;
-esac
 [ "$jobs" -le "$(nproc)" ] || jobs=$(nproc)
 
+begun=$SECONDS
 if [ "$kind" = run ]; then
-  (cd "$tree/crates/$name" && rt run --jobs "$jobs" -- "${@:4}") > "$log" 2>&1
+  (cd "$tree/crates/$name" && rt run --jobs "$jobs" -- "${@:3}") > "$log" 2>&1
 else
-  (cd "$tree/crates/$name" && rt lib --jobs "$jobs") > "$log" 2>&1
+  # Such a library holds what other crates can cite of it and no checked proofs, so the crates above it load less.
+  (cd "$tree/crates/$name" && rt lib --jobs "$jobs" --statements) > "$log" 2>&1
 fi
 status=$?
 if [ $status -ne 0 ]; then
@@ -98,5 +47,14 @@ if [ $status -ne 0 ]; then
   grep -E 'error|^fn .*: (not|failed)|^rt: ' "$log" | head -20 >&2
   exit 1
 fi
+# The second line of `times` is of the processes that this one started: their user and system time.
+if [ $whole = yes ]; then
+  times > "$tree/times"
+  awk -v name="$name" -v clock=$((SECONDS - begun)) 'NR == 2 {
+    for (i = 1; i <= 2; i++) { split($i, time, /[ms]/); spent += 60 * time[1] + time[2] }
+    printf "%s %d %.1f\n", name, clock, spent
+  }' "$tree/times" > "bin/times/$name"
+fi
 touch "bin/proved/$name"
-echo "$name: proved, $(ls bin/proved | wc -l) of $total"
+proved=$(awk '{ print "bin/proved/" $1 }' bin/order | xargs ls 2> /dev/null | wc -l)
+echo "$name: proved, $proved of $(wc -l < bin/order)"

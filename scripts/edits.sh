@@ -1,0 +1,35 @@
+#!/usr/bin/env bash
+# Tries the edits that the gate leaves out: those of edits/CRATE, each of which the prover has to refuse. Words: crates;
+# none: all that have such edits. The variable `jobs` is how many crates are tried at a time. Libraries that are not built yet
+# are proved first, once for each crate above them.
+set -u
+cd "$(dirname "$0")/.." || exit 3
+mkdir -p bin/edits
+room=$(mktemp -d "$PWD/bin/edits/XXXXXX")
+export room
+trap 'rm -rf "$room"' EXIT
+trap 'exit 3' HUP INT TERM
+
+# Tries the edits of one crate, in a tree in which they take the place of its own.
+try() {
+  scripts/tree.sh "$room/$1" "$1"
+  rm -rf "$room/$1/crates/$1/must-fail"
+  cp -al "edits/$1" "$room/$1/crates/$1/must-fail"
+  cp HANDLES "$room/$1"
+  (cd "$room/$1" && rt must-fail "$1") > "$room/$1.log" 2>&1
+  cat "$room/$1.log"
+  rm -rf "${room:?}/$1"
+}
+export -f try
+
+for name in "$@"; do
+  [ -d "edits/$name" ] || { echo "edits.sh: edits/$name has no edits" >&2; exit 2; }
+done
+# Those with the most edits come first.
+wanted=$(find edits -name '*.edit' | cut -d / -f 2 | sort | uniq -c | sort -rn | awk '{ print $2 }')
+[ $# -eq 0 ] || wanted=$(printf '%s\n' "$@" | sort -u)
+all=$(for name in $wanted; do ls "edits/$name"/*.edit; done | wc -l)
+printf '%s\n' "$wanted" | xargs -P "${jobs:-$(scripts/jobs.sh)}" -I NAME bash -c 'try NAME'
+refused=$(cat "$room"/*.log | grep -c '^rt: must-fail .*: refused, as it must be')
+echo "$refused edits refused, $((all - refused)) not refused"
+[ "$refused" -eq "$all" ]

@@ -1,0 +1,15 @@
+#!/usr/bin/env bash
+# Prints how many crates to prove side by side: one for each 3.5 GB of free memory, at least 2, and at most two more than
+# there are processors.
+set -eu
+cd /sys/fs/cgroup 2> /dev/null || cd /
+free=$(awk '$1 == "MemAvailable:" { print int($2 / 1024) }' /proc/meminfo)
+if [ -f memory.max ] && [ "$(cat memory.max)" != max ]; then
+  held=$(awk '$1 == "anon" { print $2 }' memory.stat)
+  own=$((($(cat memory.max) - held) / 1048576))
+  [ "$own" -ge "$free" ] || free=$own
+fi
+jobs=$((free / 3584))
+[ "$jobs" -le $(($(nproc) + 2)) ] || jobs=$(($(nproc) + 2))
+[ "$jobs" -ge 2 ] || jobs=2
+echo "$jobs"

@@ -1,0 +1,42 @@
+#!/usr/bin/env bash
+# Prints in what order crates are to be proved: a line for each crate that these stand on, and for them, with the number of
+# its processes and its niceness. First comes the crate with the longest chain of others behind it, in seconds of
+# scripts/seconds.txt. A crate that the file lacks counts by its lines. Words: crates.
+set -eu
+cd "$(dirname "$0")/.."
+{
+  for name in "$@"; do scripts/below.sh "$name"; done | sed 's/^/wanted /'
+  sed -n 's/^\([a-z_0-9]*\)[^:]*:/uses \1/p' crates.txt
+  sed 's/^/seconds /' scripts/seconds.txt
+  find crates -name out -prune -o \( -name '*.rt' -o -name '*.antt' \) -print0 | xargs -0 wc -l | sed 's/^/lines /'
+} | awk '
+  $1 == "wanted" { wanted[$2] = 1 }
+  $1 == "uses" { for (i = 3; i <= NF; i++) uses[$2, $i] = 1 }
+  $1 == "seconds" { seconds[$2] = $3 }
+  $1 == "lines" { split($3, path, "/"); lines[path[2]] += $2 }
+  # The seconds of the longest chain from a crate upwards, and from it downwards, its own with them.
+  function above(crate, most, other) {
+    if (crate in aboves) return aboves[crate]
+    for (other in wanted)
+      if ((other, crate) in uses && above(other) > most) most = above(other)
+    return aboves[crate] = seconds[crate] + most
+  }
+  function below(crate, most, other) {
+    if (crate in belows) return belows[crate]
+    for (other in wanted)
+      if ((crate, other) in uses && below(other) > most) most = below(other)
+    return belows[crate] = seconds[crate] + most
+  }
+  END {
+    for (crate in seconds) { time += seconds[crate]; long += lines[crate] }
+    for (crate in wanted)
+      if (!(crate in seconds)) seconds[crate] = lines[crate] * (long ? time / long : 1)
+    for (crate in wanted)
+      if (above(crate) > longest) longest = above(crate)
+    for (crate in wanted) {
+      chain = above(crate) + below(crate) - seconds[crate]
+      # Each process loads all that stands below the crate. So only the crates of the longest chain have a second one.
+      processes = chain >= 0.95 * longest ? 2 : 1
+      print above(crate), crate, processes, int(18 * (1 - above(crate) / longest))
+    }
+  }' | sort -k 1,1nr -k 2,2 | cut -d ' ' -f 2-

@@ -1,0 +1,10 @@
+#!/usr/bin/env bash
+# Writes scripts/seconds.txt: the processor seconds of each crate's last whole proof, as scripts/prove.sh left them in
+# bin/times. The other crates of crates.txt keep what the file has of them.
+set -eu
+cd "$(dirname "$0")/.."
+table=$(cat scripts/seconds.txt; cat bin/times/* 2> /dev/null | awk '{ print $1, int($3 + 0.5) }')
+sed -n 's/^\([a-z_0-9]*\)[^:]*:.*/\1/p' crates.txt | awk '
+  NR == FNR { seconds[$1] = $2; next }
+  $1 in seconds { print $1, seconds[$1] }' <(echo "$table") - > scripts/seconds.new
+mv scripts/seconds.new scripts/seconds.txt
