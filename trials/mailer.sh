@@ -162,6 +162,22 @@ printf x > two/inbound/new.pkt
 run toss
 expect "no packet takes the number of another" [ "$status $(cd two/bad && ls *.pkt | xargs)" = "1 00000001.pkt new.pkt zzz.pkt" ]
 
+# Where what the script calls has no memory, no packet is taken for filed.
+rm -rf two/bad one/packets $flow.flo
+post Unfiled
+run scan
+mv one/packets/*.pkt two/inbound/
+cp two/links links
+sed -i 's, 1:10/1,,' two/links
+for tool in grep awk; do printf '#!/bin/sh\necho "%s: memory exhausted" >&2\nexit 2\n' $tool > tools/$tool; done
+chmod +x tools/*
+run env PATH="$work/tools:$PATH" "$scripts/toss-inbound.sh" two
+expect "a packet stays where nothing can be told of it" [ "$status $(ls two/tossing | grep -c pkt)" = "2 1" ]
+rm -rf tools
+cp links two/links
+run toss
+expect "and is tossed by the next run" [ "$status $(ls two/tossing two/bad | grep -c pkt)" = "0 0" ]
+
 # A log that cannot be written stops nothing, and is reported.
 rm -rf one/packets two/log one/log $flow.flo
 mkdir two/log one/log

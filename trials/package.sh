@@ -54,6 +54,7 @@ for command in $commands; do
     done
   done
 done
+check 'a program that fails completes nothing' "$(scripts/completions.sh /bin/false bash 2>&1; echo $?)" 1
 echo text > "$root/some file"
 check 'files' "$(cd "$root" && complete show some)" 'some file'
 
