@@ -297,10 +297,20 @@ same "runs at the same moment post a file once" "1 23" \
 # A reader whose base cannot be read, by the fault of one command or since it is damaged, posts nothing.
 cat > stand-in << 'END'
 #!/bin/sh
-# Runs the program. FAILS is a command that fails, ENDS one behind which the script that called it is killed.
+# Runs the program. FAILS is a command that fails, ENDS one behind which the script that called it is killed, TAKES one
+# before whose first run another one takes its serial.
 if [ "${FAILS:-}" = "$1" ]; then
   echo "echonet: out of memory" >&2
   exit 3
+fi
+if [ "${TAKES:-}" = "$1" ] && [ ! -e taken ]; then
+  : > taken
+  for word; do
+    if [ "${before:-}" = --serial ]; then serial=$word; fi
+    before=$word
+  done
+  echo Mine | "$PROGRAM" post --area TEST --to All --from Ann --subject Mine --serial "$serial" --at now \
+    four/links four/base > /dev/null
 fi
 status=0
 "$PROGRAM" "$@" || status=$?
@@ -341,6 +351,11 @@ stored four/again/91.msg Ann Bob Twice '\0\1' 'Twice called.'
 reader TEST four/again > told.txt
 same "what was not posted is posted by the next run" "$((many + 2)) 90.msg 91.msg" \
   "$(how_many four/base) $(ls four/again/posted | xargs)"
+
+stored four/again/92.msg Ann Bob Taken '\0\1' 'Under the next serial.'
+TAKES=post ECHONET=$place/stand-in reader TEST four/again > told.txt
+same "a serial that another run takes meanwhile" "$((many + 4)) 92.msg | " \
+  "$(how_many four/base) $(ls four/again/posted | tail -n 1) | $(ls four/again/refused 2> fault.txt)"
 
 # Paths that would break lines.
 bad=$place/five$'\n'

@@ -63,27 +63,26 @@ folder=$(CDPATH='' cd -- "$3" && pwd)
 exec 9> "$folder/reader.lock"
 flock 9
 
-# Notes of each id of the base, in `heads`, with tabs between: the area, 1 where the message was posted here, the id,
-# addressee, author and subject, as `list` prints them. The ids of the area go to `ids`, and the ends of all to
-# `serials`. Where the base cannot be read the run ends as `list` does.
+# Notes of each id of the base, with tabs between: the area, 1 where the message was posted here, the id, addressee,
+# author and subject, as `list` prints them. Where the base cannot be read the run ends as `list` does. Words: the name
+# of the file, options of `list`.
 read_base() {
-  : > "$work/heads"
-  if [ -e "$station/base" ]; then
-    {
-      listed=0
-      "$program" list "$station/base" || listed=$?
-      echo $listed > "$work/listed"
-    } | awk '
-      /^message / { head = $4 "\t" ($5 == "posted") }
-      /^to / { names = substr($0, 4) }
-      /^from / { names = names "\t" substr($0, 6) }
-      /^subject / { names = names "\t" substr($0, 9) }
-      sub(/^line \\x01MSGID: */, "") { print head "\t" $0 "\t" names }' > "$work/heads"
-    listed=$(cat "$work/listed")
-    if [ "$listed" != 0 ]; then exit "${listed:-3}"; fi
-  fi
-  AREA=$area awk -F '\t' '$1 "" == toupper(ENVIRON["AREA"]) { print $3 }' "$work/heads" > "$work/ids"
-  awk -F '\t' '{ print substr($3, length($3) - 7) }' "$work/heads" > "$work/serials"
+  to=$work/$1
+  shift
+  : > "$to"
+  if [ ! -e "$station/base" ]; then return; fi
+  {
+    listed=0
+    "$program" list "$@" "$station/base" || listed=$?
+    echo $listed > "$work/listed"
+  } | awk '
+    /^message / { head = $4 "\t" ($5 == "posted") }
+    /^to / { names = substr($0, 4) }
+    /^from / { names = names "\t" substr($0, 6) }
+    /^subject / { names = names "\t" substr($0, 9) }
+    sub(/^line \\x01MSGID: */, "") { print head "\t" $0 "\t" names }' > "$to"
+  listed=$(cat "$work/listed")
+  if [ "$listed" != 0 ]; then exit "${listed:-3}"; fi
 }
 
 # Whether a file has this line. Where that cannot be found out the run ends. Words: the file, the line.
@@ -138,9 +137,13 @@ put_aside() {
 }
 
 # The serial of the next posting: the clock's count of seconds, or the first after it that this run did not use and
-# that no id of the base ends in.
+# that no id of the base ends in, in any area.
 last=0
 next_serial() {
+  if [ ! -e "$work/serials" ]; then
+    read_base all
+    awk -F '\t' '{ print substr($3, length($3) - 7) }' "$work/all" > "$work/serials"
+  fi
   number=$(date +%s)
   if [ "$number" -le "$last" ]; then number=$((last + 1)); fi
   serial=$(printf '%08x' $((number % 4294967296)))
@@ -165,11 +168,13 @@ unmark() {
   sync "$folder"
 }
 
-# The area and the id of a posting of the base, by its serial and the names of a stored message. Words: both.
+# The area and the id of a posting in the area, by its serial and the names of a stored message. Words: both.
 posting_of() {
-  AREA=$area SERIAL=$1 NAMES=$2 awk -F '\t' '
-    $1 "" == toupper(ENVIRON["AREA"]) && $2 && substr($3, length($3) - 8) == " " ENVIRON["SERIAL"] &&
-      $4 "\t" $5 "\t" $6 == ENVIRON["NAMES"] { print $1, $3; exit }' "$work/heads"
+  SERIAL=$1 NAMES=$2 awk -F '\t' '
+    $2 && substr($3, length($3) - 8) == " " ENVIRON["SERIAL"] && $4 "\t" $5 "\t" $6 == ENVIRON["NAMES"] {
+      print $1, $3
+      exit
+    }' "$work/heads"
 }
 
 # Moves the file that a stopped run was posting, where the base has that posting.
@@ -220,7 +225,8 @@ post_one() {
 # Only what was changed since the last run began is looked at; two seconds before it, since file systems keep no
 # finer time. What cannot be read is looked at again by the next run.
 touch -d '2 seconds ago' "$folder/seen.new"
-read_base
+read_base heads --area "$area"
+cut -f 3 "$work/heads" > "$work/ids"
 finish_posting
 if [ ! -e "$folder/seen" ]; then touch -d @0 "$folder/seen"; fi
 find "$folder" -ignore_readdir_race -maxdepth 1 -type f -iname '*.msg' ! -name '*[[:cntrl:]]*' \

@@ -112,7 +112,7 @@ add_line() {
   return 1
 }
 
-# What `scan` printed of a packet, or how many bytes it has where an earlier run scanned it. Words: its link, the packet.
+# What `scan` printed of a packet, or its size where an earlier run scanned it. Words: its link, the packet.
 counts_of() {
   bytes=$(($(wc -c < "$2")))
   counts=$(printf '%s\n' "$scanned" | sed -n "s,^packet $1 \([0-9]* messages $bytes bytes\)\$,\1,p")
@@ -138,7 +138,8 @@ hand_over() {
   trap release EXIT
   counts=$(counts_of "$zone:$net/$node" "$1")
   failed=0
-  name=$(new_name) && new=$packets/$name && chmod '=rw' "$1" && add_line "$flow.flo" "^$new" && mv "$1" "$new" || failed=3
+  name=$(new_name) && new=$packets/$name && chmod '=rw' "$1" &&
+    add_line "$flow.flo" "^$new" && mv "$1" "$new" || failed=3
   release
   trap - EXIT
   if [ $failed -eq 0 ]; then log "sent $name to $zone:$net/$node $counts"; fi
