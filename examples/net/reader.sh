@@ -63,32 +63,29 @@ folder=$(CDPATH='' cd -- "$3" && pwd)
 exec 9> "$folder/reader.lock"
 flock 9
 
-# Notes of each id of the base, with tabs between: the area, 1 where the message was posted here, the id, addressee,
-# author and subject, as `list` prints them. Where the base cannot be read the run ends as `list` does. Words: the name
-# of the file, options of `list`.
+# Notes of each id of the area, in `heads`, with tabs between: the area, 1 where the message was posted here, the id,
+# addressee, author and subject, as `list` prints them. Where the base cannot be read the run ends as `list` does.
 read_base() {
-  to=$work/$1
-  shift
-  : > "$to"
+  : > "$work/heads"
   if [ ! -e "$station/base" ]; then return; fi
   {
     listed=0
-    "$program" list "$@" "$station/base" || listed=$?
+    "$program" list --area "$area" "$station/base" || listed=$?
     echo $listed > "$work/listed"
   } | awk '
     /^message / { head = $4 "\t" ($5 == "posted") }
     /^to / { names = substr($0, 4) }
     /^from / { names = names "\t" substr($0, 6) }
     /^subject / { names = names "\t" substr($0, 9) }
-    sub(/^line \\x01MSGID: */, "") { print head "\t" $0 "\t" names }' > "$to"
+    sub(/^line \\x01MSGID: */, "") { print head "\t" $0 "\t" names }' > "$work/heads"
   listed=$(cat "$work/listed")
   if [ "$listed" != 0 ]; then exit "${listed:-3}"; fi
 }
 
-# Whether a file has this line. Where that cannot be found out the run ends. Words: the file, the line.
-has_line() {
+# Whether an id of the area is as `grep` finds it with these words. Where that cannot be found out the run ends.
+has_id() {
   found=0
-  grep -qxF -e "$2" "$1" || found=$?
+  grep -q "$@" "$work/ids" || found=$?
   if [ $found -gt 1 ]; then exit 3; fi
   return $found
 }
@@ -136,18 +133,14 @@ put_aside() {
   sync "$2" "$folder"
 }
 
-# The serial of the next posting: the clock's count of seconds, or the first after it that this run did not use and
-# that no id of the base ends in, in any area.
+# The next serial to try: the clock's count of seconds, or the first after it that this run did not try and that the area
+# does not have.
 last=0
 next_serial() {
-  if [ ! -e "$work/serials" ]; then
-    read_base all
-    awk -F '\t' '{ print substr($3, length($3) - 7) }' "$work/all" > "$work/serials"
-  fi
   number=$(date +%s)
   if [ "$number" -le "$last" ]; then number=$((last + 1)); fi
   serial=$(printf '%08x' $((number % 4294967296)))
-  while has_line "$work/serials" "$serial"; do
+  while has_id -e " $serial\$"; do
     number=$((number + 1))
     serial=$(printf '%08x' $((number % 4294967296)))
   done
@@ -193,7 +186,7 @@ finish_posting() {
   unmark
 }
 
-# Posts what an editor wrote. A serial that another run took meanwhile gives way to the next one.
+# Posts what an editor wrote. Where the base has a message with the serial, in any area (B4), the next one is tried.
 post_one() {
   status=2
   echo 'echonet: B4 ' > "$work/told"
@@ -225,7 +218,7 @@ post_one() {
 # Only what was changed since the last run began is looked at; two seconds before it, since file systems keep no
 # finer time. What cannot be read is looked at again by the next run.
 touch -d '2 seconds ago' "$folder/seen.new"
-read_base heads --area "$area"
+read_base
 cut -f 3 "$work/heads" > "$work/ids"
 finish_posting
 if [ ! -e "$folder/seen" ]; then touch -d @0 "$folder/seen"; fi
@@ -241,7 +234,7 @@ while IFS= read -r file; do
     unread=3
     continue
   fi
-  if [ -n "$id" ] && has_line "$work/ids" "$id"; then continue; fi
+  if [ -n "$id" ] && has_id -xF -e "$id"; then continue; fi
   post_one "$file"
 done < "$work/changed"
 
