@@ -36,7 +36,11 @@ inbound=$(whole_path "${INBOUND:-inbound}" inbound)
 outbound=$(whole_path "${OUTBOUND:-outbound}" outbound)
 packets=$(whole_path "${PACKETS:-packets}" packets)
 
-# Adds a line to STATION/log, behind the moment (UTC). A log that cannot be written stops nothing: the run goes on, and
-# ends with `unlogged` where nothing else is amiss.
+# The moment, as UTC.
+utc() { date -u +%Y-%m-%dT%H:%M:%SZ; }
+
+# Adds a line to STATION/log, behind `stamp` or else the moment. A log that cannot be written stops nothing: the run
+# goes on, and ends with `unlogged` where nothing else is amiss.
 unlogged=0
-log() { printf '%s %s\n' "$(date -u +%Y-%m-%dT%H:%M:%SZ)" "$1" >> "$station/log" || unlogged=3; }
+stamp=''
+log() { printf '%s %s\n' "${stamp:-$(utc)}" "$1" >> "$station/log" || unlogged=3; }

@@ -78,19 +78,19 @@ take_in() {
   done
 }
 
-# The name that a packet came with, or its number where that name is lost.
+# The name that a packet came with, or its number where that name is lost, goes to `came`. Only one with a line end in it
+# needs `cat`.
 name_of() {
   came=
-  if [ -s "${1%.pkt}.name" ]; then came=$(cat "${1%.pkt}.name"); fi
+  if [ -s "${1%.pkt}.name" ] && IFS= read -r came < "${1%.pkt}.name"; then came=$(cat "${1%.pkt}.name"); fi
   case $came in '' | */* | . | ..) came=${1##*/} ;; esac
-  printf '%s' "$came"
 }
 
-# Prints what comes on standard input so that a terminal only prints it.
-printable() { od -An -v -tu1 | awk -f "$here/printable.awk"; }
-
-# The name that a packet came with, as it may be printed.
-printed() { name_of "$1" | printable; }
+# A name goes to `shown` so that a terminal only prints it.
+show() {
+  shown=$1
+  case $1 in *[!\ -~]*) shown=$(printf '%s' "$1" | od -An -v -tu1 | awk -f "$here/printable.awk") ;; esac
+}
 
 # The address in the header of a packet, or `-` where it has none.
 sender_of() {
@@ -128,14 +128,16 @@ all_filed() {
 
 # Notes a packet that was tossed whole, and removes it. Words: the packet, its counts.
 done_with() {
-  log "came $(printed "$1") from $(sender_of "$1") $2"
+  name_of "$1"
+  show "$came"
+  log "came $shown from $(sender_of "$1") $2"
   rm -f "$1" "${1%.pkt}.name"
 }
 
 # Puts a packet aside, under a name that is not taken yet. The reason is on the disk before the packet moves.
 # Words: the packet, the line that tells why.
 put_aside() {
-  came=$(name_of "$1")
+  name_of "$1"
   if [ ${#came} -gt 200 ]; then came=${1##*/}; fi
   name=$came
   number=0
@@ -145,7 +147,7 @@ put_aside() {
   done
   { printf '%s\n' "$2"; cat "$notes"; } > "$station/bad/$name.why"
   sync "$station/bad/$name.why"
-  shown=$(printf '%s' "$name" | printable)
+  show "$name"
   printf 'put aside %s: %s\n' "$shown" "$2"
   log "aside $shown from $(sender_of "$1") $2"
   mv "$1" "$station/bad/$name"
@@ -172,7 +174,9 @@ toss_one() {
   why=$(tail -n 1 "$told")
   refused > "$notes"
   if [ $status -eq 0 ] && all_filed 1; then
-    printf '%s: %s\n' "$(printed "$1")" "$why"
+    name_of "$1"
+    show "$came"
+    printf '%s: %s\n' "$shown" "$why"
     done_with "$1" "$why"
   elif [ $status -eq 0 ] || is_packets_own "$1" $status "$why"; then
     put_aside "$1" "$why"
@@ -192,6 +196,7 @@ if ! is_there "$1"; then exit 0; fi
 printf '%s\0' "$@" > "$list"
 if toss "$list" && all_filed $#; then
   cat "$told"
+  stamp=$(utc)
   while IFS= read -r counts; do
     done_with "$1" "$counts"
     shift
