@@ -68,13 +68,13 @@ expected() {
   local name
   case $1 in
     '') ;;
-    @*) for name in $1; do cat "files/${name#@}"; done ;;
+    @*) for name in $1; do cat "files/${name#@}" || return 1; done ;;
     *) printf '%s\n' "$1" ;;
   esac
 }
 
 # Whether a file has the bytes that a cell stands for. Words: the file, the cell.
-has() { cmp -s "$1" <(expected "$2"); }
+has() { expected "$2" > wanted && cmp -s "$1" wanted; }
 
 # Whether the files that a run left are those of the cell.
 left_as() {

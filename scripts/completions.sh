@@ -2,15 +2,17 @@
 # completions.sh PROGRAM bash|zsh|fish: prints what a shell completes after `echonet`, made of the program's own help.
 set -eu
 program=$1 shell=$2
+helps=$(mktemp -d)
+trap 'rm -rf "$helps"' EXIT
 
 # The commands, each with what it does: NAME|TEXT.
 commands() {
-  "$program" --help | awk '/^Commands:/ { on = 1; next } /^$/ { on = 0 } on { name = $1; sub(/^ *[^ ]+ +/, ""); print name "|" $0 }'
+  awk '/^Commands:/ { on = 1; next } /^$/ { on = 0 } on { name = $1; sub(/^ *[^ ]+ +/, ""); print name "|" $0 }' "$helps/help"
 }
 
 # The options of a command: --NAME|VALUE|TEXT, where VALUE is empty for a flag.
 options() {
-  "$program" "$1" --help | awk '
+  awk '
     /^Options:/ { on = 1; next }
     /^$/ { on = 0 }
     on && match($0, /--[a-z-]+/) {
@@ -23,7 +25,7 @@ options() {
       }
       sub(/^ +/, "", rest)
       print name "|" value "|" rest
-    }'
+    }' "$helps/$1"
 }
 
 # Every command with its options, a line each: NAME and the options behind it.
@@ -101,6 +103,13 @@ in_fish() {
 }
 
 case $shell in
-  bash | zsh | fish) "in_$shell" ;;
+  bash | zsh | fish) ;;
   *) echo "completions.sh: no such shell: $shell" >&2; exit 2 ;;
 esac
+# All helps come first: a program that fails ends this before anything is printed.
+"$program" --help > "$helps/help"
+names=$(commands | cut -d'|' -f1)
+for name in $names; do
+  [ "$name" = help ] || "$program" "$name" --help > "$helps/$name"
+done
+"in_$shell"

@@ -12,6 +12,7 @@ cp HANDLES "$copy"
 cp -a crates/echo_addr crates/echo_text "$copy/crates"
 sed -n '/^    pub fn/,/^    }$/s/^    //p' "$page" >> "$copy/crates/echo_text/src/reading.rt"
 wanted=$(sed -n 's/^    error/error/p' "$page")
+[ -n "$wanted" ] || { echo "lifetimes.sh: $page names no error"; exit 1; }
 cd "$copy/crates/echo_text"
 if said=$(rt check 2>&1); then
     echo "lifetimes.sh: a view that outlives its text was proved"

@@ -1,7 +1,8 @@
 #!/usr/bin/env bash
 # Tries the scripts of examples/net on a net of three whose mailer is `mv`: stopped scans, packets that are
-# cut or for others or not filed, flow files that are held, runs at the same moment. Words: the program, and whether
-# the bases are `files` or `folders`; the last station has one of the other kind.
+# cut or for others or not filed, flow files that are held, runs at the same moment, readers that are stopped, the log
+# and the settings of a station. Words: the program, and whether the bases are `files` or `folders`; the last station
+# has one of the other kind.
 set -eu
 cd "$(dirname "$0")/.."
 . scripts/checks.sh
@@ -17,6 +18,15 @@ cd "$place"
 post() { echo "Body of $3" | "$scripts/post.sh" "$1" TEST All "$2" "$3" "${@:4}"; }
 scan() { "$scripts/scan-outbound.sh" "$1"; }
 toss() { "$scripts/toss-inbound.sh" "$1"; }
+
+# Tosses, and sets the status. Its lines go to printed.txt.
+toss_some() {
+  status=0
+  toss "$1" > printed.txt || status=$?
+}
+
+# The last line of the log of a station, with its moment as MOMENT.
+last_log() { tail -n 1 "$1/log" | sed -E 's/^[0-9]{4}-[0-9]{2}-[0-9]{2}T[0-9]{2}:[0-9]{2}:[0-9]{2}Z /MOMENT /'; }
 
 # The cursor of a base, and how many messages it has.
 counts() {
@@ -55,27 +65,35 @@ same "one packet" 1 "$(ls one/packets | wc -l)"
 same "its name" yes "$([[ $(ls one/packets) =~ ^[0-9a-f]{8}\.pkt$ ]] && echo yes)"
 same "the line of the flow file" "^$place/one/packets/$(ls one/packets)" "$(cat one/outbound/$to_two.flo)"
 same "no lock is left" "" "$(ls one/outbound | grep bsy || true)"
-same "nothing waits" "" "$(scan one)"
+same "the log of Alpha" "MOMENT sent $(ls one/packets) to 1:10/2 1 messages 223 bytes" "$(last_log one)"
+same "nothing waits" 0 "$(scan one; echo $?)"
 same "the flow file has one line" 1 "$(wc -l < one/outbound/$to_two.flo)"
 
 # It is tossed and removed.
 cp one/packets/*.pkt kept.pkt
+name=$(ls one/packets)
 carry one $to_two two
 same "a toss" "filed 1 known 0 notecho 0 badtag 0 noarea 0 notlinked 0" "$(toss two)"
 same "the packet is gone" "" "$(ls two/inbound two/bad | grep pkt || true)"
+same "the log of Beta" "MOMENT came $name from 1:10/1 filed 1 known 0 notecho 0 badtag 0 noarea 0 notlinked 0" \
+  "$(last_log two)"
 
 # A packet that is cut, one that is for another system, and one that comes again in other letters.
 head -c 98 kept.pkt > two/inbound/cut.pkt
 cp kept.pkt two/inbound/AGAIN.PKT
 cp kept.pkt three/inbound/wrong.pkt
-toss two > /dev/null
+toss_some two
+same "a packet that is put aside is a status" 1 "$status"
+same "its line" "put aside cut.pkt: echonet: P1 Truncated at 96" "$(grep ^put printed.txt)"
+same "its line in the log" "aside cut.pkt from 1:10/1 echonet: P1 Truncated at 96" \
+  "$(cut -d ' ' -f 2- two/log | grep '^aside ')"
 same "the cut packet lies apart" "echonet: P1 Truncated at 96" "$(cat two/bad/cut.pkt.why)"
 same "as it was" "$(head -c 98 kept.pkt | cksum)" "$(cksum < two/bad/cut.pkt)"
 same "the other one is gone" "" "$(ls two/inbound)"
-toss three > /dev/null
+toss_some three
 same "a packet for another system lies apart" "echonet: C1 NotForUs 1:10/2" "$(cat three/bad/wrong.pkt.why)"
 head -c 98 kept.pkt > two/inbound/cut.pkt
-toss two > /dev/null
+toss_some two
 same "two of one name lie apart" \
   "cut.pkt cut.pkt.1 cut.pkt.1.why cut.pkt.why" "$(ls two/bad | tr '\n' ' ' | sed 's/ $//')"
 rm two/bad/* three/bad/*
@@ -86,14 +104,14 @@ scan one > /dev/null
 carry one $to_two two
 cp two/links two.links
 sed -i 's, 1:10/1,,' two/links
-toss two > /dev/null
+toss_some two
 same "a packet of no link lies apart" "filed 0 known 0 notecho 0 badtag 0 noarea 0 notlinked 1" \
   "$(head -n 1 two/bad/*.why)"
 same "with its area" "message 1 at 58 notlinked area TEST" "$(sed '1d; s/ msgid .*//' two/bad/*.why)"
 cp two.links two/links
 mv two/bad/*.pkt two/inbound/
-rm two/bad/*
 same "it is tossed once the link is there" "filed 1 known 0 notecho 0 badtag 0 noarea 0 notlinked 0" "$(toss two)"
+same "and the reason went with it" "" "$(ls two/bad)"
 
 # A faulty link file or base is no fault of the packet.
 cp kept.pkt two/inbound/
@@ -165,6 +183,27 @@ sed 's/^AREA.*/& 2:5020\/999/' two.links > two/links
 post two Bob Sixth > /dev/null
 scan two > /dev/null
 same "the folder of zone 2" 139c03e7.flo "$(ls two/outbound.002)"
+
+# A link file without an own address: what an earlier run scanned is not handed over.
+touch two/outbound.002/139c03e7.bsy
+post two Bob Seventh > /dev/null
+scan two > /dev/null
+rm two/outbound.002/139c03e7.bsy
+sed -i /^SYSTEM/d two/links
+ls two/outbound* | sort > before.txt
+status=0
+scan two > printed.txt 2> fault.txt || status=$?
+same "a link file without an address" \
+  "2 echonet: L3 NoSystem line 0 scan-outbound.sh: no own address in $place/two/links: nothing is handed over" \
+  "$status $(xargs < fault.txt)"
+same "nothing is handed over" "1 $(cat before.txt)" "$(ls two/scanned | wc -l) $(ls two/outbound* | sort)"
+
+# A flow file whose last line has no end.
+sed 's/^AREA.*/& 2:5020\/999/' two.links > two/links
+printf '^/elsewhere/first.pkt' > two/outbound.002/139c03e7.flo
+scan two > /dev/null
+same "a flow file without a last line end" "^/elsewhere/first.pkt ^$place/two/packets/" \
+  "$(sed 's,/[^/]*\.pkt$,/,; s,elsewhere/$,&first.pkt,' two/outbound.002/139c03e7.flo | xargs)"
 cp two.links two/links
 rm -r two/outbound.002
 
@@ -180,7 +219,7 @@ for number in $(seq 1 5); do toss two > "tossed.$number" & done
 wait
 same "twenty were filed, once" 20 "$(cat tossed.* | awk '{ filed += $2 } END { print filed }')"
 same "and no packet is left" "" "$(ls two/inbound two/tossing two/bad | grep pkt || true)"
-same "what Beta has" "7 27" "$(counts two)"
+same "what Beta has" "8 28" "$(counts two)"
 
 # Scans and tosses that are killed at any moment.
 for number in $(seq 1 15); do
@@ -196,7 +235,7 @@ done
 scan one > /dev/null
 if [ -e one/outbound/$to_two.flo ]; then carry one $to_two two; fi
 toss two > /dev/null
-same "all has come, once" "7 42" "$(counts two)"
+same "all has come, once" "8 43" "$(counts two)"
 
 # A serial that is looked for: those of the coming seconds are taken.
 cp one/links four/
@@ -254,6 +293,99 @@ for number in 1 2 3; do reader TEST four/read > "read.$number" & done
 wait
 same "runs at the same moment post a file once" "1 23" \
   "$(cat read.? | grep -c ^posted) $("$program" list four/base | grep -c ^message)"
+
+# A reader whose base cannot be read, by the fault of one command or since it is damaged, posts nothing.
+cat > stand-in << 'END'
+#!/bin/sh
+# Runs the program. FAILS is a command that fails, ENDS one behind which the script that called it is killed, TAKES one
+# before whose first run another one takes its serial.
+if [ "${FAILS:-}" = "$1" ]; then
+  echo "echonet: out of memory" >&2
+  exit 3
+fi
+if [ "${TAKES:-}" = "$1" ] && [ ! -e taken ]; then
+  : > taken
+  for word; do
+    if [ "${before:-}" = --serial ]; then serial=$word; fi
+    before=$word
+  done
+  echo Mine | "$PROGRAM" post --area TEST --to All --from Ann --subject Mine --serial "$serial" --at now \
+    four/links four/base > /dev/null
+fi
+status=0
+"$PROGRAM" "$@" || status=$?
+if [ "${ENDS:-}" = "$1" ]; then kill -9 $PPID; fi
+exit $status
+END
+chmod +x stand-in
+export PROGRAM=$program
+how_many() { "$program" list "$1" | grep -c ^message; }
+reader TEST four/again > /dev/null
+files=$(ls four/again)
+many=$(how_many four/base)
+status=0
+FAILS=list ECHONET=$place/stand-in reader TEST four/again > told.txt 2> fault.txt || status=$?
+same "a list that fails ends a reader" "3 echonet: out of memory" "$status $(cat told.txt fault.txt)"
+same "before it posts" "$many $files" "$(how_many four/base) $(ls four/again | grep -v '^seen.new$')"
+rm -rf four.base
+cp -r four/base four.base
+if [ -d four/base ]; then file=$(ls four/base/messages.*); else file=four/base; fi
+truncate -s -1 "$file"
+status=0
+reader TEST four/again > told.txt 2> fault.txt || status=$?
+same "so does a damaged base" "2  echonet: F2 Truncated record $((many - 1)) $files" \
+  "$status $(cat told.txt) $(cat fault.txt) $(ls four/again | grep -v '^seen.new$')"
+rm -rf four/base
+cp -r four.base four/base
+
+# A reader that is stopped behind a posting, and one that is stopped before it.
+stored four/again/90.msg Ann 'B\303\266b' 'Once\\' '\0\1' 'Only once.'
+{ ENDS=post ECHONET=$place/stand-in reader TEST four/again > told.txt || true; } 2> fault.txt
+same "a stopped reader has posted" $((many + 1)) "$(how_many four/base)"
+reader TEST four/again > told.txt
+same "the next one does not post again" $((many + 1)) "$(how_many four/base)"
+# shellcheck disable=SC2053
+same "it moves the file" "yes 90.msg" "$([[ $(head -n 1 told.txt) == $told_id ]] && echo yes) $(ls four/again/posted)"
+stored four/again/91.msg Ann Bob Twice '\0\1' 'Twice called.'
+{ FAILS=post ECHONET=$place/stand-in reader TEST four/again > told.txt || true; } 2> fault.txt
+reader TEST four/again > told.txt
+same "what was not posted is posted by the next run" "$((many + 2)) 90.msg 91.msg" \
+  "$(how_many four/base) $(ls four/again/posted | xargs)"
+
+stored four/again/92.msg Ann Bob Taken '\0\1' 'Under the next serial.'
+TAKES=post ECHONET=$place/stand-in reader TEST four/again > told.txt
+same "a serial that another run takes meanwhile" "$((many + 4)) 92.msg | " \
+  "$(how_many four/base) $(ls four/again/posted | tail -n 1) | $(ls four/again/refused 2> fault.txt)"
+
+# Paths that would break lines.
+bad=$place/five$'\n'
+mkdir "$bad"
+cp one/links "$bad"
+refused() {
+  status=0
+  "$@" > told.txt 2> fault.txt < /dev/null || status=$?
+  echo "$status $(cat told.txt)$(cat fault.txt)"
+}
+for name in toss-inbound.sh scan-outbound.sh; do
+  same "$name refuses a control byte" "4 $name: control byte in the path of the station" "$(refused "$scripts/$name" "$bad")"
+done
+same "post.sh, too" "4 post.sh: control byte in the path of the station" \
+  "$(refused "$scripts/post.sh" "$bad" TEST All Ann Hi)"
+same "reader.sh, too" "4 reader.sh: control byte in a path" "$(refused "$scripts/reader.sh" four TEST "$bad/read")"
+same "nothing was made there" "links" "$(ls "$bad")"
+
+# Settings of a station: the folders of Debian's binkd.
+mkdir six
+sed 's/^SYSTEM.*/SYSTEM 1:10\/2/' one/links > six/links
+sed -i 's/^AREA.*/AREA TEST 1:10\/1 1:10\/3/' six/links
+printf 'INBOUND=inb\nOUTBOUND=%s/six/outb\nPACKETS=sent\n' "$place" > six/settings
+mkdir six/inb
+cp kept.pkt six/inb/
+same "INBOUND of the settings" "filed 1 known 0 notecho 0 badtag 0 noarea 0 notlinked 0" "$(toss six)"
+scan six > printed.txt
+same "OUTBOUND and PACKETS" "^$place/six/sent/$(ls six/sent)" "$(cat six/outb/$to_three.flo)"
+same "no other folders" "base inb last-name links log outb scan.lock scanned sent settings toss.lock tossing" \
+  "$(LC_ALL=C ls six | grep -v '^bad$' | xargs)"
 
 echo "$passed checks passed, $failed failed"
 [ $failed -eq 0 ]

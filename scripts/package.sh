@@ -1,6 +1,6 @@
 #!/usr/bin/env bash
 # package.sh: makes a Debian package of what `make install` puts in place, in bin/, and prints its path.
-set -eu
+set -euo pipefail
 cd "$(dirname "$0")/.."
 version=$(bin/echonet --version | cut -d ' ' -f 2)
 architecture=$(dpkg --print-architecture)

@@ -77,6 +77,7 @@ for command in $commands; do
   while read -r name number; do
     for error in $(failures_of "$name"); do fail_call $command "$name" "$number" $error; done
   done < all_calls
+  expect "$command: calls fail" [ $tried -gt 0 ]
   echo "$command: $tried failures, of which $refused ended it with a fault"
 done
 

@@ -31,6 +31,8 @@ def calls_of(station, words):
             if name:
                 counts[name[1]] = counts.get(name[1], 0) + 1
                 calls.append((name[1], counts[name[1]], line))
+    if not calls:
+        raise SystemExit("strace shows no calls of %s" % words)
     return calls
 
 

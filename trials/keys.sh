@@ -12,12 +12,14 @@ fi
 cc -O2 -o "$work/keys" trials/keys.c
 cd "$work"
 
-# The least processor time of three runs, in hundredths of a second. Words: the run.
+# The least processor time of three runs, in hundredths of a second. Words: the run. A run that does not end with 0 or 1
+# has no time.
 least() {
   local best=999999 time
   TIMEFORMAT='%U %S'
   for _ in 1 2 3; do
-    time=$({ time "$@" > said 2>&1; } 2>&1 | awk '{ printf "%d", ($1 + $2) * 100 }')
+    time=$({ time { "$@" > said 2>&1; echo $? > ended; }; } 2>&1 | awk '{ printf "%d", ($1 + $2) * 100 }')
+    if [ "$(cat ended)" -gt 1 ]; then time=999999; fi
     if [ "$time" -lt "$best" ]; then best=$time; fi
   done
   echo "$best"
@@ -25,6 +27,7 @@ least() {
 
 # Words: what is tried, the time with chosen names, the time with others.
 compare() {
+  expect "$1: all runs end well" [ "$2" -lt 999999 -a "$3" -lt 999999 ]
   expect "$1: $2 hundredths of a second, and $3 with other names" [ "$2" -le $((3 * $3 + 5)) ]
   echo "$1: $2 hundredths of a second, $3 with other names"
 }

@@ -113,6 +113,7 @@ kill_at_each_call() {
     if [ $status = 137 ]; then killed=$((killed + 1)); fi
     "after_$1"
   done < numbered
+  expect "$1 makes calls" [ -s numbered ]
   expect "$1 is killed at all calls but some of memory, not at $killed" [ $killed -ge $(($(wc -l < numbered) - 5)) ]
   echo "$1 killed at each of $killed calls of the system"
 }

@@ -2,7 +2,8 @@
 # The scripts of examples/net in an unlucky world. What a mailer may bring from afar: names that are no UTF-8,
 # are as long as a name may be or would steer a terminal, a folder, a pipe, a link that leads nowhere, a
 # packet that wants more memory than there is; the packets behind it are tossed. A scan whose script is
-# killed alone, a flow file that cannot be written, and links that were held by what runs no more.
+# killed alone, a flow file that cannot be written, links that were held by what runs no more or by a scan that was
+# killed, what a power cut leaves, and a log that cannot be written.
 set -eu
 cd "$(dirname "$0")/.."
 . trials/setting.sh
@@ -35,7 +36,9 @@ mkdir two/inbound/6.pkt
 mkfifo two/inbound/8.pkt
 ln -s nowhere two/inbound/A.pkt
 run toss
-expect "all that can be tossed is" [ "$status $(filed)" = "0 end 5 messages, 5 waiting" ]
+expect "all that can be tossed is" [ "$status $(filed)" = "1 end 5 messages, 5 waiting" ]
+expect "each packet has its line in the log" [ "$(cut -d ' ' -f 2 two/log | sort | uniq -c | xargs)" = "4 aside 6 came" ]
+expect "nothing in the log steers the terminal" [ -z "$(LC_ALL=C tr -d ' -~\n' < two/log)" ]
 expect "nothing is left" [ -z "$(ls two/inbound two/tossing | grep pkt)" ]
 expect "what cannot lies apart" [ "$(ls two/bad | grep -c 'pkt$')" = 4 ]
 expect "with the reason" grep -q 'cannot use .*pkt' two/bad/6.pkt.why two/bad/8.pkt.why two/bad/A.pkt.why
@@ -49,7 +52,7 @@ make_file packet 1000 150 1000000 > starved/inbound/0.pkt
 make_file packet 5000 1 200 > starved/inbound/1.pkt
 run bash -c 'ulimit -v 100000; timeout 60 "$0" starved' "$scripts/toss-inbound.sh"
 expect "a packet without memory lies apart" grep -q -e 'P7 ' -e 'C2 ' -e 'out of memory' starved/bad/0.pkt.why
-expect "and the one behind it is tossed" [ "$status $(ls starved/inbound starved/tossing | grep -c pkt)" = "0 0" ]
+expect "and the one behind it is tossed" [ "$status $(ls starved/inbound starved/tossing | grep -c pkt)" = "1 0" ]
 
 # A link that is faulty: the packets stay, and the scan runs.
 post Second
@@ -108,5 +111,92 @@ post Seventh
 sh -c 'echo $$' > $flow.bsy
 run scan
 expect "so is that of a process that runs no more" [ "$status $(wc -l < $flow.flo)" = "0 4" ]
-expect "and no hold is left" is_none $flow.bsy $flow.hold
+expect "and no hold is left" is_none $flow.bsy "$(find one/outbound -name '*hold*')"
+
+# A scan that is killed while it holds a link, and what its hold may be after a power cut: empty, or with a number that
+# another process has by now.
+mkdir tools
+printf '#!/bin/sh\nkill -9 $PPID\n' > tools/chmod
+chmod +x tools/chmod
+lines=4
+for left in '' $$; do
+  post "Held by $left"
+  { run env PATH="$work/tools:$PATH" "$scripts/scan-outbound.sh" one; } 2> killed
+  expect "a killed scan leaves its hold" [ "$status $(ls one/scanned | wc -l) $(ls one/outbound | grep -c 'bsy$')" = "137 1 1" ]
+  printf '%s' "$left" > $flow.bsy
+  run scan
+  lines=$((lines + 1))
+  expect "its hold is taken over at once ($left)" [ "$status $(wc -l < $flow.flo)" = "0 $lines" ]
+done
+expect "and nothing of it is left" [ "$(ls one/outbound)" = 000a0002.flo ]
+
+# What the next run needs is on the disk before it goes on: `sync` is called for it.
+printf '#!/bin/sh\nfor file; do echo "${file##*/} $(ls "${file%%/*}" | grep -c "bsy$\\|pkt$")"; done >> "%s"\nexec %s "$@"\n' \
+  "$work/synced" "$(command -v sync)" > tools/sync
+rm tools/chmod
+chmod +x tools/sync
+rm -f one/packets/* $flow.flo
+post Eighth
+run env PATH="$work/tools:$PATH" "$scripts/scan-outbound.sh" one
+expect "a hold is on the disk before it has its name" grep -qx '.*hold 0' synced
+expect "so is the last name, and the line before its packet moves" [ "$(grep -c '^last-name.new\|^000a0002.flo.new\|^outbound ' synced)" = 3 ]
+rm -rf two/bad
+mv one/packets/*.pkt two/inbound/good.pkt
+head -c 100 two/inbound/good.pkt > two/inbound/cut.pkt
+run env PATH="$work/tools:$PATH" "$scripts/toss-inbound.sh" two
+expect "names are on the disk before packets move" [ "$(grep -cx '0000000[12].name 0' synced)" = 2 ]
+expect "a reason is before its packet moves" grep -qx 'cut.pkt.why 0' synced
+
+# Packets in `tossing` without a name, or with one that a power cut spoiled, and one that is no number.
+rm -rf two/bad
+for name in 00000007 00000009 zzz; do head -c 100 one/base > two/tossing/$name.pkt; done
+: > two/tossing/00000007.name
+printf 'a/b' > two/tossing/zzz.name
+run toss
+expect "packets without a name get one" [ "$status $(cd two/bad && ls *.pkt | xargs)" = "1 00000007.pkt 00000009.pkt zzz.pkt" ]
+expect "and nothing is left of them" [ -z "$(ls two/tossing)" ]
+cp two/bad/00000007.pkt two/tossing/zzz.pkt
+cp two/bad/00000009.pkt two/tossing/00000001.pkt
+rm -rf two/bad
+printf x > two/inbound/new.pkt
+run toss
+expect "no packet takes the number of another" [ "$status $(cd two/bad && ls *.pkt | xargs)" = "1 00000001.pkt new.pkt zzz.pkt" ]
+
+# Where what the script calls has no memory, no packet is taken for filed.
+rm -rf two/bad one/packets $flow.flo
+post Unfiled
+run scan
+mv one/packets/*.pkt two/inbound/
+cp two/links links
+sed -i 's, 1:10/1,,' two/links
+for tool in grep awk; do printf '#!/bin/sh\necho "%s: memory exhausted" >&2\nexit 2\n' $tool > tools/$tool; done
+chmod +x tools/*
+run env PATH="$work/tools:$PATH" "$scripts/toss-inbound.sh" two
+expect "a packet stays where nothing can be told of it" [ "$status $(ls two/tossing | grep -c pkt)" = "2 1" ]
+rm -rf tools
+cp links two/links
+run toss
+expect "and is tossed by the next run" [ "$status $(ls two/tossing two/bad | grep -c pkt)" = "0 0" ]
+
+# A log that cannot be written stops nothing, and is reported.
+rm -rf one/packets two/log one/log $flow.flo
+mkdir two/log one/log
+post Ninth
+run scan
+expect "a scan without a log" [ "$status $(wc -l < $flow.flo)" = "3 1" ]
+mv one/packets/*.pkt two/inbound/
+before=$(filed)
+run toss
+expect "a toss without a log" [ "$status $(ls two/inbound two/tossing | grep -c pkt)" = "3 0" ]
+expect "files all the same" [ "$before" != "$(filed)" ]
+
+# Who may not read them can hold no lock of the link file and of the base: the modes of docs/OPERATORS.md.
+if [ "$(id -u)" = 0 ] && command -v setpriv > /dev/null; then
+  chmod 755 "$work" one
+  chmod 644 one/links
+  as_other() { setpriv --reuid 65534 --regid 65534 --clear-groups "$@"; }
+  expect "another user holds the lock of a link file" as_other flock -n one/links true
+  chmod 750 one
+  expect "not where the folder is closed" eval '! as_other flock -n one/links true 2> fault'
+fi
 finish mailer

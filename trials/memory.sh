@@ -56,6 +56,10 @@ for test in "${tests[@]}"; do
   seq "$last" | xargs -r -P "$(nproc)" -n 20 bash -c 'endings_of "$@"' "$0" "$test" > "$work/endings"
   all=$((all + last))
   wrong=$((wrong + $(count wrong)))
+  if [ "$(wc -l < "$work/endings")" -ne "$last" ]; then
+    echo "$test: not all growths were refused" >&2
+    wrong=$((wrong + 1))
+  fi
   printf '%-52s %5d growths: %5d passed, %5d told of memory, %5d stopped\n' \
     "$test" "$last" "$(count passed)" "$(count memory)" "$(count stopped)"
 done

@@ -17,8 +17,8 @@ files() { (cd "$1" && find . ! -type d | sort); }
 
 # Installed and taken away.
 make -s install DESTDIR="$root/one" PREFIX=/usr > /dev/null || exit 1
-for file in bin/echonet share/man/man1/echonet.1 share/echonet/{post,toss-inbound,scan-outbound}.sh \
-  share/echonet/{printable.awk,echonet.service,echonet.timer} share/doc/echonet/{README,OPERATORS,FORMATS}.md \
+for file in bin/echonet share/man/man1/echonet.1 share/echonet/{post,reader,toss-inbound,scan-outbound,station}.sh \
+  share/echonet/{printable.awk,echonet.service,echonet.timer,echonet.logrotate,settings} share/doc/echonet/{README,OPERATORS,FORMATS}.md \
   share/bash-completion/completions/echonet share/zsh/site-functions/_echonet \
   share/fish/vendor_completions.d/echonet.fish; do
   check "$file stands there" "$([ -s "$root/one/usr/$file" ] && echo yes)" yes
@@ -36,13 +36,15 @@ in_fish() {
   HOME=$root fish -c 'source $argv[1]; complete -C "echonet $argv[2]"' \
     "$root/one/usr/share/fish/vendor_completions.d/echonet.fish" "$1" | cut -f 1 | sort
 }
-commands=$(bin/echonet --help | sed -n '/^Commands:/,/^$/s/^  \([a-z]*\) .*/\1/p')
+help=$(bin/echonet --help) || exit 1
+commands=$(sed -n '/^Commands:/,/^$/s/^  \([a-z]*\) .*/\1/p' <<< "$help")
 check 'there are commands' "$([ "$(wc -w <<< "$commands")" -ge 12 ] && echo yes)" yes
 check 'commands' "$(complete '')" "$(printf '%s\n' $commands --help --version | sort)"
 check 'a command begun' "$(complete ch)" check
 for command in $commands; do
   [ "$command" = help ] && continue
-  wanted=$(bin/echonet "$command" --help | sed -n '/^Options:/,/^$/p' | grep -o -- '--[a-z][a-z-]*' | sort -u)
+  help=$(bin/echonet "$command" --help) || exit 1
+  wanted=$(sed -n '/^Options:/,/^$/p' <<< "$help" | grep -o -- '--[a-z][a-z-]*' | sort -u)
   check "options of $command" "$(complete "$command" --)" "$wanted"
   if command -v fish > /dev/null; then check "options of $command in fish" "$(in_fish "$command --")" "$wanted"; fi
   for shell in zsh/site-functions/_echonet fish/vendor_completions.d/echonet.fish; do
@@ -52,6 +54,7 @@ for command in $commands; do
     done
   done
 done
+check 'a program that fails completes nothing' "$(scripts/completions.sh /bin/false bash 2>&1; echo $?)" 1
 echo text > "$root/some file"
 check 'files' "$(cd "$root" && complete show some)" 'some file'
 
@@ -61,17 +64,41 @@ printf 'SYSTEM 1:10/1\nNAME Alpha\nAREA TEST 1:10/2\n' > "$root/station/links"
 posted=$(echo Hello | PATH=$root/one/usr/bin:$PATH "$root/one/usr/share/echonet/post.sh" "$root/station" TEST All Ann Hi)
 check 'a posting' "${posted% *}" 'posted TEST 1:10/1'
 check 'a scan' "$(PATH=$root/one/usr/bin:$PATH "$root/one/usr/share/echonet/scan-outbound.sh" "$root/station" | cut -d ' ' -f 1-3)" 'packet 1:10/2 1'
-check 'a toss' "$(PATH=$root/one/usr/bin:$PATH "$root/one/usr/share/echonet/toss-inbound.sh" "$root/station")" ''
+check 'a toss' "$(PATH=$root/one/usr/bin:$PATH "$root/one/usr/share/echonet/toss-inbound.sh" "$root/station"; echo $?)" 0
 
 make -s uninstall DESTDIR="$root/one" PREFIX=/usr > /dev/null || exit 1
 check 'nothing is left' "$(files "$root/one")" ''
 
+# The unit has the paths below PREFIX, and does what it says: it is run here for a station with the folders of Debian's
+# binkd, which gets a packet that is cut and has a message that waits.
+make -s install DESTDIR= PREFIX="$root/here" > /dev/null || exit 1
+share=$root/here/share/echonet
+check 'paths of the unit' "$(grep -o '[^ =]*/[a-z]*/echonet[^ ;]*' "$share/echonet.service" | sort -u)" \
+  "$(printf '%s\n' "$root/here/bin/echonet" "$share/scan-outbound.sh" "$share/toss-inbound.sh" | sed "s|^\($share/toss\)|'\1|" | sort -u)"
+mkdir -p "$root/ftn/inb" "$root/ftn/outb"
+cp "$root/station/links" "$root/ftn"
+sed "s|/var/spool/ftn|$root/ftn|" "$share/settings" > "$root/ftn/settings"
+printf x > "$root/ftn/inb/cut.pkt"
+echo Hello | ECHONET=bin/echonet "$share/post.sh" "$root/ftn" TEST All Ann Hi > "$root/said"
+command=$(sed -n 's/^ExecStart=//p' "$share/echonet.service" | sed "s|\\$\\$|\$|g; s|/var/spool/ftn|$root/ftn|g")
+(PATH=/usr/bin:/bin; ECHONET=$(sed -n 's/^Environment=ECHONET=//p' "$share/echonet.service"); export PATH ECHONET; eval "$command") \
+  > "$root/said" 2>&1
+check 'the unit ends with the status of the toss' "$?" 1
+check 'the scan has run' "$(cut -d ' ' -f 2,4,5 "$root/ftn/log" | xargs)" 'aside from - sent to 1:10/2'
+check 'into the folders of binkd' "$(cut -c 1-6 "$root/ftn/outb/000a0002.flo"; ls "$root/ftn/inb")" "$(cut -c 1-6 <<< "^$root")"
+for prefix in /usr/local '/opt/a&b'; do
+  make -s install DESTDIR="$root/two" PREFIX="$prefix" > /dev/null || exit 1
+  check "the unit below $prefix" "$(grep -c "$prefix/bin/echonet\|$prefix/share/echonet/toss.*$prefix/share/echonet/scan" \
+    "$root/two$prefix/share/echonet/echonet.service")" 2
+done
+rm -rf "$root/two"
 if command -v systemd-analyze > /dev/null; then
-  mkdir -p "$root/units"
-  for unit in service timer; do
-    sed "s|/usr/share/echonet|$PWD/examples/net|; s|^User=.*|User=root|; s|^Group=.*|Group=root|" "packaging/echonet.$unit" > "$root/units/echonet.$unit"
-  done
-  check 'units' "$(systemd-analyze verify --man=no "$root/units/echonet.timer" 2>&1 | grep echonet)" ''
+  said=$(systemd-analyze verify --man=no "$share/echonet.timer" 2>&1)
+  check 'units' "$? $(grep echonet <<< "$said")" '0 '
+fi
+if command -v logrotate > /dev/null; then
+  sed "s|/var/spool/ftn|$root/ftn|; s|su ftn ftn|su $(id -un) $(id -gn)|" "$share/echonet.logrotate" > "$root/rotate"
+  check 'the log is rotated' "$(logrotate --force --state "$root/state" "$root/rotate" 2>&1; ls "$root/ftn" | grep '^log')" log.1
 fi
 
 if command -v dpkg-deb > /dev/null; then

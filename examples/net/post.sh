@@ -6,11 +6,18 @@
 # no message has, so that a station that lost its base does not give out old serials again. The program
 # is `echonet` of the PATH, or the one that ECHONET names.
 set -eu
+LC_ALL=C
 
 if [ $# -lt 5 ] || [ $# -gt 6 ]; then
   echo "usage: post.sh STATION AREA TO FROM SUBJECT [REPLY] < BODY" >&2
   exit 4
 fi
+case $1 in
+  *[[:cntrl:]]*)
+    echo "post.sh: control byte in the path of the station" >&2
+    exit 4
+    ;;
+esac
 station=$1 area=$2 to=$3 from=$4 subject=$5 reply=${6:-}
 
 set -- "$station/links" "$station/base"

@@ -7,8 +7,10 @@
 # What an editor wrote there (Local, not Sent, and under no id of the base) is posted and then moves to DIR/posted;
 # what is refused goes to DIR/refused, with the line that tells why beside it in NAME.why. Then what is new in the
 # base is added. DIR/next has the number of the message with which the next run begins. Runs may start at the same
-# moment: each waits for the one before it. One that is stopped between posting a file and moving it posts that file
-# again. The program is `echonet` of the PATH, or the one that ECHONET names.
+# moment: each waits for the one before it. Before a file is posted DIR/posting names it, and the serial that it gets:
+# where a run is stopped between posting a file and moving it, the next run finds that posting in the base, and moves
+# the file. A base that cannot be read ends the run before anything is posted. The program is `echonet` of the PATH, or
+# the one that ECHONET names.
 set -eu
 LC_ALL=C
 export LC_ALL
@@ -22,22 +24,31 @@ if [ $# -ne 3 ]; then
   echo "usage: reader.sh [--jam] STATION AREA DIR" >&2
   exit 4
 fi
-station=$(cd "$1" && pwd)
+station=$(CDPATH='' cd -- "$1" && pwd)
+case $1$station$3 in
+  *[[:cntrl:]]*)
+    echo "reader.sh: control byte in a path" >&2
+    exit 4
+    ;;
+esac
 area=$2
 program=${ECHONET:-echonet}
-told=$(mktemp)
-trap 'rm -f "$told"' EXIT
+work=$(mktemp -d)
+trap 'rm -rf "$work"' EXIT
 trap 'exit 3' HUP INT TERM
 
 # Adds what is new in the base. Words: the folder or the JAM base, the file with the number of the next message.
 add_new() {
   if [ ! -e "$station/base" ]; then return; fi
-  from=$(cat "$2" 2> /dev/null || echo 0)
-  "$program" export "$form" "$1" --area "$area" --from "$from" "$station/base" > "$told"
-  next=$(sed -n 's/^exported [0-9]* messages, next \([0-9]*\)$/\1/p' "$told")
+  from=0
+  if [ -e "$2" ]; then from=$(cat "$2"); fi
+  "$program" export "$form" "$1" --area "$area" --from "$from" "$station/base" > "$work/told"
+  next=$(sed -n 's/^exported [0-9]* messages, next \([0-9]*\)$/\1/p' "$work/told")
+  if [ -z "$next" ]; then exit 3; fi
   printf '%s\n' "$next" > "$2.new"
+  sync "$2.new"
   mv "$2.new" "$2"
-  cat "$told"
+  cat "$work/told"
 }
 
 if [ $form = --jam ]; then
@@ -48,24 +59,68 @@ if [ $form = --jam ]; then
 fi
 
 mkdir -p "$3"
-folder=$(cd "$3" && pwd)
+folder=$(CDPATH='' cd -- "$3" && pwd)
 exec 9> "$folder/reader.lock"
 flock 9
-ids=$(mktemp)
-changed=$(mktemp)
-trap 'rm -f "$ids" "$told" "$changed"' EXIT
+
+# Notes of each id of the area, in `heads`, with tabs between: the area, 1 where the message was posted here, the id,
+# addressee, author and subject, as `list` prints them. Where the base cannot be read the run ends as `list` does.
+read_base() {
+  : > "$work/heads"
+  if [ ! -e "$station/base" ]; then return; fi
+  {
+    listed=0
+    "$program" list --area "$area" "$station/base" || listed=$?
+    echo $listed > "$work/listed"
+  } | awk '
+    /^message / { head = $4 "\t" ($5 == "posted") }
+    /^to / { names = substr($0, 4) }
+    /^from / { names = names "\t" substr($0, 6) }
+    /^subject / { names = names "\t" substr($0, 9) }
+    sub(/^line \\x01MSGID: */, "") { print head "\t" $0 "\t" names }' > "$work/heads"
+  listed=$(cat "$work/listed")
+  if [ "$listed" != 0 ]; then exit "${listed:-3}"; fi
+}
+
+# Whether an id of the area is as `grep` finds it with these words. Where that cannot be found out the run ends.
+has_id() {
+  found=0
+  grep -q "$@" "$work/ids" || found=$?
+  if [ $found -gt 1 ]; then exit 3; fi
+  return $found
+}
 
 # The id of a stored message, if it has one.
 id_of() {
-  tail -c +191 "$1" | tr '\r\0' '\n\n' | awk '/^\001MSGID:/ { sub(/^\001MSGID: */, ""); sub(/ *$/, ""); print; exit }'
+  tail -c +191 "$1" > "$work/text" && tr '\r\0' '\n\n' < "$work/text" > "$work/lines" &&
+    awk '/^\001MSGID:/ { sub(/^\001MSGID: */, ""); sub(/ *$/, ""); print; exit }' "$work/lines"
 }
 
-# Whether a stored message is Local and not Sent: bit 0 of its byte 187, bit 3 of its byte 186.
+# Whether a stored message is Local and not Sent: bit 0 of its byte 187, bit 3 of its byte 186. The status is 2 where
+# it cannot be read.
 is_to_post() {
-  od -An -v -tu1 -j186 -N2 "$1" | awk '{ exit !(NF == 2 && $2 % 2 == 1 && int($1 / 8) % 2 == 0) }'
+  od -An -v -tu1 -N188 "$1" > "$work/bytes" || return 2
+  awk '
+    { for (i = 1; i <= NF; i++) byte[count++] = $i }
+    END { exit !(count == 188 && byte[187] % 2 == 1 && int(byte[186] / 8) % 2 == 0) }' "$work/bytes"
 }
 
-# Moves a file to a folder, under a name that is not taken there, which goes to `name`. Words: the file, the folder.
+# Addressee, author and subject of a stored message, as in `heads`.
+names_of() {
+  od -An -v -tu1 -N144 "$1" > "$work/bytes" && awk '
+    function field(at, size,    i, text) {
+      for (i = at; i < at + size && byte[i] > 0; i++) {
+        if (byte[i] == 92) text = text "\\\\"
+        else text = text sprintf(byte[i] < 32 || byte[i] > 126 ? "\\x%02x" : "%c", byte[i])
+      }
+      return text
+    }
+    { for (i = 1; i <= NF; i++) byte[count++] = $i }
+    END { print field(36, 36) "\t" field(0, 36) "\t" field(72, 72) }' "$work/bytes"
+}
+
+# Moves a file to a folder, under a name that is not taken there, which goes to `name`; it is there on the disk then.
+# Words: the file, the folder.
 put_aside() {
   mkdir -p "$2"
   name=${1##*/}
@@ -75,44 +130,114 @@ put_aside() {
     name=${1##*/}.$number
   done
   mv "$1" "$2/$name"
+  sync "$2" "$folder"
 }
 
-# Posts what an editor wrote.
+# The next serial to try: the clock's count of seconds, or the first after it that this run did not try and that the area
+# does not have.
+last=0
+next_serial() {
+  number=$(date +%s)
+  if [ "$number" -le "$last" ]; then number=$((last + 1)); fi
+  serial=$(printf '%08x' $((number % 4294967296)))
+  while has_id -e " $serial\$"; do
+    number=$((number + 1))
+    serial=$(printf '%08x' $((number % 4294967296)))
+  done
+  last=$number
+}
+
+# Notes which file is posted, and under which serial; the note is on the disk before the posting. Word: the file.
+mark() {
+  printf '%s\n' "$serial" "${1##*/}" > "$folder/posting.new"
+  sync "$folder/posting.new"
+  mv "$folder/posting.new" "$folder/posting"
+  sync "$folder"
+}
+
+# Drops that note.
+unmark() {
+  rm -f "$folder/posting"
+  sync "$folder"
+}
+
+# The area and the id of a posting in the area, by its serial and the names of a stored message. Words: both.
+posting_of() {
+  SERIAL=$1 NAMES=$2 awk -F '\t' '
+    $2 && substr($3, length($3) - 8) == " " ENVIRON["SERIAL"] && $4 "\t" $5 "\t" $6 == ENVIRON["NAMES"] {
+      print $1, $3
+      exit
+    }' "$work/heads"
+}
+
+# Moves the file that a stopped run was posting, where the base has that posting.
+finish_posting() {
+  if [ ! -e "$folder/posting" ]; then return; fi
+  serial='' file=''
+  { IFS= read -r serial && IFS= read -r file; } < "$folder/posting" || true
+  if [ -n "$file" ] && [ -f "$folder/$file" ]; then
+    names=$(names_of "$folder/$file")
+    posting=$(posting_of "$serial" "$names")
+    if [ -n "$posting" ]; then
+      put_aside "$folder/$file" "$folder/posted"
+      printf 'posted %s\n' "$posting"
+    fi
+  fi
+  unmark
+}
+
+# Posts what an editor wrote. Where the base has a message with the serial, in any area (B4), the next one is tried.
 post_one() {
-  status=0
-  "$program" post --msg "$1" --area "$area" --serial auto --at now "$station/links" "$station/base" > "$told" 2>&1 ||
-    status=$?
+  status=2
+  echo 'echonet: B4 ' > "$work/told"
+  while [ $status -eq 2 ] && grep -q '^echonet: B4 ' "$work/told"; do
+    next_serial
+    mark "$1"
+    status=0
+    "$program" post --msg "$1" --area "$area" --serial "$serial" --at now "$station/links" "$station/base" \
+      > "$work/told" 2>&1 || status=$?
+  done
   case $status in
     0)
-      cat "$told"
       put_aside "$1" "$folder/posted"
+      cat "$work/told"
       ;;
     2)
       put_aside "$1" "$folder/refused"
-      cp "$told" "$folder/refused/$name.why"
-      printf 'put aside %s: %s\n' "$name" "$(cat "$told")"
+      cp "$work/told" "$folder/refused/$name.why"
+      printf 'put aside %s: %s\n' "$name" "$(cat "$work/told")"
       ;;
     *)
-      cat "$told" >&2
+      cat "$work/told" >&2
       exit $status
       ;;
   esac
+  unmark
 }
 
 # Only what was changed since the last run began is looked at; two seconds before it, since file systems keep no
-# finer time.
+# finer time. What cannot be read is looked at again by the next run.
 touch -d '2 seconds ago' "$folder/seen.new"
-if [ -e "$station/base" ]; then
-  "$program" list --area "$area" "$station/base" | awk 'sub(/^line \\x01MSGID: */, "")' > "$ids"
-fi
+read_base
+cut -f 3 "$work/heads" > "$work/ids"
+finish_posting
 if [ ! -e "$folder/seen" ]; then touch -d @0 "$folder/seen"; fi
-find "$folder" -maxdepth 1 -type f -iname '*.msg' -cnewer "$folder/seen" | sort -V > "$changed"
+find "$folder" -ignore_readdir_race -maxdepth 1 -type f -iname '*.msg' ! -name '*[[:cntrl:]]*' \
+  -cnewer "$folder/seen" > "$work/found"
+sort -V "$work/found" > "$work/changed"
+unread=0
 while IFS= read -r file; do
-  if ! is_to_post "$file"; then continue; fi
-  id=$(id_of "$file")
-  if [ -n "$id" ] && grep -qxF -e "$id" "$ids"; then continue; fi
+  wanted=0
+  is_to_post "$file" || wanted=$?
+  if [ $wanted -eq 1 ] || [ ! -e "$file" ]; then continue; fi
+  if [ $wanted -ne 0 ] || ! id=$(id_of "$file"); then
+    unread=3
+    continue
+  fi
+  if [ -n "$id" ] && has_id -xF -e "$id"; then continue; fi
   post_one "$file"
-done < "$changed"
+done < "$work/changed"
 
 add_new "$folder" "$folder/next"
+if [ $unread -ne 0 ]; then exit $unread; fi
 mv "$folder/seen.new" "$folder/seen"

@@ -4,10 +4,11 @@
 # `scan` writes into STATION/scanned; what stands there as `*.pkt` is of a scan that moved the cursor, and a scan that
 # was stopped is brought to its end by the next one. Each packet then gets a new name of eight characters and `.pkt` in
 # STATION/packets, and a line in the flow file of its link: STATION/outbound for links of the own zone,
-# STATION/outbound.00z for those of zone z. A link whose flow file is held by the mailer (NAME.bsy) is
-# left for the next run. Runs may start at the same moment: each waits for the one before it, and for the
-# scan that one of them started, also where that run was killed. The program is `echonet` of the PATH, or
-# the one that ECHONET names.
+# STATION/outbound.00z for those of zone z. STATION/settings may name other folders (station.sh). A link whose flow file
+# is held by the mailer (NAME.bsy) is left for the next run. Where the link file names no own address, nothing is handed
+# over. STATION/log gets a line for each packet that was. Runs may start at the same moment: each waits for the one
+# before it, and for the scan that one of them started, also where that run was killed. The program is `echonet` of the
+# PATH, or the one that ECHONET names.
 set -eu
 LC_ALL=C
 export LC_ALL
@@ -16,15 +17,18 @@ if [ $# -ne 1 ]; then
   echo "usage: scan-outbound.sh STATION" >&2
   exit 4
 fi
-station=$(cd "$1" && pwd)
+here=$(CDPATH='' cd -- "$(dirname -- "$0")" && pwd)
+. "$here/station.sh"
 program=${ECHONET:-echonet}
-mkdir -p "$station/scanned" "$station/packets" "$station/outbound"
+mkdir -p "$station/scanned" "$packets" "$outbound"
 exec 9> "$station/scan.lock"
 flock 9
 trap 'exit 3' HUP INT TERM
 
-# The own address.
-own=$(awk '$1 == "SYSTEM" { sub(/\r$/, "", $2); print $2 }' "$station/links")
+# The own address, and nothing where the link file does not have just one.
+own=$(awk '
+  $1 == "SYSTEM" { sub(/\r$/, "", $2); address = $2; lines++ }
+  END { if (lines == 1 && address ~ /^[0-9]+:[0-9]+\/[0-9]+$/) print address }' "$station/links")
 
 # A name that no packet of this station had before, in eight hexadecimal digits: the second, or the next
 # one, and a number of the own address added. Without that number two systems would give packets of one
@@ -36,25 +40,24 @@ new_name() {
   if [ "$number" -le "${last:-0}" ]; then number=$((last + 1)); fi
   address=$(printf '%s' "$own" | cksum | cut -d ' ' -f 1)
   name=$(printf '%08x.pkt' $(((number + address) % 4294967296)))
-  while [ -e "$station/packets/$name" ]; do
+  while [ -e "$packets/$name" ]; do
     number=$((number + 1))
     name=$(printf '%08x.pkt' $(((number + address) % 4294967296)))
   done
-  echo "$number" > "$station/last-name.new"
-  mv "$station/last-name.new" "$station/last-name"
-  echo "$name"
+  echo "$number" > "$station/last-name.new" && sync "$station/last-name.new" &&
+    mv "$station/last-name.new" "$station/last-name" && echo "$name"
 }
 
 # The flow file of a packet's link, without its ending. Words: zone, net, node.
 flow_file() {
-  folder=$station/outbound
+  folder=$outbound
   if [ "$1" -ne "${own%%:*}" ]; then folder=$folder.$(printf '%03x' "$1"); fi
   mkdir -p "$folder"
   printf '%s/%04x%04x\n' "$folder" "$2" "$3"
 }
 
-# A hold on a link is a file NAME.bsy with the number of the process that holds it. Whether one was left: its
-# process runs no more, or it names none and is an hour old.
+# A hold on a link is a file NAME.bsy with the number of the process that holds it. Whether one of somebody else was
+# left: its process runs no more, or it names none and is an hour old.
 is_left() {
   owner=$(awk 'match($0, /[0-9]+/) { print substr($0, RSTART, RLENGTH); exit }' "$1" 2> /dev/null || true)
   if [ -n "$owner" ]; then
@@ -64,27 +67,56 @@ is_left() {
   fi
 }
 
+# Whether a hold is one that a run of this station left. Ours has a second name, `second`, for as long as it is held,
+# and no other run holds a link while this one does. So what is in the file does not matter.
+is_ours() {
+  # shellcheck disable=SC3013
+  [ "$1" -ef "$second" ]
+}
+
 # Holds a link; a hold that was left is taken over. The status is 1 where somebody else holds it, and 3 where
-# the disk fails. The hold has its number when it gets its name. Word: the flow file, without its ending.
+# the disk fails. The hold has its number when it gets its name, and has it on the disk. Word: the flow file, without
+# its ending.
 hold() {
   held=0
-  if [ -e "$1.bsy" ] && is_left "$1.bsy"; then rm -f "$1.bsy"; fi
-  if ! echo $$ > "$1.hold"; then
+  second=$1.~$(printf '%s' "$own" | tr ':/' '..')~.hold
+  if [ -e "$1.bsy" ] && { is_ours "$1.bsy" || is_left "$1.bsy"; }; then rm -f "$1.bsy"; fi
+  rm -f "$second"
+  if ! { echo $$ > "$second" && sync "$second"; }; then
     held=3
-  elif ! ln "$1.hold" "$1.bsy" 2> /dev/null; then
+  elif ! ln "$second" "$1.bsy" 2> /dev/null; then
     if [ -e "$1.bsy" ]; then held=1; else held=3; fi
   fi
-  rm -f "$1.hold"
+  if [ $held -ne 0 ]; then rm -f "$second"; fi
   return $held
 }
 
-# Adds a line to a flow file, which is replaced whole. Words: the file, the line.
+# Lets it go.
+release() { rm -f "$flow.bsy" && rm -f "$second"; }
+
+# Prints a flow file and a line behind it. A last line without an end gets one first. Words: the file, the line.
+with_line() {
+  if [ -e "$1" ]; then
+    cat "$1" && last=$(tail -c 1 "$1") || return 1
+    if [ -n "$last" ]; then echo || return 1; fi
+  fi
+  printf '%s\n' "$2"
+}
+
+# Adds a line to a flow file, which is replaced whole, and is on the disk then. Words: the file, the line.
 add_line() {
-  if { if [ -e "$1" ]; then cat "$1"; fi && printf '%s\n' "$2"; } > "$1.new" && sync "$1.new" && mv "$1.new" "$1"; then
+  if with_line "$1" "$2" > "$1.new" && sync "$1.new" && mv "$1.new" "$1" && sync "${1%/*}"; then
     return 0
   fi
   rm -f "$1.new"
   return 1
+}
+
+# What `scan` printed of a packet, or its size where an earlier run scanned it. Words: its link, the packet.
+counts_of() {
+  bytes=$(($(wc -c < "$2")))
+  counts=$(printf '%s\n' "$scanned" | sed -n "s,^packet $1 \([0-9]* messages $bytes bytes\)\$,\1,p")
+  printf '%s\n' "${counts:-$bytes bytes}"
 }
 
 # Hands one packet to the mailer. The line comes first: whatever stops this, the packet is handed over by
@@ -95,26 +127,42 @@ hand_over() {
   rest=${name#*.}
   net=${rest%%.*}
   rest=${rest#*.}
-  flow=$(flow_file "$zone" "$net" "${rest%%.*}")
+  node=${rest%%.*}
+  flow=$(flow_file "$zone" "$net" "$node")
   hold "$flow" || held=$?
   case $held in
     0) ;;
     1) return 0 ;;
     *) return 3 ;;
   esac
-  trap 'rm -f "$flow.bsy"' EXIT
-  new=$station/packets/$(new_name)
+  trap release EXIT
+  counts=$(counts_of "$zone:$net/$node" "$1")
   failed=0
-  chmod =rw "$1" && add_line "$flow.flo" "^$new" && mv "$1" "$new" || failed=3
-  rm -f "$flow.bsy"
+  name=$(new_name) && new=$packets/$name && chmod '=rw' "$1" &&
+    add_line "$flow.flo" "^$new" && mv "$1" "$new" || failed=3
+  release
   trap - EXIT
+  if [ $failed -eq 0 ]; then log "sent $name to $zone:$net/$node $counts"; fi
   return $failed
 }
 
+# Says that there is no own address, and that is the status where the scan had none.
+refuse_to_hand_over() {
+  echo "scan-outbound.sh: no own address in $station/links: nothing is handed over" >&2
+  if [ $status -eq 0 ]; then status=2; fi
+}
+
 status=0
-"$program" scan --at now "$station/links" "$station/base" "$station/scanned" || status=$?
+scanned=$("$program" scan --at now "$station/links" "$station/base" "$station/scanned") || status=$?
+if [ -n "$scanned" ]; then printf '%s\n' "$scanned" || status=3; fi
 sync "$station"
 for packet in "$station"/scanned/*.pkt; do
-  if [ -e "$packet" ]; then hand_over "$packet" || status=3; fi
+  if [ ! -e "$packet" ]; then continue; fi
+  if [ -z "$own" ]; then
+    refuse_to_hand_over
+    break
+  fi
+  hand_over "$packet" || status=3
 done
+if [ $status -eq 0 ]; then status=$unlogged; fi
 exit $status

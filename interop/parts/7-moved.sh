@@ -16,11 +16,11 @@ done
   for area in $areas; do echo "AREA $area 1:10/30000"; done
 } > moved/links
 "$program" toss moved/links moved/base moved/rescanned/*.pkt > moved/tossed.txt
-same "a scan of it sends nothing" "" "$("$program" scan --at 2026-07-07T00:00:00 moved/links moved/base moved/packets)"
+same "a scan of it sends nothing" 0 "$("$program" scan --at 2026-07-07T00:00:00 moved/links moved/base moved/packets; echo $?)"
 cp two/links moved/links
 messages_of two | cut -d '|' -f 1-8 | sort -u > crashmail.txt
 messages_of moved | cut -d '|' -f 1-8 | sort > moved.txt
-same "Beta has what it had" "" "$(diff crashmail.txt moved.txt)"
+same "Beta has what it had" 0 "$(diff crashmail.txt moved.txt; echo $?)"
 
 # What comes late is known, and new mail goes on.
 same "an old packet of Alpha" "filed 0 known $(perl "$here/mail.pl" packet "$to_beta" | wc -l)" \
