@@ -45,6 +45,17 @@ fn export_given<'a, W: Sink>(
         None => 0,
     };
     let hasher = RandomState::new(rt).map_err(|_| Fault::Base(BaseFault::Read))?;
+    export_from(rt, words, first, hasher, out)
+}
+
+// The same, from this number on.
+fn export_from<'a, W: Sink>(
+    rt: &HostRuntime,
+    words: &ExportWords<'a>,
+    first: u64,
+    hasher: RandomState,
+    out: &mut W,
+) -> Result<u128, Fault<'a>> {
     let bytes = base_bytes(rt, words.base)?;
     let form = if words.json {
         Form::Json
@@ -52,19 +63,11 @@ fn export_given<'a, W: Sink>(
         Form::Mailbox
     };
     let area = words.area.map(|tag| tag.as_bytes());
-    export(
-        rt.alloc(),
-        form,
-        area,
-        first,
-        words.purged,
-        &bytes,
-        hasher,
-        out,
-    )
+    let purged = words.purged;
+    export(rt.alloc(), form, area, first, purged, &bytes, hasher, out)
 }
 
-/// The same, and on standard error how many characters were lost.
+/// `export`, and on standard error how many characters were lost.
 pub fn run_export<W: Sink, E: Sink>(
     rt: &HostRuntime,
     words: &ExportWords<'_>,
