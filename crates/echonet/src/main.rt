@@ -1,239 +1,30 @@
-//! The program `echonet`: it reads the files that the command line names (`paths`, `inputs`), calls the
-//! commands (`judging`: `links`, which goes on where a file cannot be used), and puts what they leave in place
-//! (`station`, `packets`, `placing`, `stopped`, `stored` for files of one message each, and `jam` for JAM bases;
-//! `on_file` with `base_files`, and `scan_on_file` with `scan_files` and `left_files`, where a base is a file;
-//! `folders`, `on_folder`, `expecting` and `listing` where it is a folder, and `converting`; `front` reads the front of
-//! a base file), under `locks`. `clock` gives the moment and the serial that words leave to it, `progress` tells a
-//! terminal how far a command is, `loading` how far the reading of a base file is, and `telling` that of a base folder.
+//! The program `echonet`: it reads the words of the command line and calls the command that they name. The commands that
+//! only read are in `cmd_read` and `cmd_export`, those that change a base in `cmd_station`, and `convert` in `cmd_base`.
+//!
+//! It is proved to be safe and to end, and no more. Begin at `main`, the last function, then read `run_words`.
 #![tactic(auto)]
 
-mod base_files;
-mod clock;
-mod converting;
-mod expecting;
-mod folders;
-mod front;
-mod inputs;
-mod jam;
-mod judging;
-mod left_files;
-mod listing;
-mod loading;
-mod locks;
-mod on_file;
-mod on_folder;
-mod opened;
-mod packets;
-mod paths;
-mod progress;
-mod scan_files;
-mod scan_on_file;
-mod scan_on_folder;
-mod station;
-mod stored;
-mod unplaced;
-
-use converting::run_convert;
-use echo_base::BaseFault;
-use echo_checking::{check, check_all, picture};
+use cmd_base::run_convert;
+use cmd_export::{run_export_jam, run_export_stored};
+use cmd_input::{Cleared, Progress, names_of};
+use cmd_read::{
+    run_check, run_export, run_links, run_list, run_nodelist, run_picture, run_replay, run_show,
+    run_why,
+};
+use cmd_station::{
+    run_post, run_post_mail, run_post_stored, run_purge, run_reply, run_scan, run_toss,
+};
 use echo_device::{Sink, Watched};
-use echo_export::Form;
-use echo_reading::{export, list, nodelist, show, tell_lost};
-use echo_rehearsing::{picture_why, replay, why};
-use echo_status::{Fault, Status, ended, number_of, wanted};
-use echo_words::{CheckWords, Ending, ExportWords, Words, explain, parse};
-use folders::{base_bytes, is_folder};
-use inputs::{MAX_INPUT, read_file, read_given, read_if_given, read_links, read_script};
-use jam::run_export_jam;
-use judging::run_links;
-use listing::list_folder;
-use loading::Counting;
-use paths::{PathNames, names_of};
-use progress::{Cleared, Progress};
-use station::{run_post, run_post_mail, run_post_stored, run_purge, run_reply, run_scan, run_toss};
-use std::collections::hash_map::RandomState;
+use echo_status::{Fault, Status, ended};
+use echo_words::{Ending, Words, explain, parse};
 use std::process::ExitCode;
 use std::{env, io};
-use stored::run_export_stored;
-
-// `show [--hex] PACKET`
-fn run_show<'a, W: Sink>(
-    rt: &HostRuntime,
-    hex: bool,
-    packet: &'a str,
-    out: &mut W,
-) -> Result<Status, Fault<'a>> {
-    let input = read_given(rt, packet, MAX_INPUT)?;
-    show(rt.alloc(), hex, &input, out)
-}
-
-// `nodelist [--find ADDRESS] FILE`: the address is judged first, then the file.
-fn run_nodelist<'a, W: Sink>(
-    rt: &HostRuntime,
-    find: Option<&'a str>,
-    file: &'a str,
-    out: &mut W,
-) -> Result<Status, Fault<'a>> {
-    let address = match find {
-        Some(word) => Some(wanted(word)?),
-        None => None,
-    };
-    let input = read_file(rt, file, MAX_INPUT)?;
-    nodelist(rt.alloc(), address, &input, out)
-}
-
-// `check [--nodelist LIST] TAG LINKS...`, and `check --all` without a tag
-fn run_check<'a, W: Sink>(
-    rt: &HostRuntime,
-    words: &CheckWords<'a>,
-    links: &'a PathNames<'a>,
-    out: &mut W,
-) -> Result<Status, Fault<'a>> {
-    let list = read_if_given(rt, words.nodelist, MAX_INPUT)?;
-    let (files, stopped) = read_links(rt, links);
-    let list = list.as_ref().map(|bytes| bytes.as_slice());
-    match words.tag {
-        Some(tag) => check(rt.alloc(), list, tag.as_bytes(), &files, stopped, out),
-        None => check_all(rt.alloc(), list, &files, stopped, out),
-    }
-}
-
-// The hasher. A seed for it that cannot be had is a failed read of the first link file.
-fn hasher_for<'a>(rt: &HostRuntime, links: &'a PathNames<'a>) -> Result<RandomState, Fault<'a>> {
-    let first = match links.names.first() {
-        Some(name) => name.shown(),
-        None => "-",
-    };
-    RandomState::new(rt).map_err(|_| Fault::CannotUse(first))
-}
-
-// `why TAG LINKS...`
-fn run_why<'a, W: Sink>(
-    rt: &HostRuntime,
-    tag: &'a str,
-    links: &'a PathNames<'a>,
-    out: &mut W,
-) -> Result<Status, Fault<'a>> {
-    let hasher = hasher_for(rt, links)?;
-    let (files, stopped) = read_links(rt, links);
-    why(rt.alloc(), tag.as_bytes(), &files, stopped, hasher, out)
-}
-
-// `picture [--why] TAG LINKS...`
-fn run_picture<'a, W: Sink>(
-    rt: &HostRuntime,
-    with_why: bool,
-    tag: &'a str,
-    links: &'a PathNames<'a>,
-    out: &mut W,
-) -> Result<Status, Fault<'a>> {
-    if with_why {
-        let hasher = hasher_for(rt, links)?;
-        let (files, stopped) = read_links(rt, links);
-        picture_why(rt.alloc(), tag.as_bytes(), &files, stopped, hasher, out)
-    } else {
-        let (files, stopped) = read_links(rt, links);
-        picture(rt.alloc(), tag.as_bytes(), &files, stopped, out)
-    }
-}
-
-// `list [--area TAG] [--from I] BASE`: the number is judged first, then the base, of a folder what is asked for. A seed
-// for the hasher that cannot be had is a failed read.
-fn run_list<'a, W: Sink>(
-    rt: &HostRuntime,
-    area: Option<&'a str>,
-    from: Option<&'a str>,
-    base: &'a str,
-    progress: &Progress<'_>,
-    out: &mut W,
-) -> Result<Status, Fault<'a>> {
-    let first = match from {
-        Some(word) => number_of(word)?,
-        None => 0,
-    };
-    let area = area.map(|tag| tag.as_bytes());
-    if is_folder(rt, base) {
-        return list_folder(rt, area, first, base, progress, out);
-    }
-    let keys = RandomState::new(rt).map_err(|_| Fault::Base(BaseFault::Read))?;
-    let bytes = base_bytes(rt, base)?;
-    let hasher = Counting::new(keys, Some(progress), Some(&bytes));
-    list(rt.alloc(), area, first, &bytes, hasher, out)
-}
-
-// `export [--area TAG] [--from I] [--purged] [--mbox | --json] BASE`, judged as `list` is.
-fn export_given<'a, W: Sink>(
-    rt: &HostRuntime,
-    words: &ExportWords<'a>,
-    out: &mut W,
-) -> Result<u128, Fault<'a>> {
-    let first = match words.from {
-        Some(word) => number_of(word)?,
-        None => 0,
-    };
-    let hasher = RandomState::new(rt).map_err(|_| Fault::Base(BaseFault::Read))?;
-    let bytes = base_bytes(rt, words.base)?;
-    let form = if words.json {
-        Form::Json
-    } else {
-        Form::Mailbox
-    };
-    let area = words.area.map(|tag| tag.as_bytes());
-    export(
-        rt.alloc(),
-        form,
-        area,
-        first,
-        words.purged,
-        &bytes,
-        hasher,
-        out,
-    )
-}
-
-fn run_export<W: Sink, E: Sink>(
-    rt: &HostRuntime,
-    words: &ExportWords<'_>,
-    out: &mut W,
-    errors: &mut E,
-) -> Status {
-    match export_given(rt, words, out) {
-        Ok(count) => {
-            tell_lost(rt.alloc(), count, errors);
-            Status::Good
-        }
-        Err(fault) => fault.report(errors),
-    }
-}
-
-// What `replay` is asked for first: the script. A seed for the hasher that cannot be had is a failed read.
-fn replay_input<'a>(
-    rt: &HostRuntime,
-    script: &'a str,
-) -> Result<(Vec<u8>, RandomState), Fault<'a>> {
-    let bytes = read_script(rt, script)?;
-    let hasher = RandomState::new(rt).map_err(|_| Fault::CannotUse(script))?;
-    Ok((bytes, hasher))
-}
-
-// `replay SCRIPT LINKS...`
-fn run_replay<'a, W: Sink>(
-    rt: &HostRuntime,
-    script: &'a str,
-    links: &'a PathNames<'a>,
-    progress: &Progress<'_>,
-    out: &mut W,
-) -> Result<Status, Fault<'a>> {
-    let (script, hasher) = replay_input(rt, script)?;
-    let (files, stopped) = read_links(rt, links);
-    replay(rt.alloc(), &script, &files, stopped, hasher, progress, out)
-}
 
 // The words are lent, so that no case has to be proved to drop what another one has.
-fn run_words<W: Sink, E: Sink>(
-    rt: &HostRuntime,
+fn run_words<'r, W: Sink, E: Sink>(
+    rt: &'r HostRuntime,
     words: &Words<'_>,
-    progress: &Progress<'_>,
+    progress: &Progress<'r>,
     out: &mut W,
     errors: &mut E,
 ) -> Status {

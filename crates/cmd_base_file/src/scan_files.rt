@@ -1,0 +1,244 @@
+//! The files of the system, as a scan uses them: packets beside their names are made for their owner alone, and take no
+//! other file's place than that of one that a stopped run left; the base is replaced as in `base_files`. Where a call
+//! failed is noted, to be reported.
+
+use crate::base_files::{BaseFiles, system_error, target_beside};
+use cmd_input::Progress;
+use echo_files::{check_left, make_new};
+use std::alloc::Allocator;
+use std::cell::Cell;
+use std::fs::{File, Metadata, OpenOptions};
+use std::io;
+use std::io::ErrorKind;
+use std::rt::Files;
+
+/// What the path of a packet ends in.
+const PACKET: &str = ".pkt";
+
+/// The files of the system, for a scan of this base file into this folder, whose path ends in a slash.
+#[derive(Drop)]
+pub struct ScanFiles<'p, 'r> {
+    rt: &'r HostRuntime,
+    bases: BaseFiles<'r>,
+    base: &'p str,
+    folder: &'p str,
+    progress: &'p Progress<'r>,
+    // How many packets there are, and how many of them are written.
+    packets: Cell<usize>,
+    written: Cell<usize>,
+    // Where the first call failed, and the packet's path that another file has.
+    failed: Cell<Option<String>>,
+    taken: Cell<Option<String>>,
+}
+
+impl<'p, 'r> ScanFiles<'p, 'r> {
+    pub fn new(
+        rt: &'r HostRuntime,
+        base: &'p str,
+        folder: &'p str,
+        progress: &'p Progress<'r>,
+    ) -> ScanFiles<'p, 'r> {
+        ScanFiles {
+            rt,
+            bases: BaseFiles::new(rt),
+            base,
+            folder,
+            progress,
+            packets: Cell::new(0),
+            written: Cell::new(0),
+            failed: Cell::new(None),
+            taken: Cell::new(None),
+        }
+    }
+
+    /// Removes the file beside the base file, where that has not taken its place.
+    pub fn tidy(&self) {
+        self.bases.tidy();
+    }
+
+    /// The path at which the first call failed.
+    pub fn failed_at(&self) -> Option<String> {
+        self.failed.take()
+    }
+
+    /// The path of a packet that another file has.
+    pub fn taken_at(&self) -> Option<String> {
+        self.taken.take()
+    }
+
+    // The path of the packet that stands there, or that stands beside it.
+    fn packet_at<'q>(&self, path: &'q str) -> Option<&'q str> {
+        let packet = target_beside(path).unwrap_or(path);
+        let name = packet.strip_prefix(self.folder)?;
+        if packet == self.base || name.contains('/') || !name.ends_with(PACKET) {
+            return None;
+        }
+        Some(packet)
+    }
+
+    // Keeps a path, where none is kept and there is memory for it.
+    fn keep(&self, cell: &Cell<Option<String>>, path: &str) {
+        let kept = match cell.take() {
+            Some(kept) => Some(kept),
+            None => String::from_str(self.rt.alloc(), path).ok(),
+        };
+        cell.set(kept);
+    }
+
+    // Notes where the first call failed.
+    fn note<T: Drop>(&self, path: &str, answer: io::Result<T>) -> io::Result<T> {
+        if answer.is_err() {
+            self.keep(&self.failed, path);
+        }
+        answer
+    }
+
+    // The packet has its path alone: that is not another's.
+    fn is_named(&self, packet: &str) {
+        let taken = self.taken.take();
+        self.taken
+            .set(taken.filter(|taken| taken.as_str() != packet));
+    }
+
+    // The path is looked at; that nothing has it is no failure.
+    fn note_found<T: Drop>(&self, path: &str, answer: io::Result<T>) -> io::Result<T> {
+        match answer {
+            Err(error) if error.kind() == ErrorKind::NotFound => Err(error),
+            other => self.note(path, other),
+        }
+    }
+
+    // One more packet is written.
+    fn tell(&self) {
+        let written = self.written.get().saturating_add(1);
+        self.written.set(written);
+        if self.progress.is_due() {
+            self.progress.tell_written(written, self.packets.get());
+        }
+    }
+
+    // A folder that is not there has no files: then that above it is opened.
+    fn open(&self, how: &OpenOptions, path: &str) -> io::Result<File> {
+        match self.bases.open_file(how, path) {
+            Err(error) if error.kind() == ErrorKind::NotFound && path == self.folder => {
+                self.rt.open_file(how, ".")
+            }
+            opened => opened,
+        }
+    }
+
+    // What has the path of a packet beside its name stays, unless a stopped run left it.
+    fn check(&self, path: &str) -> io::Result<()> {
+        self.rt.symlink_metadata(path)?;
+        match nodes_of(path) {
+            Some(start) => {
+                check_left(self.rt.alloc(), self.rt, path, &start).map_err(system_error)
+            }
+            None => Ok(()),
+        }
+    }
+}
+
+// The number behind the last dot.
+fn last_number(name: &str) -> Option<u16> {
+    let (_, number) = name.rsplit_once('.')?;
+    number.parse::<u16>().ok()
+}
+
+// The names of the two systems of a packet that stands beside its name: that which scans, and the other.
+fn systems_of(path: &str) -> Option<(&str, &str)> {
+    let (packet, own) = path.strip_suffix("~.new")?.rsplit_once(".~")?;
+    let (to, _) = packet.strip_suffix(PACKET)?.rsplit_once('.')?;
+    Some((own, to))
+}
+
+// The bytes by which the packet that stands beside its name is known: the nodes of the two systems, which stand in it.
+fn nodes_of(path: &str) -> Option<[u8; 4]> {
+    let (own, to) = systems_of(path)?;
+    let from = last_number(own)?.to_le_bytes();
+    let to = last_number(to)?.to_le_bytes();
+    Some([from[0], from[1], to[0], to[1]])
+}
+
+impl Files for ScanFiles<'_, '_> {
+    type File = File;
+
+    type Dir = <HostRuntime as Files>::Dir;
+
+    fn open_file(&self, how: &OpenOptions, path: &str) -> io::Result<File> {
+        if self.packet_at(path).is_none() {
+            return self.note(path, self.open(how, path));
+        }
+        if how.asks_create_new() {
+            return self.note(path, make_new(self.rt, path));
+        }
+        if how.asks_write() {
+            self.tell();
+        }
+        self.note(path, self.rt.open_file(how, path))
+    }
+
+    fn open_dir(&self, path: &str) -> io::Result<<HostRuntime as Files>::Dir> {
+        self.rt.open_dir(path)
+    }
+
+    // Whatever has the path of a packet is found, a symbolic link too.
+    fn metadata(&self, path: &str) -> io::Result<Metadata> {
+        if self.packet_at(path).is_none() {
+            return self.note_found(path, self.bases.metadata(path));
+        }
+        let found = self.rt.symlink_metadata(path);
+        if target_beside(path).is_none() {
+            match found {
+                Ok(_) => self.keep(&self.taken, path),
+                Err(_) => self.packets.set(self.packets.get().saturating_add(1)),
+            }
+        }
+        self.note_found(path, found)
+    }
+
+    fn symlink_metadata(&self, path: &str) -> io::Result<Metadata> {
+        self.rt.symlink_metadata(path)
+    }
+
+    fn copy(&self, from: &str, to: &str) -> io::Result<u64> {
+        self.rt.copy(from, to)
+    }
+
+    fn rename(&self, from: &str, to: &str) -> io::Result<()> {
+        self.note(to, self.bases.rename(from, to))
+    }
+
+    fn hard_link(&self, original: &str, link: &str) -> io::Result<()> {
+        match self.rt.hard_link(original, link) {
+            Err(error) if error.kind() == ErrorKind::AlreadyExists => Err(error),
+            linked => self.note(link, linked),
+        }
+    }
+
+    fn remove_file(&self, path: &str) -> io::Result<()> {
+        let removed = match self.packet_at(path) {
+            None => self.bases.remove_file(path),
+            Some(packet) => {
+                self.is_named(packet);
+                match self.check(path) {
+                    Ok(()) => self.rt.remove_file(path),
+                    failed => failed,
+                }
+            }
+        };
+        self.note_found(path, removed)
+    }
+
+    fn create_dir(&self, path: &str) -> io::Result<()> {
+        self.rt.create_dir(path)
+    }
+
+    fn remove_dir(&self, path: &str) -> io::Result<()> {
+        self.rt.remove_dir(path)
+    }
+
+    fn remove_dir_all<B: Allocator>(&self, alloc: B, path: &str) -> io::Result<()> {
+        self.rt.remove_dir_all(alloc, path)
+    }
+}

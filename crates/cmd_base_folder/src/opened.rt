@@ -1,0 +1,96 @@
+//! What the program does with a base folder that is open, before a command on it.
+ghost use Rattle.std.specs.Prelude.{None};
+
+use crate::expecting::expected_keys;
+use cmd_base::flush_name;
+use cmd_input::Tossing;
+use echo_disk::Disk;
+use echo_filed::Key;
+use echo_folder_changing::Preparing;
+use echo_folder_store::FolderStore;
+use echo_keys::SipDigest;
+use echo_status::Fault;
+use echo_store::Store;
+use std::fs;
+use std::os::unix::fs::MetadataExt;
+
+/// A folder into which packets are tossed is told which messages these have, and the name of one without messages is
+/// put on the disk.
+#[derive(Drop)]
+pub struct Opened<'a, 'b, 'r> {
+    rt: &'r HostRuntime,
+    base: &'a str,
+    toss: Option<Tossing<'b>>,
+    // The folder of packets, which is to be another one.
+    outbound: Option<&'a str>,
+    met: Option<Fault<'a>>,
+}
+
+impl<'a, 'b, 'r> Opened<'a, 'b, 'r> {
+    /// For the folder that was given by this name, into which packets are tossed so, if they are.
+    pub fn new(
+        rt: &'r HostRuntime,
+        base: &'a str,
+        toss: Option<Tossing<'b>>,
+    ) -> Opened<'a, 'b, 'r> {
+        Opened {
+            rt,
+            base,
+            toss,
+            outbound: None,
+            met: None,
+        }
+    }
+
+    /// The same, where packets go into this folder.
+    pub fn apart_from(self, outbound: &'a str) -> Opened<'a, 'b, 'r> {
+        Opened {
+            outbound: Some(outbound),
+            ..self
+        }
+    }
+
+    // Whether the folder can be used: its name is put on the disk where it has no messages, and packets do not go into it.
+    fn settle(&self, messages: usize) -> Result<(), Fault<'a>> {
+        if let Some(outbound) = self.outbound {
+            if are_one_folder(self.rt, self.base, outbound) {
+                return Err(Fault::CannotUse(outbound));
+            }
+        }
+        flush_name(self.rt, self.base, messages)
+    }
+
+    // The keys of the messages that the packets have, where a folder with so many messages is told them.
+    fn keys(&self, messages: usize) -> Vec<Key> {
+        if let Some(by) = self.toss {
+            if let Ok(keys) = expected_keys(self.rt, by.names, by.limits, messages) {
+                return keys;
+            }
+        }
+        Vec::new(self.rt.alloc())
+    }
+}
+
+// Whether two paths lead to one folder.
+fn are_one_folder(rt: &HostRuntime, one: &str, other: &str) -> bool {
+    match (fs::metadata(rt, one), fs::metadata(rt, other)) {
+        (Ok(one), Ok(other)) => (one.dev(), one.ino()) == (other.dev(), other.ino()),
+        _ => false,
+    }
+}
+
+impl<'a, D: Disk> Preparing<'a, FolderStore<D, SipDigest>> for Opened<'a, '_, '_> {
+    ghost met = { λ opened. opened.met };
+
+    fn prepare(&mut self, store: &mut FolderStore<D, SipDigest>) -> Result<(), Fault<'a>> {
+        let keys = self.keys(store.len());
+        store.expect(&keys);
+        match self.settle(store.len()) {
+            Ok(()) => Ok(()),
+            Err(fault) => {
+                self.met = Some(fault);
+                Err(fault)
+            }
+        }
+    }
+}

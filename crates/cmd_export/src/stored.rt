@@ -1,0 +1,175 @@
+//! `export --msg`: messages of a base as files of a folder. The lock of the folder is held from before its names are
+//! read until the last file stands, so that two runs never take the same numbers.
+
+use cmd_base::base_bytes;
+use cmd_input::{folder_fault, locked_folder, output_fault, read_file};
+use echo_addr::Items;
+use echo_base::BaseFault;
+use echo_device::Sink;
+use echo_files::{NewFile, OutputFault, create_file, flush_folder};
+use echo_numbered::{Exported, MessageFile, export_files, number_in, tell_exported};
+use echo_status::{Fault, Status, ended, number_of};
+use echo_words::ExportWords;
+use std::alloc::AllocError;
+use std::collections::hash_map::RandomState;
+use std::fs::File;
+use std::{fs, io, str};
+
+/// How many bytes show that a file is the message that is to be written: its sender's name.
+const MESSAGE_KNOWN_BY: usize = 36;
+
+/// What stands in the name of the file beside one, where else the address of a system does.
+const OWN: &str = "msg";
+
+// The stored message of the greatest number in a folder, and its path.
+#[derive(Drop)]
+struct Last {
+    number: u32,
+    path: String,
+}
+
+// A folder under its lock, and what is to be written to it.
+#[derive(Drop)]
+struct Export {
+    locked: File,
+    exported: Exported,
+}
+
+/// `export --msg DIR --area TAG [--from I] BASE`: the number is judged first, then the base, then the folder.
+pub fn run_export_stored<W: Sink, E: Sink>(
+    rt: &HostRuntime,
+    words: &ExportWords<'_>,
+    folder: &str,
+    out: &mut W,
+    errors: &mut E,
+) -> Status {
+    let Export { locked, exported } = match files_given(rt, words, folder) {
+        Ok(export) => export,
+        Err(fault) => return fault.report(errors),
+    };
+    let (made, stopped) = write_files(rt, folder, exported.files.as_slice(), errors);
+    let told = match tell_exported(rt.alloc(), &exported, made, out) {
+        Ok(()) => Ok(Status::Good),
+        Err(fault) => Err(fault),
+    };
+    let _ = locked.unlock();
+    match stopped {
+        Status::Good => ended(told, errors),
+        failed => failed,
+    }
+}
+
+// The files that are to be made, and the folder under its lock. A seed for the hasher that cannot be had is a
+// failed read.
+fn files_given<'a>(
+    rt: &HostRuntime,
+    words: &ExportWords<'a>,
+    folder: &'a str,
+) -> Result<Export, Fault<'a>> {
+    let first = match words.from {
+        Some(word) => number_of(word)?,
+        None => 0,
+    };
+    let hasher = RandomState::new(rt).map_err(|_| Fault::Base(BaseFault::Read))?;
+    let base = base_bytes(rt, words.base)?;
+    let locked = locked_folder(rt, folder)?;
+    let (greatest, last) = last_stored(rt, folder)?;
+    let exported = export_files(
+        rt.alloc(),
+        words.area.unwrap_or("").as_bytes(),
+        first,
+        greatest,
+        last.as_ref().map(|bytes| bytes.as_slice()),
+        &base,
+        hasher,
+    )?;
+    Ok(Export { locked, exported })
+}
+
+// The greatest number of a stored message in the folder, 0 where it has none, and the bytes of that one.
+fn last_stored<'a>(rt: &HostRuntime, folder: &'a str) -> Result<(u32, Option<Vec<u8>>), Fault<'a>> {
+    match last_name(rt, folder)? {
+        Some(Last { number, path }) => match read_file(rt, path.as_str(), usize::MAX) {
+            Ok(bytes) => Ok((number, Some(bytes))),
+            Err(Fault::OutOfMemory) => Err(Fault::OutOfMemory),
+            Err(_) => Err(Fault::CannotUse(folder)),
+        },
+        None => Ok((0, None)),
+    }
+}
+
+// The stored message of the greatest number in the folder. A name that is no UTF-8 is none of one.
+fn last_name<'a>(rt: &HostRuntime, folder: &'a str) -> Result<Option<Last>, Fault<'a>> {
+    let names = fs::read_dir(rt, folder).map_err(|error| folder_fault(&error, folder))?;
+    let mut last: Option<Last> = None;
+    for entry in names {
+        let entry = match entry {
+            Ok(entry) => entry,
+            Err(error) if error.kind() == io::ErrorKind::InvalidFilename => continue,
+            Err(error) => return Err(folder_fault(&error, folder)),
+        };
+        let name = entry.file_name();
+        if let Some(number) = number_in(name.as_bytes()) {
+            let greatest = last.as_ref().map_or(0, |last| last.number);
+            if number >= greatest {
+                let path = file_path(rt, folder, name)?;
+                last = Some(Last { number, path });
+            }
+        }
+    }
+    Ok(last)
+}
+
+// Writes each message to a new file in the folder, up to the first that cannot be written, and flushes the folder.
+// The answer is how many stand, and the status.
+fn write_files<E: Sink>(
+    rt: &HostRuntime,
+    folder: &str,
+    files: &[MessageFile],
+    errors: &mut E,
+) -> (usize, Status) {
+    for (i, file) in files.iter().enumerate() {
+        match write_file(rt, folder, file, errors) {
+            Status::Good => {}
+            failed => return (i, failed),
+        }
+    }
+    match flush_folder(rt, folder) {
+        Ok(()) => (files.len(), Status::Good),
+        Err(fault) => (files.len(), output_fault(fault, folder).report(errors)),
+    }
+}
+
+// Writes one message.
+fn write_file<E: Sink>(
+    rt: &HostRuntime,
+    folder: &str,
+    file: &MessageFile,
+    errors: &mut E,
+) -> Status {
+    let name = str::from_utf8(file.name.as_slice()).unwrap_or("");
+    let path = match file_path(rt, folder, name) {
+        Ok(path) => path,
+        Err(_) => return output_fault(OutputFault::Memory, "").report(errors),
+    };
+    let new = NewFile {
+        path: path.as_str(),
+        own: OWN,
+        bytes: file.bytes.as_slice(),
+        known_by: MESSAGE_KNOWN_BY,
+    };
+    match create_file(rt.alloc(), rt, new) {
+        Ok(()) => Status::Good,
+        Err(fault) => output_fault(fault, path.as_str()).report(errors),
+    }
+}
+
+// The folder, a `/` where it ends in none, and the name.
+fn file_path(rt: &HostRuntime, folder: &str, name: &str) -> Result<String, AllocError> {
+    let mut path = String::from_str(rt.alloc(), folder)?;
+    if !folder.ends_with('/') {
+        path.push('/')?;
+    }
+    path.push_str(name)?;
+    Ok(path)
+}

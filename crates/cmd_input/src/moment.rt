@@ -1,0 +1,47 @@
+//! Seconds since 1970 began, as a date and a time of day.
+ghost use Rattle.std.specs.Prelude.{◌≡◌, ℕ, Some, IfSome, MatchOption, pos};
+ghost use Rattle.jiff_core.specs.Calendar.{IsEpochDay};
+ghost use Rattle.jiff_core.specs.Date.{epoch_day};
+ghost use Rattle.echo_steps.specs.declared.stamp.Stamp as model;
+ghost use Rattle.cmd_input.specs.Moment.{IsMomentAt};
+
+use echo_steps::Stamp;
+use jiff_core::civil::Date;
+
+/// How many seconds a day has.
+const A_DAY: u64 = 86_400;
+
+/// The moment so many seconds after 1970 began (UTC, where each day has as many seconds). None where its
+/// year has more than four digits.
+pub fn stamp_at(seconds: u64) -> Option<Stamp>
+    ensures moment { IfSome result (IsMomentAt seconds) }
+    ensures only { (stamp : model.Stamp) → IsMomentAt seconds stamp → result ≡ Some stamp }
+{
+    let date = date_at(seconds / A_DAY)?;
+    let year = year_of(date)?;
+    let time = seconds % A_DAY;
+    Some(Stamp {
+        year,
+        month: date.month as u16,
+        day: date.day as u16,
+        hour: (time / 3600) as u16,
+        minute: (time / 60 % 60) as u16,
+        second: (time % 60) as u16,
+    })
+}
+
+// The date of this day, counted from 0 for the first of 1970.
+fn date_at(day: u64) -> Option<Date>
+    ensures { MatchOption result (IsEpochDay (pos day) → ⊥) (λ date. epoch_day date ≡ pos day) }
+{
+    let day = i64::try_from(day).ok()?;
+    Date::from_unix_epoch_day(day).ok()
+}
+
+// The year, where it is none before the year 0.
+fn year_of(date: Date) -> Option<u16>
+    ensures is { IfSome result (λ year. date.year ≡ pos year) }
+    ensures only { (year : ℕ) → date.year ≡ pos year → result ≡ Some year }
+{
+    u16::try_from(date.year).ok()
+}

@@ -1,0 +1,102 @@
+//! The packet files of `toss`.
+
+ghost use Rattle.std.specs.Prelude.{map};
+ghost use Rattle.echo_changing.specs.Coming.{Unknown};
+
+use crate::inputs::input_fault;
+use crate::paths::PathName;
+use crate::progress::{Progress, share_of};
+use echo_changing::PacketFiles;
+use echo_device::{Buffered, Watched};
+use echo_files::open_regular;
+use echo_packet::Limits;
+use echo_status::Fault;
+use std::fs::File;
+use std::io;
+use std::io::Read;
+
+/// How many bytes of a packet file are read at once.
+const BUFFER: usize = 65_536;
+
+/// How packets are tossed: the names of their files, what is taken of them, and whether each message that is not filed
+/// has a line.
+#[derive(Clone, Copy)]
+pub struct Tossing<'a> {
+    pub names: &'a [PathName],
+    pub limits: Limits,
+    pub each: bool,
+}
+
+/// The packet files with these names, each opened when its turn comes, and how many there are in all.
+#[derive(Drop)]
+pub struct PacketPaths<'r> {
+    pub rt: &'r HostRuntime,
+    pub names: &'r [PathName],
+    pub packets: usize,
+    pub progress: &'r Progress<'r>,
+}
+
+impl<'r> PacketFiles<'r> for PacketPaths<'r> {
+    type Reader = Buffered<Watched<PacketInput<'r>>>;
+
+    ghost coming = { λ packets. map (λ _. Unknown) packets.names.now };
+
+    fn open_next(&mut self) -> Option<Result<Buffered<Watched<PacketInput<'r>>>, Fault<'r>>> {
+        let names: &'r [PathName] = self.names;
+        if names.is_empty() {
+            return None;
+        }
+        self.names = &names[1..];
+        Some(packet_reader(self, &names[0]))
+    }
+}
+
+// What reads the packet file with this name. It has to be a regular file.
+fn packet_reader<'r>(
+    packets: &PacketPaths<'r>,
+    name: &'r PathName,
+) -> Result<Buffered<Watched<PacketInput<'r>>>, Fault<'r>> {
+    let path = name.path()?;
+    let file = open_regular(packets.rt, path).map_err(|fault| input_fault(fault, path))?;
+    let input = PacketInput {
+        file,
+        read: 0,
+        number: packets.packets.saturating_sub(packets.names.len()),
+        packets: packets.packets,
+        progress: packets.progress,
+    };
+    Ok(Buffered::new(packets.rt.alloc(), Watched::new(input), BUFFER)?)
+}
+
+/// A packet file that is read, which tells how far it is.
+#[derive(Drop)]
+pub struct PacketInput<'r> {
+    file: File,
+    read: u64,
+    // Which of the packets it is, from 1 on, and how many there are.
+    number: usize,
+    packets: usize,
+    progress: &'r Progress<'r>,
+}
+
+impl Read for PacketInput<'_> {
+    fn read(&mut self, buf: &mut [u8]) -> io::Result<usize> {
+        let came = self.file.read(buf)?;
+        self.read = self.read.saturating_add(came as u64);
+        if self.progress.is_due() {
+            self.progress
+                .tell_packet(self.number, self.packets, self.share());
+        }
+        Ok(came)
+    }
+}
+
+impl PacketInput<'_> {
+    // How much of the file was read, in hundredths.
+    fn share(&self) -> u128 {
+        match self.file.metadata() {
+            Ok(found) => share_of(self.read, found.len()),
+            Err(_) => 0,
+        }
+    }
+}

@@ -1,0 +1,153 @@
+//! How far a command is, as a terminal is told. The line stands on standard error from a second after the command
+//! began on, is written over in place, and goes before anything else is printed.
+
+use echo_device::Watched;
+use echo_status::print_rest;
+use std::alloc::AllocError;
+use std::cell::Cell;
+use std::io;
+use std::io::{IsTerminal, Write};
+use std::time::Instant;
+
+/// When the line comes, and how long it stays as it is, in milliseconds.
+const FIRST: u128 = 1_000;
+
+const EACH: u128 = 200;
+
+/// When it comes where there is no terminal.
+const NEVER: u128 = u128::MAX;
+
+/// How far a command is. Where standard error is no terminal nobody is told.
+#[derive(Drop)]
+pub struct Progress<'r> {
+    rt: &'r HostRuntime,
+    begun: Option<Instant>,
+    // When it is told next, in milliseconds after it began.
+    next: Cell<u128>,
+    // How many bytes the line has that stands there.
+    shown: Cell<usize>,
+}
+
+impl<'r> Progress<'r> {
+    /// Of a command that begins now. Without a clock nothing is told.
+    pub fn new(rt: &'r HostRuntime) -> Progress<'r> {
+        Progress {
+            rt,
+            begun: Instant::now(rt).ok(),
+            next: Cell::new(FIRST),
+            shown: Cell::new(0),
+        }
+    }
+
+    /// Whether it is time to tell how far the command is. Only the first call after a second looks whether there is
+    /// a terminal.
+    pub fn is_due(&self) -> bool {
+        if self.next.get() == NEVER {
+            return false;
+        }
+        let Some(now) = self.milliseconds() else {
+            return false;
+        };
+        if now < self.next.get() {
+            return false;
+        }
+        let is_terminal = self.rt.stderr().is_terminal();
+        self.next.set(if is_terminal {
+            now.saturating_add(EACH)
+        } else {
+            NEVER
+        });
+        is_terminal
+    }
+
+    // For how long the command has run.
+    fn milliseconds(&self) -> Option<u128> {
+        match self.begun?.elapsed(self.rt) {
+            Ok(since) => Some(since.as_millis()),
+            Err(_) => None,
+        }
+    }
+
+    /// Tells that this share of a packet was read, in hundredths. Packets are counted from 1.
+    pub fn tell_packet(&self, packet: usize, packets: usize, share: u128) {
+        self.tell_line(format!(in self.rt.alloc();
+            "echonet: packet {packet} of {packets}, {share}%"
+        ));
+    }
+
+    /// Tells which of the packets of a scan is written.
+    pub fn tell_written(&self, packet: usize, packets: usize) {
+        self.tell_line(format!(in self.rt.alloc(); "echonet: packet {packet} of {packets}"));
+    }
+
+    /// Tells which of the messages of a base was read; messages are counted from 1.
+    pub fn tell_message(&self, message: u64, messages: u64) {
+        self.tell_line(format!(in self.rt.alloc(); "echonet: message {message} of {messages}"));
+    }
+
+    /// Tells how many events of a replay happened.
+    pub fn tell_event(&self, happened: usize, events: usize) {
+        self.tell_line(format!(in self.rt.alloc(); "echonet: event {happened} of {events}"));
+    }
+
+    // Tells a line, if there was memory for it.
+    fn tell_line(&self, line: Result<String, AllocError>) {
+        if let Ok(line) = line {
+            let _ = self.write_over(line.as_str());
+        }
+    }
+
+    /// Takes the line away.
+    pub fn clear(&self) {
+        if self.shown.get() > 0 {
+            let _ = self.write_over("");
+        }
+    }
+
+    // Writes a line over the one that stands there, and goes back to its beginning.
+    fn write_over(&self, line: &str) -> Result<(), AllocError> {
+        let mut bytes = Vec::from_slice(self.rt.alloc(), b"\r")?;
+        push_over(&mut bytes, line, self.shown.get())?;
+        self.shown.set(line.len());
+        let _ = print_rest(&mut bytes, &mut Watched::new(self.rt.stderr()));
+        Ok(())
+    }
+}
+
+// Adds a line with spaces up to the end of the one before it, which had so many bytes.
+fn push_over(bytes: &mut Vec<u8>, line: &str, shown: usize) -> Result<(), AllocError> {
+    bytes.extend_from_slice(line.as_bytes())?;
+    let width = bytes.len().max(shown.saturating_add(1));
+    bytes.resize(width, b' ')?;
+    bytes.push(b'\r')?;
+    Ok(())
+}
+
+/// How much so many of so many are, in hundredths.
+pub fn share_of(some: u64, all: u64) -> u128 {
+    (u128::from(some) * 100 / u128::from(all.max(1))).min(100)
+}
+
+/// Standard output or standard error, before which the line goes.
+#[derive(Drop)]
+pub struct Cleared<'p, 'r, W> {
+    progress: &'p Progress<'r>,
+    to: W,
+}
+
+impl<'p, 'r, W> Cleared<'p, 'r, W> {
+    pub fn new(progress: &'p Progress<'r>, to: W) -> Cleared<'p, 'r, W> {
+        Cleared { progress, to }
+    }
+}
+
+impl<W: Write> Write for Cleared<'_, '_, W> {
+    fn write(&mut self, buf: &[u8]) -> io::Result<usize> {
+        self.progress.clear();
+        self.to.write(buf)
+    }
+
+    fn flush(&mut self) -> io::Result<()> {
+        self.to.flush()
+    }
+}

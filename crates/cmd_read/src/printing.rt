@@ -1,0 +1,32 @@
+//! The commands that print what a packet or a nodelist holds.
+
+use cmd_input::{MAX_INPUT, read_file, read_given};
+use echo_device::Sink;
+use echo_reading::{nodelist, show};
+use echo_status::{Fault, Status, wanted};
+
+/// `show [--hex] PACKET`
+pub fn run_show<'a, W: Sink>(
+    rt: &HostRuntime,
+    hex: bool,
+    packet: &'a str,
+    out: &mut W,
+) -> Result<Status, Fault<'a>> {
+    let input = read_given(rt, packet, MAX_INPUT)?;
+    show(rt.alloc(), hex, &input, out)
+}
+
+/// `nodelist [--find ADDRESS] FILE`: the address is judged first, then the file.
+pub fn run_nodelist<'a, W: Sink>(
+    rt: &HostRuntime,
+    find: Option<&'a str>,
+    file: &'a str,
+    out: &mut W,
+) -> Result<Status, Fault<'a>> {
+    let address = match find {
+        Some(word) => Some(wanted(word)?),
+        None => None,
+    };
+    let input = read_file(rt, file, MAX_INPUT)?;
+    nodelist(rt.alloc(), address, &input, out)
+}
