@@ -1,5 +1,5 @@
 -- What `picture` answers, from what its parts do.
-use Rattle.std.proofs.Common.{◌≡◌, ℕ, List, [], ◌++◌, refl, sym, ap, ◌∙◌}
+use Rattle.std.proofs.Common.{◌≡◌, ℕ, List, [], refl, sym, ap, ◌∙◌}
 use Rattle.echo_links.specs.Links.{LinkFile, upper}
 use Rattle.echo_net.specs.declared.drawing.Drawing.{Drawing}
 use Rattle.echo_net.specs.declared.verdict.Verdict.{Verdict}
@@ -10,13 +10,12 @@ use Rattle.echo_status.specs.Inputs.{AreLinkFiles}
 use Rattle.echo_checking.specs.Picturing.{IsPictured}
 use Rattle.echo_print.specs.Pictured.{picture_lines}
 use Rattle.echo_checking.proofs.Checks.{good_is_yes, of_same, yes_is_good}
-use Rattle.echo_status.proofs.Lines.{alone}
 
 -- the lines that draw the area of link files that were read
-pub was_pictured : (tag t : List ℕ) (inputs : List (List ℕ)) (files : List LinkFile) (verdict : Verdict) (drawing : Drawing) (none lines : List ℕ) (status : Status)
-    → AreLinkFiles inputs files → t ≡ upper tag → IsCheckVerdict files t verdict → IsDrawing files t verdict drawing → none ≡ []
-    → lines ≡ none ++ picture_lines t verdict drawing [] → status ≡ verdict_status verdict → IsPictured tag inputs lines status
-was_pictured tag t inputs files verdict drawing none lines status are raised judged drawn nothing whole ended =
+pub was_pictured : (tag t : List ℕ) (inputs : List (List ℕ)) (files : List LinkFile) (verdict : Verdict) (drawing : Drawing) (lines : List ℕ) (status : Status)
+    → AreLinkFiles inputs files → t ≡ upper tag → IsCheckVerdict files t verdict → IsDrawing files t verdict drawing
+    → lines ≡ picture_lines t verdict drawing [] → status ≡ verdict_status verdict → IsPictured tag inputs lines status
+was_pictured tag t inputs files verdict drawing lines status are raised judged drawn whole ended =
     let same : files ≡ files = refl in
     let judged_upper : IsCheckVerdict files (upper tag) verdict = of_same (λ f u. IsCheckVerdict f u verdict) files files t (upper tag) same raised judged in
     record {
@@ -26,7 +25,7 @@ was_pictured tag t inputs files verdict drawing none lines status are raised jud
       is_verdict = judged_upper;
       drawing = drawing;
       is_drawing = of_same (λ f u. IsDrawing f u verdict drawing) files files t (upper tag) same raised drawn;
-      printed = alone none lines (picture_lines t verdict drawing []) nothing whole ∙ ap (λ (u : List ℕ). picture_lines u verdict drawing []) raised;
+      printed = whole ∙ ap (λ (u : List ℕ). picture_lines u verdict drawing []) raised;
       status_is = ended;
       tidy = (
         λ good. judged_upper.tidy.0 (good_is_yes verdict (sym ended ∙ good)),

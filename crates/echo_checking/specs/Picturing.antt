@@ -3,6 +3,7 @@ use Rattle.std.specs.Prelude.{◌≡◌, ℕ, ◌↔◌, List, [], Option, None,
 use Rattle.echo_status.specs.Devices.{Output}
 use Rattle.echo_links.specs.Links.{LinkFile, upper}
 use Rattle.echo_run.specs.Tidy.{Tidy}
+use Rattle.echo_net.specs.declared.drawing.Crossing.{Crossing}
 use Rattle.echo_net.specs.declared.drawing.Drawing.{Drawing}
 use Rattle.echo_net.specs.declared.verdict.Verdict.{Verdict}
 use Rattle.echo_net.specs.Drawn.{IsDrawing}
@@ -25,6 +26,11 @@ pub record IsPictured (tag : List ℕ) (inputs : List (List ℕ)) (lines : List 
   pub printed : lines ≡ picture_lines (upper tag) verdict drawing []
   pub status_is : status ≡ verdict_status verdict
   pub tidy : (status ≡ Good) ↔ Tidy files (upper tag)
+
+-- what is answered where an area that is drawn is to be printed
+abbrev pub PrintsPicture : List ℕ → Verdict → Drawing → List Crossing → Output → Output → Result Status Fault → Type 0
+PrintsPicture tag verdict drawing crossings old new answer =
+    Answers (λ lines status. (lines ≡ picture_lines tag verdict drawing crossings) × (status ≡ verdict_status verdict)) (λ fault. ⊥) old new answer
 
 -- what is answered where an area is to be drawn
 abbrev pub PictureAnswers : List ℕ → List (List ℕ) → Option Fault → Output → Output → Result Status Fault → Type 0

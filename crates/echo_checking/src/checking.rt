@@ -1,12 +1,12 @@
 //! What `check` answers.
-ghost use Rattle.std.specs.Prelude.{◌≡◌, List, None, Ok, OnOk, option_copied};
+ghost use Rattle.std.specs.Prelude.{◌≡◌, ℕ, List, None, Ok, OnOk, Option, option_copied};
 ghost use Rattle.echo_status.specs.Devices.{output_of};
 ghost use Rattle.echo_links.specs.Links.{LinkFile, upper};
 ghost use Rattle.echo_run.specs.Tidy.{Tidy};
 ghost use Rattle.echo_status.specs.declared.status.Status.TheVariants.{Good};
 ghost use Rattle.echo_checking.specs.Checking.{CheckAnswers, RunsAreOrderly, verdict_status};
 ghost use Rattle.echo_print.specs.Checked.{CheckShown};
-ghost use Rattle.echo_status.specs.Inputs.{AreLinkFiles};
+ghost use Rattle.echo_status.specs.Inputs.{AreLinkFiles, IsNodelistGiven};
 ghost use Rattle.echo_print.specs.Pushed.{Pushes};
 
 use echo_addr::Items;
@@ -53,9 +53,24 @@ fn check_given<'a, W: Sink>(
         return Err(fault);
     }
     let tag = tag.to_ascii_uppercase(alloc)?;
-    let verdict = echo_net::check(alloc, &links, &tag)?;
+    check_read(alloc, list.as_ref(), &tag, &links, out)
+}
+
+// The same of inputs that are read, and of the tag in upper case.
+fn check_read<'a, W: Sink>(
+    alloc: Global,
+    list: Option<&Nodelist>,
+    tag: &[u8],
+    links: &[LinkFile],
+    out: &mut W,
+) -> Result<Status, Fault<'a>>
+    ensures { (nodelist : Option (List ℕ)) → (given : List ℕ) → (inputs : List (List ℕ)) → IsNodelistGiven nodelist (option_copied list.entry)
+        → AreLinkFiles inputs links.now → tag.now ≡ upper given
+        → CheckAnswers nodelist given inputs None (output_of W.contents W.failures W.holds out.old) (output_of W.contents W.failures W.holds out.new) result }
+{
+    let verdict = echo_net::check(alloc, links, tag)?;
     let mut lines = Vec::new(alloc);
-    push_check(alloc, &mut lines, list.as_ref(), &links, &tag, &verdict)?;
+    push_check(alloc, &mut lines, list, links, tag, &verdict)?;
     print_rest(&mut lines, out)?;
     Ok(status_of(&verdict))
 }

@@ -1,11 +1,11 @@
 //! What `check --all` answers.
-ghost use Rattle.std.specs.Prelude.{◌≡◌, ◌↔◌, IsTrue, List, Ok, IfOk, ℕ, map, option_copied};
+ghost use Rattle.std.specs.Prelude.{◌≡◌, ◌↔◌, IsTrue, List, Ok, IfOk, None, Option, ℕ, map, option_copied};
 ghost use Rattle.echo_status.specs.Devices.{output_of};
 ghost use Rattle.echo_links.specs.Links.{LinkFile};
 ghost use Rattle.echo_run.specs.Tidy.{Tidy};
 ghost use Rattle.echo_net.specs.Faults.{IsCarried, IsSharedSystem, IsYes};
 ghost use Rattle.echo_status.specs.declared.status.Status.TheVariants.{Good};
-ghost use Rattle.echo_status.specs.Inputs.{AreLinkFiles};
+ghost use Rattle.echo_status.specs.Inputs.{AreLinkFiles, IsNodelistGiven};
 ghost use Rattle.echo_print.specs.Pushed.{Pushes};
 ghost use Rattle.echo_checking.specs.Checking.{RunsAreOrderly};
 ghost use Rattle.echo_checking.specs.CheckingAll.{AreAreasChecked, CheckAllAnswers, IsAreaChecked, verdicts_status};
@@ -52,9 +52,22 @@ fn check_areas<'a, W: Sink>(
     if let Some(fault) = stopped {
         return Err(fault);
     }
-    let tags = area_tags(alloc, &links)?;
+    check_areas_read(alloc, list.as_ref(), &links, out)
+}
+
+// The same of inputs that are read.
+fn check_areas_read<'a, W: Sink>(
+    alloc: Global,
+    list: Option<&Nodelist>,
+    links: &[LinkFile],
+    out: &mut W,
+) -> Result<Status, Fault<'a>>
+    ensures { (nodelist : Option (List ℕ)) → (inputs : List (List ℕ)) → IsNodelistGiven nodelist (option_copied list.entry) → AreLinkFiles inputs links.now
+        → CheckAllAnswers nodelist inputs None (output_of W.contents W.failures W.holds out.old) (output_of W.contents W.failures W.holds out.new) result }
+{
+    let tags = area_tags(alloc, links)?;
     let mut lines = Vec::new(alloc);
-    let good = push_areas(alloc, &mut lines, list.as_ref(), &links, &tags)?;
+    let good = push_areas(alloc, &mut lines, list, links, &tags)?;
     print_rest(&mut lines, out)?;
     Ok(status_of_verdicts(good))
 }

@@ -19,4 +19,4 @@ mod picturing;
 
 pub use checking::{check, status_of};
 pub use checking_all::check_all;
-pub use picturing::picture;
+pub use picturing::{picture, print_picture};

@@ -1,5 +1,6 @@
 //! Which messages are added to a JAM base, and what that adds.
-ghost use Rattle.std.specs.Prelude.{◌≡◌, ◌⊎◌, ◌+◌, ◌&&◌, IfOk, OnOk, length, option_copied};
+ghost use Rattle.std.specs.Prelude.{List, ℕ, Some, ◌≡◌, ◌⊎◌, ◌+◌, ◌&&◌, IfOk, OnOk, length, option_copied};
+ghost use Rattle.echo_status.specs.Inputs.{IsBaseGiven};
 ghost use Rattle.echo_numbered.specs.JamAdded.{JamAnswers, added_at, added_in, added_of, is_last_jam, nothing_added, resumed_jam, with_message};
 
 use crate::numbering::{base_read, is_exported};
@@ -55,9 +56,23 @@ pub fn export_jam<'a, S: BuildHasher + Drop>(
     ensures { JamAnswers area.now first jam.entry.headers.now jam.entry.last jam.entry.text.now jam.entry.end base.now result }
 {
     let base = base_read(alloc, base, hasher)?;
+    export_read_jam(alloc, area, first, jam, &base)
+}
+
+// The same of a base that is read.
+fn export_read_jam<'a, S: BuildHasher>(
+    alloc: Global,
+    area: &[u8],
+    first: u64,
+    jam: JamBase<'_>,
+    base: &Base<S>,
+) -> Result<JamExport, Fault<'a>>
+    ensures { (bytes : List ℕ) → IsBaseGiven (Some bytes) base.now.messages base.now.cursor
+        → JamAnswers area.now first jam.entry.headers.now jam.entry.last jam.entry.text.now jam.entry.end bytes result }
+{
     let area = area.to_ascii_uppercase(alloc)?;
-    let from = resumed_jam(alloc, &area, first, jam, &base)?;
-    let adding = added_of(alloc, &area, from, jam.end, &base)?;
+    let from = resumed_jam(alloc, &area, first, jam, base)?;
+    let adding = added_of(alloc, &area, from, jam.end, base)?;
     let end = from.max(base.len() as u64);
     Ok(JamExport { adding, end })
 }

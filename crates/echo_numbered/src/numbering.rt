@@ -1,5 +1,5 @@
 //! Which messages become files, and under which numbers.
-ghost use Rattle.std.specs.Prelude.{◌≡◌, ◌⊎◌, ◌+◌, ◌++◌, ◌&&◌, Some, IfErr, IfOk, OnOk, drop, length, option_copied, take};
+ghost use Rattle.std.specs.Prelude.{List, ℕ, ◌≡◌, ◌⊎◌, ◌+◌, ◌++◌, ◌&&◌, Some, IfErr, IfOk, OnOk, drop, length, option_copied, take};
 ghost use Rattle.echo_links.specs.Links.{upper};
 ghost use Rattle.echo_status.specs.Ended.{IsOutOfMemory};
 ghost use Rattle.echo_status.specs.Inputs.{IsBaseFault, IsBaseGiven};
@@ -45,9 +45,24 @@ pub fn export_files<'a, S: BuildHasher + Drop>(
     ensures { ExportAnswers area.now first greatest (option_copied last.entry) base.now result }
 {
     let base = base_read(alloc, base, hasher)?;
+    export_read(alloc, area, first, greatest, last, &base)
+}
+
+// The same of a base that is read.
+fn export_read<'a, S: BuildHasher>(
+    alloc: Global,
+    area: &[u8],
+    first: u64,
+    greatest: u32,
+    last: Option<&[u8]>,
+    base: &Base<S>,
+) -> Result<Exported, Fault<'a>>
+    ensures { (bytes : List ℕ) → IsBaseGiven (Some bytes) base.now.messages base.now.cursor
+        → ExportAnswers area.now first greatest (option_copied last.entry) bytes result }
+{
     let area = area.to_ascii_uppercase(alloc)?;
-    let from = resumed(alloc, &area, first, last, &base)?;
-    let files = files_of(alloc, &area, from, first_number(greatest), &base)?;
+    let from = resumed(alloc, &area, first, last, base)?;
+    let files = files_of(alloc, &area, from, first_number(greatest), base)?;
     let end = from.max(base.len() as u64);
     Ok(Exported {
         files: Items::new(files),

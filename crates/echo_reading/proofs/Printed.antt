@@ -1,5 +1,6 @@
 -- What was printed of a packet.
-use Rattle.std.proofs.Common.{◌≡◌, ℕ, ◌+◌, ◌^◌, ◌<◌, ◌⊎◌, inl, inr, List, [], ◌∷◌, ◌++◌, Option, Ok, Err, length, refl, sym, ap, ◌∙◌, subst, arith, append_assoc, append-nil, add-zero}
+use Rattle.std.proofs.Common.{◌≡◌, ℕ, ◌+◌, ◌^◌, ◌<◌, ◌⊎◌, inl, inr, List, [], ◌∷◌, ◌++◌, Option, Result, Ok, Err, OnOk, OnErr, length, refl, sym, ap, ◌∙◌, subst, arith, append_assoc, append-nil, add-zero}
+use Rattle.std.specs.Prelude.{IfErr}
 use Rattle.std.proofs.lemmas.List.{length-append}
 use Rattle.echo_device.proofs.Devices.{Failed-never}
 use Rattle.echo_packet.specs.declared.header.Header.{Header}
@@ -22,9 +23,9 @@ use Rattle.echo_status.specs.declared.fault.Fault.{Fault}
 use Rattle.echo_status.specs.Devices.{Output}
 use Rattle.echo_status.specs.Ended.{CannotPrint, IsOutOfMemory}
 use Rattle.echo_status.specs.Limits.{show_limits}
-use Rattle.echo_status.specs.Lines.{PassesOn}
+use Rattle.echo_status.specs.Lines.{PassesOn, WritesFront}
 use Rattle.echo_status.proofs.Lines.{none_added, none_passed, passed_more}
-use Rattle.echo_reading.specs.Showing.{AllShown, FrontShown, PacketPasses}
+use Rattle.echo_reading.specs.Showing.{AllShown, FrontShown, MessagePasses, PacketPasses}
 use Rattle.echo_print.specs.Shown.{MessageShown, MessagesShown, header_lines, end_line}
 use Rattle.echo_reading.specs.Written.{AddsLines}
 
@@ -186,6 +187,33 @@ not_printed bytes rest h own given at next kept behind left old new count place 
         begun = record { rest = behind; passed = before.printed };
       },
     )
+
+-- the lines of a message that were made were passed on, or could not be
+pub message_passed : {A : Type 0} (number place : ℕ) (m : Message) (kept made rest line : List ℕ) (old new : Output) (answer : Result A Fault)
+    → MessageShown number place m line → made ≡ kept ++ line → OnOk answer (PassesOn made rest old.contents new.contents)
+    → OnErr answer (WritesFront made old.contents new.contents) → OnErr answer (rest ≡ []) → OnOk answer (new.failures ≡ old.failures)
+    → IfErr answer (CannotPrint old.failures new.failures) → MessagePasses number place m kept rest old new answer
+message_passed number place m kept made rest line old new (Ok done) shown is passed begun dropped unfailed failed = (
+  record { lines = line; are = shown; passed = subst (λ t. PassesOn t rest old.contents new.contents) is passed },
+  unfailed,
+)
+message_passed number place m kept made rest line old new (Err fault) shown is passed begun dropped unfailed failed =
+    inr (failed, dropped, record { lines = line; are = shown; begun = subst (λ t. WritesFront t old.contents new.contents) is begun })
+
+-- the next message was not printed whole
+pub message_stops : (bytes rest after : List ℕ) (h new_h : Header) (own new_own : Limits) (given new_given at new_at : ℕ) (next new_next : Stage) (kept behind left : List ℕ) (old mid new : Output) (count new_count place : ℕ) (m : Message) (fault : Fault)
+    → (before : HasPrinted bytes rest h own given at next kept behind old.contents mid.contents count place)
+    → HasGiven show_limits bytes (before.messages ++ m ∷ []) after new_h new_own new_given new_at new_next
+    → new_h ≡ h → new_count ≡ count + 1 → new_given ≡ given + 1 → length bytes < 2 ^ 64 → mid.failures ≡ old.failures
+    → MessagePasses {A = Unit {0}} new_count place m behind left mid new (Err fault) → PacketPasses bytes kept left old new (Err fault)
+message_stops bytes rest after h new_h own new_own given new_given at new_at next new_next kept behind left old mid new count new_count place m fault before so same counted gave small unfailed (inl (none, unchanged, still)) =
+    subst (λ (o : Output). PacketPasses bytes kept left old o (Err fault)) (sym still)
+    (no_memory bytes rest h own given at next kept behind left old mid count place fault before unchanged none unfailed)
+message_stops bytes rest after h new_h own new_own given new_given at new_at next new_next kept behind left old mid new count new_count place m fault before so same counted gave small unfailed (inr (failed, dropped, more)) =
+    let printed = message_printed bytes rest after h new_h own new_own given new_given at new_at next new_next kept behind more.begun.rest old.contents mid.contents new.contents count new_count place new_at m more.lines
+    before so same counted gave refl small more.are more.begun.passed in
+    not_printed bytes after new_h new_own new_given new_at new_next kept more.begun.rest left old new new_count new_at fault printed
+    (subst (λ (n : ℕ). CannotPrint n new.failures fault) unfailed failed) dropped
 
 -- a fault of the header: nothing is printed
 pub front_refused : (bytes kept : List ℕ) (f : PacketFault) (old : Output) → FrontFault bytes f → (((at : ℕ) → f ≡ fault.Read at → ⊥))

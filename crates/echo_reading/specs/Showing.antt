@@ -16,7 +16,7 @@ use Rattle.echo_status.specs.declared.status.Status.TheVariants.{Good}
 use Rattle.echo_status.specs.Ended.{CannotPrint, PassesAll, IsOutOfMemory}
 use Rattle.echo_packet.specs.Packet.{PacketOf}
 use Rattle.echo_status.specs.Limits.{show_limits}
-use Rattle.echo_print.specs.Shown.{MessagesShown, Shown, header_lines}
+use Rattle.echo_print.specs.Shown.{MessageShown, MessagesShown, Shown, header_lines}
 use Rattle.echo_reading.specs.Written.{AddsLines, BeginsLines, BeginsMore, WritesLines}
 
 -- a byte that lays out hexadecimal text: a blank, a tab or a part of a line end
@@ -87,6 +87,14 @@ PacketPasses bytes kept rest old new (Ok status) =
 PacketPasses bytes kept rest old new (Err fault) =
     (CannotPrint old.failures new.failures fault × (rest ≡ []) × BeginsMore (SomeShown bytes) kept old.contents new.contents)
     ⊎ (AddsLines (λ lines. IsCutShort bytes lines fault) kept rest old.contents new.contents × (new.failures ≡ old.failures))
+
+-- The lines of a message are on their way: `kept` are those kept back before, and `rest` after. Out of memory none are added, and where standard output failed none are kept.
+abbrev pub MessagePasses : {A : Type 0} → ℕ → ℕ → Message → List ℕ → List ℕ → Output → Output → Result A Fault → Type 0
+MessagePasses number place m kept rest old new (Ok done) =
+    AddsLines (MessageShown number place m) kept rest old.contents new.contents × (new.failures ≡ old.failures)
+MessagePasses number place m kept rest old new (Err fault) =
+    (IsOutOfMemory fault × (rest ≡ kept) × (new ≡ old))
+    ⊎ (CannotPrint old.failures new.failures fault × (rest ≡ []) × BeginsMore (MessageShown number place m) kept old.contents new.contents)
 
 -- a packet is not printed whole: standard output failed after a beginning of its lines, or these are cut short
 abbrev pub PacketStops : List ℕ → Output → Output → Fault → Type 0

@@ -1,7 +1,8 @@
 //! The command `export`: the messages of a base for other programs.
-ghost use Rattle.std.specs.Prelude.{◌≡◌, ◌<◌, ◌^◌, ◌++◌, IfErr, IfOk, OnOk, OnErr, length, option_copied};
+ghost use Rattle.std.specs.Prelude.{List, ℕ, Some, ◌≡◌, ◌<◌, ◌^◌, ◌++◌, IfErr, IfOk, OnOk, OnErr, length, option_copied};
 ghost use Rattle.echo_status.specs.Devices.{output_of};
 ghost use Rattle.echo_status.specs.Ended.{Stops};
+ghost use Rattle.echo_status.specs.Inputs.{IsBaseGiven};
 ghost use Rattle.echo_status.specs.Lines.{PassesOn, WritesFront};
 ghost use Rattle.echo_reading.specs.Exporting.{ExportAnswers, is_exported, is_sought, lost_line, sought_count, sought_lost, sought_text, sought_texts, state_of};
 
@@ -34,6 +35,22 @@ pub fn export<'a, S: BuildHasher + Drop, W: Sink>(
     ensures { ExportAnswers form (option_copied area.entry) first purged base.now (output_of W.contents W.failures W.holds out.old) (output_of W.contents W.failures W.holds out.new) result }
 {
     let base = base_read(alloc, base, hasher)?;
+    export_read(alloc, form, area, first, purged, &base, out)
+}
+
+// The same of a base that is read.
+fn export_read<'a, S: BuildHasher, W: Sink>(
+    alloc: Global,
+    form: Form,
+    area: Option<&[u8]>,
+    first: u64,
+    purged: bool,
+    base: &Base<S>,
+    out: &mut W,
+) -> Result<u128, Fault<'a>>
+    ensures { (bytes : List ℕ) → IsBaseGiven (Some bytes) base.now.messages base.now.cursor
+        → ExportAnswers form (option_copied area.entry) first purged bytes (output_of W.contents W.failures W.holds out.old) (output_of W.contents W.failures W.holds out.new) result }
+{
     let area = raised(alloc, area)?;
     let mut lines = Vec::new(alloc);
     let count = print_sought(
@@ -42,7 +59,7 @@ pub fn export<'a, S: BuildHasher + Drop, W: Sink>(
         area.as_ref(),
         first,
         purged,
-        &base,
+        base,
         &mut lines,
         out,
     )?;

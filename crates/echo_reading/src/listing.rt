@@ -1,5 +1,5 @@
 //! The command `list`: the messages of a base.
-ghost use Rattle.std.specs.Prelude.{◌≡◌, ◌⊎◌, ◌++◌, IfErr, IfOk, Some, OnOk, OnErr, length, option_copied, option_map};
+ghost use Rattle.std.specs.Prelude.{List, ℕ, ◌≡◌, ◌⊎◌, ◌++◌, IfErr, IfOk, Some, OnOk, OnErr, length, option_copied, option_map};
 ghost use Rattle.echo_status.specs.Devices.{output_of};
 ghost use Rattle.echo_links.specs.Links.{upper};
 ghost use Rattle.echo_reading.specs.Listing.{ListAnswers};
@@ -31,9 +31,23 @@ pub fn list<'a, S: BuildHasher + Drop, W: Sink>(
     ensures { ListAnswers (option_copied area.entry) first base.now (output_of W.contents W.failures W.holds out.old) (output_of W.contents W.failures W.holds out.new) result }
 {
     let base = base_read(alloc, base, hasher)?;
+    list_read(alloc, area, first, &base, out)
+}
+
+// The same of a base that is read: what is owned has no exit but the end.
+fn list_read<'a, S: BuildHasher, W: Sink>(
+    alloc: Global,
+    area: Option<&[u8]>,
+    first: u64,
+    base: &Base<S>,
+    out: &mut W,
+) -> Result<Status, Fault<'a>>
+    ensures { (bytes : List ℕ) → IsBaseGiven (Some bytes) base.now.messages base.now.cursor
+        → ListAnswers (option_copied area.entry) first bytes (output_of W.contents W.failures W.holds out.old) (output_of W.contents W.failures W.holds out.new) result }
+{
     let area = raised(alloc, area)?;
     let mut lines = Vec::new(alloc);
-    print_messages(area.as_ref(), first, &base, &mut lines, out)?;
+    print_messages(area.as_ref(), first, base, &mut lines, out)?;
     push_base_total(&mut lines, base.len(), base.len() - base.cursor())?;
     print_rest(&mut lines, out)?;
     Ok(Status::Good)

@@ -1,15 +1,15 @@
-ghost use Rattle.std.specs.Prelude.{◌≡◌, ◌++◌, OnOk, IfErr};
+ghost use Rattle.std.specs.Prelude.{◌≡◌, ◌++◌, OnErr, OnOk, IfErr};
 ghost use Rattle.echo_status.specs.Devices.{output_of};
 ghost use Rattle.hex.specs.Hex.{decode_of};
 ghost use Rattle.echo_text.specs.Echo.{HasNoZero};
 ghost use Rattle.echo_status.specs.Ended.{IsOutOfMemory};
 ghost use Rattle.echo_print.specs.Said.{TextShown};
-ghost use Rattle.echo_reading.specs.Showing.{DecodeAnswers, PacketAnswers, PacketPasses, ShowAnswers, hex_text};
-ghost use Rattle.echo_print.specs.Shown.{MessageShown};
+ghost use Rattle.echo_reading.specs.Showing.{DecodeAnswers, MessagePasses, PacketAnswers, PacketPasses, ShowAnswers, hex_text};
+ghost use Rattle.echo_print.specs.Shown.{MessageShown, end_line, header_lines};
 ghost use Rattle.echo_print.specs.Pushed.{Pushes};
 
 use echo_device::Sink;
-use echo_packet::{Packed, PacketReader};
+use echo_packet::{Header, Packed, PacketReader};
 use echo_print::{push_echo, push_end, push_fields, push_header};
 use echo_status::{Fault, LIMITS, Status, pass_on, print_rest};
 use echo_text::{TextFault, view_text};
@@ -61,8 +61,7 @@ fn show_bytes<'a, W: Sink>(alloc: Global, bytes: &[u8], out: &mut W) -> Result<S
     answer
 }
 
-// Prints the lines of the packet, of which the last ones stay in `lines`. The lines of the header, of a
-// message and of the end are made by themselves first, so that out of memory adds none of them.
+// Prints the lines of the packet, of which the last ones stay in `lines`.
 fn show_packet<'a, W: Sink>(
     alloc: Global,
     bytes: &[u8],
@@ -72,21 +71,55 @@ fn show_packet<'a, W: Sink>(
     ensures { PacketPasses bytes.now lines.old.items lines.new.items (output_of W.contents W.failures W.holds out.old) (output_of W.contents W.failures W.holds out.new) result }
 {
     let mut reader = PacketReader::open(alloc, bytes, LIMITS)?;
-    let mut more = Vec::new(alloc);
-    push_header(alloc, &mut more, reader.header())?;
-    lines.append(&mut more)?;
+    add_header(alloc, lines, reader.header())?;
     let mut count = 0u64;
     let mut place = reader.place();
     'messages: while let Some(message) = reader.next()? {
         count += 1;
-        push_message(alloc, &mut more, count, place, &message)?;
-        lines.append(&mut more)?;
-        pass_on(lines, out)?;
+        pass_message(alloc, lines, count, place, &message, out)?;
         place = reader.place();
     }
-    push_end(&mut more, count, reader.place())?;
-    lines.append(&mut more)?;
+    add_end(alloc, lines, count, reader.place())?;
     Ok(Status::Good)
+}
+
+// Adds the lines of the header. They are made by themselves first, so that out of memory adds none of them.
+fn add_header(alloc: Global, lines: &mut Vec<u8>, header: &Header) -> Result<(), AllocError>
+    ensures lines { OnOk result (lines.new.items ≡ lines.old.items ++ header_lines header.now) }
+    ensures kept { OnErr result (lines.new.items ≡ lines.old.items) }
+{
+    let mut more = Vec::new(alloc);
+    push_header(alloc, &mut more, header)?;
+    lines.append(&mut more)?;
+    Ok(())
+}
+
+// Adds the line of the end, or nothing.
+fn add_end(alloc: Global, lines: &mut Vec<u8>, messages: u64, bytes: u64) -> Result<(), AllocError>
+    ensures lines { OnOk result (lines.new.items ≡ lines.old.items ++ end_line messages bytes) }
+    ensures kept { OnErr result (lines.new.items ≡ lines.old.items) }
+{
+    let mut more = Vec::new(alloc);
+    push_end(&mut more, messages, bytes)?;
+    lines.append(&mut more)?;
+    Ok(())
+}
+
+// Prints the lines of a message, of which the last ones stay in `lines`; out of memory adds none of them.
+fn pass_message<'a, W: Sink>(
+    alloc: Global,
+    lines: &mut Vec<u8>,
+    number: u64,
+    place: u64,
+    message: &Packed,
+    out: &mut W,
+) -> Result<(), Fault<'a>>
+    ensures { MessagePasses number place message.now lines.old.items lines.new.items (output_of W.contents W.failures W.holds out.old) (output_of W.contents W.failures W.holds out.new) result }
+{
+    let mut more = Vec::new(alloc);
+    push_message(alloc, &mut more, number, place, message)?;
+    lines.append(&mut more)?;
+    pass_on(lines, out)
 }
 
 // Adds the lines of a message, with what its text says.

@@ -1,6 +1,5 @@
 -- What was found by the bytes of link files, as what is found on these files.
 use Rattle.std.proofs.Common.{◌≡◌, ℕ, List, [], ◌∷◌, Option, refl, sym, ap, ◌∙◌}
-use Rattle.std.specs.Prelude.{IfSome}
 use Rattle.echo_links.specs.Links.{LinkFile, upper}
 use Rattle.echo_links.specs.LinkLines.{file_of}
 use Rattle.echo_net.specs.declared.verdict.NetFault.{NetFault}
@@ -9,12 +8,12 @@ use Rattle.echo_net.specs.declared.verdict.Verdict.TheVariants.{Yes, No}
 use Rattle.echo_net.specs.Faults.{IfNo, IsFirstFault}
 use Rattle.echo_why.specs.declared.shown.Shown.{Shown}
 use Rattle.echo_why.specs.Exact.{AlwaysHarms, LeadsNowhere}
-use Rattle.echo_why.specs.Found.{FindsHarm, FindsSome, IsShown}
+use Rattle.echo_why.specs.Found.{FindsHarm, FindsSome}
 use Rattle.echo_why.specs.Sources.{files_of}
 use Rattle.echo_status.specs.Inputs.{AreLinkFiles}
 use Rattle.echo_checking.specs.Checking.{IsCheckVerdict}
 use Rattle.echo_checking.proofs.Checks.{of_same}
-use Rattle.echo_rehearsing.specs.Explained.{IsExplained}
+use Rattle.echo_rehearsing.specs.Explained.{IsExplained, IsFoundFirst}
 
 -- what link files that were read say is what their bytes say
 pub given_files : (inputs : List (List ℕ)) (files : List LinkFile) → AreLinkFiles inputs files → files_of inputs ≡ files
@@ -29,12 +28,7 @@ of_no : (v : Verdict) (First Of : NetFault → Type 0) → IfNo v First → IfNo
 of_no (Yes systems links) First Of is more = tt
 of_no (No fault) First Of is more = more is
 
--- a run is found where it is promised, if the fault is the first
-pub record IsFoundFirst (files : List LinkFile) (tag : List ℕ) (verdict : Verdict) (found : Option Shown) : Type 0 where
-  pub shown : IfSome found (IsShown files tag)
-  pub exact : IfNo verdict (λ fault. IsFirstFault files tag fault → AlwaysHarms fault → FindsHarm found)
-  pub nowhere : IfNo verdict (λ fault. IsFirstFault files tag fault → LeadsNowhere files fault → FindsSome found)
-
+-- what was found, with what the verdict says
 pub was_explained : (tag t : List ℕ) (inputs : List (List ℕ)) (files : List LinkFile) (verdict : Verdict) (found : Option Shown) →
     AreLinkFiles inputs files → t ≡ upper tag → IsCheckVerdict files (upper tag) verdict → IsFoundFirst (files_of inputs) t verdict found →
     IsExplained files (upper tag) verdict found

@@ -1,5 +1,5 @@
 -- What `picture --why` answers, from what its parts do.
-use Rattle.std.proofs.Common.{◌≡◌, ℕ, List, [], ◌++◌, Option, refl, sym, ap, ◌∙◌}
+use Rattle.std.proofs.Common.{◌≡◌, ℕ, List, Option, refl, sym, ap, ◌∙◌}
 use Rattle.echo_links.specs.Links.{LinkFile, upper}
 use Rattle.echo_net.specs.declared.drawing.Crossing.{Crossing}
 use Rattle.echo_net.specs.declared.drawing.Drawing.{Drawing}
@@ -12,10 +12,10 @@ use Rattle.echo_status.specs.declared.status.Status.{Status}
 use Rattle.echo_checking.specs.Checking.{IsCheckVerdict, verdict_status}
 use Rattle.echo_status.specs.Inputs.{AreLinkFiles}
 use Rattle.echo_print.specs.Pictured.{picture_lines}
+use Rattle.echo_rehearsing.specs.Explained.{IsFoundFirst}
 use Rattle.echo_rehearsing.specs.PicturingWhy.{IsPicturedWhy}
 use Rattle.echo_checking.proofs.Checks.{good_is_yes, of_same, yes_is_good}
-use Rattle.echo_status.proofs.Lines.{alone}
-use Rattle.echo_rehearsing.proofs.Explaining.{IsFoundFirst, given_files, was_explained}
+use Rattle.echo_rehearsing.proofs.Explaining.{given_files, was_explained}
 
 -- what was judged, drawn and found of link files that were read
 pub record IsDrawnWhy (inputs : List (List ℕ)) (files : List LinkFile) (t : List ℕ) (verdict : Verdict) (drawing : Drawing) (found : Option Shown) : Type 0 where
@@ -24,10 +24,10 @@ pub record IsDrawnWhy (inputs : List (List ℕ)) (files : List LinkFile) (t : Li
   pub first : IsFoundFirst (files_of inputs) t verdict found
 
 -- its lines
-pub was_pictured_why : (tag t : List ℕ) (inputs : List (List ℕ)) (files : List LinkFile) (verdict : Verdict) (drawing : Drawing) (found : Option Shown) (crossings : List Crossing) (none lines : List ℕ) (status : Status)
-    → AreLinkFiles inputs files → t ≡ upper tag → IsDrawnWhy inputs files t verdict drawing found → crossings ≡ found_crossings (files_of inputs) t found → none ≡ []
-    → lines ≡ none ++ picture_lines t verdict drawing crossings → status ≡ verdict_status verdict → IsPicturedWhy tag inputs lines status
-was_pictured_why tag t inputs files verdict drawing found crossings none lines status are raised done crossed nothing whole ended =
+pub was_pictured_why : (tag t : List ℕ) (inputs : List (List ℕ)) (files : List LinkFile) (verdict : Verdict) (drawing : Drawing) (found : Option Shown) (crossings : List Crossing) (lines : List ℕ) (status : Status)
+    → AreLinkFiles inputs files → t ≡ upper tag → IsDrawnWhy inputs files t verdict drawing found → crossings ≡ found_crossings (files_of inputs) t found
+    → lines ≡ picture_lines t verdict drawing crossings → status ≡ verdict_status verdict → IsPicturedWhy tag inputs lines status
+was_pictured_why tag t inputs files verdict drawing found crossings lines status are raised done crossed whole ended =
     let same : files ≡ files = refl in
     let judged_upper : IsCheckVerdict files (upper tag) verdict = of_same (λ f u. IsCheckVerdict f u verdict) files files t (upper tag) same raised done.judged in
     let given = given_files inputs files are in
@@ -40,7 +40,7 @@ was_pictured_why tag t inputs files verdict drawing found crossings none lines s
       is_drawing = of_same (λ f u. IsDrawing f u verdict drawing) files files t (upper tag) same raised done.drawn;
       found = found;
       explained = was_explained tag t inputs files verdict found are raised judged_upper done.first;
-      printed = alone none lines (picture_lines t verdict drawing crossings) nothing whole
+      printed = whole
           ∙ ap (picture_lines t verdict drawing) crossed
           ∙ (λ i. picture_lines (raised i) verdict drawing (found_crossings (given i) (raised i) found));
       status_is = ended;

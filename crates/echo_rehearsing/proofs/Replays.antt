@@ -1,5 +1,5 @@
 -- What `replay` answers, from what its parts do.
-use Rattle.std.proofs.Common.{◌≡◌, ℕ, List, [], ◌++◌, length, map, sym, ap, subst, ◌∙◌, Ok}
+use Rattle.std.proofs.Common.{◌≡◌, ℕ, List, [], ◌++◌, length, map, sym, ap, ◌∙◌, Ok}
 use Rattle.std.proofs.lemmas.List.{length-map}
 use Rattle.echo_links.specs.Links.{LinkFile}
 use Rattle.echo_run.specs.Event.{RunEvent, run_event}
@@ -11,7 +11,7 @@ use Rattle.echo_replay.specs.Worlds.{IsWorldOf, WorldState}
 use Rattle.echo_status.specs.declared.status.Status.{Status}
 use Rattle.echo_status.specs.declared.status.Status.TheVariants.{Good}
 use Rattle.echo_status.specs.Inputs.{AreLinkFiles}
-use Rattle.echo_rehearsing.specs.Replaying.{IsReplayed}
+use Rattle.echo_rehearsing.specs.Replaying.{AreWorldLines, IsReplayed}
 use Rattle.echo_rehearsing.specs.Replayed.{replay_lines}
 use Rattle.echo_status.proofs.Lines.{alone}
 
@@ -24,21 +24,24 @@ pub run_length : (files : List LinkFile) (events : List RunEvent) → length (ru
 run_length files events = sym (length-map (run_of files events).systems (λ (s : System). s.file)) ∙ ap length (run_files files events)
 
 -- the lines of what was replayed
-pub was_replayed : (script : List ℕ) (inputs : List (List ℕ)) (events es : List Event) (files : List LinkFile) (world : WorldState) (systems : ℕ)
-    (none lines : List ℕ) (status : Status) → ScriptOf script (Ok events) → AreLinkFiles inputs files → es ≡ events → systems ≡ length files
-    → IsWorldOf world (run_of files (map run_event es)) → none ≡ []
-    → ((run : Run) → IsWorldOf world run → length run.systems ≡ systems → lines ≡ none ++ replay_lines (map (λ (s : System). s.file) run.systems) run)
-    → status ≡ Good → IsReplayed script inputs lines status
-was_replayed script inputs events es files world systems none lines status script-of are same many is nothing pushed good =
+pub was_replayed : (script : List ℕ) (inputs : List (List ℕ)) (events : List Event) (files : List LinkFile) (world : WorldState) (systems : ℕ)
+    (lines : List ℕ) (status : Status) → ScriptOf script (Ok events) → AreLinkFiles inputs files → systems ≡ length files
+    → IsWorldOf world (run_of files (map run_event events)) → AreWorldLines systems world lines → status ≡ Good → IsReplayed script inputs lines status
+was_replayed script inputs events files world systems lines status script-of are many is printed good =
     let run : Run = run_of files (map run_event events) in
-    let is-run : IsWorldOf world run = subst (λ (e : List Event). IsWorldOf world (run_of files (map run_event e))) same is in
     record {
       events = events;
       are_events = script-of;
       files = files;
       are_files = are;
-      printed = alone none lines (replay_lines files run) nothing
-          (pushed run is-run (run_length files (map run_event events) ∙ sym many)
-          ∙ ap (λ (f : List LinkFile). none ++ replay_lines f run) (run_files files (map run_event events)));
+      printed = printed run is (run_length files (map run_event events) ∙ sym many)
+          ∙ ap (λ (f : List LinkFile). replay_lines f run) (run_files files (map run_event events));
       status_is = good;
     }
+
+-- lines behind no others
+pub world_alone : (systems : ℕ) (world : WorldState) (none lines : List ℕ) → none ≡ []
+    → ((run : Run) → IsWorldOf world run → length run.systems ≡ systems → lines ≡ none ++ replay_lines (map (λ (s : System). s.file) run.systems) run)
+    → AreWorldLines systems world lines
+world_alone systems world none lines nothing pushed =
+    λ run is many. alone none lines (replay_lines (map (λ (s : System). s.file) run.systems) run) nothing (pushed run is many)

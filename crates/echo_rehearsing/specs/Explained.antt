@@ -2,7 +2,7 @@
 use Rattle.std.specs.Prelude.{ℕ, List, Option, IfSome}
 use Rattle.echo_links.specs.Links.{LinkFile}
 use Rattle.echo_net.specs.declared.verdict.Verdict.{Verdict}
-use Rattle.echo_net.specs.Faults.{IfNo}
+use Rattle.echo_net.specs.Faults.{IfNo, IsFirstFault}
 use Rattle.echo_why.specs.declared.shown.Shown.{Shown}
 use Rattle.echo_why.specs.Exact.{AlwaysHarms, LeadsNowhere}
 use Rattle.echo_why.specs.Found.{FindsHarm, FindsSome, IsShown}
@@ -12,3 +12,9 @@ pub record IsExplained (files : List LinkFile) (tag : List ℕ) (verdict : Verdi
   pub shown : IfSome found (IsShown files tag)
   pub exact : IfNo verdict (λ fault. AlwaysHarms fault → FindsHarm found)
   pub nowhere : IfNo verdict (λ fault. LeadsNowhere files fault → FindsSome found)
+
+-- A run is found where it is promised, if the fault is the first.
+pub record IsFoundFirst (files : List LinkFile) (tag : List ℕ) (verdict : Verdict) (found : Option Shown) : Type 0 where
+  pub shown : IfSome found (IsShown files tag)
+  pub exact : IfNo verdict (λ fault. IsFirstFault files tag fault → AlwaysHarms fault → FindsHarm found)
+  pub nowhere : IfNo verdict (λ fault. IsFirstFault files tag fault → LeadsNowhere files fault → FindsSome found)

@@ -3,18 +3,20 @@ use Rattle.std.specs.Prelude.{◌≡◌, ℕ, ◌↔◌, List, Option, None, Res
 use Rattle.echo_status.specs.Devices.{Output}
 use Rattle.echo_links.specs.Links.{LinkFile, upper}
 use Rattle.echo_run.specs.Tidy.{Tidy}
+use Rattle.echo_net.specs.declared.drawing.Crossing.{Crossing}
 use Rattle.echo_net.specs.declared.drawing.Drawing.{Drawing}
 use Rattle.echo_net.specs.declared.verdict.Verdict.{Verdict}
 use Rattle.echo_net.specs.Drawn.{IsDrawing}
 use Rattle.echo_why.specs.declared.shown.Shown.{Shown}
 use Rattle.echo_why.specs.Carrying.{found_crossings}
+use Rattle.echo_why.specs.Sources.{files_of}
 use Rattle.echo_status.specs.declared.fault.Fault.{Fault}
 use Rattle.echo_status.specs.declared.status.Status.{Status}
 use Rattle.echo_status.specs.declared.status.Status.TheVariants.{Good}
 use Rattle.echo_status.specs.Ended.{Answers}
 use Rattle.echo_status.specs.Inputs.{AreLinkFiles, IsFirstFaultGiven}
 use Rattle.echo_print.specs.Pictured.{picture_lines}
-use Rattle.echo_rehearsing.specs.Explained.{IsExplained}
+use Rattle.echo_rehearsing.specs.Explained.{IsExplained, IsFoundFirst}
 use Rattle.echo_checking.specs.Checking.{IsCheckVerdict, verdict_status}
 
 -- The link files have no fault; these lines draw the area of the tag in upper case, with what the verdict on it names marked. Where a run is shown that goes wrong, the links by which its message comes to the system that the harm names are labelled. The status is that of `check`.
@@ -30,6 +32,11 @@ pub record IsPicturedWhy (tag : List ℕ) (inputs : List (List ℕ)) (lines : Li
   pub printed : lines ≡ picture_lines (upper tag) verdict drawing (found_crossings files (upper tag) found)
   pub status_is : status ≡ verdict_status verdict
   pub tidy : (status ≡ Good) ↔ Tidy files (upper tag)
+
+-- the links that are labelled are those of a run that was found
+abbrev pub AreCrossings : List (List ℕ) → List ℕ → Verdict → List Crossing → Type 0
+AreCrossings inputs tag verdict crossings =
+    (found : Option Shown) × IsFoundFirst (files_of inputs) tag verdict found × (crossings ≡ found_crossings (files_of inputs) tag found)
 
 -- what is answered where an area is to be drawn going wrong
 abbrev pub PictureWhyAnswers : List ℕ → List (List ℕ) → Option Fault → Output → Output → Result Status Fault → Type 0

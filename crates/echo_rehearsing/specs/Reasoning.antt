@@ -26,6 +26,11 @@ pub record IsReasoned (tag : List ℕ) (inputs : List (List ℕ)) (lines : List 
   pub status_is : status ≡ verdict_status verdict
   pub tidy : (status ≡ Good) ↔ Tidy files (upper tag)
 
+-- what is answered where a verdict and what was found are to be printed
+abbrev pub PrintsWhy : List ℕ → Verdict → Option Shown → Output → Output → Result Status Fault → Type 0
+PrintsWhy tag verdict found old new answer =
+    Answers (λ lines status. (lines ≡ why_lines tag verdict found) × (status ≡ verdict_status verdict)) (λ fault. ⊥) old new answer
+
 -- what is answered where an area is to be shown going wrong
 abbrev pub WhyAnswers : List ℕ → List (List ℕ) → Option Fault → Output → Output → Result Status Fault → Type 0
 WhyAnswers tag inputs stopped old new answer =

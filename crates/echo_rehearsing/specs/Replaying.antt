@@ -1,12 +1,13 @@
 -- What `replay` answers.
-use Rattle.std.specs.Prelude.{◌≡◌, ℕ, ◌⊎◌, List, map, Option, Some, None, Result, Ok, Err}
+use Rattle.std.specs.Prelude.{◌≡◌, ℕ, ◌⊎◌, List, length, map, Option, Some, None, Result, Ok, Err}
 use Rattle.echo_status.specs.Devices.{Output}
 use Rattle.echo_links.specs.Links.{LinkFile}
 use Rattle.echo_run.specs.declared.event.Event.{Event}
 use Rattle.echo_run.specs.Event.{run_event}
-use Rattle.echo_run.specs.Run.{run_of}
+use Rattle.echo_run.specs.Run.{Run, System, run_of}
 use Rattle.echo_replay.specs.declared.script.ScriptFault.TheVariants.{Line}
 use Rattle.echo_replay.specs.Script.{ScriptOf}
+use Rattle.echo_replay.specs.Worlds.{IsWorldOf, WorldState}
 use Rattle.echo_status.specs.declared.fault.Fault.{Fault}
 use Rattle.echo_status.specs.declared.fault.Fault.TheVariants.{ScriptLine}
 use Rattle.echo_status.specs.declared.status.Status.{Status}
@@ -34,6 +35,16 @@ IsFirstFaultReplayed script inputs stopped fault =
     IsScriptFault script fault
     ⊎ (((events : List Event) × ScriptOf script (Ok events) × IsLinkFault inputs fault)
     ⊎ ((events : List Event) × (files : List LinkFile) × ScriptOf script (Ok events) × AreLinkFiles inputs files × (stopped ≡ Some fault)))
+
+-- the lines are those of each run of so many systems that the net shows
+abbrev pub AreWorldLines : ℕ → WorldState → List ℕ → Type 0
+AreWorldLines systems world lines =
+    (run : Run) → IsWorldOf world run → length run.systems ≡ systems → lines ≡ replay_lines (map (λ (s : System). s.file) run.systems) run
+
+-- what is answered where a net is to be printed
+abbrev pub PrintsWorld : ℕ → WorldState → Output → Output → Result Status Fault → Type 0
+PrintsWorld systems world old new answer =
+    Answers (λ lines status. AreWorldLines systems world lines × (status ≡ Good)) (λ fault. ⊥) old new answer
 
 -- what is answered where a script is to be replayed
 abbrev pub ReplayAnswers : List ℕ → List (List ℕ) → Option Fault → Output → Output → Result Status Fault → Type 0

@@ -1,14 +1,18 @@
 //! What `picture --why` answers.
+ghost use Rattle.std.specs.Prelude.{◌≡◌, ℕ, IfOk, List, None};
+ghost use Rattle.echo_links.specs.Links.{upper};
 ghost use Rattle.echo_status.specs.Devices.{output_of};
-ghost use Rattle.echo_rehearsing.specs.PicturingWhy.{PictureWhyAnswers};
+ghost use Rattle.echo_status.specs.Inputs.{AreLinkFiles};
+ghost use Rattle.echo_rehearsing.specs.PicturingWhy.{AreCrossings, PictureWhyAnswers};
 
 use echo_addr::Items;
-use echo_checking::status_of;
+use echo_checking::print_picture;
 use echo_device::Sink;
-use echo_print::push_picture;
-use echo_status::{Fault, Status, link_files, print_rest};
+use echo_links::LinkFile;
+use echo_net::{Crossing, Verdict};
+use echo_status::{Fault, Status, link_files};
 use echo_why::{crossings, explain};
-use std::alloc::Global;
+use std::alloc::{AllocError, Global};
 use std::hash::RandomState;
 
 /// `picture --why TAG LINKS...`: prints the graph that `picture` prints, with the run that `why` finds shown on
@@ -31,12 +35,37 @@ pub fn picture_why<'a, W: Sink>(
         return Err(fault);
     }
     let tag = tag.to_ascii_uppercase(alloc)?;
-    let verdict = echo_net::check(alloc, &links, &tag)?;
-    let drawing = echo_net::draw(alloc, &links, &tag, &verdict)?;
-    let found = explain(alloc, files, &tag, &verdict, hasher)?;
-    let crossings = crossings(alloc, files, &tag, found.as_ref(), hasher)?;
-    let mut lines = Vec::new(alloc);
-    push_picture(alloc, &mut lines, &tag, &verdict, &drawing, &crossings)?;
-    print_rest(&mut lines, out)?;
-    Ok(status_of(&verdict))
+    picture_why_read(alloc, &tag, files, &links, hasher, out)
+}
+
+// The same of link files that are read, and of the tag in upper case.
+fn picture_why_read<'a, W: Sink>(
+    alloc: Global,
+    tag: &[u8],
+    files: &[Items<u8>],
+    links: &[LinkFile],
+    hasher: RandomState,
+    out: &mut W,
+) -> Result<Status, Fault<'a>>
+    ensures { (given : List ℕ) → AreLinkFiles files.now links.now → tag.now ≡ upper given
+        → PictureWhyAnswers given files.now None (output_of W.contents W.failures W.holds out.old) (output_of W.contents W.failures W.holds out.new) result }
+{
+    let verdict = echo_net::check(alloc, links, tag)?;
+    let drawing = echo_net::draw(alloc, links, tag, &verdict)?;
+    let crossings = crossings_found(alloc, tag, files, &verdict, hasher)?;
+    print_picture(alloc, tag, &verdict, &drawing, &crossings, out)
+}
+
+// The links by which the message of the run that `why` finds comes to the system that the harm names.
+fn crossings_found(
+    alloc: Global,
+    tag: &[u8],
+    files: &[Items<u8>],
+    verdict: &Verdict,
+    hasher: RandomState,
+) -> Result<Vec<Crossing>, AllocError>
+    ensures { IfOk result (λ all. AreCrossings files.now tag.now verdict.now all.items) }
+{
+    let found = explain(alloc, files, tag, verdict, hasher)?;
+    crossings(alloc, files, tag, found.as_ref(), hasher)
 }

@@ -1,13 +1,18 @@
 //! What `why` answers.
+ghost use Rattle.std.specs.Prelude.{◌≡◌, ℕ, List, None, option_copied};
+ghost use Rattle.echo_links.specs.Links.{upper};
 ghost use Rattle.echo_status.specs.Devices.{output_of};
-ghost use Rattle.echo_rehearsing.specs.Reasoning.{WhyAnswers};
+ghost use Rattle.echo_status.specs.Inputs.{AreLinkFiles};
+ghost use Rattle.echo_rehearsing.specs.Reasoning.{PrintsWhy, WhyAnswers};
 
 use crate::why_text::push_why;
 use echo_addr::Items;
 use echo_checking::status_of;
 use echo_device::Sink;
+use echo_links::LinkFile;
+use echo_net::Verdict;
 use echo_status::{Fault, Status, link_files, print_rest};
-use echo_why::explain;
+use echo_why::{Shown, explain};
 use std::alloc::Global;
 use std::hash::RandomState;
 
@@ -32,10 +37,38 @@ pub fn why<'a, W: Sink>(
         return Err(fault);
     }
     let tag = tag.to_ascii_uppercase(alloc)?;
-    let verdict = echo_net::check(alloc, &links, &tag)?;
-    let found = explain(alloc, files, &tag, &verdict, hasher)?;
+    why_read(alloc, &tag, files, &links, hasher, out)
+}
+
+// The same of link files that are read, and of the tag in upper case.
+fn why_read<'a, W: Sink>(
+    alloc: Global,
+    tag: &[u8],
+    files: &[Items<u8>],
+    links: &[LinkFile],
+    hasher: RandomState,
+    out: &mut W,
+) -> Result<Status, Fault<'a>>
+    ensures { (given : List ℕ) → AreLinkFiles files.now links.now → tag.now ≡ upper given
+        → WhyAnswers given files.now None (output_of W.contents W.failures W.holds out.old) (output_of W.contents W.failures W.holds out.new) result }
+{
+    let verdict = echo_net::check(alloc, links, tag)?;
+    let found = explain(alloc, files, tag, &verdict, hasher)?;
+    print_why(alloc, tag, &verdict, found.as_ref(), out)
+}
+
+// Prints the verdict and what is shown beside it. The status is that of the verdict.
+fn print_why<'a, W: Sink>(
+    alloc: Global,
+    tag: &[u8],
+    verdict: &Verdict,
+    found: Option<&Shown>,
+    out: &mut W,
+) -> Result<Status, Fault<'a>>
+    ensures { PrintsWhy tag.now verdict.now (option_copied found.entry) (output_of W.contents W.failures W.holds out.old) (output_of W.contents W.failures W.holds out.new) result }
+{
     let mut lines = Vec::new(alloc);
-    push_why(&mut lines, &tag, &verdict, found.as_ref())?;
+    push_why(&mut lines, tag, verdict, found)?;
     print_rest(&mut lines, out)?;
-    Ok(status_of(&verdict))
+    Ok(status_of(verdict))
 }

@@ -1,14 +1,16 @@
 //! What `replay` answers.
-ghost use Rattle.std.specs.Prelude.{◌≡◌, ◌⊎◌, Ok, IfErr, IfOk};
+ghost use Rattle.std.specs.Prelude.{◌≡◌, ◌⊎◌, ℕ, List, None, Ok, IfErr, IfOk};
 ghost use Rattle.echo_status.specs.Devices.{output_of};
 ghost use Rattle.echo_status.specs.Ended.{IsOutOfMemory};
-ghost use Rattle.echo_rehearsing.specs.Replaying.{IsScriptFault, ReplayAnswers};
+ghost use Rattle.echo_status.specs.Inputs.{AreLinkFiles};
+ghost use Rattle.echo_rehearsing.specs.Replaying.{IsScriptFault, PrintsWorld, ReplayAnswers};
 ghost use Rattle.echo_replay.specs.Script.{ScriptOf};
 
 use crate::replay_text::push_world;
 use echo_addr::Items;
 use echo_device::Sink;
-use echo_replay::{ScriptFault, Telling, read_script, replay_told};
+use echo_links::LinkFile;
+use echo_replay::{ScriptFault, Telling, World, read_script, replay_told};
 use echo_run::Event;
 use echo_status::{Fault, Status, link_files, print_rest};
 use std::alloc::Global;
@@ -35,10 +37,37 @@ pub fn replay<'a, T: Telling, W: Sink>(
     if let Some(fault) = stopped {
         return Err(fault);
     }
+    replay_read(alloc, links, &events, hasher, told, out)
+}
+
+// The same of inputs that are read.
+fn replay_read<'a, T: Telling, W: Sink>(
+    alloc: Global,
+    links: Vec<LinkFile>,
+    events: &[Event],
+    hasher: RandomState,
+    told: &T,
+    out: &mut W,
+) -> Result<Status, Fault<'a>>
+    ensures { (script : List ℕ) → (inputs : List (List ℕ)) → ScriptOf script (Ok events.now) → AreLinkFiles inputs links.items
+        → ReplayAnswers script inputs None (output_of W.contents W.failures W.holds out.old) (output_of W.contents W.failures W.holds out.new) result }
+{
     let systems = links.len();
-    let world = replay_told(alloc, links, &events, hasher, told)?;
+    let world = replay_told(alloc, links, events, hasher, told)?;
+    print_world(alloc, systems, &world, out)
+}
+
+// Prints the lines of a net of so many systems.
+fn print_world<'a, W: Sink>(
+    alloc: Global,
+    systems: usize,
+    world: &World,
+    out: &mut W,
+) -> Result<Status, Fault<'a>>
+    ensures { PrintsWorld systems world.now (output_of W.contents W.failures W.holds out.old) (output_of W.contents W.failures W.holds out.new) result }
+{
     let mut lines = Vec::new(alloc);
-    push_world(&mut lines, systems, &world)?;
+    push_world(&mut lines, systems, world)?;
     print_rest(&mut lines, out)?;
     Ok(Status::Good)
 }

@@ -227,53 +227,94 @@ fn why_words<'a>(matches: &ArgMatches<'a>, links: Paths<'a>) -> Option<Words<'a>
 }
 
 fn post_words<'a>(matches: &ArgMatches<'a>) -> Option<Words<'a>> {
+    let texts = texts_in(matches)?;
+    let stated = stated_in(matches)?;
     Some(Words::Post(PostWords {
+        area: texts.area,
+        to: texts.to,
+        from: texts.from,
+        subject: texts.subject,
+        serial: stated.serial,
+        at: stated.at,
+        reply: matches.get_str("reply"),
+        links: stated.links,
+        base: stated.base,
+    }))
+}
+
+// The words that a message is written of.
+#[derive(Clone, Copy)]
+struct Texts<'a> {
+    area: &'a str,
+    to: &'a str,
+    from: &'a str,
+    subject: &'a str,
+}
+
+fn texts_in<'a>(matches: &ArgMatches<'a>) -> Option<Texts<'a>> {
+    Some(Texts {
         area: matches.get_str("area")?,
         to: matches.get_str("to")?,
         from: matches.get_str("from")?,
         subject: matches.get_str("subject")?,
+    })
+}
+
+// The words that state when and where a message is posted.
+#[derive(Clone, Copy)]
+struct Stated<'a> {
+    serial: &'a str,
+    at: &'a str,
+    links: &'a str,
+    base: &'a str,
+}
+
+fn stated_in<'a>(matches: &ArgMatches<'a>) -> Option<Stated<'a>> {
+    Some(Stated {
         serial: matches.get_str("serial")?,
         at: matches.get_str("at")?,
-        reply: matches.get_str("reply"),
         links: matches.get_str("LINKS")?,
         base: matches.get_str("BASE")?,
-    }))
+    })
 }
 
 fn post_mail_words<'a>(matches: &ArgMatches<'a>) -> Option<Words<'a>> {
+    let stated = stated_in(matches)?;
     Some(Words::PostMail(PostMailWords {
         charset: matches.get_str("charset"),
         area: matches.get_str("area"),
         to: matches.get_str("to"),
         from: matches.get_str("from"),
         subject: matches.get_str("subject"),
-        serial: matches.get_str("serial")?,
-        at: matches.get_str("at")?,
+        serial: stated.serial,
+        at: stated.at,
         reply: matches.get_str("reply"),
-        links: matches.get_str("LINKS")?,
-        base: matches.get_str("BASE")?,
+        links: stated.links,
+        base: stated.base,
     }))
 }
 
 fn post_stored_words<'a>(matches: &ArgMatches<'a>) -> Option<Words<'a>> {
+    let stated = stated_in(matches)?;
     Some(Words::PostStored(PostStoredWords {
         area: matches.get_str("area")?,
-        serial: matches.get_str("serial")?,
-        at: matches.get_str("at")?,
+        serial: stated.serial,
+        at: stated.at,
         message: matches.get_str("msg")?,
-        links: matches.get_str("LINKS")?,
-        base: matches.get_str("BASE")?,
+        links: stated.links,
+        base: stated.base,
     }))
 }
 
 fn reply_words<'a>(matches: &ArgMatches<'a>) -> Option<Words<'a>> {
+    let stated = stated_in(matches)?;
     Some(Words::Reply(ReplyWords {
         from: matches.get_str("from")?,
-        serial: matches.get_str("serial")?,
-        at: matches.get_str("at")?,
+        serial: stated.serial,
+        at: stated.at,
         index: matches.get_str("I")?,
-        links: matches.get_str("LINKS")?,
-        base: matches.get_str("BASE")?,
+        links: stated.links,
+        base: stated.base,
     }))
 }
 

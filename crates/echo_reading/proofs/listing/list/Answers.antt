@@ -1,44 +1,4 @@
-use Rattle.std.proofs.Common.{◌∙◌, inl, inr}
-use Rattle.std.proofs.lemmas.Result.{err_from_is_err_and}
-use Rattle.echo_status.specs.Devices.{output_of}
-use Rattle.echo_reading.proofs.Listings.{base_listed, base_unlisted, listing_begun}
 use Rattle.echo_reading.proofs.listing.list.Goals as goal
 
-pub returns-in_err-print_messages : goal.returns-in_err-print_messages
-returns-in_err-print_messages g c =
-    let p = err_from_is_err_and c.from_residual-in_err-print_messages.result c.from_residual-in_err-print_messages.ensures.1 in
-    let e = c.in_err-print_messages.ensures in
-    rw (p.1, p.2) (inl (
-      e.err,
-      listing_begun _ _ c.args.first _ c.in_ok-base.base.messages c.in_ok-base.base.cursor _ (output_of g.W.Write.contents g.W.Sink.failures g.W.Sink.holds c.args.out.now) (output_of g.W.Write.contents g.W.Sink.failures g.W.Sink.holds c.print_messages.new.out)
-          c.in_ok-base.ensures.ok (c.as_ref.ensures.value ∙ c.in_ok-area.ensures) c.new-lines.ensures.items e.begun,
-    ))
-
-pub returns-in_err-push_base_total : goal.returns-in_err-push_base_total
-returns-in_err-push_base_total g c =
-    let p = err_from_is_err_and c.from_residual-in_err-push_base_total.result c.from_residual-in_err-push_base_total.ensures.1 in
-    let e = c.in_ok-print_messages.ensures in
-    rw (p.1, p.2) (inl (
-      inr (tt, e.ok),
-      listing_begun _ _ c.args.first _ c.in_ok-base.base.messages c.in_ok-base.base.cursor _ (output_of g.W.Write.contents g.W.Sink.failures g.W.Sink.holds c.args.out.now) (output_of g.W.Write.contents g.W.Sink.failures g.W.Sink.holds c.print_messages.new.out)
-          c.in_ok-base.ensures.ok (c.as_ref.ensures.value ∙ c.in_ok-area.ensures) c.new-lines.ensures.items (record { rest = c.print_messages.new.lines.items; passed = e.lines }),
-    ))
-
-pub returns-in_err-print_rest : goal.returns-in_err-print_rest
-returns-in_err-print_rest g c =
-    let p = err_from_is_err_and c.from_residual-in_err-print_rest.result c.from_residual-in_err-print_rest.ensures.1 in
-    rw (p.1, p.2)
-    (base_unlisted _ _ c.args.first _ c.in_ok-base.base.messages c.in_ok-base.base.cursor c.len.result c.len-2.result c.cursor.result _ _ _
-    (output_of g.W.Write.contents g.W.Sink.failures g.W.Sink.holds c.args.out.now) (output_of g.W.Write.contents g.W.Sink.failures g.W.Sink.holds c.print_messages.new.out)
-    (output_of g.W.Write.contents g.W.Sink.failures g.W.Sink.holds c.print_rest.new.out) c.in_err-print_rest.field-0.0 c.in_ok-base.ensures.ok
-    (c.as_ref.ensures.value ∙ c.in_ok-area.ensures) c.new-lines.ensures.items c.in_ok-print_messages.ensures.lines c.len.ensures.count c.len-2.ensures.count
-    c.cursor.ensures.cursor c.in_ok-push_base_total.ensures c.in_err-print_rest.ensures.begun c.in_ok-print_messages.ensures.ok c.in_err-print_rest.ensures.err)
-
 pub returns : goal.returns
-returns g c =
-    base_listed _ _ c.args.first _ c.in_ok-base.base.messages c.in_ok-base.base.cursor c.len.result c.len-2.result c.cursor.result _ _ _
-    (output_of g.W.Write.contents g.W.Sink.failures g.W.Sink.holds c.args.out.now) (output_of g.W.Write.contents g.W.Sink.failures g.W.Sink.holds c.print_messages.new.out)
-    (output_of g.W.Write.contents g.W.Sink.failures g.W.Sink.holds c.print_rest.new.out) c.in_ok-base.ensures.ok
-    (c.as_ref.ensures.value ∙ c.in_ok-area.ensures) c.new-lines.ensures.items c.in_ok-print_messages.ensures.lines c.len.ensures.count c.len-2.ensures.count
-    c.cursor.ensures.cursor c.in_ok-push_base_total.ensures c.in_ok-print_rest.ensures.bytes c.in_ok-print_messages.ensures.ok
-    (c.in_ok-print_rest.ensures.ok, c.in_ok-print_rest.ensures.passed)
+returns g c = c.list_read.ensures _ c.in_ok-base.ensures.ok

@@ -1,5 +1,5 @@
 -- The lines of the messages so far are on their way.
-use Rattle.std.proofs.Common.{◌≡◌, [], length}
+use Rattle.std.proofs.Common.{◌≡◌, length}
 use Rattle.echo_reading.proofs.Printed.{HasPrinted}
 use Rattle.echo_reading.proofs.showing.show_packet.Given as goal
 
@@ -7,7 +7,6 @@ abbrev pub invariant-messages : goal.invariant-messages
 invariant-messages g l = record {
   printed : HasPrinted l.bytes l.reader.source.now l.reader.header l.reader.limits l.reader.given l.reader.place l.reader.stage l.fn.lines.items l.lines.items (g.W.Write.contents l.fn.out) (g.W.Write.contents l.out) l.count l.place;
   failed : g.W.Sink.failures l.out ≡ g.W.Sink.failures l.fn.out;
-  empty : l.more.items ≡ [];
 }
 
 abbrev pub decreases-messages : goal.decreases-messages

@@ -1,70 +1,11 @@
-use Rattle.std.proofs.Common.{◌≡◌, ◌++◌, ℕ, List, inl, refl, subst}
-use Rattle.std.proofs.lemmas.Result.{err_from_is_err_and}
-use Rattle.echo_links.specs.Links.{LinkFile}
-use Rattle.echo_net.specs.Drawn.{IsDrawing}
-use Rattle.echo_net.specs.declared.drawing.Crossing.{Crossing}
-use Rattle.echo_why.specs.Carrying.{found_crossings}
-use Rattle.echo_why.specs.Sources.{files_of}
-use Rattle.echo_print.specs.Pictured.{picture_lines}
-use Rattle.echo_checking.specs.Checking.{IsCheckVerdict, verdict_status}
-use Rattle.echo_checking.proofs.Checks.{of_same}
-use Rattle.echo_rehearsing.proofs.Explaining.{IsFoundFirst}
-use Rattle.echo_rehearsing.proofs.PicturesWhy.{was_pictured_why}
+use Rattle.std.proofs.Common.{Option, subst, sym}
+use Rattle.echo_status.specs.declared.fault.Fault.{Fault}
+use Rattle.echo_status.specs.Devices.{output_of}
+use Rattle.echo_rehearsing.specs.PicturingWhy.{PictureWhyAnswers}
 use Rattle.echo_rehearsing.proofs.picturing_why.picture_why.Goals as goal
-
-pub returns-in_err-print_rest : goal.returns-in_err-print_rest
-returns-in_err-print_rest g c =
-    let p = err_from_is_err_and c.from_residual-in_err-print_rest.result c.from_residual-in_err-print_rest.ensures.1 in
-    let files : List LinkFile = c.in_ok-links.links.items in
-    let tag : List ℕ = c.in_ok-tag.tag.items in
-    let verdict = c.in_ok-verdict.verdict in
-    let drawing = c.in_ok-drawing.drawing in
-    let found = c.in_ok-found.found in
-    let crossed : List Crossing = c.in_ok-crossings.crossings.items in
-    let judging = c.in_ok-verdict.ensures in
-    let judged = of_same (λ f t. IsCheckVerdict f t verdict) c.deref.result.now files c.deref-2.result.now tag c.deref.ensures.value c.deref-2.ensures.value
-    (record { tidy = judging.tidy; counted = judging.counted; first = judging.first }) in
-    let drawn = of_same (λ f t. IsDrawing f t verdict drawing) c.deref-3.result.now files c.deref-4.result.now tag c.deref-3.ensures.value c.deref-4.ensures.value
-    c.in_ok-drawing.ensures in
-    let first = subst (λ (t : List ℕ). IsFoundFirst (files_of c.args.files.now) t verdict found) c.deref-5.ensures.value
-    (record { shown = c.in_ok-found.ensures.shown; exact = c.in_ok-found.ensures.exact; nowhere = c.in_ok-found.ensures.nowhere }) in
-    let are_crossed = subst (λ (t : List ℕ). crossed ≡ found_crossings (files_of c.args.files.now) t found) c.deref-6.ensures.value
-    (rw c.as_ref.ensures.value at c.in_ok-crossings.ensures) in
-    let of_tag = subst (λ (t : List ℕ). c.push_picture.new.lines.items ≡ c.new-lines.result.items ++ picture_lines t verdict drawing c.deref-8.result.now) c.deref-7.ensures.value
-    c.in_ok-push_picture.ensures in
-    let lines = subst (λ (cs : List Crossing). c.push_picture.new.lines.items ≡ c.new-lines.result.items ++ picture_lines tag verdict drawing cs) c.deref-8.ensures.value of_tag in
-    let right = was_pictured_why c.args.tag.now tag c.args.files.now files verdict drawing found crossed _ _ (verdict_status verdict) c.in_ok-links.ensures.ok c.in_ok-tag.ensures.ok
-    (record { judged = judged; drawn = drawn; first = first }) are_crossed c.new-lines.ensures.items lines refl in
-    rw (p.1, p.2) (inl (
-      c.in_err-print_rest.ensures.err,
-      record { lines = c.push_picture.new.lines.items; answer = verdict_status verdict; right = (right, c.in_default.is); begun = c.in_err-print_rest.ensures.begun },
-    ))
 
 pub returns : goal.returns
 returns g c =
-    let files : List LinkFile = c.in_ok-links.links.items in
-    let tag : List ℕ = c.in_ok-tag.tag.items in
-    let verdict = c.in_ok-verdict.verdict in
-    let drawing = c.in_ok-drawing.drawing in
-    let found = c.in_ok-found.found in
-    let crossed : List Crossing = c.in_ok-crossings.crossings.items in
-    let judging = c.in_ok-verdict.ensures in
-    let judged = of_same (λ f t. IsCheckVerdict f t verdict) c.deref.result.now files c.deref-2.result.now tag c.deref.ensures.value c.deref-2.ensures.value
-    (record { tidy = judging.tidy; counted = judging.counted; first = judging.first }) in
-    let drawn = of_same (λ f t. IsDrawing f t verdict drawing) c.deref-3.result.now files c.deref-4.result.now tag c.deref-3.ensures.value c.deref-4.ensures.value
-    c.in_ok-drawing.ensures in
-    let first = subst (λ (t : List ℕ). IsFoundFirst (files_of c.args.files.now) t verdict found) c.deref-5.ensures.value
-    (record { shown = c.in_ok-found.ensures.shown; exact = c.in_ok-found.ensures.exact; nowhere = c.in_ok-found.ensures.nowhere }) in
-    let are_crossed = subst (λ (t : List ℕ). crossed ≡ found_crossings (files_of c.args.files.now) t found) c.deref-6.ensures.value
-    (rw c.as_ref.ensures.value at c.in_ok-crossings.ensures) in
-    let of_tag = subst (λ (t : List ℕ). c.push_picture.new.lines.items ≡ c.new-lines.result.items ++ picture_lines t verdict drawing c.deref-8.result.now) c.deref-7.ensures.value
-    c.in_ok-push_picture.ensures in
-    let lines = subst (λ (cs : List Crossing). c.push_picture.new.lines.items ≡ c.new-lines.result.items ++ picture_lines tag verdict drawing cs) c.deref-8.ensures.value of_tag in
-    let right = was_pictured_why c.args.tag.now tag c.args.files.now files verdict drawing found crossed _ _ c.status_of.result c.in_ok-links.ensures.ok c.in_ok-tag.ensures.ok
-    (record { judged = judged; drawn = drawn; first = first }) are_crossed c.new-lines.ensures.items lines c.status_of.ensures in
-    record {
-      lines = c.push_picture.new.lines.items;
-      right = (right, c.in_default.is);
-      written = c.in_ok-print_rest.ensures.bytes;
-      flushed = (c.in_ok-print_rest.ensures.ok, c.in_ok-print_rest.ensures.passed);
-    }
+    let answered = rw (c.deref.ensures.value, c.deref-2.ensures.value) at c.picture_why_read.ensures in
+    subst (λ (s : Option Fault). PictureWhyAnswers c.args.tag.now c.args.files.now s (output_of g.W.Write.contents g.W.Sink.failures g.W.Sink.holds c.args.out.now) (output_of g.W.Write.contents g.W.Sink.failures g.W.Sink.holds c.picture_why_read.new.out) c.picture_why_read.result)
+    (sym c.in_default.is) (answered _ c.in_ok-links.ensures.ok c.in_ok-tag.ensures.ok)

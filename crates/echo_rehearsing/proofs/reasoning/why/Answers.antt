@@ -1,49 +1,11 @@
-use Rattle.std.proofs.Common.{◌≡◌, ◌++◌, ℕ, List, inl, refl, subst}
-use Rattle.std.proofs.lemmas.Result.{err_from_is_err_and}
-use Rattle.echo_links.specs.Links.{LinkFile}
-use Rattle.echo_rehearsing.specs.Whys.{why_lines}
-use Rattle.echo_why.specs.Sources.{files_of}
-use Rattle.echo_checking.specs.Checking.{IsCheckVerdict, verdict_status}
-use Rattle.echo_checking.proofs.Checks.{of_same}
-use Rattle.echo_rehearsing.proofs.Explaining.{IsFoundFirst}
-use Rattle.echo_rehearsing.proofs.Reasons.{was_reasoned}
+use Rattle.std.proofs.Common.{Option, subst, sym}
+use Rattle.echo_status.specs.declared.fault.Fault.{Fault}
+use Rattle.echo_status.specs.Devices.{output_of}
+use Rattle.echo_rehearsing.specs.Reasoning.{WhyAnswers}
 use Rattle.echo_rehearsing.proofs.reasoning.why.Goals as goal
-
-pub returns-in_err-print_rest : goal.returns-in_err-print_rest
-returns-in_err-print_rest g c =
-    let p = err_from_is_err_and c.from_residual-in_err-print_rest.result c.from_residual-in_err-print_rest.ensures.1 in
-    let files : List LinkFile = c.in_ok-links.links.items in
-    let tag : List ℕ = c.in_ok-tag.tag.items in
-    let verdict = c.in_ok-verdict.verdict in
-    let judging = c.in_ok-verdict.ensures in
-    let judged = of_same (λ f t. IsCheckVerdict f t verdict) c.deref.result.now files c.deref-2.result.now tag c.deref.ensures.value c.deref-2.ensures.value
-    (record { tidy = judging.tidy; counted = judging.counted; first = judging.first }) in
-    let first = subst (λ (t : List ℕ). IsFoundFirst (files_of c.args.files.now) t verdict c.in_ok-found.found) c.deref-3.ensures.value
-    (record { shown = c.in_ok-found.ensures.shown; exact = c.in_ok-found.ensures.exact; nowhere = c.in_ok-found.ensures.nowhere }) in
-    let lines = subst (λ (t : List ℕ). c.push_why.new.lines.items ≡ c.new-lines.result.items ++ why_lines t verdict c.in_ok-found.found) c.deref-4.ensures.value (rw c.as_ref.ensures.value at c.in_ok-push_why.ensures) in
-    let right = was_reasoned c.args.tag.now tag c.args.files.now files verdict c.in_ok-found.found _ _ (verdict_status verdict) c.in_ok-links.ensures.ok c.in_ok-tag.ensures.ok judged first
-    c.new-lines.ensures.items lines refl in
-    rw (p.1, p.2) (inl (
-      c.in_err-print_rest.ensures.err,
-      record { lines = c.push_why.new.lines.items; answer = verdict_status verdict; right = (right, c.in_default.is); begun = c.in_err-print_rest.ensures.begun },
-    ))
 
 pub returns : goal.returns
 returns g c =
-    let files : List LinkFile = c.in_ok-links.links.items in
-    let tag : List ℕ = c.in_ok-tag.tag.items in
-    let verdict = c.in_ok-verdict.verdict in
-    let judging = c.in_ok-verdict.ensures in
-    let judged = of_same (λ f t. IsCheckVerdict f t verdict) c.deref.result.now files c.deref-2.result.now tag c.deref.ensures.value c.deref-2.ensures.value
-    (record { tidy = judging.tidy; counted = judging.counted; first = judging.first }) in
-    let first = subst (λ (t : List ℕ). IsFoundFirst (files_of c.args.files.now) t verdict c.in_ok-found.found) c.deref-3.ensures.value
-    (record { shown = c.in_ok-found.ensures.shown; exact = c.in_ok-found.ensures.exact; nowhere = c.in_ok-found.ensures.nowhere }) in
-    let lines = subst (λ (t : List ℕ). c.push_why.new.lines.items ≡ c.new-lines.result.items ++ why_lines t verdict c.in_ok-found.found) c.deref-4.ensures.value (rw c.as_ref.ensures.value at c.in_ok-push_why.ensures) in
-    let right = was_reasoned c.args.tag.now tag c.args.files.now files verdict c.in_ok-found.found _ _ c.status_of.result c.in_ok-links.ensures.ok c.in_ok-tag.ensures.ok judged first
-    c.new-lines.ensures.items lines c.status_of.ensures in
-    record {
-      lines = c.push_why.new.lines.items;
-      right = (right, c.in_default.is);
-      written = c.in_ok-print_rest.ensures.bytes;
-      flushed = (c.in_ok-print_rest.ensures.ok, c.in_ok-print_rest.ensures.passed);
-    }
+    let answered = rw (c.deref.ensures.value, c.deref-2.ensures.value) at c.why_read.ensures in
+    subst (λ (s : Option Fault). WhyAnswers c.args.tag.now c.args.files.now s (output_of g.W.Write.contents g.W.Sink.failures g.W.Sink.holds c.args.out.now) (output_of g.W.Write.contents g.W.Sink.failures g.W.Sink.holds c.why_read.new.out) c.why_read.result)
+    (sym c.in_default.is) (answered _ c.in_ok-links.ensures.ok c.in_ok-tag.ensures.ok)
