@@ -5,8 +5,9 @@
 set -u
 cd "$(dirname "$0")/.." || exit 3
 mkdir -p bin/edits
+top=$PWD
 room=$(mktemp -d "$PWD/bin/edits/XXXXXX")
-export room
+export room top
 trap 'rm -rf "$room"' EXIT
 trap 'exit 3' HUP INT TERM
 
@@ -16,7 +17,7 @@ try() {
   rm -rf "$room/$1/crates/$1/must-fail"
   cp -al "edits/$1" "$room/$1/crates/$1/must-fail"
   cp HANDLES "$room/$1"
-  (cd "$room/$1" && rt must-fail "$1") > "$room/$1.log" 2>&1
+  (cd "$room/$1" && "$top/scripts/rt.py" must-fail "$1") > "$room/$1.log" 2>&1
   cat "$room/$1.log"
   rm -rf "${room:?}/$1"
 }

@@ -36,10 +36,10 @@ renice -n "$spare" $$ > /dev/null 2>&1
 
 begun=$SECONDS
 if [ "$kind" = run ]; then
-  (cd "$tree/crates/$name" && rt run --jobs "$jobs" -- "${@:3}") > "$log" 2>&1
+  (cd "$tree/crates/$name" && "$top/scripts/rt.py" run --jobs "$jobs" -- "${@:3}") > "$log" 2>&1
 else
   # Such a library holds what other crates can cite of it and no checked proofs, so the crates above it load less.
-  (cd "$tree/crates/$name" && rt lib --jobs "$jobs" --statements) > "$log" 2>&1
+  (cd "$tree/crates/$name" && "$top/scripts/rt.py" lib --jobs "$jobs" --statements) > "$log" 2>&1
 fi
 status=$?
 if [ $status -ne 0 ]; then
