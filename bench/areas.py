@@ -1,5 +1,5 @@
-"""How long `check --all` takes on a net of many areas, beside one reading of its link files, by processor time. A
-reading is `check` of an area that no file has, which reads them all and judges nothing. The areas are trees
+"""How long `check --all` takes on a net of many areas, by processor time. The yardstick is one reading of its link
+files: `check` of an area that no file has, which reads them all and judges nothing. The areas are trees
 of ten of all systems, and the files come in no order.
 
 Words: AREAS SYSTEMS (300 1000). ECHONET names the program, bin/echonet without it.

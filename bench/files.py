@@ -1,5 +1,5 @@
-"""How long commands take of link files and of scripts: processor time of three runs and the most memory, and beside
-them `cat` over the same files.
+"""How long commands take of link files and of scripts: processor time of three runs and the most memory. The yardstick
+is `cat` over the same files.
 
 Words: pairs of a name and a size; with none, those of SIZES. ECHONET names the program, bin/echonet without it.
 

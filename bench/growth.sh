@@ -1,10 +1,10 @@
 #!/usr/bin/env bash
-# How the cost of the commands grows with the base: time, processor time and memory of loading it (a
-# posting that is refused), `list` of the last ten messages, a posting that is filed, tossing a packet of a hundred
-# messages, scanning these to two links, purging all, and loading what is purged, and how many times those of the size
-# before each is. Time without waiting for the disk is the processor time. Each is run three times on the same base, and
-# the middle one by its processor time is told. The yardstick is `sum -s` over the base file, or over the keys of the
-# folder. Words: the sizes; with none, 1,000 to 1,000,000 messages of 1.2 kB. With `purged` before the sizes, the bases
+# How the cost of the commands grows with the base. The rows: loading it (a posting that is refused), `list` of the last
+# ten messages, a posting that is filed, tossing a packet of a hundred messages, scanning these to two links, purging all,
+# and loading what is purged. Each has time, processor time and memory, and how many times those of the size before.
+# Each is run three times on the same base, and the middle one by its processor time is printed. That time has no wait for
+# the disk in it. The yardstick is `sum -s` over the base file, or over the keys of the folder.
+# Words: the sizes; with none, 1,000 to 1,000,000 messages of 1.2 kB. With `purged` before the sizes, the bases
 # have purged messages alone; then the largest with no words is 10,000,000. With `folders` before all of that the bases
 # are folders.
 set -eu

@@ -1,7 +1,7 @@
 #!/usr/bin/env bash
-# How long `nodelist` takes of a list of many entries, printed and looked through, and of one long note: the processor
-# time and the rate of the middle one of three runs by it, and the memory. The first line states a wrong checksum, so
-# that it is taken; in a bare list it states none. The yardstick is `cksum` over the same bytes.
+# How long `nodelist` takes of a list of many entries, printed and looked through, and of one long note. Each row has the
+# processor time of the middle one of three runs by it, the rate, and the memory. The first line states a wrong checksum,
+# so that it is taken; in a bare list it states none. The yardstick is `cksum` over the same bytes.
 # Words: how many entries, how many bytes the note has.
 set -eu
 cd "$(dirname "$0")/.."
