@@ -58,7 +58,7 @@ fn texts(alloc: Global, count: usize) -> Result<Vec<Text>> {
 }
 
 /// The bytes that were read or written, and a sum: of the entries in them, or of the bytes.
-#[derive(Clone, Copy, Debug, Default)]
+#[derive(Clone, Copy)]
 struct Totals {
     bytes: u64,
     sum: u64,
@@ -122,7 +122,7 @@ fn read_all(alloc: Global, kind: &str, texts: &[Text], totals: &mut Totals) -> R
 }
 
 fn work(alloc: Global, kind: &str, texts: &[Text], rounds: usize) -> Result<Totals> {
-    let mut totals = Totals::default();
+    let mut totals = Totals { bytes: 0, sum: 0 };
     if kind == "write" {
         write_all(alloc, &echoes(alloc, texts)?, rounds, &mut totals)?;
     } else {

@@ -4,8 +4,8 @@
 //! the system of index I goes to FOLDER/I.base, the bytes of packet K to FOLDER/K.pkt, both from 0; how
 //! many there are and their bytes are printed. Without words a small net is replayed, and nothing is
 //! written.
-use anyhow::Result;
-use echo_device::Watched;
+use anyhow::{Result, bail};
+use echo_device::{Sink, Watched};
 use echo_links::LinkFile;
 use echo_replay::{World, read_script, replay};
 use std::alloc::Global;
@@ -20,14 +20,18 @@ const FILES: [&[u8]; 2] = [
 
 const SCRIPT: &[u8] = b"POST 0 TEST 00000001 Hello\nSCAN 0\nDELIVER 0\n";
 
-/// The base file of the system, none where there is no such system.
-fn base_of(alloc: Global, world: &World, system: usize) -> Result<Option<Vec<u8>>> {
+fn save<W: Sink>(world: &World, system: usize, writer: &mut W) -> Result<()> {
+    match world.save(system, writer) {
+        Some(saved) => Ok(saved?),
+        None => bail!("no such system"),
+    }
+}
+
+/// The base file of the system.
+fn base_of(alloc: Global, world: &World, system: usize) -> Result<Vec<u8>> {
     let mut writer = Watched::new(Vec::new(alloc));
-    let Some(saved) = world.save(system, &mut writer) else {
-        return Ok(None);
-    };
-    saved?;
-    Ok(Some(writer.into_inner()))
+    save(world, system, &mut writer)?;
+    Ok(writer.into_inner())
 }
 
 /// Writes the bytes to a file of the folder, where there is one, and answers how many they are.
@@ -43,10 +47,9 @@ fn put(rt: &HostRuntime, folder: Option<&String>, name: &String, bytes: &[u8]) -
 fn put_bases(rt: &HostRuntime, folder: Option<&String>, world: &World) -> Result<u64> {
     let mut all = 0u64;
     for system in 0..world.systems() {
-        if let Some(bytes) = base_of(rt.alloc(), world, system)? {
-            let name = format!(in rt.alloc(); "{system}.base")?;
-            all = all.wrapping_add(put(rt, folder, &name, &bytes)?);
-        }
+        let bytes = base_of(rt.alloc(), world, system)?;
+        let name = format!(in rt.alloc(); "{system}.base")?;
+        all = all.wrapping_add(put(rt, folder, &name, &bytes)?);
     }
     Ok(all)
 }
