@@ -1,8 +1,14 @@
-"""How long `check` takes of link files that are named by a list, and `replay` of one packet that comes again and again:
-processor time of three runs and the most memory, and beside them `cat` over the same files.
+"""How long commands take of link files and of scripts: processor time of three runs and the most memory. The yardstick
+is `cat` over the same files.
 
-Words: the systems of a tree of ten, those of a polygon, how often the packet comes (100000 2000 100000). ECHONET names
-the program, bin/echonet without it.
+Words: pairs of a name and a size; with none, those of SIZES. ECHONET names the program, bin/echonet without it.
+
+    star, chain, tree, polygons   `check` of a net of so many systems, a tree of ten, a chain of polygons of ten
+    polygon                       `check` of so many systems that are all linked with each other
+    areas, links                  `links` of a link file of so many areas, of one area of so many links
+    again                         `replay` of one packet of a thousand messages that comes so often
+    postings                      `replay` of so many postings at one system
+    rounds                        `replay` of so many messages, each of which goes through a tree of ten of 1,000 systems
 """
 import os
 import shutil
@@ -12,94 +18,113 @@ import tempfile
 TOP = os.path.dirname(os.path.dirname(os.path.abspath(__file__)))
 sys.path.insert(0, os.path.join(TOP, "trials"))
 import making
+import nets
 import running
 
 PROGRAM = os.environ.get("ECHONET", os.path.join(TOP, "bin", "echonet"))
 ROUNDS = 3
-EACH = 1000  # files of a folder
-POSTINGS = 1000
+SIZES = ["star", 100000, "chain", 100000, "tree", 100000, "polygons", 100000, "polygon", 2000, "areas", 40000,
+         "links", 80000, "again", 1, "again", 100000, "postings", 100000, "rounds", 1000]
 
 
-def address(number):
-    """The address of a system."""
-    return 1, 1 + number // 30000, 1 + number % 30000
+def put(path, content):
+    """Writes a file, and answers its path."""
+    with open(path, "wb") as file:
+        file.write(content)
+    return path
 
 
-def tree(number, count):
-    """The links of a system in a tree of ten."""
-    up = [(number - 1) // 10] if number else []
-    return up + [other for other in range(10 * number + 1, 10 * number + 11) if other < count]
-
-
-def polygon(number, count):
-    """The links of a system that all others are linked with."""
-    return [other for other in range(count) if other != number]
-
-
-def put_net(folder, links, count):
+def put_net(folder, links):
     """Writes the link files of a net, and a list of their paths, which it answers."""
-    names = os.path.join(folder, "names")
-    with open(names, "w") as listed:
-        for number in range(count):
-            place = os.path.join(folder, "%d" % (number // EACH))
-            if number % EACH == 0:
-                os.makedirs(place)
-            path = os.path.join(place, "%d.links" % number)
-            with open(path, "wb") as file:
-                file.write(making.link_file(address(number), [("TEST", [address(other) for other in links(number, count)])]))
-            listed.write(path + "\n")
-    return names
+    names, _ = nets.write_net(folder, links)
+    paths = [os.path.join(folder, name) for name in names]
+    return put(os.path.join(folder, "names"), "".join(path + "\n" for path in paths).encode())
 
 
-def tell(what, words):
-    """Runs the words some times and prints what they take."""
-    spent, most = [], 0
-    for _ in range(ROUNDS):
-        status, seconds, kilobytes, fault = running.measured(words)
-        if status != 0:
-            raise SystemExit("%s ended with %d, %s" % (what, status, fault))
-        spent.append(seconds)
-        most = max(most, kilobytes)
-    print("%-44s %8.3f to %8.3f s, %9d kB" % (what, min(spent), max(spent), most), flush=True)
+def runs(wanted, *words):
+    """The seconds of processor time and the kilobytes of some runs, in order."""
+    ended = [running.measured(words) for _ in range(ROUNDS)]
+    for status, _, _, fault in ended:
+        if status != wanted:
+            raise SystemExit("%s ended with %d, %s" % (words[:2], status, fault))
+    return sorted((seconds, kilobytes) for _, seconds, kilobytes, _ in ended)
 
 
-def net(kind, links, count):
-    """Measures `check` of a net of so many systems."""
-    top = tempfile.mkdtemp()
-    try:
-        names = put_net(top, links, count)
-        tell("cat of the files of a %s of %d" % (kind, count), ["xargs", "-a", names, "cat"])
-        tell("check of a %s of %d" % (kind, count), [PROGRAM, "check", "--links-from", names, "TEST"])
-    finally:
-        shutil.rmtree(top)
+def tree(count):
+    """The links of a tree: ten systems below each."""
+    return nets.linked(count, (((number - 1) // 10, number) for number in range(1, count)))
+
+
+def polygon(count):
+    """The links of systems that are all linked with each other."""
+    return nets.linked(count, ((one, other) for one in range(count) for other in range(one)))
+
+
+def check(make):
+    """The yardstick and the command of a row of such nets."""
+    def row(top, size):
+        names = put_net(os.path.join(top, "net"), make(size))
+        return ["xargs", "-a", names, "cat"], [PROGRAM, "check", "--links-from", names, "TEST"]
+    return row
+
+
+def links(areas_of):
+    """Those of a row of one link file with such areas."""
+    def row(top, size):
+        path = put(os.path.join(top, "one.links"), making.link_file(nets.address(0), areas_of(size)))
+        return ["cat", path], [PROGRAM, "links", path]
+    return row
+
+
+def replay(systems, lines_of):
+    """Those of a row of such a script, on a tree of ten."""
+    def row(top, size):
+        names = put_net(os.path.join(top, "net"), tree(systems))
+        script = put(os.path.join(top, "script"), "".join(lines_of(size)).encode())
+        return ["cat", script], [PROGRAM, "replay", "--links-from", names, script]
+    return row
+
+
+def postings(count):
+    """So many postings at the first system."""
+    return ["POST 0 TEST %08x\n" % serial for serial in range(1, count + 1)]
 
 
 def again(times):
-    """Measures `replay` of a packet of some messages that comes so often."""
-    top = tempfile.mkdtemp()
-    try:
-        paths = []
-        for number in (0, 1):
-            paths.append(os.path.join(top, "%d.links" % number))
-            with open(paths[-1], "wb") as file:
-                file.write(making.link_file(address(number), [("TEST", [address(1 - number)])]))
-        script = os.path.join(top, "script")
-        with open(script, "w") as file:
-            file.writelines("POST 0 TEST %08x\n" % serial for serial in range(1, POSTINGS + 1))
-            file.write("SCAN 0\n" + "DELIVER 0\n" * times)
-        tell("cat of a script of %d deliveries" % times, ["cat", script])
-        tell("replay of these, of one packet", [PROGRAM, "replay", script, *paths])
-    finally:
-        shutil.rmtree(top)
+    """The lines of a packet that comes so often."""
+    return postings(1000) + ["SCAN 0\n"] + ["DELIVER 0\n"] * times
+
+
+def rounds(messages):
+    """Postings, each of which goes through all of a thousand systems: the packet to a system comes after that to the
+    one before it."""
+    for message, posting in enumerate(postings(messages)):
+        yield posting + "SCAN 0\n"
+        for system in range(1, 1000):
+            yield "DELIVER %d\nSCAN %d\n" % (999 * message + system - 1, system)
+
+
+ROWS = {
+    "star": check(nets.star), "chain": check(nets.chain), "tree": check(tree), "polygons": check(nets.polygons),
+    "polygon": check(polygon),
+    "areas": links(lambda count: [("AREA.%d" % number, [nets.address(1)]) for number in range(count)]),
+    "links": links(lambda count: [("TEST", [nets.address(number) for number in range(1, count + 1)])]),
+    "again": replay(2, again), "postings": replay(1, postings), "rounds": replay(1000, rounds)}
 
 
 def main(words):
-    """Measures all of it."""
-    systems, linked, times = [int(word) for word in words] or (100000, 2000, 100000)
-    net("tree of ten", tree, systems)
-    net("polygon", polygon, linked)
-    again(1)
-    again(times)
+    """Measures the rows of these names and sizes."""
+    words = words or SIZES
+    for name, size in zip(words[::2], words[1::2]):
+        top = tempfile.mkdtemp()
+        try:
+            yardstick, command = ROWS[name](top, int(size))
+            for what, line in ("cat", yardstick), (command[1], command):
+                taken = runs(0, *line)
+                print("%-8s %8s  %-6s %8.3f to %8.3f s, %9d kB" % (
+                    name, size, what, taken[0][0], taken[-1][0], max(kilobytes for _, kilobytes in taken)), flush=True)
+        finally:
+            shutil.rmtree(top)
 
 
 if __name__ == "__main__":

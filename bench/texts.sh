@@ -1,15 +1,22 @@
-#!/bin/sh
-# How fast echomail texts of about 1,200 bytes are taken apart and written, beside a plain sum over the
-# same bytes. Needs the built crates/bench/out/bench. Words: how many texts, how many rounds.
-set -e
-. "$(dirname "$0")/rate.sh"
-program=$(dirname "$0")/../crates/bench/out/bench
+#!/usr/bin/env bash
+# How fast echomail texts of about 1,200 bytes are taken apart and written, by processor time: the middle one of three
+# runs, less that of making the texts. The yardstick is a plain sum over the same bytes. It needs the built
+# crates/bench/out/bench. Words: how many texts, how many rounds.
+set -eu
+cd "$(dirname "$0")/.."
+top=$PWD
+. bench/measure.sh
 count=${1:-2000}
-rounds=${2:-200}
+repeated=${2:-200}
+bench=$top/crates/bench/out/bench
+work_in "${TMPDIR:-/tmp}"
 
-# The time of making the texts is left out.
 for kind in view write sum; do
-  made=$(date +%s%N); "$program" texts $kind "$count" 0 > /dev/null; begin=$(date +%s%N)
-  told=$("$program" texts $kind "$count" "$rounds"); end=$(date +%s%N)
-  rate "$kind" "$(echo "$told" | cut -d ' ' -f 4)" $((begin + begin - made)) "$end"
+  bytes=$("$bench" texts $kind "$count" "$repeated" | cut -d ' ' -f 4)
+  for _ in $(seq $rounds); do
+    measure made 0 "$bench" texts $kind "$count" 0
+    measure $kind 0 "$bench" texts $kind "$count" "$repeated"
+  done
+  echo "$kind $bytes $(middle made) $(middle $kind)" | awk '{
+    printf "%-6s %8.0f MB/s\n", $1, $2 / 1e6 / ($6 - $3 + 0.0001) }'
 done

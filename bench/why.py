@@ -1,5 +1,5 @@
-"""How long `check` and `why` take on great nets with one loop, beside the yes of the same net without it, by
-processor time. For each net three figures: the yes of `check`, its no, which names the loop, and `why`,
+"""How long `check` and `why` take on great nets with a loop, beside the yes of the same net without its last
+links, by processor time. For each net three figures: the yes of `check`, its no, which names a loop, and `why`,
 each the middle one of three runs with the link files read, and how many times the yes the others take.
 
 Words: names of nets; with none, all but the rings. ECHONET names the program, bin/echonet without it.
@@ -11,16 +11,8 @@ import tempfile
 
 TOP = os.path.dirname(os.path.dirname(os.path.abspath(__file__)))
 sys.path.insert(0, os.path.join(TOP, "trials"))
-import making
-import running
-
-PROGRAM = os.environ.get("ECHONET", os.path.join(TOP, "bin", "echonet"))
-ROUNDS = 3
-
-
-def address(number):
-    """The address of a system."""
-    return 1, 10 + number // 1000, 1 + number % 1000
+import files
+import nets
 
 
 def tree(count):
@@ -31,7 +23,7 @@ def tree(count):
 def with_ring(links, count, at, size):
     """A ring of so many systems, of which the first is linked with `at`, after the others; and its last link."""
     ring = list(range(count, count + size))
-    return links + [(at, count)] + list(zip(ring, ring[1:])), (ring[-1], ring[0])
+    return links + [(at, count)] + list(zip(ring, ring[1:])), [(ring[-1], ring[0])]
 
 
 def tree_with_ring(count, size):
@@ -42,7 +34,7 @@ def tree_with_ring(count, size):
 
 def ring(count):
     """A chain whose ends are linked."""
-    return [(number, number + 1) for number in range(count - 1)], (count - 1, 0)
+    return [(number, number + 1) for number in range(count - 1)], [(count - 1, 0)]
 
 
 def hubs(count):
@@ -52,6 +44,20 @@ def hubs(count):
     return with_ring(links, 2 * count, 2 * count - 1, 4)
 
 
+def polygons(count):
+    """So many full polygons of ten in a chain, and a ring of four at the last system."""
+    links = [(9 * first + one, 9 * first + other) for first in range(count) for one in range(10) for other in range(one)]
+    return with_ring(links, 9 * count + 1, 9 * count, 4)
+
+
+def wheels(count):
+    """So many triangles with a common system, and in each a ring of four with two further systems, its last link apart."""
+    firsts = range(1, 4 * count, 4)
+    links = [link for one in firsts for link in (
+        (0, one), (0, one + 1), (one, one + 1), (one, one + 2), (one + 1, one + 3))]
+    return links, [(one + 2, one + 3) for one in firsts]
+
+
 NETS = {
     "tree-4": lambda: tree_with_ring(100000, 4),
     "tree-10": lambda: tree_with_ring(100000, 10),
@@ -59,52 +65,35 @@ NETS = {
     "hubs-50": lambda: hubs(50),
     "hubs-200": lambda: hubs(200),
     "hubs-400": lambda: hubs(400),
+    "star": lambda: with_ring([(0, number) for number in range(1, 100000)], 100000, 0, 4),
+    "polygons-444": lambda: polygons(444),
+    "polygons-1778": lambda: polygons(1778),
+    "polygons-11111": lambda: polygons(11111),
+    "wheels-1000": lambda: wheels(1000),
+    "wheels-10000": lambda: wheels(10000),
     "ring-1000": lambda: ring(1000),
     "ring-2000": lambda: ring(2000),
     "ring-4000": lambda: ring(4000),
 }
 
 
-def put_net(folder, links):
-    """Writes the link files of a net, and a list of their paths, which it answers."""
-    shutil.rmtree(folder, ignore_errors=True)
-    os.mkdir(folder)
-    listed = {}
-    for one, other in links:
-        listed.setdefault(one, []).append(address(other))
-        listed.setdefault(other, []).append(address(one))
-    paths = []
-    for number in sorted(listed):
-        paths.append(os.path.join(folder, "%d.links" % number))
-        with open(paths[-1], "wb") as file:
-            file.write(making.link_file(address(number), [("TEST", sorted(listed[number]))]))
-    names = os.path.join(folder, "names")
-    with open(names, "w") as file:
-        file.writelines(path + "\n" for path in paths)
-    return names, len(listed)
-
-
 def middle(wanted, *words):
     """The middle one of some runs, by its processor time, in seconds."""
-    spent = []
-    for _ in range(ROUNDS):
-        status, seconds, _, fault = running.measured([PROGRAM, *words])
-        if status != wanted:
-            raise SystemExit("%s ended with %d, %s" % (words[0], status, fault))
-        spent.append(seconds)
-    return sorted(spent)[ROUNDS // 2]
+    runs = files.runs(wanted, files.PROGRAM, *words)
+    return runs[len(runs) // 2][0]
 
 
 def measure(name, folder):
     """Prints the figures of a net."""
     links, last = NETS[name]()
-    names, count = put_net(folder, links)
+    count = 1 + max(map(max, links))
+    names = files.put_net(folder, nets.linked(count, links))
     yes = middle(0, "check", "--links-from", names, "TEST")
-    names, count = put_net(folder, links + [last])
+    names = files.put_net(folder, nets.linked(count, links + last))
     no = middle(1, "check", "--links-from", names, "TEST")
     why = middle(1, "why", "--links-from", names, "TEST")
-    print("%-10s %7d systems %7d links  yes %7.3f s, no %7.3f s (%4.1f), why %7.3f s (%4.1f)" % (
-        name, count, len(links) + 1, yes, no, no / yes, why, why / yes), flush=True)
+    print("%-14s %7d systems %7d links  yes %7.3f s, no %7.3f s (%4.1f), why %7.3f s (%4.1f)" % (
+        name, count, len(links + last), yes, no, no / yes, why, why / yes), flush=True)
 
 
 def main(words):

@@ -5,9 +5,8 @@
 //! a yardstick.
 ghost use Rattle.echo_text.specs.Echo.{HasNoZero};
 
-use crate::shared::{number, sum};
 use anyhow::{Context, Result, bail};
-use echo_text::{Echo, view_text, write_text};
+use echo_text::{Echo, read_text, view_text, write_text};
 use std::alloc::{AllocError, Global};
 
 /// How many lines the body has.
@@ -58,85 +57,97 @@ fn texts(alloc: Global, count: usize) -> Result<Vec<Text>> {
     Ok(texts)
 }
 
-/// What was done: texts, their bytes, the entries that they were taken apart into, and the sum of bytes.
-#[derive(Clone, Copy, Debug, Default)]
+/// The bytes that were read or written, and a sum: of the entries in them, or of the bytes.
+#[derive(Clone, Copy)]
 struct Totals {
-    texts: u64,
     bytes: u64,
-    entries: u64,
     sum: u64,
 }
 
 impl Totals {
-    fn add(&mut self, bytes: usize, entries: usize) {
-        self.texts = self.texts.wrapping_add(1);
+    fn add(&mut self, bytes: usize, sum: u64) {
         self.bytes = self.bytes.wrapping_add(bytes as u64);
-        self.entries = self.entries.wrapping_add(entries as u64);
+        self.sum = self.sum.wrapping_add(sum);
     }
 }
 
-fn view_all(alloc: Global, texts: &[Text], totals: &mut Totals) -> Result<()> {
-    for text in texts {
-        let (echo, dropped) = view_text(alloc, &text.bytes)?;
-        let entries = echo.seen.len().wrapping_add(echo.path.len());
-        totals.add(text.bytes.len(), entries.wrapping_add(dropped));
-    }
+fn view(alloc: Global, text: &Text, totals: &mut Totals) -> Result<()> {
+    let (echo, _) = view_text(alloc, &text.bytes)?;
+    totals.add(text.bytes.len(), echo.seen.len() as u64);
     Ok(())
+}
+
+fn write(alloc: Global, echo: &Echo, totals: &mut Totals) -> Result<()> {
+    let text = write_text(alloc, echo)?;
+    totals.add(text.len(), echo.seen.len() as u64);
+    Ok(())
+}
+
+fn add_bytes(text: &Text, totals: &mut Totals) {
+    let sum = text
+        .bytes
+        .iter()
+        .fold(0u64, |all, byte| all.wrapping_add(u64::from(*byte)));
+    totals.add(text.bytes.len(), sum);
 }
 
 fn echoes(alloc: Global, texts: &[Text]) -> Result<Vec<Echo>> {
     let mut echoes = Vec::new(alloc);
     for text in texts {
-        let (echo, _) = view_text(alloc, &text.bytes)?;
-        echoes.push(echo.into_echo(alloc)?)?;
+        let (echo, _) = read_text(alloc, &text.bytes)?;
+        echoes.push(echo)?;
     }
     Ok(echoes)
 }
 
-fn write_all(alloc: Global, echoes: &[Echo], totals: &mut Totals) -> Result<()> {
-    for echo in echoes {
-        let text = write_text(alloc, echo)?;
-        totals.add(text.len(), echo.seen.len());
+fn write_all(alloc: Global, echoes: &[Echo], rounds: usize, totals: &mut Totals) -> Result<()> {
+    for _ in 0..rounds {
+        for echo in echoes {
+            write(alloc, echo, totals)?;
+        }
     }
     Ok(())
 }
 
-fn sum_all(texts: &[Text], totals: &mut Totals) {
+/// Reads each text, or adds its bytes.
+fn read_all(alloc: Global, kind: &str, texts: &[Text], totals: &mut Totals) -> Result<()> {
     for text in texts {
-        totals.add(text.bytes.len(), 0);
-        totals.sum = totals.sum.wrapping_add(sum(&text.bytes));
+        match kind {
+            "view" => view(alloc, text, totals)?,
+            "sum" => add_bytes(text, totals),
+            _ => bail!("view, write or sum"),
+        }
+    }
+    Ok(())
+}
+
+fn work(alloc: Global, kind: &str, texts: &[Text], rounds: usize) -> Result<Totals> {
+    let mut totals = Totals { bytes: 0, sum: 0 };
+    if kind == "write" {
+        write_all(alloc, &echoes(alloc, texts)?, rounds, &mut totals)?;
+    } else {
+        for _ in 0..rounds {
+            read_all(alloc, kind, texts, &mut totals)?;
+        }
+    }
+    Ok(totals)
+}
+
+/// The number that a word says, or the one that stands where there is no word.
+fn number(word: Option<&String>, otherwise: usize) -> Result<usize> {
+    match word {
+        Some(word) => word.parse::<usize>().context("a number"),
+        None => Ok(otherwise),
     }
 }
 
 /// Runs the benchmark with the words that follow its name.
 pub(crate) fn run(rt: &HostRuntime, words: &[String]) -> Result<()> {
-    let mut totals = Totals::default();
     let kind = words.first().map_or("view", |word| word.as_str());
     let count = number(words.get(1), 16)?;
     let rounds = number(words.get(2), 1)?;
     let texts = texts(rt.alloc(), count)?;
-    match kind {
-        "view" => {
-            for _ in 0..rounds {
-                view_all(rt.alloc(), &texts, &mut totals)?;
-            }
-        }
-        "write" => {
-            let echoes = echoes(rt.alloc(), &texts)?;
-            for _ in 0..rounds {
-                write_all(rt.alloc(), &echoes, &mut totals)?;
-            }
-        }
-        "sum" => {
-            for _ in 0..rounds {
-                sum_all(&texts, &mut totals);
-            }
-        }
-        _ => bail!("view, write or sum"),
-    }
-    println!(rt;
-        "texts {} bytes {} entries {} sum {}",
-        totals.texts, totals.bytes, totals.entries, totals.sum
-    )?;
+    let totals = work(rt.alloc(), kind, &texts, rounds)?;
+    println!(rt; "texts {kind} bytes {} sum {}", totals.bytes, totals.sum)?;
     Ok(())
 }

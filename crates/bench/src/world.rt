@@ -4,8 +4,8 @@
 //! the system of index I goes to FOLDER/I.base, the bytes of packet K to FOLDER/K.pkt, both from 0; how
 //! many there are and their bytes are printed. Without words a small net is replayed, and nothing is
 //! written.
-use anyhow::Result;
-use echo_device::Watched;
+use anyhow::{Result, bail};
+use echo_device::{Sink, Watched};
 use echo_links::LinkFile;
 use echo_replay::{World, read_script, replay};
 use std::alloc::Global;
@@ -20,14 +20,18 @@ const FILES: [&[u8]; 2] = [
 
 const SCRIPT: &[u8] = b"POST 0 TEST 00000001 Hello\nSCAN 0\nDELIVER 0\n";
 
-/// The base file of the system, none where there is no such system.
-fn base_of(alloc: Global, world: &World, system: usize) -> Result<Option<Vec<u8>>> {
+fn save<W: Sink>(world: &World, system: usize, writer: &mut W) -> Result<()> {
+    match world.save(system, writer) {
+        Some(saved) => Ok(saved?),
+        None => bail!("no such system"),
+    }
+}
+
+/// The base file of the system.
+fn base_of(alloc: Global, world: &World, system: usize) -> Result<Vec<u8>> {
     let mut writer = Watched::new(Vec::new(alloc));
-    let Some(saved) = world.save(system, &mut writer) else {
-        return Ok(None);
-    };
-    saved?;
-    Ok(Some(writer.into_inner()))
+    save(world, system, &mut writer)?;
+    Ok(writer.into_inner())
 }
 
 /// Writes the bytes to a file of the folder, where there is one, and answers how many they are.
@@ -40,18 +44,12 @@ fn put(rt: &HostRuntime, folder: Option<&String>, name: &String, bytes: &[u8]) -
 }
 
 /// Writes the base files, and answers their bytes.
-fn put_bases(
-    rt: &HostRuntime,
-    folder: Option<&String>,
-    world: &World,
-    systems: usize,
-) -> Result<u64> {
+fn put_bases(rt: &HostRuntime, folder: Option<&String>, world: &World) -> Result<u64> {
     let mut all = 0u64;
-    for system in 0..systems {
-        if let Some(bytes) = base_of(rt.alloc(), world, system)? {
-            let name = format!(in rt.alloc(); "{system}.base")?;
-            all = all.wrapping_add(put(rt, folder, &name, &bytes)?);
-        }
+    for system in 0..world.systems() {
+        let bytes = base_of(rt.alloc(), world, system)?;
+        let name = format!(in rt.alloc(); "{system}.base")?;
+        all = all.wrapping_add(put(rt, folder, &name, &bytes)?);
     }
     Ok(all)
 }
@@ -68,42 +66,54 @@ fn put_packets(rt: &HostRuntime, folder: Option<&String>, world: &World) -> Resu
     Ok(all)
 }
 
-/// Replays the script on the net, and writes and prints what is left.
-fn leave(
-    rt: &HostRuntime,
-    folder: Option<&String>,
-    script: &[u8],
-    files: Vec<LinkFile>,
-) -> Result<()> {
-    let systems = files.len();
-    let events = read_script(rt.alloc(), script)?;
-    let world = replay(rt.alloc(), files, &events, RandomState::new(rt)?)?;
-    let bases = put_bases(rt, folder, &world, systems)?;
-    let packets = put_packets(rt, folder, &world)?;
+/// Writes and prints what is left after so many events.
+fn leave(rt: &HostRuntime, folder: Option<&String>, events: usize, world: &World) -> Result<()> {
+    let bases = put_bases(rt, folder, world)?;
+    let packets = put_packets(rt, folder, world)?;
     println!(rt;
-        "world {} events {systems} bases of {bases} bytes {} packets of {packets} bytes",
-        events.len(),
+        "world {events} events {} bases of {bases} bytes {} packets of {packets} bytes",
+        world.systems(),
         world.packets()
     )?;
     Ok(())
 }
 
+/// Replays the script on the net of these link files.
+fn run_on(
+    rt: &HostRuntime,
+    folder: Option<&String>,
+    script: &[u8],
+    files: Vec<LinkFile>,
+) -> Result<()> {
+    let events = read_script(rt.alloc(), script)?;
+    let world = replay(rt.alloc(), files, &events, RandomState::new(rt)?)?;
+    leave(rt, folder, events.len(), &world)
+}
+
+fn read_files(rt: &HostRuntime, paths: &[String]) -> Result<Vec<LinkFile>> {
+    let mut files = Vec::new(rt.alloc());
+    for path in paths {
+        let bytes = fs::read(rt, path.as_str())?;
+        files.push(LinkFile::read(rt.alloc(), &bytes)?)?;
+    }
+    Ok(files)
+}
+
+fn small_net(alloc: Global) -> Result<Vec<LinkFile>> {
+    let mut files = Vec::new(alloc);
+    for bytes in FILES {
+        files.push(LinkFile::read(alloc, bytes)?)?;
+    }
+    Ok(files)
+}
+
 /// Runs with the words that follow its name.
 pub(crate) fn run(rt: &HostRuntime, words: &[String]) -> Result<()> {
-    let mut files = Vec::new(rt.alloc());
     match words {
-        [folder, script, links @ ..] => {
-            for path in links {
-                let bytes = fs::read(rt, path.as_str())?;
-                files.push(LinkFile::read(rt.alloc(), &bytes)?)?;
-            }
-            leave(rt, Some(folder), &fs::read(rt, script.as_str())?, files)
+        [folder, path, links @ ..] => {
+            let script = fs::read(rt, path.as_str())?;
+            run_on(rt, Some(folder), &script, read_files(rt, links)?)
         }
-        _ => {
-            for bytes in FILES {
-                files.push(LinkFile::read(rt.alloc(), bytes)?)?;
-            }
-            leave(rt, None, SCRIPT, files)
-        }
+        _ => run_on(rt, None, SCRIPT, small_net(rt.alloc())?),
     }
 }
