@@ -7,7 +7,6 @@ use Rattle.echo_changing.specs.declared.posting.NewMessage.{NewMessage}
 use Rattle.echo_changing.specs.FreeSerial.{IsFirstFree, with_serial}
 use Rattle.echo_status.specs.Devices.{Output}
 use Rattle.echo_steps.specs.declared.draft.Draft.{Draft}
-use Rattle.echo_steps.specs.declared.stamp.Stamp.{Stamp}
 use Rattle.echo_steps.specs.Posting.{post_refusal, posted}
 use Rattle.echo_steps.specs.SystemState.{SystemState}
 use Rattle.echo_store.specs.Store.{StoreState, with_message}
