@@ -7,7 +7,7 @@ use echo_packet::Limits;
 use echo_status::Fault;
 use echo_steps::Stamp;
 use echo_store::PurgedStore;
-use echo_store_changing::{Stop, commit_on, post_on, purge_on, scan_on, toss_on};
+use echo_store_changing::{Post, Purge, Stop, StoreCommand, Toss, commit_on, scan_on};
 use std::alloc::Global;
 
 const STAMP: Stamp = Stamp {
@@ -65,7 +65,7 @@ pub(crate) fn run<T: PurgedStore>(
             scan_on(alloc, STAMP, links, store, &mut out)?;
             commit_on(store)
         }
-        Command::Purge => purge_on(alloc, store, &mut out),
+        Command::Purge => Purge.run(alloc, links, store, &mut out),
     }
 }
 
@@ -86,8 +86,13 @@ fn post<T: PurgedStore>(
         serial: (next(seed) % 6) as u32,
         stamp: STAMP,
     };
+    let mut post = Post {
+        words,
+        free: false,
+        body: b"Hello\n",
+    };
     let mut out = Watched::new(Vec::new(alloc));
-    post_on(alloc, words, links, store, b"Hello\n", &mut out)
+    post.run(alloc, links, store, &mut out)
 }
 
 fn toss<T: PurgedStore>(
@@ -101,17 +106,9 @@ fn toss<T: PurgedStore>(
     let first = packet(alloc, seed)?;
     let second = packet(alloc, next(seed))?;
     let both = [first.as_slice(), second.as_slice()];
-    let mut packets = both.as_slice();
+    let mut toss = Toss::new(Limits::NONE, false, both.as_slice());
     let mut out = Watched::new(Vec::new(alloc));
-    match toss_on(
-        alloc,
-        Limits::NONE,
-        false,
-        links,
-        store,
-        &mut packets,
-        &mut out,
-    )? {
+    match toss.run(alloc, links, store, &mut out)? {
         None => Ok(()),
         Some(_) => Err(Stop::Met(Fault::OutOfMemory)),
     }

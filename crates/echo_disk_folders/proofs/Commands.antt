@@ -15,9 +15,8 @@ use Rattle.echo_store_changing.specs.FreeSerial.{PostsFree, PostsFreeOn}
 use Rattle.echo_store_changing.specs.Posted.{Posts, PostsOn}
 use Rattle.echo_store_changing.specs.Purged.{HoldsOrPurges, Purges, PurgesOn}
 use Rattle.echo_store_changing.specs.Replied.{Replies, RepliesOn}
-use Rattle.echo_store_changing.specs.Tossed.{Tosses}
+use Rattle.echo_store_changing.specs.Tossed.{Tosses, TossesIn}
 use Rattle.echo_folder_changing.specs.Opening.{HaveFailed}
-use Rattle.echo_folder_changing.specs.Tossing.{TossesIn}
 use Rattle.echo_folder_stations.specs.OnStores.{IsFolderOf}
 use Rattle.echo_folder_stations.proofs.Postings.{posts-lead, purges-lead, replies-lead}
 use Rattle.echo_folder_stations.proofs.Tosses.{tosses-lead}

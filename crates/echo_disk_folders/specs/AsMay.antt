@@ -21,10 +21,9 @@ use Rattle.echo_store_changing.specs.FreeSerial.{PostsFree, PostsFreeOn}
 use Rattle.echo_store_changing.specs.Posted.{Posts, PostsOn}
 use Rattle.echo_store_changing.specs.Purged.{HoldsOrPurges, Purges, PurgesOn}
 use Rattle.echo_store_changing.specs.Replied.{Replies, RepliesOn}
-use Rattle.echo_store_changing.specs.Tossed.{Tosses}
+use Rattle.echo_store_changing.specs.Tossed.{Tosses, TossesIn}
 use Rattle.echo_folder_changing.specs.Opening.{HaveFailed}
 use Rattle.echo_folder_changing.specs.Running.{RunsIn}
-use Rattle.echo_folder_changing.specs.Tossing.{TossesIn}
 use Rattle.echo_disk_folders.specs.InFolders.{DoesAsMay, IsFolderAt}
 
 -- A command that makes bases of one, each of which a base file can say, and is run on the link file and the folder of this station does

@@ -9,9 +9,8 @@ use Rattle.echo_status.specs.declared.fault.Fault.{Fault}
 use Rattle.echo_status.specs.Devices.{Device, Output}
 use Rattle.echo_store.specs.Store.{StoreState}
 use Rattle.echo_store_changing.specs.Answered.{HasCommitted}
-use Rattle.echo_store_changing.specs.Tossed.{Tosses, TossesOn}
+use Rattle.echo_store_changing.specs.Tossed.{Tosses, TossesIn, TossesOn}
 use Rattle.echo_store_changing.specs.declared.stop.Stop.{Stop}
-use Rattle.echo_folder_changing.specs.Tossing.{TossesIn}
 
 module _ {R : Type 0} (noting : Bool) (limits : Limits) (device : R → Device) (file : LinkFile) (base : Base) (files left : List Coming) (old new : Output) (store : StoreState) where
   pub toss_answers : (result : Result (Option Fault) Stop) → TossesOn noting limits device file base files left old new result store → TossesIn noting limits device file base files left old new result

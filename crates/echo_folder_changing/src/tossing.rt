@@ -5,8 +5,7 @@ ghost use Rattle.echo_disk.specs.Runs.{ChangesNothing};
 ghost use Rattle.echo_folder.specs.Moments.{KeepsOutside};
 ghost use Rattle.echo_folder.specs.Opening.{AreAlone};
 ghost use Rattle.echo_status.specs.Devices.{device_of, output_of};
-ghost use Rattle.echo_store_changing.specs.Tossed.{Tosses};
-ghost use Rattle.echo_folder_changing.specs.Tossing.{TossesIn};
+ghost use Rattle.echo_store_changing.specs.Tossed.{Tosses, TossesIn};
 ghost use Rattle.echo_folder_changing.specs.Opening.{HaveFailed};
 ghost use Rattle.echo_folder_changing.specs.Running.{RunsIn};
 

@@ -3,3 +3,4 @@ pub mod Written
 pub mod CharsetLine
 pub mod Letter
 pub mod Mailed
+pub mod Posted

@@ -1,10 +1,10 @@
 //! A mail that is posted.
 ghost use Rattle.echo_status.specs.Devices.{output_of};
 ghost use Rattle.echo_changing.specs.Handed.{Handed};
-ghost use Rattle.echo_mailing.specs.Mailed.{MailAnswers, PostLeaves};
+ghost use Rattle.echo_mailing.specs.Mailed.{IsPosting, MailAnswers, PostLeaves};
 
 use crate::fault::LetterFault;
-use crate::letter::{Spare, letter_in};
+use crate::letter::{Letter, Spare, letter_in};
 use echo_changing::{Done, Given, NewMessage, post, post_free};
 use echo_charset::Charset;
 use echo_device::Sink;
@@ -35,7 +35,15 @@ pub fn post_mail<'a, S: BuildHasher + Drop, W: Sink>(
     ensures { MailAnswers asked.entry mail.now given.entry (output_of W.contents W.failures W.holds out.old) (output_of W.contents W.failures W.holds out.new) result }
 {
     let letter = letter_in(alloc, mail, asked.spare, asked.charset)?;
-    let words = NewMessage {
+    let words = words_of(&letter, asked);
+    Ok(post_as(alloc, asked.free, words, given, letter.body.as_slice(), out))
+}
+
+/// The words with which a letter is posted.
+pub(crate) fn words_of<'w>(letter: &'w Letter, asked: MailWords<'_>) -> NewMessage<'w>
+    ensures { IsPosting letter.now asked.entry result }
+{
+    NewMessage {
         tag: letter.tag.as_slice(),
         to_name: letter.to_name.as_slice(),
         from_name: letter.from_name.as_slice(),
@@ -43,8 +51,7 @@ pub fn post_mail<'a, S: BuildHasher + Drop, W: Sink>(
         reply: letter.reply.as_slice(),
         serial: asked.serial,
         stamp: asked.stamp,
-    };
-    Ok(post_as(alloc, asked.free, words, given, letter.body.as_slice(), out))
+    }
 }
 
 // Posts with the serial of the words, or with the first from that on that is free.

@@ -1,5 +1,5 @@
 -- What becomes of a store, and what a crash leaves of it, where a command changes it and then commits.
-use Rattle.std.proofs.Common.{◌≤◌, ℕ, List, inl, inr, ⊎_elim, Result, Ok, Err, refl, arith, ◌∙◌}
+use Rattle.std.proofs.Common.{◌≤◌, ℕ, Bool, true, false, List, inl, inr, ⊎_elim, Result, Ok, Err, refl, arith, ◌∙◌}
 use Rattle.std.specs.Prelude.{IfErr, OnOk}
 use Rattle.echo_base.specs.Base.{Base}
 use Rattle.echo_disk.specs.Disk.{Files, Honestly}
@@ -11,7 +11,7 @@ use Rattle.echo_store.proofs.Runs.{commits_none, looks_commit, same_twice}
 use Rattle.echo_store_changing.specs.declared.stop.Stop.{Stop}
 use Rattle.echo_store_changing.specs.declared.stop.Stop.TheVariants.{Met, Store}
 use Rattle.echo_store_changing.specs.Stops.{IsOfStore}
-use Rattle.echo_store_changing.specs.Answered.{CommitsNoneWhereMet, HasCommitted, LooksWhereMet, MayCommitWhereMet, MayMake, StandsForMade}
+use Rattle.echo_store_changing.specs.Answered.{CommitsNoneWhereMet, HasCommitted, LooksWhereMet, MayCommitWhereMet, MayMake, StandsForMade, StaysWhereMet}
 
 -- what stands beside the store through both
 pub kept_twice : (old mid new : StoreState) → IsSameStore old mid → KeepsBeside old mid → KeepsBeside mid new → KeepsBeside old new
@@ -25,16 +25,18 @@ kept_twice old mid new same first second =
       honest = λ is. first.honest (second.honest is);
     }
 
--- a look may be taken for a commit that did not come about
+-- where nothing was committed, a commit did not come about
+pub none_may : (old new : StoreState) → CommitsNothing old new → MayCommit old new
+none_may old new none = record {
+  any_moment = λ honest first next is h.
+      weaker_run old.disk new.disk (StandsBeside old first) (StandsForEither old first next) (none.any_moment honest first is) (λ c s. record { beside = s.beside; stands = inl s.stands });
+  beside = none.beside;
+  same = none.same;
+}
+
+-- a look commits nothing
 pub looks_may : (old new : StoreState) → old.is_ready → LooksOn old new → MayCommit old new
-looks_may old new ready looks =
-    let none = looks_commit old new ready looks in
-    record {
-      any_moment = λ honest first next is h.
-          weaker_run old.disk new.disk (StandsBeside old first) (StandsForEither old first next) (none.any_moment honest first is) (λ c s. record { beside = s.beside; stands = inl s.stands });
-      beside = none.beside;
-      same = none.same;
-    }
+looks_may old new ready looks = none_may old new (looks_commit old new ready looks)
 
 -- nothing is committed
 pub makes_none : (Makes : Base → Base → Type 0) (old new : StoreState) → CommitsNothing old new → MayMake Makes old new
@@ -110,6 +112,13 @@ pub may_after : {A : Type 0} (old mid new : StoreState) (result : Result A Stop)
 may_after old mid new (Ok value) may ready looks = tt
 may_after old mid new (Err (Met fault)) may ready looks = may_then_none old mid new may ready looks
 may_after old mid new (Err (Store cause)) may ready looks = tt
+
+-- where a command met a fault, at most what was held before was committed, whichever command it is
+pub stays_may : {A : Type 0} (held : Bool) (old new : StoreState) (result : Result A Stop) → IfErr result (StaysWhereMet held old new) → IfErr result (MayCommitWhereMet old new)
+stays_may held old new (Ok value) stays = tt
+stays_may held old new (Err (Store cause)) stays = tt
+stays_may true old new (Err (Met fault)) stays = stays
+stays_may false old new (Err (Met fault)) stays = none_may old new stays
 
 -- why a later call failed
 pub caused_after : {T : Type 0} (old mid new : StoreState) (before between now : ℕ) (r : Result T StoreError) → before ≤ between

@@ -1,5 +1,5 @@
--- Postings into a store whose serial is looked for.
-use Rattle.std.proofs.Common.{◌≡◌, ℕ, ◌+◌, ◌-◌, ◌%◌, ◌^◌, ◌<◌, ◌≤◌, true, List, inl, inr, None, Some, Result, Err, refl, arith}
+-- Postings into a store, with the serial of their words or with one that is looked for.
+use Rattle.std.proofs.Common.{◌≡◌, ℕ, ◌+◌, ◌-◌, ◌%◌, ◌^◌, ◌<◌, ◌≤◌, Bool, true, false, List, inl, inr, None, Some, Result, Err, refl, subst, arith}
 use Rattle.echo_base.specs.Base.{Base}
 use Rattle.echo_changing.specs.declared.posting.NewMessage.{NewMessage}
 use Rattle.echo_changing.specs.FreeSerial.{is_taken, serial_after, with_serial}
@@ -29,7 +29,8 @@ use Rattle.echo_toss.proofs.Judged.{is_fault}
 use Rattle.echo_store_changing.specs.declared.stop.Stop.{Stop}
 use Rattle.echo_store_changing.specs.declared.stop.Stop.TheVariants.{Met}
 use Rattle.echo_store_changing.specs.Answered.{PrintsAll}
-use Rattle.echo_store_changing.specs.FreeSerial.{FiledFree, FilesFreeOn, PostsFree, PostsFreeOn}
+use Rattle.echo_store_changing.specs.FreeSerial.{FiledAs, FilesAs, IsSerial, PostsAs, PostsAsOn}
+use Rattle.echo_store_changing.specs.Posted.{Posts, PostsOn}
 use Rattle.echo_store_changing.specs.Stops.{post_stop}
 use Rattle.echo_store_changing.proofs.Postings.{post_printed, post_stopped, posts}
 
@@ -63,11 +64,11 @@ one_more_looked file old mid new first now then start serial steps tag draft sta
 }
 
 -- a message that is filed with the serial that was not taken
-pub filed_first : (file : LinkFile) (old mid new : StoreState) (first now start serial steps : ℕ) (tag : List ℕ) (draft : Draft) (stamp : Stamp) (base : Base) → HasLooked file old mid first now start serial steps
-    → mid.disk.is_honest → old.keeps base → post_refusal file base.messages tag draft serial stamp ≡ None → new.keeps (with_message base (posted file tag draft serial stamp))
-    → FiledFree file base tag draft start stamp serial new
-filed_first file old mid new first now start serial steps tag draft stamp base so honest h allowed kept = record {
-  first = first_here file base.messages start steps serial so.place (so.taken honest base h) (free_where_allowed file base.messages tag draft serial stamp allowed);
+pub filed_first : (file : LinkFile) (old mid new : StoreState) (first now serial steps : ℕ) (words : NewMessage) (draft : Draft) (base : Base) → HasLooked file old mid first now words.serial serial steps
+    → mid.disk.is_honest → old.keeps base → post_refusal file base.messages words.tag.now draft serial words.stamp ≡ None → new.keeps (with_message base (posted file words.tag.now draft serial words.stamp))
+    → FiledAs true file base words draft serial new
+filed_first file old mid new first now serial steps words draft base so honest h allowed kept = record {
+  is = first_here file base.messages words.serial steps serial so.place (so.taken honest base h) (free_where_allowed file base.messages words.tag.now draft serial words.stamp allowed);
   allowed = allowed;
   keeps = kept;
 }
@@ -78,34 +79,34 @@ never_memory file base tag draft serial stamp fault.Memory is memory = (refusal_
 never_memory file base tag draft serial stamp other is memory = absurd (cc)
 
 -- a message that is refused whatever its serial
-pub refused_on : (file : LinkFile) (new : StoreState) (tag : List ℕ) (draft : Draft) (start serial : ℕ) (stamp : Stamp) (base : Base) (why : PostStop)
-    → IsPostStop file base.messages tag draft serial stamp why → (why ≡ post.Refused fault.KnownSerial → ⊥) → FilesFreeOn file base tag draft start stamp (Err why) new
-refused_on file new tag draft start serial stamp base (post.Refused why) is unless =
-    elim (refused_first file base.messages tag draft start serial stamp why (is_fault file base.messages tag draft serial stamp why is) (λ known. unless (rw known refl))) [
-      | inl memory ↦ absurd (never_memory file base.messages tag draft serial stamp why is memory)
+pub refused_on : (file : LinkFile) (new : StoreState) (words : NewMessage) (draft : Draft) (serial : ℕ) (base : Base) (why : PostStop)
+    → IsPostStop file base.messages words.tag.now draft serial words.stamp why → (why ≡ post.Refused fault.KnownSerial → ⊥) → FilesAs true file base words draft (Err why) new
+refused_on file new words draft serial base (post.Refused why) is unless =
+    elim (refused_first file base.messages words.tag.now draft words.serial serial words.stamp why (is_fault file base.messages words.tag.now draft serial words.stamp why is) (λ known. unless (rw known refl))) [
+      | inl memory ↦ absurd (never_memory file base.messages words.tag.now draft serial words.stamp why is memory)
       | inr found ↦ found
     ]
-refused_on file new tag draft start serial stamp base (post.Store cause) is unless = tt
+refused_on file new words draft serial base (post.Store cause) is unless = tt
 
 -- the last serial of all is taken, too, or the message is refused whatever its serial
-pub refused_last : (file : LinkFile) (old mid new : StoreState) (first now start serial steps : ℕ) (tag : List ℕ) (draft : Draft) (stamp : Stamp) (base : Base) (why : PostStop)
-    → HasLooked file old mid first now start serial steps → steps ≡ 2 ^ 32 - 1 → mid.disk.is_honest → old.keeps base → IsPostStop file base.messages tag draft serial stamp why
-    → FilesFreeOn file base tag draft start stamp (Err why) new
-refused_last file old mid new first now start serial steps tag draft stamp base (post.Refused fault.KnownSerial) so all honest h is =
+pub refused_last : (file : LinkFile) (old mid new : StoreState) (first now serial steps : ℕ) (words : NewMessage) (draft : Draft) (base : Base) (why : PostStop)
+    → HasLooked file old mid first now words.serial serial steps → steps ≡ 2 ^ 32 - 1 → mid.disk.is_honest → old.keeps base → IsPostStop file base.messages words.tag.now draft serial words.stamp why
+    → FilesAs true file base words draft (Err why) new
+refused_last file old mid new first now serial steps words draft base (post.Refused fault.KnownSerial) so all honest h is =
     (serial, record { steps = steps; is = so.place; before = so.taken honest base h; ends = inr all }, is)
-refused_last file old mid new first now start serial steps tag draft stamp base (post.Store cause) so all honest h is = tt
-refused_last file old mid new first now start serial steps tag draft stamp base (post.Refused fault.NoArea) so all honest h is =
-    refused_on file new tag draft start serial stamp base (post.Refused fault.NoArea) is (λ e. absurd (cc))
-refused_last file old mid new first now start serial steps tag draft stamp base (post.Refused fault.ByteZero) so all honest h is =
-    refused_on file new tag draft start serial stamp base (post.Refused fault.ByteZero) is (λ e. absurd (cc))
-refused_last file old mid new first now start serial steps tag draft stamp base (post.Refused fault.FieldTooLong) so all honest h is =
-    refused_on file new tag draft start serial stamp base (post.Refused fault.FieldTooLong) is (λ e. absurd (cc))
-refused_last file old mid new first now start serial steps tag draft stamp base (post.Refused fault.BadStamp) so all honest h is =
-    refused_on file new tag draft start serial stamp base (post.Refused fault.BadStamp) is (λ e. absurd (cc))
-refused_last file old mid new first now start serial steps tag draft stamp base (post.Refused fault.BadReply) so all honest h is =
-    refused_on file new tag draft start serial stamp base (post.Refused fault.BadReply) is (λ e. absurd (cc))
-refused_last file old mid new first now start serial steps tag draft stamp base (post.Refused fault.Memory) so all honest h is =
-    refused_on file new tag draft start serial stamp base (post.Refused fault.Memory) is (λ e. absurd (cc))
+refused_last file old mid new first now serial steps words draft base (post.Store cause) so all honest h is = tt
+refused_last file old mid new first now serial steps words draft base (post.Refused fault.NoArea) so all honest h is =
+    refused_on file new words draft serial base (post.Refused fault.NoArea) is (λ e. absurd (cc))
+refused_last file old mid new first now serial steps words draft base (post.Refused fault.ByteZero) so all honest h is =
+    refused_on file new words draft serial base (post.Refused fault.ByteZero) is (λ e. absurd (cc))
+refused_last file old mid new first now serial steps words draft base (post.Refused fault.FieldTooLong) so all honest h is =
+    refused_on file new words draft serial base (post.Refused fault.FieldTooLong) is (λ e. absurd (cc))
+refused_last file old mid new first now serial steps words draft base (post.Refused fault.BadStamp) so all honest h is =
+    refused_on file new words draft serial base (post.Refused fault.BadStamp) is (λ e. absurd (cc))
+refused_last file old mid new first now serial steps words draft base (post.Refused fault.BadReply) so all honest h is =
+    refused_on file new words draft serial base (post.Refused fault.BadReply) is (λ e. absurd (cc))
+refused_last file old mid new first now serial steps words draft base (post.Refused fault.Memory) so all honest h is =
+    refused_on file new words draft serial base (post.Refused fault.Memory) is (λ e. absurd (cc))
 
 -- a refusal after looks has changed nothing
 pub looks_where : (old mid new : StoreState) (why : PostStop) → LooksOn old mid → LooksWhereRefused mid new why → LooksWhereRefused old new why
@@ -128,39 +129,48 @@ refused_known file base tag draft serial stamp (post.Refused fault.BadReply) kno
 refused_known file base tag draft serial stamp (post.Refused fault.Memory) known is = absurd (cc)
 refused_known file base tag draft serial stamp (post.Store cause) known is = absurd (cc)
 
+-- words with the serial that they are posted with, as the words are to be posted
+posts_as_on : {A : Type 0} (free : Bool) (words : NewMessage) (system : SystemState) (body : List ℕ) (old new : Output) (result : Result A Stop) (serial : ℕ) → IsSerial free system.file system.base words.serial serial
+    → PostsOn (with_serial words serial) system body old new result → PostsAsOn free words system body old new result
+posts_as_on true words system body old new result serial is posted = record { serial = serial; first = is; posted = posted }
+posts_as_on false words system body old new result serial is posted = subst (λ (n : ℕ). PostsOn (with_serial words n) system body old new result) is posted
+
+makes_as : (free : Bool) (file : LinkFile) (words : NewMessage) (body : List ℕ) (base next : Base) (serial : ℕ) → IsSerial free file base.messages words.serial serial → Posts file (with_serial words serial) body base next
+    → PostsAs free file words body base next
+makes_as true file words body base next serial is made = record { serial = serial; first = is; made = made }
+makes_as false file words body base next serial is made = subst (λ (n : ℕ). Posts file (with_serial words n) body base next) is made
+
+-- there is a serial with which words are posted
+serial_of : (free : Bool) (file : LinkFile) (base : List Filed) (start : ℕ) → (serial : ℕ) × IsSerial free file base start serial
+serial_of true file base start = first_of_all file base start
+serial_of false file base start = (start, refl)
+
 -- there is no memory for the draft
-pub free_memory_on : (words : NewMessage) (system : SystemState) (body : List ℕ) (old : Output) → PostsFreeOn {A = Unit {0}} words system body old old (Err (Met OutOfMemory))
-free_memory_on words system body old =
-    let found = first_of_all system.file system.base words.serial in
-    record { serial = found.0; first = found.1; posted = inr (inl tt, refl) }
+pub as_memory : (free : Bool) (words : NewMessage) (system : SystemState) (body : List ℕ) (old : Output) → PostsAsOn {A = Unit {0}} free words system body old old (Err (Met OutOfMemory))
+as_memory free words system body old =
+    let found = serial_of free system.file system.base words.serial in
+    posts_as_on free words system body old old (Err (Met OutOfMemory)) found.0 found.1 (inr (inl tt, refl))
 
 -- a posting that stopped
-pub free_stopped : (words : NewMessage) (file : LinkFile) (base : Base) (new : StoreState) (body : List ℕ) (old : Output) (draft : Draft) (why : PostStop) → draft ≡ draft_given words body
-    → FilesFreeOn file base words.tag.now draft words.serial words.stamp (Err why) new → PostsFreeOn {A = Unit {0}} words (state_in file base) body old old (Err (post_stop why))
-free_stopped words file base new body old draft (post.Refused why) drafted (serial, first, refused) = record {
-  serial = serial;
-  first = first;
-  posted = post_stopped (with_serial words serial) (state_in file base) body old draft (post.Refused why) drafted refused;
-}
-free_stopped words file base new body old draft (post.Store cause) drafted is =
-    let found = first_of_all file base.messages words.serial in
-    record { serial = found.0; first = found.1; posted = inl refl }
+pub as_stopped : (free : Bool) (words : NewMessage) (file : LinkFile) (base : Base) (new : StoreState) (body : List ℕ) (old : Output) (draft : Draft) (why : PostStop) → draft ≡ draft_given words body
+    → FilesAs free file base words draft (Err why) new → PostsAsOn {A = Unit {0}} free words (state_in file base) body old old (Err (post_stop why))
+as_stopped free words file base new body old draft (post.Refused why) drafted (serial, is, refused) =
+    posts_as_on free words (state_in file base) body old old (Err (post_stop (post.Refused why))) serial is
+    (post_stopped (with_serial words serial) (state_in file base) body old draft (post.Refused why) drafted refused)
+as_stopped free words file base new body old draft (post.Store cause) drafted is =
+    let found = serial_of free file base.messages words.serial in
+    posts_as_on free words (state_in file base) body old old (Err (post_stop (post.Store cause))) found.0 found.1 (inl refl)
 
 -- the line of a posting is printed
-pub free_printed : {A : Type 0} (words : NewMessage) (file : LinkFile) (base : Base) (new : StoreState) (body : List ℕ) (serial : ℕ) (before after : Output) (draft : Draft) (result : Result A Stop) → draft ≡ draft_given words body
-    → FiledFree file base words.tag.now draft words.serial words.stamp serial new → PrintsAll (posted_line words.tag.now (id_of file.system serial)) before after result
-    → PostsFreeOn words (state_in file base) body before after result
-free_printed words file base new body serial before after draft result drafted filed out = record {
-  serial = serial;
-  first = filed.first;
-  posted = post_printed (with_serial words serial) (state_in file base) body before after draft result drafted filed.allowed out;
-}
+pub as_printed : {A : Type 0} (free : Bool) (words : NewMessage) (file : LinkFile) (base : Base) (new : StoreState) (body : List ℕ) (serial : ℕ) (before after : Output) (draft : Draft) (result : Result A Stop) → draft ≡ draft_given words body
+    → FiledAs free file base words draft serial new → PrintsAll (posted_line words.tag.now (id_of file.system serial)) before after result
+    → PostsAsOn free words (state_in file base) body before after result
+as_printed free words file base new body serial before after draft result drafted filed out =
+    posts_as_on free words (state_in file base) body before after result serial filed.is
+    (post_printed (with_serial words serial) (state_in file base) body before after draft result drafted filed.allowed out)
 
 -- what it makes of a base
-pub free_posts : (file : LinkFile) (words : NewMessage) (body : List ℕ) (base : Base) (new : StoreState) (serial : ℕ) (draft : Draft) → draft ≡ draft_given words body
-    → FiledFree file base words.tag.now draft words.serial words.stamp serial new → PostsFree file words body base (with_message base (posted file words.tag.now draft serial words.stamp))
-free_posts file words body base new serial draft drafted filed = record {
-  serial = serial;
-  first = filed.first;
-  made = posts file (with_serial words serial) body base draft drafted filed.allowed;
-}
+pub as_posts : (free : Bool) (file : LinkFile) (words : NewMessage) (body : List ℕ) (base : Base) (new : StoreState) (serial : ℕ) (draft : Draft) → draft ≡ draft_given words body
+    → FiledAs free file base words draft serial new → PostsAs free file words body base (with_message base (posted file words.tag.now draft serial words.stamp))
+as_posts free file words body base new serial draft drafted filed =
+    makes_as free file words body base (with_message base (posted file words.tag.now draft serial words.stamp)) serial filed.is (posts file (with_serial words serial) body base draft drafted filed.allowed)

@@ -1,5 +1,5 @@
 -- How a command on a store ends: what it prints, what the store holds then, and what a crash meanwhile leaves.
-use Rattle.std.specs.Prelude.{◌≡◌, ℕ, ◌⊎◌, List, Result, Ok, Err}
+use Rattle.std.specs.Prelude.{◌≡◌, ℕ, ◌⊎◌, Bool, true, false, List, Result, Ok, Err}
 use Rattle.echo_base.specs.Base.{Base}
 use Rattle.echo_disk.specs.Disk.{Files, Honestly}
 use Rattle.echo_disk.specs.Runs.{LeavesOnly}
@@ -54,6 +54,11 @@ CommitsNoneWhereMet old new (Store cause) = Unit {0}
 abbrev pub MayCommitWhereMet : StoreState → StoreState → Stop → Type 0
 MayCommitWhereMet old new (Met fault) = MayCommit old new
 MayCommitWhereMet old new (Store cause) = Unit {0}
+
+-- the one or the other, by whether the command may commit what was held before
+abbrev pub StaysWhereMet : Bool → StoreState → StoreState → Stop → Type 0
+StaysWhereMet false old new why = CommitsNoneWhereMet old new why
+StaysWhereMet true old new why = MayCommitWhereMet old new why
 
 -- the store holds a base that the command makes, and it is committed
 pub record HasCommitted (IsMade : Base → Type 0) (new : StoreState) : Type 0 where

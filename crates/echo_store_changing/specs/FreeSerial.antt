@@ -1,12 +1,12 @@
--- A posting on a store whose serial is looked for.
-use Rattle.std.specs.Prelude.{◌≡◌, ℕ, List, Some, None, Result, Ok, Err}
+-- A posting on a store, with the serial of its words or with the first from that on that is free.
+use Rattle.std.specs.Prelude.{◌≡◌, ℕ, Bool, true, false, List, Some, None, Result, Ok, Err}
 use Rattle.echo_base.specs.Base.{Base}
+use Rattle.echo_filed.specs.Filed.{Filed}
 use Rattle.echo_links.specs.Links.{LinkFile}
 use Rattle.echo_changing.specs.declared.posting.NewMessage.{NewMessage}
 use Rattle.echo_changing.specs.FreeSerial.{IsFirstFree, with_serial}
 use Rattle.echo_status.specs.Devices.{Output}
 use Rattle.echo_steps.specs.declared.draft.Draft.{Draft}
-use Rattle.echo_steps.specs.declared.stamp.Stamp.{Stamp}
 use Rattle.echo_steps.specs.Posting.{post_refusal, posted}
 use Rattle.echo_steps.specs.SystemState.{SystemState}
 use Rattle.echo_store.specs.Store.{StoreState, with_message}
@@ -15,18 +15,23 @@ use Rattle.echo_toss.specs.declared.stop.PostStop.TheVariants as post
 use Rattle.echo_store_changing.specs.declared.stop.Stop.{Stop}
 use Rattle.echo_store_changing.specs.Posted.{Posts, PostsOn}
 
--- the message is filed with the first serial that is free, and the store holds it
-pub record FiledFree (file : LinkFile) (base : Base) (tag : List ℕ) (draft : Draft) (start : ℕ) (stamp : Stamp) (serial : ℕ) (new : StoreState) : Type 0 where
-  pub first : IsFirstFree file base.messages start serial
-  pub allowed : post_refusal file base.messages tag draft serial stamp ≡ None
-  pub keeps : new.keeps (with_message base (posted file tag draft serial stamp))
+-- the serial with which words are posted: theirs, or the first from that on that is free
+abbrev pub IsSerial : Bool → LinkFile → List Filed → ℕ → ℕ → Type 0
+IsSerial false file base start serial = serial ≡ start
+IsSerial true file base start serial = IsFirstFree file base start serial
 
--- a message is filed with the first serial that is free, or it is refused with that one; or the store failed
-abbrev pub FilesFreeOn : LinkFile → Base → List ℕ → Draft → ℕ → Stamp → Result ℕ PostStop → StoreState → Type 0
-FilesFreeOn file base tag draft start stamp (Ok serial) new = FiledFree file base tag draft start stamp serial new
-FilesFreeOn file base tag draft start stamp (Err (post.Refused why)) new =
-    (serial : ℕ) × IsFirstFree file base.messages start serial × (post_refusal file base.messages tag draft serial stamp ≡ Some why)
-FilesFreeOn file base tag draft start stamp (Err (post.Store cause)) new = Unit {0}
+-- the message is filed with that serial, and the store holds it
+pub record FiledAs (free : Bool) (file : LinkFile) (base : Base) (words : NewMessage) (draft : Draft) (serial : ℕ) (new : StoreState) : Type 0 where
+  pub is : IsSerial free file base.messages words.serial serial
+  pub allowed : post_refusal file base.messages words.tag.now draft serial words.stamp ≡ None
+  pub keeps : new.keeps (with_message base (posted file words.tag.now draft serial words.stamp))
+
+-- a message is filed with that serial, or it is refused with that one; or the store failed
+abbrev pub FilesAs : Bool → LinkFile → Base → NewMessage → Draft → Result ℕ PostStop → StoreState → Type 0
+FilesAs free file base words draft (Ok serial) new = FiledAs free file base words draft serial new
+FilesAs free file base words draft (Err (post.Refused why)) new =
+    (serial : ℕ) × IsSerial free file base.messages words.serial serial × (post_refusal file base.messages words.tag.now draft serial words.stamp ≡ Some why)
+FilesAs free file base words draft (Err (post.Store cause)) new = Unit {0}
 
 -- a message is posted as with the first serial, from that of the words on, that is free at a system
 pub record PostsFreeOn {A : Type 0} (words : NewMessage) (system : SystemState) (body : List ℕ) (old new : Output) (result : Result A Stop) : Type 0 where
@@ -39,3 +44,13 @@ pub record PostsFree (file : LinkFile) (words : NewMessage) (body : List ℕ) (b
   pub serial : ℕ
   pub first : IsFirstFree file base.messages words.serial serial
   pub made : Posts file (with_serial words serial) body base next
+
+-- words are posted at a system with their serial, or with the first from that on that is free
+abbrev pub PostsAsOn : {A : Type 0} → Bool → NewMessage → SystemState → List ℕ → Output → Output → Result A Stop → Type 0
+PostsAsOn false words system body old new result = PostsOn words system body old new result
+PostsAsOn true words system body old new result = PostsFreeOn words system body old new result
+
+-- the same posting makes this base of one
+abbrev pub PostsAs : Bool → LinkFile → NewMessage → List ℕ → Base → Base → Type 0
+PostsAs false file words body base next = Posts file words body base next
+PostsAs true file words body base next = PostsFree file words body base next

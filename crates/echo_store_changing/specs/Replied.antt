@@ -1,5 +1,5 @@
 -- An answer to a message that a store holds.
-use Rattle.std.specs.Prelude.{◌≡◌, ℕ, ◌⊎◌, Bool, true, false, List, Option, Some, None, slice_get, Result, Ok, Err}
+use Rattle.std.specs.Prelude.{◌≡◌, ℕ, ◌⊎◌, List, Option, Some, None, slice_get, Result, Ok, Err}
 use Rattle.echo_base.specs.Base.{Base}
 use Rattle.echo_filed.specs.Filed.{Filed}
 use Rattle.echo_links.specs.Links.{LinkFile}
@@ -14,8 +14,7 @@ use Rattle.echo_steps.specs.SystemState.{SystemState}
 use Rattle.echo_store_changing.specs.declared.stop.Stop.{Stop}
 use Rattle.echo_store_changing.specs.declared.stop.Stop.TheVariants.{Met, Store}
 use Rattle.echo_store_changing.specs.Answered.{StopsFirst}
-use Rattle.echo_store_changing.specs.FreeSerial.{PostsFree, PostsFreeOn}
-use Rattle.echo_store_changing.specs.Posted.{Posts, PostsOn}
+pub use Rattle.echo_store_changing.specs.FreeSerial.{PostsAs, PostsAsOn}
 
 -- the words that the message gives, which is found or not, or why there are none; or the store failed
 abbrev pub FindsOn : Option Filed → Result Found Stop → Type 0
@@ -24,16 +23,6 @@ FindsOn None other = ⊥
 FindsOn (Some m) (Ok found) = IsFound m found
 FindsOn (Some m) (Err (Met fault)) = IsOutOfMemory fault
 FindsOn (Some m) (Err (Store cause)) = Unit {0}
-
--- words are posted at a system with their serial, or with the first from that on that is free
-abbrev pub PostsAsOn : {A : Type 0} → Bool → NewMessage → SystemState → List ℕ → Output → Output → Result A Stop → Type 0
-PostsAsOn false words system body old new result = PostsOn words system body old new result
-PostsAsOn true words system body old new result = PostsFreeOn words system body old new result
-
--- the same posting makes this base of one
-abbrev pub PostsAs : Bool → LinkFile → NewMessage → List ℕ → Base → Base → Type 0
-PostsAs false file words body base next = Posts file words body base next
-PostsAs true file words body base next = PostsFree file words body base next
 
 -- the words of an answer are posted
 pub record PostsReplyOn {A : Type 0} (m : Filed) (answer : Answer) (system : SystemState) (body : List ℕ) (old new : Output) (result : Result A Stop) : Type 0 where

@@ -101,3 +101,15 @@ pub record TossesOn {R : Type 0} (noting : Bool) (limits : Limits) (device : R �
   pub state : run.system ≡ state_in file next
   pub ends : EndsOn run stopped old new result
   pub committed : OnOk result (HoldsCommitted store next)
+
+-- The packet files are tossed at a system with this base, some are left, and the lines of the packets are printed.
+pub record TossesIn {R : Type 0} (noting : Bool) (limits : Limits) (device : R → Device) (file : LinkFile) (base : Base) (files left : List Coming) (old new : Output) (result : Result (Option Fault) Stop) : Type 0 where
+  pub run : TossRun
+  pub stopped : Option Fault
+  pub each : TossesEachBy (TossesPacketBy noting) device files (run_begun limits (state_in file base)) stopped left run
+  pub ends : EndsOn run stopped old new result
+
+-- The same, and then the system has the other base.
+pub record TossesTo {R : Type 0} (noting : Bool) (limits : Limits) (device : R → Device) (file : LinkFile) (base : Base) (files left : List Coming) (old new : Output) (result : Result (Option Fault) Stop) (next : Base) : Type 0 where
+  pub tossed : TossesIn noting limits device file base files left old new result
+  pub state : tossed.run.system ≡ state_in file next

@@ -5,11 +5,14 @@
 //! has committed the base that the command makes, and else it has committed nothing. A crash at any moment leaves the
 //! base that was committed before, or the one that the command makes. What fails beside is the store, and is told so.
 //!
-//! Modules in reading order: `stop` (why a command stopped), `leaving` (lines are printed, and the store committed),
-//! `posting`, `serials` (a posting whose serial is looked for), `replying`, `scanning`, `purging`, `tossing` and `laws`
-//! (what holds of the definitions).
+//! Each is a type that implements `StoreCommand`, but for `scan`, which needs the disk of its packets.
+//!
+//! Modules in reading order: `stop` (why a command stopped), `command` (what a command owes), `leaving` (lines are printed,
+//! and the store committed), `serials` (the serial of a posting), `posting`, `replying`, `scanning`, `purging`, `tossing` and
+//! `laws` (what holds of the definitions).
 #![tactic(auto)]
 
+mod command;
 mod laws;
 mod leaving;
 mod posting;
@@ -20,12 +23,12 @@ mod serials;
 mod stop;
 mod tossing;
 
+pub use command::StoreCommand;
 pub use laws::file_laws;
 pub use leaving::commit_on;
-pub use posting::post_on;
-pub use purging::purge_on;
-pub use replying::reply_on;
+pub use posting::{Post, post_free_on, post_on};
+pub use purging::{Purge, purge_on};
+pub use replying::{Reply, reply_on};
 pub use scanning::scan_on;
-pub use serials::post_free_on;
 pub use stop::Stop;
-pub use tossing::toss_on;
+pub use tossing::{Toss, toss_on};

@@ -1,5 +1,5 @@
 //! The command `post` on a store.
-ghost use Rattle.std.specs.Prelude.{◌≡◌, IfErr, OnOk};
+ghost use Rattle.std.specs.Prelude.{◌≡◌, false, IfErr, OnOk};
 ghost use Rattle.echo_disk.specs.Disk.{Honestly};
 ghost use Rattle.echo_base.specs.Base.{Base};
 ghost use Rattle.echo_changing.specs.Lines.{posted_line};
@@ -8,20 +8,78 @@ ghost use Rattle.echo_store.specs.Store.{Commits, HasStoreCause, MayCommit};
 ghost use Rattle.echo_text.specs.Ids.{id_of};
 ghost use Rattle.echo_toss.specs.PacketsIn.{state_in};
 ghost use Rattle.echo_store_changing.specs.Answered.{CommitsNoneWhereMet, HasCommitted, LooksWhereMet, MayMake, PrintsAll};
+ghost use Rattle.echo_store_changing.specs.FreeSerial.{PostsAs, PostsAsOn, PostsFree, PostsFreeOn};
 ghost use Rattle.echo_store_changing.specs.Posted.{Posts, PostsOn};
 ghost use Rattle.echo_store_changing.specs.Stops.{store_answer};
 
+use crate::command::StoreCommand;
 use crate::leaving::leave;
+use crate::serials::file_as;
 use crate::stop::Stop;
 use echo_changing::{NewMessage, draft_of, push_posted};
 use echo_device::Sink;
 use echo_links::LinkFile;
-use echo_store::Store;
-use echo_toss::post_in;
+use echo_store::{PurgedStore, Store};
 use std::alloc::Global;
 
-/// `post`: files a message with this body in the store, whose lines end in 0A or 0D 0A, prints its tag and its id, and
-/// commits.
+/// `post`: a message of these words and this body. With `free`, its serial is the first, from that of the words on, that no
+/// message of this system in the store has.
+#[derive(Clone, Copy, Debug)]
+pub struct Post<'w> {
+    pub words: NewMessage<'w>,
+    pub free: bool,
+    pub body: &'w [u8],
+}
+
+impl<'a> StoreCommand<'a> for Post<'_> {
+    type Answer = ();
+
+    ghost answers = { λ old new file base before after result. PostsAsOn old.free old.words (state_in file base) old.body.now before after result };
+
+    ghost makes = { λ old new file base before after result. PostsAs old.free file old.words old.body.now base };
+
+    ghost may = { λ self file. PostsAs self.free file self.words self.body.now };
+
+    ghost commits_held = { λ self. false };
+
+    fn run<T: PurgedStore, W: Sink>(
+        &mut self,
+        alloc: Global,
+        links: &LinkFile,
+        store: &mut T,
+        out: &mut W,
+    ) -> Result<(), Stop<'a>> {
+        post_as(alloc, self.free, self.words, links, store, self.body, out)
+    }
+}
+
+/// Files a message with this body in the store, prints its tag and its id, and commits. The lines of the body end in 0A or
+/// 0D 0A.
+pub(crate) fn post_as<'a, T: Store, W: Sink>(
+    alloc: Global,
+    free: bool,
+    words: NewMessage<'_>,
+    links: &LinkFile,
+    store: &mut T,
+    body: &[u8],
+    out: &mut W,
+) -> Result<(), Stop<'a>>
+    requires { (T.state store.old).is_ready }
+    ensures answers { Honestly (T.state store.new).disk ((base : Base) → (T.state store.old).keeps base
+        → PostsAsOn free words.entry (state_in links.now base) body.now (output_of W.contents W.failures W.holds out.old) (output_of W.contents W.failures W.holds out.new) result) }
+    ensures committed { Honestly (T.state store.new).disk ((base : Base) → (T.state store.old).keeps base
+        → OnOk result (HasCommitted (PostsAs free links.now words.entry body.now base) (T.state store.new))) }
+    ensures ready { OnOk result (T.state store.new).is_ready }
+    ensures met { IfErr result (CommitsNoneWhereMet (T.state store.old) (T.state store.new)) }
+    ensures crash { MayMake (PostsAs free links.now words.entry body.now) (T.state store.old) (T.state store.new) }
+    ensures cause { HasStoreCause (T.state store.old) (T.state store.new) (T.failures store.old) (T.failures store.new) (store_answer result) }
+{
+    let draft = draft_of(alloc, words, body)?;
+    let serial = file_as(alloc, free, words, links, store, &draft)?;
+    leave_posted(alloc, words.tag, serial, links, store, out)
+}
+
+/// `Post` with the serial of the words.
 pub fn post_on<'a, T: Store, W: Sink>(
     alloc: Global,
     words: NewMessage<'_>,
@@ -40,21 +98,33 @@ pub fn post_on<'a, T: Store, W: Sink>(
     ensures crash { MayMake (Posts links.now words.entry body.now) (T.state store.old) (T.state store.new) }
     ensures cause { HasStoreCause (T.state store.old) (T.state store.new) (T.failures store.old) (T.failures store.new) (store_answer result) }
 {
-    let draft = draft_of(alloc, words, body)?;
-    post_in(
-        alloc,
-        links,
-        store,
-        words.tag,
-        &draft,
-        words.serial,
-        words.stamp,
-    )?;
-    leave_posted(alloc, words.tag, words.serial, links, store, out)
+    post_as(alloc, false, words, links, store, body, out)
 }
 
-/// Prints the line of a message that was posted with this serial, and commits what the store holds.
-pub(crate) fn leave_posted<'a, T: Store, W: Sink>(
+/// `Post` with a serial that is free.
+pub fn post_free_on<'a, T: Store, W: Sink>(
+    alloc: Global,
+    words: NewMessage<'_>,
+    links: &LinkFile,
+    store: &mut T,
+    body: &[u8],
+    out: &mut W,
+) -> Result<(), Stop<'a>>
+    requires { (T.state store.old).is_ready }
+    ensures answers { Honestly (T.state store.new).disk ((base : Base) → (T.state store.old).keeps base
+        → PostsFreeOn words.entry (state_in links.now base) body.now (output_of W.contents W.failures W.holds out.old) (output_of W.contents W.failures W.holds out.new) result) }
+    ensures committed { Honestly (T.state store.new).disk ((base : Base) → (T.state store.old).keeps base
+        → OnOk result (HasCommitted (PostsFree links.now words.entry body.now base) (T.state store.new))) }
+    ensures ready { OnOk result (T.state store.new).is_ready }
+    ensures met { IfErr result (CommitsNoneWhereMet (T.state store.old) (T.state store.new)) }
+    ensures crash { MayMake (PostsFree links.now words.entry body.now) (T.state store.old) (T.state store.new) }
+    ensures cause { HasStoreCause (T.state store.old) (T.state store.new) (T.failures store.old) (T.failures store.new) (store_answer result) }
+{
+    post_as(alloc, true, words, links, store, body, out)
+}
+
+// Prints the line of a message that was posted with this serial, and commits what the store holds.
+fn leave_posted<'a, T: Store, W: Sink>(
     alloc: Global,
     tag: &[u8],
     serial: u32,

@@ -1,5 +1,5 @@
 //! The command `purge` on a store.
-ghost use Rattle.std.specs.Prelude.{◌≡◌, IfErr, OnOk};
+ghost use Rattle.std.specs.Prelude.{◌≡◌, true, IfErr, OnOk};
 ghost use Rattle.echo_disk.specs.Disk.{Honestly};
 ghost use Rattle.echo_base.specs.Base.{Base};
 ghost use Rattle.echo_status.specs.Devices.{output_of};
@@ -8,12 +8,40 @@ ghost use Rattle.echo_store_changing.specs.Answered.{HasCommitted, MayCommitWher
 ghost use Rattle.echo_store_changing.specs.Purged.{HoldsOrPurges, Purges, PurgesOn};
 ghost use Rattle.echo_store_changing.specs.Stops.{store_answer};
 
+use crate::command::StoreCommand;
 use crate::leaving::leave;
 use crate::stop::Stop;
 use echo_changing::push_purged;
 use echo_device::Sink;
+use echo_links::LinkFile;
 use echo_store::PurgedStore;
 use std::alloc::Global;
+
+/// `purge`.
+#[derive(Clone, Copy, Debug)]
+pub struct Purge;
+
+impl<'a> StoreCommand<'a> for Purge {
+    type Answer = ();
+
+    ghost answers = { λ old new file base before after result. PurgesOn base before after result };
+
+    ghost makes = { λ old new file base before after result. Purges base };
+
+    ghost may = { λ self file. HoldsOrPurges };
+
+    ghost commits_held = { λ self. true };
+
+    fn run<T: PurgedStore, W: Sink>(
+        &mut self,
+        alloc: Global,
+        _links: &LinkFile,
+        store: &mut T,
+        out: &mut W,
+    ) -> Result<(), Stop<'a>> {
+        purge_on(alloc, store, out)
+    }
+}
 
 /// `purge`: leaves of each scanned message with an id nothing of its text but the id, prints how many messages changed, and
 /// commits.

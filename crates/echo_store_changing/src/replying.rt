@@ -1,23 +1,53 @@
 //! The command `reply` on a store.
-ghost use Rattle.std.specs.Prelude.{◌≡◌, IfErr, OnOk, slice_get};
+ghost use Rattle.std.specs.Prelude.{◌≡◌, false, IfErr, OnOk, slice_get};
 ghost use Rattle.echo_disk.specs.Disk.{Honestly};
 ghost use Rattle.echo_base.specs.Base.{Base};
 ghost use Rattle.echo_status.specs.Devices.{output_of};
 ghost use Rattle.echo_store.specs.Store.{HasStoreCause, LooksOn};
 ghost use Rattle.echo_toss.specs.PacketsIn.{state_in};
 ghost use Rattle.echo_store_changing.specs.Answered.{CommitsNoneWhereMet, HasCommitted, MayMake};
-ghost use Rattle.echo_store_changing.specs.Replied.{FindsOn, PostsAs, PostsAsOn, Replies, RepliesOn};
+ghost use Rattle.echo_store_changing.specs.Replied.{FindsOn, Replies, RepliesOn};
 ghost use Rattle.echo_store_changing.specs.Stops.{store_answer};
 
-use crate::posting::post_on;
-use crate::serials::post_free_on;
+use crate::command::StoreCommand;
+use crate::posting::post_as;
 use crate::stop::Stop;
 use echo_changing::{Answer, Found, NewMessage, found_in};
 use echo_device::Sink;
 use echo_links::LinkFile;
 use echo_status::Fault;
-use echo_store::{Store, StoreError};
+use echo_store::{PurgedStore, Store, StoreError};
 use std::alloc::Global;
+
+/// `reply`: an answer to the message of this number, with this body.
+#[derive(Clone, Copy, Debug)]
+pub struct Reply<'w> {
+    pub index: u64,
+    pub answer: Answer<'w>,
+    pub body: &'w [u8],
+}
+
+impl<'a> StoreCommand<'a> for Reply<'_> {
+    type Answer = ();
+
+    ghost answers = { λ old new file base before after result. RepliesOn (slice_get base.messages old.index) old.answer (state_in file base) old.body.now before after result };
+
+    ghost makes = { λ old new file base before after result. Replies file old.index old.answer old.body.now base };
+
+    ghost may = { λ self file. Replies file self.index self.answer self.body.now };
+
+    ghost commits_held = { λ self. false };
+
+    fn run<T: PurgedStore, W: Sink>(
+        &mut self,
+        alloc: Global,
+        links: &LinkFile,
+        store: &mut T,
+        out: &mut W,
+    ) -> Result<(), Stop<'a>> {
+        reply_on(alloc, self.index, self.answer, links, store, self.body, out)
+    }
+}
 
 /// `reply`: posts an answer to the message of this number, with this body: in its area, to its author, with its subject and
 /// its id. A number that no message has is a fault.
@@ -67,32 +97,5 @@ fn found_on<'a, T: Store>(alloc: Global, index: u64, store: &mut T) -> Result<Fo
     match store.at_hand() {
         Some(message) => Ok(found_in(alloc, message)?),
         None => Err(Stop::Store(StoreError::Damaged)),
-    }
-}
-
-// Posts with the serial of the words, or with the first from that on that is free.
-fn post_as<'a, T: Store, W: Sink>(
-    alloc: Global,
-    free: bool,
-    words: NewMessage<'_>,
-    links: &LinkFile,
-    store: &mut T,
-    body: &[u8],
-    out: &mut W,
-) -> Result<(), Stop<'a>>
-    requires { (T.state store.old).is_ready }
-    ensures answers { Honestly (T.state store.new).disk ((base : Base) → (T.state store.old).keeps base
-        → PostsAsOn free words.entry (state_in links.now base) body.now (output_of W.contents W.failures W.holds out.old) (output_of W.contents W.failures W.holds out.new) result) }
-    ensures committed { Honestly (T.state store.new).disk ((base : Base) → (T.state store.old).keeps base
-        → OnOk result (HasCommitted (PostsAs free links.now words.entry body.now base) (T.state store.new))) }
-    ensures ready { OnOk result (T.state store.new).is_ready }
-    ensures met { IfErr result (CommitsNoneWhereMet (T.state store.old) (T.state store.new)) }
-    ensures crash { MayMake (PostsAs free links.now words.entry body.now) (T.state store.old) (T.state store.new) }
-    ensures cause { HasStoreCause (T.state store.old) (T.state store.new) (T.failures store.old) (T.failures store.new) (store_answer result) }
-{
-    if free {
-        post_free_on(alloc, words, links, store, body, out)
-    } else {
-        post_on(alloc, words, links, store, body, out)
     }
 }

@@ -1,5 +1,5 @@
 //! The command `toss` on a store: packet files one after the other, of which one is open at a time.
-ghost use Rattle.std.specs.Prelude.{◌≡◌, ◌+◌, ◌≤◌, IfErr, OnOk, vec_capacity, vec_len};
+ghost use Rattle.std.specs.Prelude.{◌≡◌, ◌+◌, ◌≤◌, false, IfErr, OnOk, vec_capacity, vec_len};
 ghost use Rattle.echo_disk.specs.Disk.{Honestly};
 ghost use Rattle.echo_base.specs.Base.{Base};
 ghost use Rattle.echo_changing.specs.TossedPacket.{TossRun};
@@ -7,8 +7,9 @@ ghost use Rattle.echo_status.specs.Devices.{device_of, output_of};
 ghost use Rattle.echo_store.specs.Store.{CommitsNothing, GoesOn, HasStoreCause};
 ghost use Rattle.echo_store_changing.specs.Answered.{CommitsNoneWhereMet, MayMake};
 ghost use Rattle.echo_store_changing.specs.Stops.{store_answer};
-ghost use Rattle.echo_store_changing.specs.Tossed.{PrintsRun, ReportsIn, Tosses, TossesFiles, TossesNext, TossesOn};
+ghost use Rattle.echo_store_changing.specs.Tossed.{PrintsRun, ReportsIn, Tosses, TossesFiles, TossesIn, TossesNext, TossesOn, TossesTo};
 
+use crate::command::StoreCommand;
 use crate::stop::Stop;
 use echo_changing::{MOST_TALLY, PacketFiles, fault_of, push_tally};
 use echo_device::{Sink, Source};
@@ -16,9 +17,66 @@ use echo_links::LinkFile;
 use echo_noting::toss_noting_in;
 use echo_packet::Limits;
 use echo_status::{Fault, print_rest};
-use echo_store::{Store, StoreError};
+use echo_store::{PurgedStore, Store, StoreError};
 use echo_toss::{StoppedToss, Tally, TossStop, toss_packet_in};
 use std::alloc::Global;
+use std::marker::PhantomData;
+
+/// `toss`: the packets at the front of these files, of which so much is taken. With `noting`, a line stands for each message
+/// that is not filed (`toss --each`).
+#[derive(Drop)]
+pub struct Toss<'a, P> {
+    pub limits: Limits,
+    pub noting: bool,
+    pub packets: P,
+    faults: PhantomData<Fault<'a>>,
+}
+
+impl<'a, P: PacketFiles<'a>> Toss<'a, P> {
+    /// Of these files.
+    pub fn new(limits: Limits, noting: bool, packets: P) -> Toss<'a, P>
+        ensures limits { result.limits ≡ limits }
+        ensures noting { result.noting ≡ noting }
+        ensures packets { result.packets ≡ packets }
+    {
+        Toss {
+            limits,
+            noting,
+            packets,
+            faults: PhantomData,
+        }
+    }
+}
+
+impl<'a, P: PacketFiles<'a>> StoreCommand<'a> for Toss<'a, P> {
+    type Answer = Option<Fault<'a>>;
+
+    ghost answers = { λ old new file base before after result. TossesIn old.noting old.limits (device_of P.Reader.remaining P.Reader.failures) file base (P.coming old.packets) (P.coming new.packets) before after result };
+
+    ghost makes = { λ old new file base before after result. TossesTo old.noting old.limits (device_of P.Reader.remaining P.Reader.failures) file base (P.coming old.packets) (P.coming new.packets) before after result };
+
+    ghost may = { λ self file. Tosses self.noting self.limits (device_of P.Reader.remaining P.Reader.failures) file (P.coming self.packets) };
+
+    ghost commits_held = { λ self. false };
+
+    fn run<T: PurgedStore, W: Sink>(
+        &mut self,
+        alloc: Global,
+        links: &LinkFile,
+        store: &mut T,
+        out: &mut W,
+    ) -> Result<Option<Fault<'a>>, Stop<'a>> {
+        toss_on(
+            alloc,
+            self.limits,
+            self.noting,
+            links,
+            store,
+            &mut self.packets,
+            out,
+        )
+    }
+}
 
 /// `toss`: tosses the packet at the front of each file into the store, in order, prints a line for each, and commits. At
 /// the fault of a packet, or of its file, the run ends: the fault is answered, and what was tossed before is committed,

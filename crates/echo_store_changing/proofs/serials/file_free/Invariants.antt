@@ -4,4 +4,4 @@ use Rattle.echo_store_changing.proofs.serials.file_free.Given as goal
 
 abbrev pub invariant-serials : goal.invariant-serials
 invariant-serials g l =
-    HasLooked l.links (g.T.Store.state l.initial.store) (g.T.Store.state l.store) (g.T.Store.failures l.initial.store) (g.T.Store.failures l.store) l.start l.serial l._steps
+    HasLooked l.links (g.T.Store.state l.initial.store) (g.T.Store.state l.store) (g.T.Store.failures l.initial.store) (g.T.Store.failures l.store) l.words.serial l.serial l._steps

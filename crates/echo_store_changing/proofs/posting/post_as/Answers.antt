@@ -2,17 +2,17 @@ use Rattle.std.proofs.Common.{ℕ}
 use Rattle.std.proofs.lemmas.Result.{err_from_is_err_and}
 use Rattle.echo_store.proofs.Runs.{looks_commit, no_look}
 use Rattle.echo_toss.specs.PacketsIn.{state_in}
-use Rattle.echo_store_changing.specs.FreeSerial.{PostsFree}
+use Rattle.echo_store_changing.specs.FreeSerial.{PostsAs}
 use Rattle.echo_store_changing.specs.Stops.{store_answer}
 use Rattle.echo_store_changing.proofs.Commits.{caused_after, committed_where, makes_none, makes_then, met_after, met_none, ready_where}
-use Rattle.echo_store_changing.proofs.FreePostings.{free_memory_on, free_posts, free_printed, free_stopped}
+use Rattle.echo_store_changing.proofs.FreePostings.{as_memory, as_posts, as_printed, as_stopped}
 use Rattle.echo_store_changing.proofs.Postings.{post_caused}
-use Rattle.echo_store_changing.proofs.serials.post_free_on.Goals as goal
+use Rattle.echo_store_changing.proofs.posting.post_as.Goals as goal
 
 pub returns-in_err-draft-clause-answers : goal.returns-in_err-draft-clause-answers
 returns-in_err-draft-clause-answers g c =
     let p = err_from_is_err_and c.from_residual.result c.from_residual.ensures.1 in
-    rw (p.1, p.2) (λ honest base kept. free_memory_on c.args.words (state_in c.args.links.now base) c.args.body.now _)
+    rw (p.1, p.2) (λ honest base kept. as_memory c.args.free c.args.words (state_in c.args.links.now base) c.args.body.now _)
 
 pub returns-in_err-draft-clause-met : goal.returns-in_err-draft-clause-met
 returns-in_err-draft-clause-met g c =
@@ -25,16 +25,16 @@ returns-in_err-draft-clause-crash g c = makes_none _ _ _ (looks_commit _ _ c.req
 pub returns-in_err-serial-clause-answers : goal.returns-in_err-serial-clause-answers
 returns-in_err-serial-clause-answers g c =
     let p = err_from_is_err_and c.from_residual-in_err-serial.result c.from_residual-in_err-serial.ensures.1 in
-    rw (p.1, p.2) (λ honest base kept. free_stopped c.args.words c.args.links.now base _ c.args.body.now _ c.in_ok-draft.draft c.in_err-serial.field-0.0 c.in_ok-draft.ensures
+    rw (p.1, p.2) (λ honest base kept. as_stopped c.args.free c.args.words c.args.links.now base _ c.args.body.now _ c.in_ok-draft.draft c.in_err-serial.field-0.0 c.in_ok-draft.ensures
     (c.in_err-serial.ensures.filed honest base kept))
 
 pub returns-in_err-serial-clause-met : goal.returns-in_err-serial-clause-met
 returns-in_err-serial-clause-met g c =
     let p = err_from_is_err_and c.from_residual-in_err-serial.result c.from_residual-in_err-serial.ensures.1 in
-    rw (p.1, p.2) (met_none _ _ _ c.file_free.ensures.commits)
+    rw (p.1, p.2) (met_none _ _ _ c.file_as.ensures.commits)
 
 pub returns-in_err-serial-clause-crash : goal.returns-in_err-serial-clause-crash
-returns-in_err-serial-clause-crash g c = makes_none _ _ _ c.file_free.ensures.commits
+returns-in_err-serial-clause-crash g c = makes_none _ _ _ c.file_as.ensures.commits
 
 pub returns-in_err-serial-clause-cause : goal.returns-in_err-serial-clause-cause
 returns-in_err-serial-clause-cause g c =
@@ -44,33 +44,33 @@ returns-in_err-serial-clause-cause g c =
 pub returns-clause-answers : goal.returns-clause-answers
 returns-clause-answers g c = λ honest base kept.
     let before = c.leave_posted.ensures.either.beside.honest honest in
-    free_printed c.args.words c.args.links.now base _ c.args.body.now c.in_ok-serial.serial _ _ c.in_ok-draft.draft c.leave_posted.result c.in_ok-draft.ensures
+    as_printed c.args.free c.args.words c.args.links.now base _ c.args.body.now c.in_ok-serial.serial _ _ c.in_ok-draft.draft c.leave_posted.result c.in_ok-draft.ensures
     (c.in_ok-serial.ensures.filed before base kept) c.leave_posted.ensures.printed
 
 pub returns-clause-committed : goal.returns-clause-committed
 returns-clause-committed g c = λ honest base kept.
     let before = c.leave_posted.ensures.either.beside.honest honest in
     let filed = c.in_ok-serial.ensures.filed before base kept in
-    let made = free_posts c.args.links.now c.args.words c.args.body.now base _ c.in_ok-serial.serial c.in_ok-draft.draft c.in_ok-draft.ensures filed in
-    committed_where (PostsFree c.args.links.now c.args.words c.args.body.now base) _ _ _ c.leave_posted.result honest c.leave_posted.ensures.committed made filed.keeps
+    let made = as_posts c.args.free c.args.links.now c.args.words c.args.body.now base _ c.in_ok-serial.serial c.in_ok-draft.draft c.in_ok-draft.ensures filed in
+    committed_where (PostsAs c.args.free c.args.links.now c.args.words c.args.body.now base) _ _ _ c.leave_posted.result honest c.leave_posted.ensures.committed made filed.keeps
 
 pub returns-clause-ready : goal.returns-clause-ready
 returns-clause-ready g c = ready_where _ _ c.leave_posted.result c.leave_posted.ensures.committed
 
 pub returns-clause-met : goal.returns-clause-met
-returns-clause-met g c = met_after _ _ _ c.leave_posted.result c.file_free.ensures.commits c.in_ok-serial.ensures.goes_on c.leave_posted.ensures.met
+returns-clause-met g c = met_after _ _ _ c.leave_posted.result c.file_as.ensures.commits c.in_ok-serial.ensures.goes_on c.leave_posted.ensures.met
 
 pub returns-clause-crash : goal.returns-clause-crash
 returns-clause-crash g c =
-    makes_then _ _ _ _ c.file_free.ensures.commits c.in_ok-serial.ensures.goes_on
+    makes_then _ _ _ _ c.file_as.ensures.commits c.in_ok-serial.ensures.goes_on
     (λ before base kept.
     let filed = c.in_ok-serial.ensures.filed before base kept in (
       _,
-      free_posts c.args.links.now c.args.words c.args.body.now base _ c.in_ok-serial.serial c.in_ok-draft.draft c.in_ok-draft.ensures filed,
+      as_posts c.args.free c.args.links.now c.args.words c.args.body.now base _ c.in_ok-serial.serial c.in_ok-draft.draft c.in_ok-draft.ensures filed,
       filed.keeps,
     )) c.leave_posted.ensures.either
 
 pub returns-clause-cause : goal.returns-clause-cause
 returns-clause-cause g c =
-    caused_after _ _ _ _ _ _ (store_answer c.leave_posted.result) c.file_free.ensures.cause.later
+    caused_after _ _ _ _ _ _ (store_answer c.leave_posted.result) c.file_as.ensures.cause.later
     (λ honest base kept. let filed = c.in_ok-serial.ensures.filed (c.leave_posted.ensures.either.beside.honest honest) base kept in (_, filed.keeps)) c.leave_posted.ensures.cause
