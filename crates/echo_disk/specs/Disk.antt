@@ -1,5 +1,5 @@
 -- What a disk shows of its files, and what a crash may leave of them.
-use Rattle.std.specs.Prelude.{◌≡◌, ◌≢◌, ◌≤◌, ℕ, List, [], ◌++◌, Option, Some, None, All}
+use Rattle.std.specs.Prelude.{◌≡◌, ◌≢◌, ◌≤◌, ◌⊎◌, ℕ, ◌-◌, List, [], ◌++◌, length, get_or, Option, Some, None, All}
 
 -- the files by their paths; None where there is no such file
 abbrev pub Files : Type 0
@@ -10,7 +10,12 @@ abbrev pub bytes_in : Option (List ℕ) → List ℕ
 bytes_in None = []
 bytes_in (Some bytes) = bytes
 
--- The path leads to a file of this folder, and to none of a folder below it. A folder's path ends in a slash, or is empty.
+-- the path of a folder: it is empty, or its last byte is a slash
+abbrev pub IsFolder : List ℕ → Type 0
+IsFolder path = (length path ≡ 0) ⊎ (get_or path (length path - 1) 0 ≡ 47)
+
+-- The path begins with this one, and no slash stands behind it. So where this is a folder it leads to a file of that folder, and
+-- to none of a folder below it.
 pub record IsIn (folder path : List ℕ) : Type 0 where
   pub name : List ℕ
   pub parts : path ≡ folder ++ name

@@ -1,6 +1,6 @@
 //! What a disk owes to those that keep files on it.
 ghost use Rattle.std.specs.Prelude.{◌≡◌, ◌≢◌, ◌≤◌, ◌<◌, ◌⊎◌, ◌↔◌, ℕ, List, [], length, take, drop, true, false, IsTrue, IfOk, OnOk, IsSome, Some, None};
-ghost use Rattle.echo_disk.specs.Disk.{DiskState, Honestly, bytes_in, IsIn};
+ghost use Rattle.echo_disk.specs.Disk.{DiskState, Honestly, bytes_in, IsFolder, IsIn};
 ghost use Rattle.echo_disk.specs.Steps.{IsWrittenAt, TornWrite, TornCut, TornMaking, TornRemoval, TornNaming, SameBeside, ChangesFile, RenamesFile};
 ghost use Rattle.echo_disk.specs.Runs.{LeavesOneStepOn, KeepsNamed, KeepsFlushed, KeepsAlone, Elapses, ChangesNothing, HasCause};
 
@@ -138,9 +138,11 @@ pub trait Disk {
         ensures quiet { ChangesNothing (state self.old) (state self.new) }
         ensures cause { HasCause (failures self.old) (failures self.new) result };
 
-    /// After it each path in the folder leads on the disk to what it leads to now.
+    /// After it each path in the folder leads on the disk to what it leads to now, or to no file where there is none now.
     fn sync_folder(&mut self, folder: &[u8]) -> Result<(), DiskError>
+        requires { IsFolder folder.now }
         ensures durable { OnOk result ((m : List ℕ) → IsIn folder.now m → (state self.new).is_named m) }
+        ensures gone { OnOk result ((m : List ℕ) → IsIn folder.now m → (state self.new).seen m ≡ None → (state self.new).is_flushed m) }
         ensures quiet { ChangesNothing (state self.old) (state self.new) }
         ensures cause { HasCause (failures self.old) (failures self.new) result };
 }

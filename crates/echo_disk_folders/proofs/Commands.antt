@@ -36,6 +36,7 @@ any_store = record {
   is_own = λ m. ⊥;
   undoes = ⊥;
   stays = λ honest ready base is c left. tt;
+  shown = λ honest ready base is. tt;
 }
 
 -- the folder of the station, of any store

@@ -7,9 +7,8 @@ ghost use Rattle.echo_placing.specs.Outgoing.{ArePlaced, IsBesideOne};
 ghost use Rattle.echo_file_scanning.specs.Dropping.{Drops};
 
 use crate::fitting::differ;
-use echo_disk::{Disk, DiskError, read_part};
+use echo_disk::{Disk, DiskError, folder_of, read_part};
 use echo_placing::{Outgoing, drop_beside};
-use echo_station_files::folder_of;
 use std::alloc::Global;
 
 /// Where the cursor stands in a base file: a number of four bytes.

@@ -10,9 +10,9 @@ ghost use Rattle.echo_file_scanning.specs.Left.{AreLent, EndsLeft, EndsThese, Is
 
 use crate::finding::{LeftPaths, find_left};
 use crate::listing::Listing;
-use echo_disk::Disk;
+use echo_disk::{Disk, sync_folder_of};
 use echo_placing::{Left, PlacingError, finish_stopped};
-use echo_station_files::{folder_of, path_beside};
+use echo_station_files::path_beside;
 use std::alloc::{AllocError, Global};
 
 // The packets with these paths.
@@ -76,6 +76,6 @@ pub fn finish_left<D: Disk, L: Listing>(
     if found.is_empty() {
         return Ok(());
     }
-    disk.sync_folder(folder_of(base))?;
+    sync_folder_of(disk, base)?;
     end_these(alloc, disk, folder, &found, cursor)
 }

@@ -9,7 +9,7 @@ ghost use Rattle.echo_folder.specs.Moments.{StandsAlone, KeepsOutside};
 
 use crate::log::{End, Told};
 use crate::names::Names;
-use echo_disk::{Disk, DiskError};
+use echo_disk::{Disk, DiskError, sync_folder_of};
 
 /// Makes files of another number with nothing in them, of the same mark. What is staged there is the base once it is committed;
 /// until then a crash leaves the base as it was.
@@ -37,7 +37,7 @@ pub fn stage_anew<D: Disk>(
 {
     disk.create(&names.messages)?;
     disk.create(&names.keys)?;
-    disk.sync_folder(&names.folder)?;
+    sync_folder_of(disk, &names.folder)?;
     Ok(Told {
         messages: 0,
         keys: 0,

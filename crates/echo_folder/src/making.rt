@@ -10,7 +10,7 @@ ghost use Rattle.echo_folder.specs.Standing.{BaseBytes, StandsFor};
 ghost use Rattle.echo_folder.specs.Opening.{AreNamed, AreAlone, StandsOrWasLeft, KeepsButOne};
 
 use crate::names::Names;
-use echo_disk::{Disk, DiskError};
+use echo_disk::{Disk, DiskError, sync_folder_of};
 
 // Makes the log where there is none.
 pub(crate) fn make_log<D: Disk>(disk: &mut D, folder: &[u8], log: &[u8]) -> Result<(), DiskError>
@@ -30,7 +30,7 @@ pub(crate) fn make_log<D: Disk>(disk: &mut D, folder: &[u8], log: &[u8]) -> Resu
         return Ok(());
     }
     disk.create(log)?;
-    disk.sync_folder(folder)
+    sync_folder_of(disk, folder)
 }
 
 // Makes the two files of a folder whose log has no record.
@@ -53,5 +53,5 @@ pub(crate) fn make_files<D: Disk>(disk: &mut D, names: &Names) -> Result<(), Dis
 {
     disk.create(&names.messages)?;
     disk.create(&names.keys)?;
-    disk.sync_folder(&names.folder)
+    sync_folder_of(disk, &names.folder)
 }

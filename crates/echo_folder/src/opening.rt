@@ -15,7 +15,7 @@ use crate::log::{End, Told, last_record};
 use crate::making::{make_files, make_log};
 use crate::mending::mend;
 use crate::names::{Names, log_path};
-use echo_disk::{Disk, DiskError, read_file};
+use echo_disk::{Disk, DiskError, read_file, sync_folder_of};
 use std::alloc::Global;
 
 // Puts the log on the disk, as it is, and reads it: what a killed program left is seen and may not be there yet.
@@ -36,7 +36,7 @@ pub(crate) fn settle_log<D: Disk>(
         → LeavesOnly (D.state disk.old) (D.state disk.new) (StandsOrWasLeft folder.now (D.state disk.old) base)) }
     ensures cause { HasCause (D.failures disk.old) (D.failures disk.new) result }
 {
-    disk.sync_folder(folder)?;
+    sync_folder_of(disk, folder)?;
     make_log(disk, folder, log)?;
     disk.sync(log)?;
     read_file(alloc, disk, log)

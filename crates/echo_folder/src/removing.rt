@@ -9,7 +9,7 @@ ghost use Rattle.echo_folder.specs.Moments.{StandsAlone, KeepsOutside, LeavesOut
 
 use crate::log::End;
 use crate::names::Names;
-use echo_disk::{Disk, DiskError};
+use echo_disk::{Disk, DiskError, sync_folder_of};
 
 // Removes a file that is none of those that count, where it is there.
 pub(crate) fn remove_one<D: Disk>(
@@ -33,7 +33,7 @@ pub(crate) fn remove_one<D: Disk>(
         return Ok(());
     }
     disk.remove(file)?;
-    disk.sync_folder(folder)
+    sync_folder_of(disk, folder)
 }
 
 /// Removes the two files of a number that no longer counts, where they are there. A crash meanwhile leaves the base as

@@ -1,5 +1,5 @@
 -- A station whose base is a folder, with its link file and its folder locked.
-use Rattle.std.specs.Prelude.{◌≡◌, ◌⊎◌, ◌↔◌, ℕ, Bool, List, Some, Ok, Err}
+use Rattle.std.specs.Prelude.{◌≡◌, ◌⊎◌, ◌↔◌, ℕ, Bool, List}
 use Rattle.echo_addr.specs.declared.address.Address.{Address}
 use Rattle.echo_base.specs.Base.{Base}
 use Rattle.echo_base_folder.specs.Ours.{IsLeftAlone, IsNotOurs, IsOfOther}
@@ -11,32 +11,11 @@ use Rattle.echo_disk.specs.Disk.{DiskState, Files, IsIn}
 use Rattle.echo_disk.specs.Runs.{ChangesNothing, LeavesOnly}
 use Rattle.echo_folder.specs.Moments.{KeepsOutside}
 use Rattle.echo_folder_store.specs.Held.{StandsForBase, StandsForBaseOrWasLeft}
-use Rattle.echo_links.specs.LinkLines.{LinksOf}
 use Rattle.echo_links.specs.Links.{LinkFile}
-use Rattle.echo_links.specs.declared.fault.LinkFault.{LinkFault}
-use Rattle.echo_links.specs.declared.fault.LinkFault.TheVariants as link
-use Rattle.echo_station_files.specs.Faults.{FailsAt, LinksUnread}
+use Rattle.echo_station_files.specs.Faults.{FailsAt}
+use Rattle.echo_station_files.specs.Links.{AreLinks, NoLinks}
 use Rattle.echo_status.specs.declared.fault.Fault.{Fault}
-use Rattle.echo_status.specs.declared.fault.Fault.TheVariants.{Link}
 use Rattle.echo_store.specs.Store.{StoreState}
-
--- the bytes of the link file say this
-pub record AreLinks (disk : DiskState) (links : List ℕ) (file : LinkFile) : Type 0 where
-  pub bytes : List ℕ
-  pub seen : disk.seen links ≡ Some bytes
-  pub judged : LinksOf bytes (Ok file)
-
--- they are faulty, as this reports
-pub record AreFaulty (disk : DiskState) (links : List ℕ) (fault : Fault) : Type 0 where
-  pub bytes : List ℕ
-  pub seen : disk.seen links ≡ Some bytes
-  pub why : LinkFault
-  pub judged : LinksOf bytes (Err why)
-  pub told : fault ≡ Link why
-
--- the link file is not read, or there was no memory to judge it, or it is faulty
-abbrev pub NoLinks : DiskState → List ℕ → Type 0 → Fault → Type 0
-NoLinks disk links failed fault = LinksUnread disk links failed fault ⊎ ((fault ≡ Link link.Memory) ⊎ AreFaulty disk links fault)
 
 -- the folder is not opened for the system
 pub record IsNotOpened (own : Address) (strange : Bool) (base path : List ℕ) (failed : Type 0) (old new : DiskState) (fault : Fault) : Type 0 where

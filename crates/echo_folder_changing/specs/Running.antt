@@ -13,7 +13,8 @@ use Rattle.echo_status.specs.Devices.{Output}
 use Rattle.echo_store.specs.declared.store_error.StoreError.TheVariants.{Damaged, Device}
 use Rattle.echo_store_changing.specs.declared.stop.Stop.{Stop}
 use Rattle.echo_store_changing.specs.declared.stop.Stop.TheVariants.{Met, Store}
-use Rattle.echo_folder_changing.specs.Opening.{AreLinks, IsLockedOut, IsShut}
+use Rattle.echo_station_files.specs.Links.{AreLinks}
+use Rattle.echo_folder_changing.specs.Opening.{IsLockedOut, IsShut}
 
 -- the folder's files stand for a base that the command makes, as they are seen and whatever a crash leaves
 pub record IsKept (keyed : ℕ → ℕ → List ℕ → ℕ) (path : List ℕ) (IsMade : Base → Type 0) (now : DiskState) : Type 0 where

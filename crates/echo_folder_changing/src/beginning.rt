@@ -36,8 +36,8 @@ pub struct Stopped<'a, D> {
     pub fault: Fault<'a>,
 }
 
-// Opens the station as a store.
-fn open_store<'a, D: Disk + Drop, H: Digest, L: FileLock, K: FileLock>(
+/// Opens the station as a store.
+pub fn open_store<'a, D: Disk + Drop, H: Digest, L: FileLock, K: FileLock>(
     alloc: Global,
     disk: D,
     lock: &mut L,

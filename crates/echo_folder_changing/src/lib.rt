@@ -19,7 +19,7 @@ mod purging;
 mod replying;
 mod tossing;
 
-pub use beginning::{Begun, Stopped, begin};
+pub use beginning::{Begun, Stopped, begin, open_store};
 pub use place::{Ended, FolderPlace, Found};
 pub use posting::{post_free_in, post_in};
 pub use preparing::Preparing;

@@ -11,8 +11,8 @@ ghost use Rattle.echo_folder.specs.Moments.{KeepsOutside};
 ghost use Rattle.echo_folder.specs.Opening.{AreAlone};
 ghost use Rattle.echo_folder_store.specs.Held.{StandsForBase, StandsForBaseOrWasLeft};
 ghost use Rattle.echo_folder_store.specs.Opened.{IsNamed, IsOpen, path_of};
-ghost use Rattle.echo_station_files.specs.Faults as station;
-ghost use Rattle.echo_folder_changing.specs.Opening.{AreLinks, HaveFailed, IsLockedOut, IsNotOpened, IsShut, NoLinks};
+ghost use Rattle.echo_station_files.specs.Links.{AreLinks};
+ghost use Rattle.echo_folder_changing.specs.Opening.{HaveFailed, IsLockedOut, IsNotOpened, IsShut};
 
 use crate::place::{FolderPlace, Found};
 use echo_addr::Address;
@@ -20,28 +20,9 @@ use echo_base_folder::open_own;
 use echo_disk::Disk;
 use echo_folder_store::Folder;
 use echo_links::LinkFile;
-use echo_station_files::{FileLock, lock_at, lock_links};
+use echo_station_files::{FileLock, links_at, lock_at};
 use echo_status::Fault;
 use std::alloc::Global;
-
-// Takes the lock of the link file with this path, and judges what it says.
-fn links_at<'a, D: Disk, L: FileLock>(
-    alloc: Global,
-    disk: &mut D,
-    lock: &mut L,
-    path: &'a str,
-) -> Result<LinkFile, Fault<'a>>
-    requires { L.held lock.old ≡ None }
-    ensures locked { OnOk result (L.held lock.new ≡ Some path.now) }
-    ensures read { Honestly (D.state disk.new) (IfOk result (AreLinks (D.state disk.old) path.now)) }
-    ensures err { Honestly (D.state disk.new) (IfErr result (NoLinks (D.state disk.old) path.now (station.HaveFailed (D.failures disk.old) (D.failures disk.new) (L.failures lock.old) (L.failures lock.new)))) }
-    ensures quiet { ChangesNothing (D.state disk.old) (D.state disk.new) }
-    ensures later { D.failures disk.old ≤ D.failures disk.new }
-    ensures lock_later { L.failures lock.old ≤ L.failures lock.new }
-{
-    let bytes = lock_links(alloc, disk, lock, path)?;
-    Ok(LinkFile::read(alloc, &bytes)?)
-}
 
 // Opens the folder, which is locked as the link file is, for the system with this address, and says why not as that is
 // reported.

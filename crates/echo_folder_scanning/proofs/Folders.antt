@@ -3,15 +3,14 @@ use Rattle.std.proofs.Common.{◌≡◌, ◌≢◌, ◌∙◌, ◌+◌, ◌-◌,
 use Rattle.std.proofs.Math.Seq.{take-append_seam}
 use Rattle.std.proofs.lemmas.Bool.{cases_order}
 use Rattle.std.proofs.lemmas.List.{append-nil, get_or-append-add, get_or_append_left}
-use Rattle.echo_disk.specs.Disk.{IsIn}
-use Rattle.echo_folder_scanning.specs.Folders.{IsOfFolder}
+use Rattle.echo_disk.specs.Disk.{IsFolder, IsIn}
 
 -- the path of a folder leads into it
 pub folder_in : (path : List ℕ) → IsIn path path
 folder_in path = record { name = []; parts = sym (append-nil path); plain = λ k z lt. absurd (omega (arith, lt)) }
 
 -- a file of a folder is none of one whose path is longer
-none_of_longer : (short long m : List ℕ) → length short < length long → IsOfFolder long → IsIn short m → IsIn long m → ⊥
+none_of_longer : (short long m : List ℕ) → length short < length long → IsFolder long → IsIn short m → IsIn long m → ⊥
 none_of_longer short long m less folder one other =
     let at = length long - 1 in
     let behind = at - length short in
@@ -28,7 +27,7 @@ none_of_longer short long m less folder one other =
     one.plain behind 0 within (sym name ∙ here))
     folder
 
-pub two_folders : (one other m : List ℕ) → IsOfFolder one → IsOfFolder other → one ≢ other → IsIn one m → IsIn other m → ⊥
+pub two_folders : (one other m : List ℕ) → IsFolder one → IsFolder other → one ≢ other → IsIn one m → IsIn other m → ⊥
 two_folders one other m of_one of_other differ in_one in_other =
     ⊎_elim
     (λ (same : length one ≡ length other).

@@ -1,4 +1,3 @@
-pub mod Folders
 pub mod Stops
 pub mod Sending
 pub mod Scanning

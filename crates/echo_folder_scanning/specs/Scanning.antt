@@ -19,7 +19,7 @@ use Rattle.echo_store_changing.specs.Scanned.{ScansOn}
 use Rattle.echo_store_changing.specs.declared.stop.Stop.{Stop}
 use Rattle.echo_store_changing.specs.declared.stop.Stop.TheVariants.{Store}
 use Rattle.echo_toss.specs.PacketsIn.{state_in}
-use Rattle.echo_folder_changing.specs.Opening.{AreLinks}
+use Rattle.echo_station_files.specs.Links.{AreLinks}
 use Rattle.echo_folder_changing.specs.Running.{IsNotRun}
 use Rattle.echo_folder_scanning.specs.Sending.{AreSentOut, IsLeftOf, MayScan}
 use Rattle.echo_folder_scanning.specs.Stops.{IsOfPlacing, as_scan}

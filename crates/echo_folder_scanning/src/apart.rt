@@ -1,13 +1,12 @@
 //! Whether two folders have no file in common.
 ghost use Rattle.std.specs.Prelude.{◌≡◌, true, List, ℕ};
-ghost use Rattle.echo_disk.specs.Disk.{IsIn};
-ghost use Rattle.echo_folder_scanning.specs.Folders.{IsOfFolder};
+ghost use Rattle.echo_disk.specs.Disk.{IsFolder, IsIn};
 
 use echo_file_scanning::differ;
 
 // Whether it is the path of a folder: it ends in a slash, or is empty.
 fn is_folder(path: &[u8]) -> bool
-    ensures { result ≡ true → IsOfFolder path.now }
+    ensures { result ≡ true → IsFolder path.now }
 {
     if path.is_empty() {
         return true;

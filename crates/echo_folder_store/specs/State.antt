@@ -32,6 +32,7 @@ state_of disk keyed folder alone = record {
   is_own = λ m. IsIn (path_of folder) m;
   undoes = ⊥;
   stays = λ honest usable base is c left. record { bytes = committed_by disk folder; stands = (usable.opened honest).staged.stands c left; holds = is };
+  shown = λ honest usable base is. record { bytes = committed_by disk folder; stands = (usable.opened honest).staged.shown; holds = is };
 }
 
 -- where the disk was honest, an index is one of the folder's keys
@@ -50,4 +51,5 @@ where_so s so = record {
   is_own = s.is_own;
   undoes = s.undoes;
   stays = λ honest ready base is c left. s.stays honest ready.0 base is c left;
+  shown = λ honest ready base is. s.shown honest ready.0 base is;
 }

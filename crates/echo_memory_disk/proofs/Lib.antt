@@ -1,4 +1,5 @@
 mod Effects
+mod Gone
 mod Moved
 mod Named
 mod Rewritten

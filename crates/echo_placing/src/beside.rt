@@ -7,7 +7,7 @@ ghost use Rattle.echo_placing.specs.Outgoing.{AreApart, ArePlaced, SendsBytes, I
 
 use crate::outgoing::Outgoing;
 use crate::staging::fill_file;
-use echo_disk::{Disk, DiskError};
+use echo_disk::{Disk, DiskError, sync_folder_of};
 use std::alloc::Global;
 
 // Whether no packet's path is taken.
@@ -77,12 +77,12 @@ pub fn stage_packets<D: Disk>(
     ensures changes { ChangesOnly (IsBesideOne packets.now) (D.state disk.old) (D.state disk.new) }
     ensures cause { HasCause (D.failures disk.old) (D.failures disk.new) result }
 {
-    disk.sync_folder(folder)?;
+    sync_folder_of(disk, folder)?;
     if !are_free(disk, packets)? {
         return Ok(false);
     }
     make_files(disk, packets)?;
-    disk.sync_folder(folder)?;
+    sync_folder_of(disk, folder)?;
     fill_files(alloc, disk, packets)?;
     Ok(true)
 }

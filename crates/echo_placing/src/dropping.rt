@@ -5,7 +5,7 @@ ghost use Rattle.echo_placing.specs.Changes.{ChangesOnly};
 ghost use Rattle.echo_placing.specs.Outgoing.{AreApart, ArePlaced, IsBesideOne, IsGoneBeside, IsNamedBeside};
 
 use crate::outgoing::Outgoing;
-use echo_disk::{Disk, DiskError};
+use echo_disk::{Disk, DiskError, sync_folder_of};
 
 // Removes the file with this path, where there is one.
 fn drop_one<D: Disk>(disk: &mut D, path: &[u8]) -> Result<(), DiskError>
@@ -45,6 +45,6 @@ pub fn drop_beside<D: Disk>(
     ensures changes { ChangesOnly (IsBesideOne packets.now) (D.state disk.old) (D.state disk.new) }
     ensures later { D.failures disk.old ≤ D.failures disk.new }
 {
-    disk.sync_folder(folder)?;
+    sync_folder_of(disk, folder)?;
     drop_each(disk, packets)
 }

@@ -6,7 +6,7 @@ ghost use Rattle.echo_placing.specs.Changes.{ChangesOnly};
 ghost use Rattle.echo_placing.specs.Finishing.{AreLeftIn, AreNamed, Finishes, FinishesEach, IsFreeOf, IsLeftIn, IsOfLeft, IsOver, IsThere, KeepsFile};
 
 use crate::naming::name_packet;
-use echo_disk::{Disk, DiskError};
+use echo_disk::{Disk, DiskError, sync_folder_of};
 use std::alloc::Global;
 
 /// A packet that stands beside its path, and how many messages were scanned before it.
@@ -65,11 +65,11 @@ pub fn finish_stopped<D: Disk>(
     ensures changes { ChangesOnly (IsOfLeft found.now) (D.state disk.old) (D.state disk.new) }
     ensures cause { HasCause (D.failures disk.old) (D.failures disk.new) result }
 {
-    disk.sync_folder(folder)?;
+    sync_folder_of(disk, folder)?;
     let mut all = true;
     'found: for left in found {
         all &= finish_one(alloc, disk, folder, left, cursor)?;
     }
-    disk.sync_folder(folder)?;
+    sync_folder_of(disk, folder)?;
     Ok(all)
 }

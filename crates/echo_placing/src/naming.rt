@@ -1,5 +1,5 @@
 //! Packets get their paths: each a second path by a link, and then the path beside it goes.
-ghost use Rattle.std.specs.Prelude.{◌≡◌, ◌≢◌, ◌⊎◌, ◌↔◌, ◌≤◌, true, false, All, IfOk, OnOk, IsSome};
+ghost use Rattle.std.specs.Prelude.{◌≡◌, ◌≢◌, ◌⊎◌, ◌↔◌, ◌≤◌, ℕ, List, true, false, All, IfOk, OnOk, IsSome};
 ghost use Rattle.echo_disk.specs.Disk.{Honestly, IsIn};
 ghost use Rattle.echo_disk.specs.Runs.{ChangesNothing, HasCause, LeavesOnly, OneStepOn};
 ghost use Rattle.echo_placing.specs.Changes.{ChangesOnly};
@@ -7,7 +7,7 @@ ghost use Rattle.echo_placing.specs.Naming.{HasItsPath, HasMoved, IsTaken, Names
 ghost use Rattle.echo_placing.specs.Outgoing.{ArePlaced, IsFree, IsOfOne, IsStaged};
 
 use crate::outgoing::Outgoing;
-use echo_disk::{Disk, DiskError, read_file};
+use echo_disk::{Disk, DiskError, read_file, sync_folder_of};
 use std::alloc::Global;
 
 // Whether two files have the same bytes.
@@ -106,7 +106,7 @@ pub fn name_packet<D: Disk>(
     if !given {
         return Ok(false);
     }
-    disk.sync_folder(folder)?;
+    sync_folder_of(disk, folder)?;
     disk.remove(beside)?;
     Ok(true)
 }
@@ -122,6 +122,7 @@ pub fn name_packets<D: Disk>(
     requires staged { All (IsStaged (D.state disk.old)) packets.now }
     ensures named { Honestly (D.state disk.new) (IfOk result (λ all. all ≡ true → All (HasItsPath (D.state disk.new)) packets.now)) }
     ensures taken { Honestly (D.state disk.new) (IfOk result (λ all. all ≡ false → All (IsFree (D.state disk.old)) packets.now → ⊥)) }
+    ensures settled { OnOk result ((m : List ℕ) → IsIn folder.now m → (D.state disk.new).is_named m) }
 
     // A crash at any moment leaves each packet whole at one of its two paths at least.
     ensures any_moment { Honestly (D.state disk.new) (LeavesOnly (D.state disk.old) (D.state disk.new) (OneStepOn (NamesEach packets.now) (D.state disk.old))) }
@@ -132,6 +133,6 @@ pub fn name_packets<D: Disk>(
     'packets: for packet in packets {
         all &= name_packet(alloc, disk, folder, packet.beside, packet.path)?;
     }
-    disk.sync_folder(folder)?;
+    sync_folder_of::<D>(disk, folder)?;
     Ok(all)
 }

@@ -6,7 +6,7 @@ ghost use Rattle.echo_placing.specs.Changes.{ChangesOnly, HasOnDisk};
 ghost use Rattle.echo_placing.specs.Replacing.{Replaces};
 
 use crate::staging::stage_file;
-use echo_disk::{Disk, DiskError};
+use echo_disk::{Disk, DiskError, sync_folder_of};
 
 /// Puts these bytes in the place of those of a file, or makes the file, by way of a path beside it. At `Ok` they are
 /// on the disk.
@@ -30,5 +30,5 @@ pub fn replace_file<D: Disk>(
 {
     stage_file(disk, folder, beside, bytes)?;
     disk.rename(beside, path)?;
-    disk.sync_folder(folder)
+    sync_folder_of(disk, folder)
 }

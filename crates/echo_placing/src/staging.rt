@@ -5,7 +5,7 @@ ghost use Rattle.echo_disk.specs.Disk.{IsIn};
 ghost use Rattle.echo_disk.specs.Runs.{HasCause, KeepsNamed};
 ghost use Rattle.echo_placing.specs.Changes.{ChangesOnly, HasOnDisk};
 
-use echo_disk::{Disk, DiskError};
+use echo_disk::{Disk, DiskError, sync_folder_of};
 
 /// Writes the bytes of a file that was just made and whose path is on the disk. At `Ok` they are on it too.
 pub fn fill_file<D: Disk>(disk: &mut D, path: &[u8], bytes: &[u8]) -> Result<(), DiskError>
@@ -35,8 +35,8 @@ pub fn stage_file<D: Disk>(
     ensures changes { ChangesOnly (λ m. m ≡ path.now) (D.state disk.old) (D.state disk.new) }
     ensures cause { HasCause (D.failures disk.old) (D.failures disk.new) result }
 {
-    disk.sync_folder(folder)?;
+    sync_folder_of(disk, folder)?;
     disk.create(path)?;
-    disk.sync_folder(folder)?;
+    sync_folder_of(disk, folder)?;
     fill_file(disk, path, bytes)
 }

@@ -1,5 +1,5 @@
 -- What a disk shows after a call, and what a crash may leave of it then: all that the call allows.
-use Rattle.std.specs.Prelude.{◌≡◌, ◌≢◌, ◌≤◌, ◌⊎◌, ℕ, suc, cond, List, bytes_eq, Option}
+use Rattle.std.specs.Prelude.{◌≡◌, ◌≢◌, ◌≤◌, ◌⊎◌, ℕ, suc, cond, List, bytes_eq, Option, None}
 use Rattle.std.proofs.Common.{inl, inr, ◌∙◌, sym, refl, ap, subst}
 use Rattle.std.proofs.Math.Nat.{lt_irrefl}
 use Rattle.std.proofs.lemmas.Bool.{false_from_ne_true}
@@ -98,17 +98,21 @@ abbrev pub synced : DiskState → List ℕ → DiskState
 synced old path =
     next old old.seen (LeavesSynced old path) old.is_named (OrIs path old.is_flushed) old.is_alone (synced_stays old path)
 
--- the paths of a folder are on the disk
-abbrev pub LeavesNamed : DiskState → List ℕ → Files → Type 0
-LeavesNamed old folder c = old.may_leave c × ((m : List ℕ) → IsIn folder m → old.is_flushed m → c m ≡ old.seen m)
-
+-- The paths of a folder are on the disk, and that there is no file at one.
 abbrev pub IsNamedOrIn : DiskState → List ℕ → List ℕ → Type 0
 IsNamedOrIn old folder m = old.is_named m ⊎ IsIn folder m
 
-pub named_stays : (old : DiskState) (folder m : List ℕ) → IsNamedOrIn old folder m → old.is_flushed m → (c : Files) → LeavesNamed old folder c → c m ≡ old.seen m
-named_stays old folder m (inl was) flushed c left = old.on_disk m was flushed c left.0
+abbrev pub IsFlushedOrGone : DiskState → List ℕ → List ℕ → Type 0
+IsFlushedOrGone old folder m = old.is_flushed m ⊎ (IsIn folder m × (old.seen m ≡ None))
+
+abbrev pub LeavesNamed : DiskState → List ℕ → Files → Type 0
+LeavesNamed old folder c = old.may_leave c × ((m : List ℕ) → IsIn folder m → IsFlushedOrGone old folder m → c m ≡ old.seen m)
+
+pub named_stays : (old : DiskState) (folder m : List ℕ) → IsNamedOrIn old folder m → IsFlushedOrGone old folder m → (c : Files) → LeavesNamed old folder c → c m ≡ old.seen m
+named_stays old folder m (inl was) (inl flushed) c left = old.on_disk m was flushed c left.0
+named_stays old folder m (inl was) (inr gone) c left = left.1 m gone.0 (inr gone)
 named_stays old folder m (inr is) flushed c left = left.1 m is flushed
 
 abbrev pub folder_synced : DiskState → List ℕ → DiskState
 folder_synced old folder =
-    next old old.seen (LeavesNamed old folder) (IsNamedOrIn old folder) old.is_flushed old.is_alone (named_stays old folder)
+    next old old.seen (LeavesNamed old folder) (IsNamedOrIn old folder) (IsFlushedOrGone old folder) old.is_alone (named_stays old folder)

@@ -1,3 +1,4 @@
 pub mod Paths
 pub mod Faults
+pub mod Links
 pub mod Reading

@@ -14,8 +14,8 @@ mod paths;
 mod reading;
 mod writing;
 
-pub use links::{lock_at, lock_links};
+pub use links::{links_at, lock_at, lock_links};
 pub use locked::FileLock;
-pub use paths::{folder_of, path_beside, system_name};
+pub use paths::{path_beside, system_name};
 pub use reading::{StationFiles, StationPaths, lock_station};
 pub use writing::write_base;

@@ -4,10 +4,12 @@ ghost use Rattle.echo_device.specs.Device.{Failed};
 ghost use Rattle.echo_disk.specs.Disk.{Honestly};
 ghost use Rattle.echo_disk.specs.Runs.{ChangesNothing};
 ghost use Rattle.echo_station_files.specs.Faults.{FailsAt, HaveFailed, LinksUnread};
+ghost use Rattle.echo_station_files.specs.Links.{AreLinks, NoLinks};
 
 use crate::locked::FileLock;
 use crate::reading::{fault_at, read_links};
 use echo_disk::Disk;
+use echo_links::LinkFile;
 use echo_status::Fault;
 use std::alloc::Global;
 
@@ -39,8 +41,28 @@ pub fn lock_links<'a, D: Disk, L: FileLock>(
     ensures later { D.failures disk.old ≤ D.failures disk.new }
     ensures lock_later { L.failures lock.old ≤ L.failures lock.new }
 {
-    match lock.lock(path.as_bytes()) {
-        Ok(()) => read_links(alloc, disk, path),
+    let taken = lock.lock(path.as_bytes());
+    match taken {
+        Ok(()) => read_links(alloc, disk, lock, path),
         Err(cause) => Err(fault_at(cause, path)),
     }
+}
+
+/// Takes the lock of the link file with this path, and judges what it says.
+pub fn links_at<'a, D: Disk, L: FileLock>(
+    alloc: Global,
+    disk: &mut D,
+    lock: &mut L,
+    path: &'a str,
+) -> Result<LinkFile, Fault<'a>>
+    requires { L.held lock.old ≡ None }
+    ensures locked { OnOk result (L.held lock.new ≡ Some path.now) }
+    ensures read { Honestly (D.state disk.new) (IfOk result (AreLinks (D.state disk.old) path.now)) }
+    ensures err { Honestly (D.state disk.new) (IfErr result (NoLinks (D.state disk.old) path.now (HaveFailed (D.failures disk.old) (D.failures disk.new) (L.failures lock.old) (L.failures lock.new)))) }
+    ensures quiet { ChangesNothing (D.state disk.old) (D.state disk.new) }
+    ensures later { D.failures disk.old ≤ D.failures disk.new }
+    ensures lock_later { L.failures lock.old ≤ L.failures lock.new }
+{
+    let bytes = lock_links(alloc, disk, lock, path)?;
+    Ok(LinkFile::read(alloc, &bytes)?)
 }

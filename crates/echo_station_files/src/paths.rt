@@ -1,6 +1,5 @@
 //! The paths of files beside others.
 ghost use Rattle.std.specs.Prelude.{◌≡◌, ◌≢◌, All, IfErr, IfOk};
-ghost use Rattle.echo_disk.specs.Disk.{IsIn};
 ghost use Rattle.echo_status.specs.declared.fault.Fault.TheVariants.{OutOfMemory};
 ghost use Rattle.echo_station_files.specs.Paths.{IsOwnName, dotted, path_beside};
 
@@ -8,17 +7,6 @@ use echo_addr::Address;
 use echo_links::{LinkFault, LinkFile};
 use echo_status::Fault;
 use std::alloc::{AllocError, Global};
-
-/// The folder of a path: all of it up to its last slash.
-pub fn folder_of(path: &[u8]) -> &[u8]
-    ensures { IsIn result.now path.now }
-{
-    let mut end = path.len();
-    'bytes: while end > 0 && path[end - 1] != b'/' {
-        end -= 1;
-    }
-    &path[..end]
-}
 
 /// The path beside a path that the system of this name writes.
 pub fn path_beside(alloc: Global, path: &[u8], own: &[u8]) -> Result<Vec<u8>, AllocError>

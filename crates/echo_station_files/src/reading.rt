@@ -92,11 +92,13 @@ fn check_links<'a, D: Disk>(disk: &mut D, path: &'a str) -> Result<(), Fault<'a>
 }
 
 // The bytes of a link file, whose lock is held.
-pub(crate) fn read_links<'a, D: Disk>(
+pub(crate) fn read_links<'a, D: Disk, L: FileLock>(
     alloc: Global,
     disk: &mut D,
+    _lock: &L,
     path: &'a str,
 ) -> Result<Vec<u8>, Fault<'a>>
+    requires { L.held _lock.now ≡ Some path.now }
     ensures bytes { Honestly (D.state disk.new) (IfOk result (λ bytes. (D.state disk.old).seen path.now ≡ Some bytes.items)) }
     ensures quiet { ChangesNothing (D.state disk.old) (D.state disk.new) }
     ensures err { Honestly (D.state disk.new) (IfErr result (LinksUnread (D.state disk.old) path.now (Failed (D.failures disk.old) (D.failures disk.new)))) }
@@ -142,7 +144,7 @@ fn read_station<'a, D: Disk, L: FileLock>(
     ensures err { Honestly (D.state disk.new) (IfErr result (LinksUnread (D.state disk.old) at.entry.links.now (Failed (D.failures disk.old) (D.failures disk.new)))) }
     ensures later { D.failures disk.old ≤ D.failures disk.new }
 {
-    let links = read_links(alloc, disk, at.links)?;
+    let links = read_links(alloc, disk, lock, at.links)?;
     let own = own_name(alloc, &links)?;
     let (base, stopped) = read_base(alloc, disk, at.base, unread);
     Ok(StationFiles {

@@ -8,9 +8,9 @@ ghost use Rattle.echo_placing.specs.Replacing.{Replaces};
 ghost use Rattle.echo_station_files.specs.Faults.{FailsAt};
 ghost use Rattle.echo_station_files.specs.Paths.{path_beside};
 
-use crate::paths::{folder_of, path_beside};
+use crate::paths::path_beside;
 use crate::reading::fault_at;
-use echo_disk::Disk;
+use echo_disk::{Disk, folder_of};
 use echo_placing::replace_file;
 use echo_status::Fault;
 use std::alloc::Global;

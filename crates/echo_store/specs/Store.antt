@@ -36,6 +36,8 @@ pub record StoreState : Type 1 where
   pub undoes : Type 0
   -- a crash now leaves the base that was committed last
   pub stays : Honestly disk (is_ready → (base : Base) → committed base → (c : Files) → disk.may_leave c → stands base c)
+  -- and it is what is seen
+  pub shown : Honestly disk (is_ready → (base : Base) → committed base → stands base disk.seen)
 
 -- one message more at the end
 abbrev pub with_message : Base → Filed → Base
@@ -110,6 +112,10 @@ pub record Commits (old new : StoreState) : Type 0 where
   pub keeps : Honestly new.disk ((base : Base) → old.keeps base → new.keeps base)
   pub committed : Honestly new.disk ((base : Base) → old.keeps base → new.committed base)
   pub honest : new.disk.is_honest → old.disk.is_honest
+
+-- what was committed before is so still, or what was held is
+abbrev pub KeepsOrCommits : StoreState → StoreState → Type 0
+KeepsOrCommits old new = ((base : Base) → old.committed base → new.committed base) ⊎ ((base : Base) → old.keeps base → new.committed base)
 
 -- what a store that takes back what failed has held, it holds
 abbrev pub Undoes : StoreState → StoreState → Type 0

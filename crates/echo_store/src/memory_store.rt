@@ -8,7 +8,7 @@ use echo_base::Base;
 use echo_filed::{Filed, Key};
 use std::hash::BuildHasher;
 
-/// A base in memory. A crash leaves nothing of it: its owner saves it as a file.
+/// A base in memory. It is on no disk, so any files stand for any base: its owner saves it as a file.
 #[derive(Drop)]
 pub struct MemoryStore<S: BuildHasher> {
     base: Base<S>,
@@ -46,10 +46,11 @@ impl<S: BuildHasher> Store for MemoryStore<S> {
       keeps = λ base. base ≡ store.base;
       committed = λ base. Unit {0};
       at_hand = slice_get store.base.messages store.place;
-      stands = λ base c. ⊥;
+      stands = λ base c. Unit {0};
       is_own = λ m. ⊥;
       undoes = Unit {0};
-      stays = λ honest ready base is c left. left;
+      stays = λ honest ready base is c left. tt;
+      shown = λ honest ready base is. tt;
     } };
 
     ghost failures = { λ _. 0 };

@@ -6,7 +6,7 @@ ghost use Rattle.echo_disk.specs.Runs.{ChangesNothing};
 ghost use Rattle.echo_base.specs.Base.{Base, IsBase, is_known};
 ghost use Rattle.echo_filed.specs.Filed.{has_id, key_of};
 ghost use Rattle.echo_filed.specs.Stubs.{is_stub};
-ghost use Rattle.echo_store.specs.Store.{StoreState, LooksOn, CommitsNothing, MayCommit, GoesOn, Undoes, Commits, HasStoreCause, with_message, all_scanned, purged};
+ghost use Rattle.echo_store.specs.Store.{StoreState, LooksOn, CommitsNothing, MayCommit, GoesOn, KeepsOrCommits, Undoes, Commits, HasStoreCause, with_message, all_scanned, purged};
 
 use crate::store_error::StoreError;
 use echo_filed::{Filed, Key};
@@ -101,7 +101,7 @@ pub trait PurgedStore: Store {
         ensures count { Honestly (Self.state self.new).disk ((base : Base) → (Self.state self.old).keeps base
             → IfOk result (λ count. count ≡ count_by (λ m. not (is_stub m)) (take base.cursor base.messages))) }
         ensures purged { Honestly (Self.state self.new).disk ((base : Base) → (Self.state self.old).keeps base → OnOk result ((Self.state self.new).keeps (purged base))) }
-        ensures committed { Honestly (Self.state self.new).disk ((base : Base) → (Self.state self.old).keeps base → OnOk result ((Self.state self.new).committed base)) }
+        ensures committed { Honestly (Self.state self.new).disk (OnOk result (KeepsOrCommits (Self.state self.old) (Self.state self.new))) }
         ensures ready { OnOk result (Self.state self.new).is_ready }
         ensures undone { OnErr result (Undoes (Self.state self.old) (Self.state self.new)) }
         ensures either { MayCommit (Self.state self.old) (Self.state self.new) }

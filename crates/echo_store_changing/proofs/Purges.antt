@@ -1,15 +1,16 @@
 -- Purges of a store.
-use Rattle.std.proofs.Common.{◌≡◌, ◌++◌, ℕ, List, [], inl, inr, ⊎_elim, Result, refl, ap, ◌∙◌}
+use Rattle.std.proofs.Common.{◌≡◌, ◌⊎◌, ◌++◌, ℕ, List, [], inl, inr, ⊎_elim, Result, refl, subst, ap, ◌∙◌}
 use Rattle.std.specs.Prelude.{count_by, not, take}
 use Rattle.echo_base.specs.Base.{Base}
 use Rattle.echo_changing.specs.Lines.{purged_line}
 use Rattle.echo_disk.specs.Disk.{Files, Honestly}
+use Rattle.echo_disk.specs.Runs.{LeavesOnly}
 use Rattle.echo_disk.proofs.Moments.{then_run, weaker_run}
 use Rattle.echo_filed.specs.Stubs.{is_stub}
 use Rattle.echo_status.proofs.Lines.{alone}
 use Rattle.echo_status.specs.Devices.{Output}
 use Rattle.echo_steps.specs.Purging.{changed}
-use Rattle.echo_store.specs.Store.{MayCommit, StandsForEither, StoreState, purged}
+use Rattle.echo_store.specs.Store.{KeepsOrCommits, MayCommit, StandsForEither, StoreState, purged}
 use Rattle.echo_store.proofs.Runs.{same_twice}
 use Rattle.echo_store_changing.specs.declared.stop.Stop.{Stop}
 use Rattle.echo_store_changing.specs.Answered.{MayMake, PrintsAll, RefusesNone, StandsForMade}
@@ -27,22 +28,30 @@ purge_may old new may = record {
   same = may.same;
 }
 
--- what a crash leaves of the commit after it, as it stood before
-stood_purged : (old mid : StoreState) (first base : Base) (c : Files) → MayCommit old mid → StandsForEither mid base (purged base) c → StandsForMade old (HoldsOrPurges base) first c
-stood_purged old mid first base c may either = record {
+-- what a crash leaves of the commit after it, as it stood before: `was` is what was committed then
+stood_purged : (old mid : StoreState) (first base was : Base) (c : Files) → (was ≡ first) ⊎ (was ≡ base) → MayCommit old mid → StandsForEither mid was (purged base) c
+    → StandsForMade old (HoldsOrPurges base) first c
+stood_purged old mid first base was c is may either = record {
   beside = λ m other named flushed.
       either.beside m (λ own. other ((may.same.own m).0 own)) (may.beside.named m other named) (may.beside.flushed m other flushed) ∙ may.beside.seen m other;
-  stands = ⊎_elim (λ s. inr (base, inl refl, (may.same.stands base c).0 s)) (λ s. inr (purged base, inr refl, (may.same.stands (purged base) c).0 s)) either.stands;
+  stands = ⊎_elim
+      (λ s. ⊎_elim
+      (λ (same : was ≡ first). inl (subst (λ (b : Base). old.stands b c) same ((may.same.stands was c).0 s)))
+      (λ (same : was ≡ base). inr (was, inl same, (may.same.stands was c).0 s)) is)
+      (λ s. inr (purged base, inr refl, (may.same.stands (purged base) c).0 s)) either.stands;
 }
 
 -- and then what it left may be
 pub purge_then : (old mid new : StoreState) → MayCommit old mid → Honestly mid.disk ((base : Base) → old.keeps base → mid.keeps (purged base))
-    → Honestly mid.disk ((base : Base) → old.keeps base → mid.committed base) → MayCommit mid new → MayMake HoldsOrPurges old new
+    → Honestly mid.disk (KeepsOrCommits old mid) → MayCommit mid new → MayMake HoldsOrPurges old new
 purge_then old mid new first kept done may = record {
   any_moment = λ honest before base is h.
       let at_mid = may.beside.honest honest in
-      then_run old.disk mid.disk new.disk (StandsForMade old (HoldsOrPurges base) before) (StandsForEither mid base (purged base)) ((purge_may old mid first).any_moment at_mid before base is h)
-      (may.any_moment honest base (purged base) (done at_mid base h) (kept at_mid base h)) (λ c either. stood_purged old mid before base c first either);
+      let from : (was : Base) → (was ≡ before) ⊎ (was ≡ base) → mid.committed was → LeavesOnly old.disk new.disk (StandsForMade old (HoldsOrPurges base) before) =
+      λ was same then.
+      then_run old.disk mid.disk new.disk (StandsForMade old (HoldsOrPurges base) before) (StandsForEither mid was (purged base)) ((purge_may old mid first).any_moment at_mid before base is h)
+      (may.any_moment honest was (purged base) then (kept at_mid base h)) (λ c either. stood_purged old mid before base was c same first either) in
+      ⊎_elim (λ still. from before (inl refl) (still before is)) (λ held. from base (inr refl) (held base h)) (done at_mid);
   beside = kept_twice old mid new first.same first.beside may.beside;
   same = same_twice old mid new first.same may.same;
 }

@@ -27,13 +27,13 @@ returns-in_err-found-clause-ends g c = λ honest.
     let p = err_from_is_err_and c.from_residual-in_err-found.result c.from_residual-in_err-found.ensures.1 in
     rw p.1 (nothing_left (g.L.Listing.is_true c.left_beside.new.self d.seen) c.args.base.now c.args.folder.now c.args.own.now c.args.cursor d (g.D.Disk.state c.find_left.new.disk) c.find_left.ensures.quiet p.0)
 
-pub returns-in_err-sync_folder-clause-ends : goal.returns-in_err-sync_folder-clause-ends
-returns-in_err-sync_folder-clause-ends g c = λ honest.
+pub returns-in_err-sync_folder_of-clause-ends : goal.returns-in_err-sync_folder_of-clause-ends
+returns-in_err-sync_folder_of-clause-ends g c = λ honest.
     let d = g.D.Disk.state c.args.disk.now in
     let d1 = g.D.Disk.state c.find_left.new.disk in
-    let d2 = g.D.Disk.state c.sync_folder.new.self in
-    let p = err_from_is_err_and c.from_residual-in_err-sync_folder.result c.from_residual-in_err-sync_folder.ensures.1 in
-    rw p.1 (nothing_left (g.L.Listing.is_true c.left_beside.new.self d.seen) c.args.base.now c.args.folder.now c.args.own.now c.args.cursor d d2 (nothing_twice d d1 d2 c.find_left.ensures.quiet c.sync_folder.ensures.quiet) p.0)
+    let d2 = g.D.Disk.state c.sync_folder_of.new.disk in
+    let p = err_from_is_err_and c.from_residual-in_err-sync_folder_of.result c.from_residual-in_err-sync_folder_of.ensures.1 in
+    rw p.1 (nothing_left (g.L.Listing.is_true c.left_beside.new.self d.seen) c.args.base.now c.args.folder.now c.args.own.now c.args.cursor d d2 (nothing_twice d d1 d2 c.find_left.ensures.quiet c.sync_folder_of.ensures.quiet) p.0)
 
 pub returns-then-is_empty-clause-ends : goal.returns-then-is_empty-clause-ends
 returns-then-is_empty-clause-ends g c = λ honest.
@@ -65,15 +65,15 @@ returns-clause-ends g c = λ honest.
     let own = c.args.own.now in
     let d = g.D.Disk.state c.args.disk.now in
     let d1 = g.D.Disk.state c.find_left.new.disk in
-    let d2 = g.D.Disk.state c.sync_folder.new.self in
+    let d2 = g.D.Disk.state c.sync_folder_of.new.disk in
     let d3 = g.D.Disk.state c.end_these.new.disk in
     let named = c.in_ok-named.named.items in
     let paths = c.in_ok-found.found.items in
-    let h1 = c.sync_folder.ensures.quiet.honest (c.end_these.ensures.changes.honest honest) in
+    let h1 = c.sync_folder_of.ensures.quiet.honest (c.end_these.ensures.changes.honest honest) in
     let are = subst (λ (l : List LeftPacket). AreFound base folder own l paths) c.deref-2.ensures.value c.in_ok-found.ensures.found in
     let all = subst (λ (l : List LeftPacket). All (IsFoundWhere base folder own d.seen paths) l) c.deref-2.ensures.value (c.in_ok-found.ensures.all h1) in
     let ends = subst (λ (l : List LeftPaths). EndsThese c.args.cursor l d2 d3 c.end_these.result) c.deref-3.ensures.value (c.end_these.ensures.ends honest) in
-    these_left (g.L.Listing.is_true c.left_beside.new.self d.seen) base folder own c.args.cursor d d2 (nothing_twice d d1 d2 c.find_left.ensures.quiet c.sync_folder.ensures.quiet) named paths
+    these_left (g.L.Listing.is_true c.left_beside.new.self d.seen) base folder own c.args.cursor d d2 (nothing_twice d d1 d2 c.find_left.ensures.quiet c.sync_folder_of.ensures.quiet) named paths
     (λ truth. c.in_ok-named.ensures.listed d.seen truth) all d3 c.end_these.result c.requires are ends
 
 pub returns-clause-changes : goal.returns-clause-changes
@@ -84,9 +84,9 @@ returns-clause-changes g c =
     let at = IsOfName folder own in
     let d = g.D.Disk.state c.args.disk.now in
     let d1 = g.D.Disk.state c.find_left.new.disk in
-    let d2 = g.D.Disk.state c.sync_folder.new.self in
+    let d2 = g.D.Disk.state c.sync_folder_of.new.disk in
     let d3 = g.D.Disk.state c.end_these.new.disk in
     let paths = c.deref-3.result.now in
     let are = subst (λ (l : List LeftPaths). AreFound base folder own c.deref-2.result.now l) (sym c.deref-3.ensures.value) c.in_ok-found.ensures.found in
     then_only at d d1 d3 (only_nothing at d d1 c.find_left.ensures.quiet)
-    (then_only at d1 d2 d3 (only_nothing at d1 d2 c.sync_folder.ensures.quiet) (wider (IsOfPaths paths) at d2 d3 (left_of_name base folder own c.deref-2.result.now paths are) c.end_these.ensures.changes))
+    (then_only at d1 d2 d3 (only_nothing at d1 d2 c.sync_folder_of.ensures.quiet) (wider (IsOfPaths paths) at d2 d3 (left_of_name base folder own c.deref-2.result.now paths are) c.end_these.ensures.changes))

@@ -39,7 +39,7 @@ put_together-requires-clause-ready g c =
     let own = c.args.own.now in
     let folder = c.folder_of.result.now in
     let is = c.deref-3.ensures.value ∙ c.in_ok-beside.ensures in
-    record { path_in = c.folder_of.ensures; beside_in = subst (IsIn folder) (sym is) (beside_in folder base own c.folder_of.ensures c.requires); other = λ e. beside_other base own (sym is ∙ e) }
+    record { path_in = c.folder_of.ensures.inside; beside_in = subst (IsIn folder) (sym is) (beside_in folder base own c.folder_of.ensures.inside c.requires); other = λ e. beside_other base own (sym is ∙ e) }
 
 pub returns-clause-sent : goal.returns-clause-sent
 returns-clause-sent g c = λ honest.

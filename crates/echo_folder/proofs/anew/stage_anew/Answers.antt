@@ -102,10 +102,10 @@ returns-in_err-create-2-clause-same g c honest =
     let seen_2 : (m : List ℕ) → m ≢ keys_of path number → d2.seen m ≡ d1.seen m = λ m ne. c.create-2.ensures.beside m (λ is. ne (is ∙ keys)) in
     same_base d0 d2 path end (seen_2 (messages_of path n) (messages_not_keys path n number) ∙ seen_1 (messages_of path n) other_m) (seen_2 (keys_of path n) other_k ∙ seen_1 (keys_of path n) (keys_not_messages path n number))
 
-pub returns-in_err-sync_folder-clause-any_moment : goal.returns-in_err-sync_folder-clause-any_moment
-returns-in_err-sync_folder-clause-any_moment g c honest =
+pub returns-in_err-sync_folder_of-clause-any_moment : goal.returns-in_err-sync_folder_of-clause-any_moment
+returns-in_err-sync_folder_of-clause-any_moment g c honest =
     let h3 = honest in
-    let h2 = c.sync_folder.ensures.quiet.honest h3 in
+    let h2 = c.sync_folder_of.ensures.quiet.honest h3 in
     let h1 = c.create-2.ensures.time.honest h2 in
     let h0 = c.create.ensures.time.honest h1 in
     let path = folder_of c.args.names.now in
@@ -127,15 +127,15 @@ returns-in_err-sync_folder-clause-any_moment g c honest =
     let beside_k : IsBeside path n (keys_of path number) = record { inside = keys_in path number; not_log = log_not_keys path number; not_messages = messages_not_keys path n number; not_keys = other_k } in
     let named_k = c.create.ensures.named (keys_of path number) (λ is. keys_not_messages path number number (is ∙ messages)) (rest.log.named (keys_of path number) (keys_in path number)) in
     let run_2 = alone_changed d0 path end rest TornMaking d1 d2 (keys_of path number) beside_k named_k run_1 c.create-2.ensures.time crash_2 in
-    let d3 = g.D.Disk.state c.sync_folder.new.self in
-    let quiet = c.sync_folder.ensures.quiet in
+    let d3 = g.D.Disk.state c.sync_folder_of.new.disk in
+    let quiet = c.sync_folder_of.ensures.quiet in
     let run_3 = then_nothing d0 d2 d3 (FilesAlone d0 path end rest) run_2 quiet in
     alone_run d0 path end rest d3 run_3
 
-pub returns-in_err-sync_folder-clause-same : goal.returns-in_err-sync_folder-clause-same
-returns-in_err-sync_folder-clause-same g c honest =
+pub returns-in_err-sync_folder_of-clause-same : goal.returns-in_err-sync_folder_of-clause-same
+returns-in_err-sync_folder_of-clause-same g c honest =
     let h3 = honest in
-    let h2 = c.sync_folder.ensures.quiet.honest h3 in
+    let h2 = c.sync_folder_of.ensures.quiet.honest h3 in
     let h1 = c.create-2.ensures.time.honest h2 in
     let h0 = c.create.ensures.time.honest h1 in
     let path = folder_of c.args.names.now in
@@ -157,8 +157,8 @@ returns-in_err-sync_folder-clause-same g c honest =
     let beside_k : IsBeside path n (keys_of path number) = record { inside = keys_in path number; not_log = log_not_keys path number; not_messages = messages_not_keys path n number; not_keys = other_k } in
     let named_k = c.create.ensures.named (keys_of path number) (λ is. keys_not_messages path number number (is ∙ messages)) (rest.log.named (keys_of path number) (keys_in path number)) in
     let run_2 = alone_changed d0 path end rest TornMaking d1 d2 (keys_of path number) beside_k named_k run_1 c.create-2.ensures.time crash_2 in
-    let d3 = g.D.Disk.state c.sync_folder.new.self in
-    let quiet = c.sync_folder.ensures.quiet in
+    let d3 = g.D.Disk.state c.sync_folder_of.new.disk in
+    let quiet = c.sync_folder_of.ensures.quiet in
     let run_3 = then_nothing d0 d2 d3 (FilesAlone d0 path end rest) run_2 quiet in
     let seen_1 : (m : List ℕ) → m ≢ messages_of path number → d1.seen m ≡ d0.seen m = λ m ne. c.create.ensures.beside m (λ is. ne (is ∙ messages)) in
     let seen_2 : (m : List ℕ) → m ≢ keys_of path number → d2.seen m ≡ d1.seen m = λ m ne. c.create-2.ensures.beside m (λ is. ne (is ∙ keys)) in
@@ -167,7 +167,7 @@ returns-in_err-sync_folder-clause-same g c honest =
 pub returns-clause-any_moment : goal.returns-clause-any_moment
 returns-clause-any_moment g c honest =
     let h3 = honest in
-    let h2 = c.sync_folder.ensures.quiet.honest h3 in
+    let h2 = c.sync_folder_of.ensures.quiet.honest h3 in
     let h1 = c.create-2.ensures.time.honest h2 in
     let h0 = c.create.ensures.time.honest h1 in
     let path = folder_of c.args.names.now in
@@ -189,15 +189,15 @@ returns-clause-any_moment g c honest =
     let beside_k : IsBeside path n (keys_of path number) = record { inside = keys_in path number; not_log = log_not_keys path number; not_messages = messages_not_keys path n number; not_keys = other_k } in
     let named_k = c.create.ensures.named (keys_of path number) (λ is. keys_not_messages path number number (is ∙ messages)) (rest.log.named (keys_of path number) (keys_in path number)) in
     let run_2 = alone_changed d0 path end rest TornMaking d1 d2 (keys_of path number) beside_k named_k run_1 c.create-2.ensures.time crash_2 in
-    let d3 = g.D.Disk.state c.sync_folder.new.self in
-    let quiet = c.sync_folder.ensures.quiet in
+    let d3 = g.D.Disk.state c.sync_folder_of.new.disk in
+    let quiet = c.sync_folder_of.ensures.quiet in
     let run_3 = then_nothing d0 d2 d3 (FilesAlone d0 path end rest) run_2 quiet in
     alone_run d0 path end rest d3 run_3
 
 pub returns-clause-same : goal.returns-clause-same
 returns-clause-same g c honest =
     let h3 = honest in
-    let h2 = c.sync_folder.ensures.quiet.honest h3 in
+    let h2 = c.sync_folder_of.ensures.quiet.honest h3 in
     let h1 = c.create-2.ensures.time.honest h2 in
     let h0 = c.create.ensures.time.honest h1 in
     let path = folder_of c.args.names.now in
@@ -219,8 +219,8 @@ returns-clause-same g c honest =
     let beside_k : IsBeside path n (keys_of path number) = record { inside = keys_in path number; not_log = log_not_keys path number; not_messages = messages_not_keys path n number; not_keys = other_k } in
     let named_k = c.create.ensures.named (keys_of path number) (λ is. keys_not_messages path number number (is ∙ messages)) (rest.log.named (keys_of path number) (keys_in path number)) in
     let run_2 = alone_changed d0 path end rest TornMaking d1 d2 (keys_of path number) beside_k named_k run_1 c.create-2.ensures.time crash_2 in
-    let d3 = g.D.Disk.state c.sync_folder.new.self in
-    let quiet = c.sync_folder.ensures.quiet in
+    let d3 = g.D.Disk.state c.sync_folder_of.new.disk in
+    let quiet = c.sync_folder_of.ensures.quiet in
     let run_3 = then_nothing d0 d2 d3 (FilesAlone d0 path end rest) run_2 quiet in
     let seen_1 : (m : List ℕ) → m ≢ messages_of path number → d1.seen m ≡ d0.seen m = λ m ne. c.create.ensures.beside m (λ is. ne (is ∙ messages)) in
     let seen_2 : (m : List ℕ) → m ≢ keys_of path number → d2.seen m ≡ d1.seen m = λ m ne. c.create-2.ensures.beside m (λ is. ne (is ∙ keys)) in
@@ -229,7 +229,7 @@ returns-clause-same g c honest =
 pub returns-clause-staged : goal.returns-clause-staged
 returns-clause-staged g c honest =
     let h3 = honest in
-    let h2 = c.sync_folder.ensures.quiet.honest h3 in
+    let h2 = c.sync_folder_of.ensures.quiet.honest h3 in
     let h1 = c.create-2.ensures.time.honest h2 in
     let h0 = c.create.ensures.time.honest h1 in
     let path = folder_of c.args.names.now in
@@ -251,8 +251,8 @@ returns-clause-staged g c honest =
     let beside_k : IsBeside path n (keys_of path number) = record { inside = keys_in path number; not_log = log_not_keys path number; not_messages = messages_not_keys path n number; not_keys = other_k } in
     let named_k = c.create.ensures.named (keys_of path number) (λ is. keys_not_messages path number number (is ∙ messages)) (rest.log.named (keys_of path number) (keys_in path number)) in
     let run_2 = alone_changed d0 path end rest TornMaking d1 d2 (keys_of path number) beside_k named_k run_1 c.create-2.ensures.time crash_2 in
-    let d3 = g.D.Disk.state c.sync_folder.new.self in
-    let quiet = c.sync_folder.ensures.quiet in
+    let d3 = g.D.Disk.state c.sync_folder_of.new.disk in
+    let quiet = c.sync_folder_of.ensures.quiet in
     let run_3 = then_nothing d0 d2 d3 (FilesAlone d0 path end rest) run_2 quiet in
     let seen_1 : (m : List ℕ) → m ≢ messages_of path number → d1.seen m ≡ d0.seen m = λ m ne. c.create.ensures.beside m (λ is. ne (is ∙ messages)) in
     let seen_2 : (m : List ℕ) → m ≢ keys_of path number → d2.seen m ≡ d1.seen m = λ m ne. c.create-2.ensures.beside m (λ is. ne (is ∙ keys)) in
@@ -281,7 +281,7 @@ returns-clause-staged g c honest =
           flushed = quiet.flushed (log_of path) (λ h. h) (c.create-2.ensures.flushed (log_of path) log_2 (c.create.ensures.flushed (log_of path) log_1 on.flushed));
           alone = quiet.alone (log_of path) (λ h. h) (c.create-2.ensures.alone (log_of path) log_2 (c.create.ensures.alone (log_of path) log_1 on.alone));
         };
-        named = subst (λ (p : List ℕ). (m : List ℕ) → IsIn p m → d3.is_named m) c.deref-3.ensures.value c.in_ok-sync_folder.ensures.durable;
+        named = subst (λ (p : List ℕ). (m : List ℕ) → IsIn p m → d3.is_named m) c.deref-3.ensures.value c.in_ok-sync_folder_of.ensures.durable;
       };
       stands = λ f left. subst (λ (b : BaseBytes). StandsFor path b f) (sym same) (alone_stands d0 path end rest f (left_now d0 d3 (FilesAlone d0 path end rest) run_3 f left)).stands;
       shown = subst (λ (b : BaseBytes). StandsFor path b d3.seen) (sym same) (rest_same d0 path end rest d3.seen log_seen m_same k_same);

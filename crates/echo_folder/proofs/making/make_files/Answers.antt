@@ -42,7 +42,7 @@ returns-in_err-create-2-clause-any_moment g c honest base stands =
 pub returns-clause-any_moment : goal.returns-clause-any_moment
 returns-clause-any_moment g c honest base stands =
     let h3 = honest in
-    let h2 = c.sync_folder.ensures.quiet.honest h3 in
+    let h2 = c.sync_folder_of.ensures.quiet.honest h3 in
     let h1 = c.create-2.ensures.time.honest h2 in
     let h0 = c.create.ensures.time.honest h1 in
     let path = folder_of c.args.names.now in
@@ -57,5 +57,5 @@ returns-clause-any_moment g c honest base stands =
     let crash_2 = subst (λ (l : List ℕ). LeavesOneStepOn (ChangesFile d1 l TornMaking) d1 d2) keys c.create-2.ensures.crash in
     let named = c.create.ensures.named (keys_of path 0) (λ is. keys_not_messages path 0 0 (is ∙ messages)) ((c.requires.named h0) (keys_of path 0) (keys_in path 0)) in
     let both = log_alone_made d0 path on d1 d2 (keys_of path 0) (keys_in path 0) (log_not_keys path 0) named first c.create-2.ensures.time crash_2 in
-    let d3 = g.D.Disk.state c.sync_folder.new.self in
-    log_alone_stands d0 path on d3 base stands (c.requires.empty h0) (then_nothing d0 d2 d3 (LogAlone d0 path on) both c.sync_folder.ensures.quiet)
+    let d3 = g.D.Disk.state c.sync_folder_of.new.disk in
+    log_alone_stands d0 path on d3 base stands (c.requires.empty h0) (then_nothing d0 d2 d3 (LogAlone d0 path on) both c.sync_folder_of.ensures.quiet)

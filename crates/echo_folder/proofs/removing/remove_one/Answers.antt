@@ -105,24 +105,24 @@ returns-in_err-remove-clause-beside g c =
 
 pub returns-clause-any_moment : goal.returns-clause-any_moment
 returns-clause-any_moment g c honest =
-    let h2 = c.sync_folder.ensures.quiet.honest honest in
+    let h2 = c.sync_folder_of.ensures.quiet.honest honest in
     let h1 = c.remove.ensures.time.honest h2 in
     let h0 = c.exists.ensures.quiet.honest h1 in
     let d0 = g.D.Disk.state c.args.disk.now in
     let d1 = g.D.Disk.state c.exists.new.self in
     let d2 = g.D.Disk.state c.remove.new.self in
-    let d3 = g.D.Disk.state c.sync_folder.new.self in
+    let d3 = g.D.Disk.state c.sync_folder_of.new.disk in
     let file = c.args.file.now in
     let path = c.args.folder.now in
     then_nothing d0 d2 d3 (StandsAlone path d0 (base_at d0 path c.args.end.told))
-    (removed_run d0 path c.args.end (c.requires.settled h0) d1 d2 file c.requires.file c.exists.ensures.quiet c.remove.ensures.time c.remove.ensures.crash) c.sync_folder.ensures.quiet
+    (removed_run d0 path c.args.end (c.requires.settled h0) d1 d2 file c.requires.file c.exists.ensures.quiet c.remove.ensures.time c.remove.ensures.crash) c.sync_folder_of.ensures.quiet
 
 pub returns-clause-outside : goal.returns-clause-outside
 returns-clause-outside g c =
     let d0 = g.D.Disk.state c.args.disk.now in
     let d1 = g.D.Disk.state c.exists.new.self in
     let d2 = g.D.Disk.state c.remove.new.self in
-    let d3 = g.D.Disk.state c.sync_folder.new.self in
+    let d3 = g.D.Disk.state c.sync_folder_of.new.disk in
     let file = c.args.file.now in
     let path = c.args.folder.now in
     let removed : KeepsButOne d1 d2 file = record {
@@ -133,7 +133,7 @@ returns-clause-outside g c =
       honest = c.remove.ensures.time.honest;
     } in
     let kept_2 = but_one_twice d0 d1 d2 file (but_one_quiet d0 d1 file c.exists.ensures.quiet) removed in
-    let kept_3 = but_one_twice d0 d2 d3 file kept_2 (but_one_quiet d2 d3 file c.sync_folder.ensures.quiet) in
+    let kept_3 = but_one_twice d0 d2 d3 file kept_2 (but_one_quiet d2 d3 file c.sync_folder_of.ensures.quiet) in
     outside_but_one path d0 d3 file c.requires.file.inside kept_3
 
 pub returns-clause-beside : goal.returns-clause-beside
@@ -141,7 +141,7 @@ returns-clause-beside g c =
     let d0 = g.D.Disk.state c.args.disk.now in
     let d1 = g.D.Disk.state c.exists.new.self in
     let d2 = g.D.Disk.state c.remove.new.self in
-    let d3 = g.D.Disk.state c.sync_folder.new.self in
+    let d3 = g.D.Disk.state c.sync_folder_of.new.disk in
     let file = c.args.file.now in
     let removed : KeepsButOne d1 d2 file = record {
       seen = c.remove.ensures.beside;
@@ -151,18 +151,18 @@ returns-clause-beside g c =
       honest = c.remove.ensures.time.honest;
     } in
     let kept_2 = but_one_twice d0 d1 d2 file (but_one_quiet d0 d1 file c.exists.ensures.quiet) removed in
-    let kept_3 = but_one_twice d0 d2 d3 file kept_2 (but_one_quiet d2 d3 file c.sync_folder.ensures.quiet) in
+    let kept_3 = but_one_twice d0 d2 d3 file kept_2 (but_one_quiet d2 d3 file c.sync_folder_of.ensures.quiet) in
     kept_3.seen
 
 pub returns-clause-settled : goal.returns-clause-settled
 returns-clause-settled g c honest =
-    let h2 = c.sync_folder.ensures.quiet.honest honest in
+    let h2 = c.sync_folder_of.ensures.quiet.honest honest in
     let h1 = c.remove.ensures.time.honest h2 in
     let h0 = c.exists.ensures.quiet.honest h1 in
     let d0 = g.D.Disk.state c.args.disk.now in
     let d1 = g.D.Disk.state c.exists.new.self in
     let d2 = g.D.Disk.state c.remove.new.self in
-    let d3 = g.D.Disk.state c.sync_folder.new.self in
+    let d3 = g.D.Disk.state c.sync_folder_of.new.disk in
     let file = c.args.file.now in
     let path = c.args.folder.now in
     let removed : KeepsButOne d1 d2 file = record {
@@ -173,15 +173,15 @@ returns-clause-settled g c honest =
       honest = c.remove.ensures.time.honest;
     } in
     let kept_2 = but_one_twice d0 d1 d2 file (but_one_quiet d0 d1 file c.exists.ensures.quiet) removed in
-    let kept_3 = but_one_twice d0 d2 d3 file kept_2 (but_one_quiet d2 d3 file c.sync_folder.ensures.quiet) in
-    on_ok_weaker {P = (m : List ℕ) → IsIn path m → d3.is_named m} c.sync_folder.result (λ named. rest_beside d0 d3 path c.args.end file c.requires.file (c.requires.settled h0) kept_3 named) c.sync_folder.ensures.durable
+    let kept_3 = but_one_twice d0 d2 d3 file kept_2 (but_one_quiet d2 d3 file c.sync_folder_of.ensures.quiet) in
+    on_ok_weaker {P = (m : List ℕ) → IsIn path m → d3.is_named m} c.sync_folder_of.result (λ named. rest_beside d0 d3 path c.args.end file c.requires.file (c.requires.settled h0) kept_3 named) c.sync_folder_of.ensures.durable
 
 pub returns-clause-gone : goal.returns-clause-gone
 returns-clause-gone g c honest =
     let d2 = g.D.Disk.state c.remove.new.self in
-    let d3 = g.D.Disk.state c.sync_folder.new.self in
+    let d3 = g.D.Disk.state c.sync_folder_of.new.disk in
     let file = c.args.file.now in
-    on_ok_weaker {P = (m : List ℕ) → IsIn c.args.folder.now m → d3.is_named m} c.sync_folder.result (λ named. c.sync_folder.ensures.quiet.seen file ∙ c.in_ok-remove.ensures.gone) c.sync_folder.ensures.durable
+    on_ok_weaker {P = (m : List ℕ) → IsIn c.args.folder.now m → d3.is_named m} c.sync_folder_of.result (λ named. c.sync_folder_of.ensures.quiet.seen file ∙ c.in_ok-remove.ensures.gone) c.sync_folder_of.ensures.durable
 
 pub returns-in_err-exists-clause-leaves : goal.returns-in_err-exists-clause-leaves
 returns-in_err-exists-clause-leaves g c =
@@ -223,6 +223,6 @@ returns-clause-leaves g c =
     let d2 = g.D.Disk.state c.remove.new.self in
     let removing = left_call path file d1 d2 TornRemoval c.requires.file.inside c.remove.ensures.time c.remove.ensures.crash in
     let left_2 = left_twice path d0 d1 d2 (λ m out. c.exists.ensures.quiet.named m (λ h. h)) left_1 removing in
-    let d3 = g.D.Disk.state c.sync_folder.new.self in
+    let d3 = g.D.Disk.state c.sync_folder_of.new.disk in
     let other : (m : List ℕ) → (IsIn path m → ⊥) → m ≢ file = λ m out is. out (subst (λ (l : List ℕ). IsIn path l) (sym is) c.requires.file.inside) in
-    left_twice path d0 d2 d3 (λ m out is. c.remove.ensures.named m (other m out) (c.exists.ensures.quiet.named m (λ h. h) is)) left_2 (left_quiet path d2 d3 c.sync_folder.ensures.quiet)
+    left_twice path d0 d2 d3 (λ m out is. c.remove.ensures.named m (other m out) (c.exists.ensures.quiet.named m (λ h. h) is)) left_2 (left_quiet path d2 d3 c.sync_folder_of.ensures.quiet)

@@ -15,18 +15,18 @@ pub found-init : goal.found-init
 found-init g c =
     let found = c.args.found.now in
     let d0 = g.D.Disk.state c.args.disk.now in
-    let d1 = g.D.Disk.state c.sync_folder.new.self in
-    let quiet = c.sync_folder.ensures.quiet in
+    let d1 = g.D.Disk.state c.sync_folder_of.new.disk in
+    let quiet = c.sync_folder_of.ensures.quiet in
     record {
       changes = only_nothing (IsOfLeft found) d0 d1 quiet;
       any_moment = λ honest. none_finished c.args.cursor found d0 d1 quiet;
       named = λ k z low high.
-          record { path = c.in_ok-sync_folder.ensures.durable (get_or found k z).path.now (c.requires.found.each k z high).path_in; beside = c.in_ok-sync_folder.ensures.durable (get_or found k z).beside.now (c.requires.found.each k z high).beside_in };
+          record { path = c.in_ok-sync_folder_of.ensures.durable (get_or found k z).path.now (c.requires.found.each k z high).path_in; beside = c.in_ok-sync_folder_of.ensures.durable (get_or found k z).beside.now (c.requires.found.each k z high).beside_in };
       same = λ k z low high. record { path = quiet.seen (get_or found k z).path.now; beside = quiet.seen (get_or found k z).beside.now };
       over = λ honest is. AllWithin-none (IsOver c.args.cursor d0 d1) found 0;
       kept = λ honest. AllWithin-none (KeepsFile d0 d1) found 0;
       taken = λ honest is. absurd (cc is);
-      cause = omega (arith, c.sync_folder.ensures.cause.later);
+      cause = omega (arith, c.sync_folder_of.ensures.cause.later);
     }
 
 pub finish_one-requires-clause-placed : goal.finish_one-requires-clause-placed
@@ -98,15 +98,15 @@ found-preserved g c =
       cause = omega (arith, c.finish_one.ensures.cause.later, inv.cause);
     }
 
-pub returns-in_err-sync_folder-2-clause-any_moment : goal.returns-in_err-sync_folder-2-clause-any_moment
-returns-in_err-sync_folder-2-clause-any_moment g c honest =
+pub returns-in_err-sync_folder_of-2-clause-any_moment : goal.returns-in_err-sync_folder_of-2-clause-any_moment
+returns-in_err-sync_folder_of-2-clause-any_moment g c honest =
     let found = c.args.found.now in
     let cursor = c.args.cursor in
     let i = c.found.left-index in
     let d0 = g.D.Disk.state c.args.disk.now in
     let d = g.D.Disk.state c.found.disk in
-    let quiet = c.sync_folder-2.ensures.quiet in
-    then_nothing d0 d (g.D.Disk.state c.sync_folder-2.new.self) (OneStepOn (FinishesEach cursor found) d0)
+    let quiet = c.sync_folder_of-2.ensures.quiet in
+    then_nothing d0 d (g.D.Disk.state c.sync_folder_of-2.new.disk) (OneStepOn (FinishesEach cursor found) d0)
     (weaker_steps d0 d (FinishesSome cursor found i) (FinishesEach cursor found) (c.found.invariant.any_moment (quiet.honest honest)) (some_finishes cursor found i)) quiet
 
 pub returns-clause-any_moment : goal.returns-clause-any_moment
@@ -116,6 +116,6 @@ returns-clause-any_moment g c honest =
     let i = c.found.left-index in
     let d0 = g.D.Disk.state c.args.disk.now in
     let d = g.D.Disk.state c.found.disk in
-    let quiet = c.sync_folder-2.ensures.quiet in
-    then_nothing d0 d (g.D.Disk.state c.sync_folder-2.new.self) (OneStepOn (FinishesEach cursor found) d0)
+    let quiet = c.sync_folder_of-2.ensures.quiet in
+    then_nothing d0 d (g.D.Disk.state c.sync_folder_of-2.new.disk) (OneStepOn (FinishesEach cursor found) d0)
     (weaker_steps d0 d (FinishesSome cursor found i) (FinishesEach cursor found) (c.found.invariant.any_moment (quiet.honest honest)) (some_finishes cursor found i)) quiet

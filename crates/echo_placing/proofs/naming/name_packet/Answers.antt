@@ -12,28 +12,28 @@ use Rattle.echo_placing.proofs.naming.name_packet.Goals as goal
 pub remove-requires : goal.remove-requires
 remove-requires g c honest =
     let beside = c.args.beside.now in
-    subst (λ f. IsSome f) (sym (c.sync_folder.ensures.quiet.seen beside ∙ c.give_path.ensures.stays.seen))
-    (c.requires.there (c.give_path.ensures.changes.honest (c.sync_folder.ensures.quiet.honest honest)))
+    subst (λ f. IsSome f) (sym (c.sync_folder_of.ensures.quiet.seen beside ∙ c.give_path.ensures.stays.seen))
+    (c.requires.there (c.give_path.ensures.changes.honest (c.sync_folder_of.ensures.quiet.honest honest)))
 
-pub returns-in_err-sync_folder-clause-changes : goal.returns-in_err-sync_folder-clause-changes
-returns-in_err-sync_folder-clause-changes g c =
+pub returns-in_err-sync_folder_of-clause-changes : goal.returns-in_err-sync_folder_of-clause-changes
+returns-in_err-sync_folder_of-clause-changes g c =
     let path = c.args.path.now in
     let beside = c.args.beside.now in
     let both = λ (m : List ℕ). (m ≡ beside) ⊎ (m ≡ path) in
     let d0 = g.D.Disk.state c.args.disk.now in
     let d1 = g.D.Disk.state c.give_path.new.disk in
-    let d2 = g.D.Disk.state c.sync_folder.new.self in
-    then_only both d0 d1 d2 c.give_path.ensures.changes (only_nothing both d1 d2 c.sync_folder.ensures.quiet)
+    let d2 = g.D.Disk.state c.sync_folder_of.new.disk in
+    then_only both d0 d1 d2 c.give_path.ensures.changes (only_nothing both d1 d2 c.sync_folder_of.ensures.quiet)
 
-pub returns-in_err-sync_folder-clause-any_moment : goal.returns-in_err-sync_folder-clause-any_moment
-returns-in_err-sync_folder-clause-any_moment g c honest =
+pub returns-in_err-sync_folder_of-clause-any_moment : goal.returns-in_err-sync_folder_of-clause-any_moment
+returns-in_err-sync_folder_of-clause-any_moment g c honest =
     let path = c.args.path.now in
     let beside = c.args.beside.now in
     let both = λ (m : List ℕ). (m ≡ beside) ⊎ (m ≡ path) in
     let d0 = g.D.Disk.state c.args.disk.now in
     let d1 = g.D.Disk.state c.give_path.new.disk in
-    let d2 = g.D.Disk.state c.sync_folder.new.self in
-    then_nothing d0 d1 d2 (OneStepOn (Names path beside) d0) c.give_path.ensures.any_moment c.sync_folder.ensures.quiet
+    let d2 = g.D.Disk.state c.sync_folder_of.new.disk in
+    then_nothing d0 d1 d2 (OneStepOn (Names path beside) d0) c.give_path.ensures.any_moment c.sync_folder_of.ensures.quiet
 
 pub returns-in_err-remove-clause-changes : goal.returns-in_err-remove-clause-changes
 returns-in_err-remove-clause-changes g c =
@@ -42,12 +42,12 @@ returns-in_err-remove-clause-changes g c =
     let both = λ (m : List ℕ). (m ≡ beside) ⊎ (m ≡ path) in
     let d0 = g.D.Disk.state c.args.disk.now in
     let d1 = g.D.Disk.state c.give_path.new.disk in
-    let d2 = g.D.Disk.state c.sync_folder.new.self in
+    let d2 = g.D.Disk.state c.sync_folder_of.new.disk in
     let d3 = g.D.Disk.state c.remove.new.self in
     let now = c.remove.ensures in
-    let named = c.in_ok-sync_folder.ensures.durable beside c.requires.beside_in in
+    let named = c.in_ok-sync_folder_of.ensures.durable beside c.requires.beside_in in
     let gone : ChangesOnly both d2 d3 = only_call both d2 d3 beside TornRemoval (inl refl) named now.beside now.crash (λ m out. now.named m (λ e. out (inl e))) (λ m out. now.flushed m (λ e. out (inl e))) (λ m out. now.alone m (λ e. out (inl e))) now.time in
-    then_only both d0 d2 d3 (then_only both d0 d1 d2 c.give_path.ensures.changes (only_nothing both d1 d2 c.sync_folder.ensures.quiet)) gone
+    then_only both d0 d2 d3 (then_only both d0 d1 d2 c.give_path.ensures.changes (only_nothing both d1 d2 c.sync_folder_of.ensures.quiet)) gone
 
 pub returns-in_err-remove-clause-any_moment : goal.returns-in_err-remove-clause-any_moment
 returns-in_err-remove-clause-any_moment g c honest =
@@ -56,11 +56,11 @@ returns-in_err-remove-clause-any_moment g c honest =
     let both = λ (m : List ℕ). (m ≡ beside) ⊎ (m ≡ path) in
     let d0 = g.D.Disk.state c.args.disk.now in
     let d1 = g.D.Disk.state c.give_path.new.disk in
-    let d2 = g.D.Disk.state c.sync_folder.new.self in
+    let d2 = g.D.Disk.state c.sync_folder_of.new.disk in
     let d3 = g.D.Disk.state c.remove.new.self in
     let now = c.remove.ensures in
-    let quiet = c.sync_folder.ensures.quiet in
-    let names = c.in_ok-sync_folder.ensures.durable in
+    let quiet = c.sync_folder_of.ensures.quiet in
+    let names = c.in_ok-sync_folder_of.ensures.durable in
     let given = c.in_ok-given.ensures in
     let h1 = quiet.honest (now.time.honest honest) in
     moved_run path beside c.requires.other d0 d2 d3 (then_nothing d0 d1 d2 (OneStepOn (Names path beside) d0) c.give_path.ensures.any_moment quiet)
@@ -74,12 +74,12 @@ returns-clause-changes g c =
     let both = λ (m : List ℕ). (m ≡ beside) ⊎ (m ≡ path) in
     let d0 = g.D.Disk.state c.args.disk.now in
     let d1 = g.D.Disk.state c.give_path.new.disk in
-    let d2 = g.D.Disk.state c.sync_folder.new.self in
+    let d2 = g.D.Disk.state c.sync_folder_of.new.disk in
     let d3 = g.D.Disk.state c.remove.new.self in
     let now = c.remove.ensures in
-    let named = c.in_ok-sync_folder.ensures.durable beside c.requires.beside_in in
+    let named = c.in_ok-sync_folder_of.ensures.durable beside c.requires.beside_in in
     let gone : ChangesOnly both d2 d3 = only_call both d2 d3 beside TornRemoval (inl refl) named now.beside now.crash (λ m out. now.named m (λ e. out (inl e))) (λ m out. now.flushed m (λ e. out (inl e))) (λ m out. now.alone m (λ e. out (inl e))) now.time in
-    then_only both d0 d2 d3 (then_only both d0 d1 d2 c.give_path.ensures.changes (only_nothing both d1 d2 c.sync_folder.ensures.quiet)) gone
+    then_only both d0 d2 d3 (then_only both d0 d1 d2 c.give_path.ensures.changes (only_nothing both d1 d2 c.sync_folder_of.ensures.quiet)) gone
 
 pub returns-clause-any_moment : goal.returns-clause-any_moment
 returns-clause-any_moment g c honest =
@@ -88,11 +88,11 @@ returns-clause-any_moment g c honest =
     let both = λ (m : List ℕ). (m ≡ beside) ⊎ (m ≡ path) in
     let d0 = g.D.Disk.state c.args.disk.now in
     let d1 = g.D.Disk.state c.give_path.new.disk in
-    let d2 = g.D.Disk.state c.sync_folder.new.self in
+    let d2 = g.D.Disk.state c.sync_folder_of.new.disk in
     let d3 = g.D.Disk.state c.remove.new.self in
     let now = c.remove.ensures in
-    let quiet = c.sync_folder.ensures.quiet in
-    let names = c.in_ok-sync_folder.ensures.durable in
+    let quiet = c.sync_folder_of.ensures.quiet in
+    let names = c.in_ok-sync_folder_of.ensures.durable in
     let given = c.in_ok-given.ensures in
     let h1 = quiet.honest (now.time.honest honest) in
     moved_run path beside c.requires.other d0 d2 d3 (then_nothing d0 d1 d2 (OneStepOn (Names path beside) d0) c.give_path.ensures.any_moment quiet)
@@ -106,8 +106,8 @@ returns-clause-named g c honest is =
     let both = λ (m : List ℕ). (m ≡ beside) ⊎ (m ≡ path) in
     let d0 = g.D.Disk.state c.args.disk.now in
     let d1 = g.D.Disk.state c.give_path.new.disk in
-    let d2 = g.D.Disk.state c.sync_folder.new.self in
-    let quiet = c.sync_folder.ensures.quiet in
+    let d2 = g.D.Disk.state c.sync_folder_of.new.disk in
+    let quiet = c.sync_folder_of.ensures.quiet in
     let now = c.remove.ensures in
     let given = c.in_ok-given.ensures in
     let apart = λ (e : path ≡ beside). c.requires.other (sym e) in
@@ -115,7 +115,7 @@ returns-clause-named g c honest is =
     record {
       seen = now.beside path apart ∙ quiet.seen path ∙ given.given h1 c.if-not-given.false;
       gone = c.in_ok-remove.ensures.gone;
-      named = now.named path apart (c.in_ok-sync_folder.ensures.durable path c.requires.path_in);
+      named = now.named path apart (c.in_ok-sync_folder_of.ensures.durable path c.requires.path_in);
       flushed = now.flushed path apart (quiet.flushed path (λ h. h) (given.durable c.if-not-given.false));
     }
 
@@ -126,8 +126,8 @@ returns-clause-over_none g c honest some =
     let both = λ (m : List ℕ). (m ≡ beside) ⊎ (m ≡ path) in
     let d0 = g.D.Disk.state c.args.disk.now in
     let d1 = g.D.Disk.state c.give_path.new.disk in
-    let d2 = g.D.Disk.state c.sync_folder.new.self in
-    let quiet = c.sync_folder.ensures.quiet in
+    let d2 = g.D.Disk.state c.sync_folder_of.new.disk in
+    let quiet = c.sync_folder_of.ensures.quiet in
     let now = c.remove.ensures in
     let h1 = quiet.honest (now.time.honest honest) in
     now.beside path (λ e. c.requires.other (sym e)) ∙ quiet.seen path ∙ c.in_ok-given.ensures.over_none h1 some

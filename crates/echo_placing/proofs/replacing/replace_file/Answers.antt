@@ -63,10 +63,10 @@ returns-clause-any_moment g c =
     let d0 = g.D.Disk.state c.args.disk.now in
     let d2 = g.D.Disk.state c.rename.new.self in
     let staged = c.in_ok-stage_file.ensures in
-    then_nothing d0 d2 (g.D.Disk.state c.sync_folder.new.self) (OneStepOn (Replaces path beside bytes) d0)
+    then_nothing d0 d2 (g.D.Disk.state c.sync_folder_of.new.disk) (OneStepOn (Replaces path beside bytes) d0)
     (replaced_run path beside bytes d0 (g.D.Disk.state c.stage_file.new.disk) d2 c.requires.other
     c.stage_file.ensures.changes staged.staged (staged.named path c.requires.path_in) c.rename.ensures.time c.rename.ensures.crash)
-    c.sync_folder.ensures.quiet
+    c.sync_folder_of.ensures.quiet
 
 pub returns-clause-changes : goal.returns-clause-changes
 returns-clause-changes g c =
@@ -77,7 +77,7 @@ returns-clause-changes g c =
     let d0 = g.D.Disk.state c.args.disk.now in
     let d1 = g.D.Disk.state c.stage_file.new.disk in
     let d2 = g.D.Disk.state c.rename.new.self in
-    let d3 = g.D.Disk.state c.sync_folder.new.self in
+    let d3 = g.D.Disk.state c.sync_folder_of.new.disk in
     let staged = c.in_ok-stage_file.ensures in
     let renamed : ChangesOnly both d1 d2 = record {
       seen = λ m out. c.rename.ensures.beside m (λ e. out (inl e)) (λ e. out (inr e));
@@ -87,20 +87,20 @@ returns-clause-changes g c =
       honest = c.rename.ensures.time.honest;
       any_moment = renamed_differ path beside c.args.bytes.now d1 d2 staged.staged (staged.named path c.requires.path_in) c.rename.ensures.time c.rename.ensures.crash;
     } in
-    then_only both d0 d2 d3 (then_only both d0 d1 d2 (wider few both d0 d1 (λ m is. inl is) c.stage_file.ensures.changes) renamed) (only_nothing both d2 d3 c.sync_folder.ensures.quiet)
+    then_only both d0 d2 d3 (then_only both d0 d1 d2 (wider few both d0 d1 (λ m is. inl is) c.stage_file.ensures.changes) renamed) (only_nothing both d2 d3 c.sync_folder_of.ensures.quiet)
 
 pub returns-clause-replaced : goal.returns-clause-replaced
 returns-clause-replaced g c =
     let path = c.args.path.now in
-    let quiet = c.sync_folder.ensures.quiet in
-    on_ok_weaker c.sync_folder.result
+    let quiet = c.sync_folder_of.ensures.quiet in
+    on_ok_weaker c.sync_folder_of.result
     (λ named. record {
       seen = quiet.seen path ∙ c.in_ok-rename.ensures.moved ∙ c.in_ok-stage_file.ensures.staged.seen;
       named = named path c.requires.path_in;
       flushed = quiet.flushed path (λ h. h) c.in_ok-rename.ensures.kept;
     })
-    c.sync_folder.ensures.durable
+    c.sync_folder_of.ensures.durable
 
 pub returns-clause-moved : goal.returns-clause-moved
 returns-clause-moved g c =
-    on_ok_weaker c.sync_folder.result (λ named. c.sync_folder.ensures.quiet.seen c.args.beside.now ∙ c.in_ok-rename.ensures.gone) c.sync_folder.ensures.durable
+    on_ok_weaker c.sync_folder_of.result (λ named. c.sync_folder_of.ensures.quiet.seen c.args.beside.now ∙ c.in_ok-rename.ensures.gone) c.sync_folder_of.ensures.durable

@@ -5,55 +5,55 @@ use Rattle.echo_placing.proofs.Changes.{only_call, only_nothing, then_only}
 use Rattle.echo_placing.proofs.staging.stage_file.Goals as goal
 
 pub fill_file-requires-clause-empty : goal.fill_file-requires-clause-empty
-fill_file-requires-clause-empty g c = c.sync_folder-2.ensures.quiet.seen c.args.path.now ∙ c.in_ok-create.ensures.made
+fill_file-requires-clause-empty g c = c.sync_folder_of-2.ensures.quiet.seen c.args.path.now ∙ c.in_ok-create.ensures.made
 
 pub fill_file-requires-clause-named : goal.fill_file-requires-clause-named
-fill_file-requires-clause-named g c = c.in_ok-sync_folder-2.ensures.durable c.args.path.now c.requires
+fill_file-requires-clause-named g c = c.in_ok-sync_folder_of-2.ensures.durable c.args.path.now c.requires
 
 pub fill_file-requires-clause-alone : goal.fill_file-requires-clause-alone
-fill_file-requires-clause-alone g c = c.sync_folder-2.ensures.quiet.alone c.args.path.now (λ h. h) c.in_ok-create.ensures.own
+fill_file-requires-clause-alone g c = c.sync_folder_of-2.ensures.quiet.alone c.args.path.now (λ h. h) c.in_ok-create.ensures.own
 
-pub returns-in_err-sync_folder-clause-changes : goal.returns-in_err-sync_folder-clause-changes
-returns-in_err-sync_folder-clause-changes g c =
-    only_nothing (λ (m : List ℕ). m ≡ c.args.path.now) (g.D.Disk.state c.args.disk.now) (g.D.Disk.state c.sync_folder.new.self) c.sync_folder.ensures.quiet
+pub returns-in_err-sync_folder_of-clause-changes : goal.returns-in_err-sync_folder_of-clause-changes
+returns-in_err-sync_folder_of-clause-changes g c =
+    only_nothing (λ (m : List ℕ). m ≡ c.args.path.now) (g.D.Disk.state c.args.disk.now) (g.D.Disk.state c.sync_folder_of.new.disk) c.sync_folder_of.ensures.quiet
 
 pub returns-in_err-create-clause-changes : goal.returns-in_err-create-clause-changes
 returns-in_err-create-clause-changes g c =
     let path = c.args.path.now in
     let at = λ (m : List ℕ). m ≡ path in
     let d0 = g.D.Disk.state c.args.disk.now in
-    let d1 = g.D.Disk.state c.sync_folder.new.self in
+    let d1 = g.D.Disk.state c.sync_folder_of.new.disk in
     let d2 = g.D.Disk.state c.create.new.self in
-    then_only at d0 d1 d2 (only_nothing at d0 d1 c.sync_folder.ensures.quiet)
-    (only_call at d1 d2 path TornMaking refl (c.in_ok-sync_folder.ensures.durable path c.requires) c.create.ensures.beside c.create.ensures.crash c.create.ensures.named c.create.ensures.flushed c.create.ensures.alone c.create.ensures.time)
+    then_only at d0 d1 d2 (only_nothing at d0 d1 c.sync_folder_of.ensures.quiet)
+    (only_call at d1 d2 path TornMaking refl (c.in_ok-sync_folder_of.ensures.durable path c.requires) c.create.ensures.beside c.create.ensures.crash c.create.ensures.named c.create.ensures.flushed c.create.ensures.alone c.create.ensures.time)
 
-pub returns-in_err-sync_folder-2-clause-changes : goal.returns-in_err-sync_folder-2-clause-changes
-returns-in_err-sync_folder-2-clause-changes g c =
+pub returns-in_err-sync_folder_of-2-clause-changes : goal.returns-in_err-sync_folder_of-2-clause-changes
+returns-in_err-sync_folder_of-2-clause-changes g c =
     let path = c.args.path.now in
     let at = λ (m : List ℕ). m ≡ path in
     let d0 = g.D.Disk.state c.args.disk.now in
-    let d1 = g.D.Disk.state c.sync_folder.new.self in
+    let d1 = g.D.Disk.state c.sync_folder_of.new.disk in
     let d2 = g.D.Disk.state c.create.new.self in
-    let d3 = g.D.Disk.state c.sync_folder-2.new.self in
-    then_only at d0 d1 d3 (only_nothing at d0 d1 c.sync_folder.ensures.quiet)
+    let d3 = g.D.Disk.state c.sync_folder_of-2.new.disk in
+    then_only at d0 d1 d3 (only_nothing at d0 d1 c.sync_folder_of.ensures.quiet)
     (then_only at d1 d2 d3
-    (only_call at d1 d2 path TornMaking refl (c.in_ok-sync_folder.ensures.durable path c.requires) c.create.ensures.beside c.create.ensures.crash c.create.ensures.named c.create.ensures.flushed c.create.ensures.alone c.create.ensures.time)
-    (only_nothing at d2 d3 c.sync_folder-2.ensures.quiet))
+    (only_call at d1 d2 path TornMaking refl (c.in_ok-sync_folder_of.ensures.durable path c.requires) c.create.ensures.beside c.create.ensures.crash c.create.ensures.named c.create.ensures.flushed c.create.ensures.alone c.create.ensures.time)
+    (only_nothing at d2 d3 c.sync_folder_of-2.ensures.quiet))
 
 pub returns-clause-named : goal.returns-clause-named
 returns-clause-named g c =
-    on_ok_weaker c.fill_file.result (λ is m inside. c.fill_file.ensures.named m (λ h. h) (c.in_ok-sync_folder-2.ensures.durable m inside)) c.fill_file.ensures.filled
+    on_ok_weaker c.fill_file.result (λ is m inside. c.fill_file.ensures.named m (λ h. h) (c.in_ok-sync_folder_of-2.ensures.durable m inside)) c.fill_file.ensures.filled
 
 pub returns-clause-changes : goal.returns-clause-changes
 returns-clause-changes g c =
     let path = c.args.path.now in
     let at = λ (m : List ℕ). m ≡ path in
     let d0 = g.D.Disk.state c.args.disk.now in
-    let d1 = g.D.Disk.state c.sync_folder.new.self in
+    let d1 = g.D.Disk.state c.sync_folder_of.new.disk in
     let d2 = g.D.Disk.state c.create.new.self in
-    let d3 = g.D.Disk.state c.sync_folder-2.new.self in
+    let d3 = g.D.Disk.state c.sync_folder_of-2.new.disk in
     let d4 = g.D.Disk.state c.fill_file.new.disk in
-    then_only at d0 d1 d4 (only_nothing at d0 d1 c.sync_folder.ensures.quiet)
+    then_only at d0 d1 d4 (only_nothing at d0 d1 c.sync_folder_of.ensures.quiet)
     (then_only at d1 d2 d4
-    (only_call at d1 d2 path TornMaking refl (c.in_ok-sync_folder.ensures.durable path c.requires) c.create.ensures.beside c.create.ensures.crash c.create.ensures.named c.create.ensures.flushed c.create.ensures.alone c.create.ensures.time)
-    (then_only at d2 d3 d4 (only_nothing at d2 d3 c.sync_folder-2.ensures.quiet) c.fill_file.ensures.changes))
+    (only_call at d1 d2 path TornMaking refl (c.in_ok-sync_folder_of.ensures.durable path c.requires) c.create.ensures.beside c.create.ensures.crash c.create.ensures.named c.create.ensures.flushed c.create.ensures.alone c.create.ensures.time)
+    (then_only at d2 d3 d4 (only_nothing at d2 d3 c.sync_folder_of-2.ensures.quiet) c.fill_file.ensures.changes))

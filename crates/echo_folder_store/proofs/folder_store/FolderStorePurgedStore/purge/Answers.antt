@@ -1,4 +1,4 @@
-use Rattle.std.proofs.Common.{◌≡◌, sym, subst}
+use Rattle.std.proofs.Common.{◌≡◌, inr, sym, subst}
 use Rattle.std.proofs.lemmas.Result.{on_ok_weaker}
 use Rattle.echo_folder.specs.Standing.{BaseBytes}
 use Rattle.echo_folder_store.specs.Held.{HoldsBase}
@@ -16,11 +16,11 @@ pub returns-clause-purged : goal.returns-clause-purged
 returns-clause-purged g c = λ honest base holds. c.purge.ensures.purged honest g.H.Digest.keyed base holds
 
 pub returns-clause-committed : goal.returns-clause-committed
-returns-clause-committed g c = λ honest base holds.
+returns-clause-committed g c = λ honest.
     let s = c.args.self.now in
     let now = committed_by (g.D.Disk.state c.purge.new.disk) c.purge.new.self in
     let was = held_by (g.D.Disk.state s.disk) s.folder in
-    on_ok_weaker {P = now ≡ was} c.purge.result (λ same. subst (λ (b : BaseBytes). HoldsBase g.H.Digest.keyed b base) (sym same) holds) (c.purge.ensures.committed honest)
+    on_ok_weaker {P = now ≡ was} c.purge.result (λ same. inr (λ base holds. subst (λ (b : BaseBytes). HoldsBase g.H.Digest.keyed b base) (sym same) holds)) (c.purge.ensures.committed honest)
 
 pub returns-clause-ready : goal.returns-clause-ready
 returns-clause-ready g c =

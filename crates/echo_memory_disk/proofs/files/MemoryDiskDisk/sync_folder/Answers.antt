@@ -1,3 +1,4 @@
+use Rattle.echo_memory_disk.proofs.Gone.{none_durable}
 use Rattle.echo_memory_disk.proofs.Settled.{folder_quiet, paths_durable}
 use Rattle.echo_memory_disk.proofs.files.MemoryDiskDisk.sync_folder.Goals as goal
 
@@ -6,3 +7,6 @@ returns-clause-quiet c = folder_quiet c.sync_paths.result c.args.self.now.steps.
 
 pub returns-clause-durable : goal.returns-clause-durable
 returns-clause-durable c = paths_durable c.sync_paths.result c.args.self.now.steps.items c.sync_paths.new.disk.steps.items c.args.folder.now c.sync_paths.ensures.adds
+
+pub returns-clause-gone : goal.returns-clause-gone
+returns-clause-gone c = none_durable c.sync_paths.result c.args.self.now.steps.items c.sync_paths.new.disk.steps.items c.args.folder.now c.sync_paths.ensures.adds

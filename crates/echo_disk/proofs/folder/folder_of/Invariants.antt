@@ -1,5 +1,5 @@
 use Rattle.std.proofs.Common.{◌≢◌, ◌≤◌, All, length, drop}
-use Rattle.echo_station_files.proofs.paths.folder_of.Given as goal
+use Rattle.echo_disk.proofs.folder.folder_of.Given as goal
 
 abbrev pub invariant-bytes : goal.invariant-bytes
 invariant-bytes l = record {

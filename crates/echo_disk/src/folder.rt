@@ -1,0 +1,30 @@
+//! The folder of a path.
+ghost use Rattle.std.specs.Prelude.{◌≡◌, ℕ, List, None, OnOk};
+ghost use Rattle.echo_disk.specs.Disk.{IsFolder, IsIn};
+ghost use Rattle.echo_disk.specs.Runs.{ChangesNothing, HasCause};
+
+use crate::disk::Disk;
+use crate::disk_error::DiskError;
+
+/// The folder of a path: all of it up to its last slash.
+pub fn folder_of(path: &[u8]) -> &[u8]
+    ensures is_folder { IsFolder result.now }
+    ensures inside { IsIn result.now path.now }
+{
+    let mut end = path.len();
+    'bytes: while end > 0 && path[end - 1] != b'/' {
+        end -= 1;
+    }
+    &path[..end]
+}
+
+/// Syncs the folder of a path. After it that path, and each that begins with it and has no slash behind it, leads on the disk
+/// to what it leads to now.
+pub fn sync_folder_of<D: Disk>(disk: &mut D, path: &[u8]) -> Result<(), DiskError>
+    ensures durable { OnOk result ((m : List ℕ) → IsIn path.now m → (D.state disk.new).is_named m) }
+    ensures gone { OnOk result ((m : List ℕ) → IsIn path.now m → (D.state disk.new).seen m ≡ None → (D.state disk.new).is_flushed m) }
+    ensures quiet { ChangesNothing (D.state disk.old) (D.state disk.new) }
+    ensures cause { HasCause (D.failures disk.old) (D.failures disk.new) result }
+{
+    disk.sync_folder(folder_of(path))
+}

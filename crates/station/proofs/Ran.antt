@@ -1,0 +1,120 @@
+-- A command on a store that was opened, as one on the station.
+use Rattle.std.proofs.Common.{◌≡◌, inl, inr, ⊎_elim, ◌∙◌, ℕ, List, Result, Ok, Err, ap, sym, subst}
+use Rattle.std.specs.Prelude.{Bool, true, false, IfErr, OnOk}
+use Rattle.echo_base.specs.Base.{Base}
+use Rattle.echo_disk.specs.Disk.{DiskState, Files}
+use Rattle.echo_disk.specs.Runs.{ChangesNothing, LeavesOnly}
+use Rattle.echo_disk.proofs.Moments.{then_nothing, then_run, weaker_run}
+use Rattle.echo_store.specs.Store.{HasStoreCause, KeepsBeside, LooksOn, SameBesideStore, StandsForEither, StandsBeside, StoreState}
+use Rattle.echo_store_changing.specs.Answered.{HasCommitted, MayMake, StandsForMade}
+use Rattle.echo_store_changing.specs.Stops.{store_answer}
+use Rattle.echo_store_changing.specs.declared.stop.Stop.{Stop}
+use Rattle.echo_store_changing.specs.declared.stop.Stop.TheVariants.{Met, Store}
+use Rattle.station.specs.Command.{StaysWhereMet}
+use Rattle.station.specs.Opening.{IsOpenFor}
+use Rattle.station.specs.Place.{IsOfPlace, KeepsElsewhere, Place, SameElsewhere, StandsAlone, StandsOrWasLeft}
+use Rattle.station.specs.Running.{IsKept, IsRunOn, LeavesWhereMet, MadeOrWasLeft}
+
+same_seen : (a b : DiskState) → ChangesNothing a b → a.seen ≡ b.seen
+same_seen a b quiet =
+    let h : (m : List ℕ) → a.seen m ≡ b.seen m = λ m. sym (quiet.seen m) in
+    λ i m. h m i
+
+pub elsewhere_quiet : (place : Place) (d0 d1 d2 : DiskState) → KeepsElsewhere place d0 d1 → ChangesNothing d1 d2 → KeepsElsewhere place d0 d2
+elsewhere_quiet place d0 d1 d2 kept quiet = record {
+  seen = λ m out. quiet.seen m ∙ kept.seen m out;
+  named = λ m out is. quiet.named m (λ h. h) (kept.named m out is);
+  flushed = λ m out is. quiet.flushed m (λ h. h) (kept.flushed m out is);
+  alone = λ m out is. quiet.alone m (λ h. h) (kept.alone m out is);
+  honest = λ is. kept.honest (quiet.honest is);
+}
+
+-- what stood elsewhere stands there after the command, and after the disk was taken out
+pub elsewhere_after : (place : Place) (d0 d2 : DiskState) (s0 s1 : StoreState) → IsOfPlace place d0 s0 → KeepsBeside s0 s1 → ChangesNothing s1.disk d2 → KeepsElsewhere place d0 d2
+elsewhere_after place d0 d2 s0 s1 of kept quiet =
+    let off : (m : List ℕ) → (place.is_own m → ⊥) → s0.is_own m → ⊥ = λ m out own. out (of.own m own) in
+    elsewhere_quiet place d0 s1.disk d2
+    (record {
+      seen = λ m out. kept.seen m (off m out) ∙ of.elsewhere.seen m out;
+      named = λ m out is. kept.named m (off m out) (of.elsewhere.named m out is);
+      flushed = λ m out is. kept.flushed m (off m out) (of.elsewhere.flushed m out is);
+      alone = λ m out is. kept.alone m (off m out) (of.elsewhere.alone m out is);
+      honest = λ is. of.elsewhere.honest (kept.honest is);
+    })
+    quiet
+
+-- after a look a store is open as before
+module _ (place : Place) (d0 : DiskState) (s0 s1 : StoreState) (looks : LooksOn s0 s1) where
+  pub looks_open : IsOpenFor place d0 s0 → IsOpenFor place d0 s1
+  looks_open begun = record {
+    keeps = λ base stands. looks.keeps base (begun.keeps base stands);
+    committed = λ base stands. looks.committed base (begun.committed base stands);
+    run = λ base stands. then_nothing d0 s0.disk s1.disk (StandsOrWasLeft place d0 base) (begun.run base stands) looks.quiet;
+  }
+
+  pub looks_of : IsOfPlace place d0 s0 → IsOfPlace place d0 s1
+  looks_of of = record {
+    own = λ m own. of.own m ((looks.same.own m).0 own);
+    stands = λ base c. (λ h. (of.stands base c).0 ((looks.same.stands base c).0 h), λ h. (looks.same.stands base c).1 ((of.stands base c).1 h));
+    elsewhere = elsewhere_quiet place d0 s0.disk s1.disk of.elsewhere looks.quiet;
+  }
+
+module _ (place : Place) (d0 d2 : DiskState) (s0 s1 : StoreState) (begun : IsOpenFor place d0 s0) (of : IsOfPlace place d0 s0) (quiet : ChangesNothing s1.disk d2) where
+  outside_store : (c : Files) → SameBesideStore s0 c → SameElsewhere place d0 c
+  outside_store c same m out named flushed =
+      same m (λ own. out (of.own m own)) (of.elsewhere.named m out named) (of.elsewhere.flushed m out flushed) ∙ of.elsewhere.seen m out
+
+  module _ (base : Base) (stands : place.stands_for base d0.seen) where
+    met_may : {A : Type 0} (held : Bool) (result : Result A Stop) → s1.disk.is_honest → IfErr result (StaysWhereMet held s0 s1) → IfErr result (LeavesWhereMet place d0 d2 base)
+    met_may held (Ok done) honest may = tt
+    met_may false (Err (Met fault)) honest may =
+        then_nothing d0 s1.disk d2 (StandsOrWasLeft place d0 base)
+        (then_run d0 s0.disk s1.disk (StandsOrWasLeft place d0 base) (StandsBeside s0 base) (begun.run base stands)
+        (may.any_moment honest base (begun.committed base stands))
+        (λ c s. inl (record { elsewhere = outside_store c s.beside; stands = (of.stands base c).0 s.stands })))
+        quiet
+    met_may true (Err (Met fault)) honest may =
+        then_nothing d0 s1.disk d2 (StandsOrWasLeft place d0 base)
+        (then_run d0 s0.disk s1.disk (StandsOrWasLeft place d0 base) (StandsForEither s0 base base) (begun.run base stands)
+        (may.any_moment honest base base (begun.committed base stands) (begun.keeps base stands))
+        (λ c s. inl (record { elsewhere = outside_store c s.beside; stands = (of.stands base c).0 (⊎_elim (λ was. was) (λ is. is) s.stands) })))
+        quiet
+    met_may held (Err (Store cause)) honest may = tt
+
+    made_run : (May : Base → Base → Type 0) → s1.disk.is_honest → MayMake May s0 s1 → LeavesOnly d0 d2 (MadeOrWasLeft place d0 (May base) base)
+    made_run May honest crash =
+        then_nothing d0 s1.disk d2 (MadeOrWasLeft place d0 (May base) base)
+        (then_run d0 s0.disk s1.disk (MadeOrWasLeft place d0 (May base) base) (StandsForMade s0 (May base) base)
+        (weaker_run d0 s0.disk (StandsOrWasLeft place d0 base) (MadeOrWasLeft place d0 (May base) base) (begun.run base stands)
+        (λ c left. ⊎_elim (λ (alone : StandsAlone place d0 base c). inl (record { elsewhere = alone.elsewhere; stands = inl alone.stands })) (λ was. inr was) left))
+        (crash.any_moment honest base base (begun.committed base stands) (begun.keeps base stands))
+        (λ c s. inl (record {
+          elsewhere = outside_store c s.beside;
+          stands = ⊎_elim (λ was. inl ((of.stands base c).0 was)) (λ made. inr (made.0, made.1, (of.stands made.0 c).0 made.2)) s.stands;
+        })))
+        quiet
+
+    kept_run : {A : Type 0} (Makes : Base → Type 0) (May : Base → Base → Type 0) (result : Result A Stop) → s1.disk.is_honest → OnOk result (HasCommitted Makes s1) → OnOk result s1.is_ready → MayMake May s0 s1
+        → OnOk result (IsKept place Makes d2)
+    kept_run Makes May (Ok done) honest committed ready crash =
+        let to_place : (c : Files) → s1.stands committed.next c → place.stands_for committed.next c = λ c is. (of.stands committed.next c).0 ((crash.same.stands committed.next c).0 is) in
+        record {
+          next = committed.next;
+          made = committed.made;
+          seen = to_place d2.seen (subst (λ (c : Files). s1.stands committed.next c) (same_seen s1.disk d2 quiet) (s1.shown honest ready committed.next committed.committed));
+          stands = λ c left. to_place c (s1.stays honest ready committed.next committed.committed c (quiet.no_more c left));
+        }
+    kept_run Makes May (Err why) honest committed ready crash = tt
+
+    pub run_on : {A : Type 0} (IsAnswer : Type 0) (Makes : Base → Type 0) (May : Base → Base → Type 0) (held : Bool) (result : Result A Stop) (before now : ℕ) → s1.disk.is_honest → (s0.keeps base → IsAnswer)
+        → (s0.keeps base → OnOk result (HasCommitted Makes s1)) → OnOk result s1.is_ready → IfErr result (StaysWhereMet held s0 s1) → MayMake May s0 s1
+        → HasStoreCause s0 s1 before now (store_answer result) → IsRunOn IsAnswer Makes (May base) place d0 d2 base result
+    run_on IsAnswer Makes May held result before now honest answers committed ready met crash cause =
+        let keeps = begun.keeps base stands in
+        record {
+          answer = answers keeps;
+          kept = kept_run Makes May result honest (committed keeps) ready crash;
+          met = met_may held result honest met;
+          crash = made_run May honest crash;
+          whole = λ is. cause.damaged honest (ap (λ r. store_answer r) is) base keeps;
+        }

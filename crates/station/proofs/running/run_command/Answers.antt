@@ -1,0 +1,69 @@
+use Rattle.std.proofs.Common.{◌≡◌, ◌≤◌, ap, arith, inl, inr, refl}
+use Rattle.echo_disk.proofs.Moments.{then_nothing}
+use Rattle.echo_station_files.proofs.Failures.{failed_wider}
+use Rattle.echo_store_changing.specs.Stops.{store_answer}
+use Rattle.station.specs.Place.{StandsOrWasLeft}
+use Rattle.station.proofs.Ran.{elsewhere_after, looks_of, looks_open, run_on}
+use Rattle.station.proofs.running.run_command.Goals as goal
+
+pub returns-in-Ok-prepare-clause-runs : goal.returns-in-Ok-prepare-clause-runs
+returns-in-Ok-prepare-clause-runs g c = λ honest.
+    let d0 = g.D.Disk.state c.args.disk in
+    let d2 = g.D.Disk.state c.into_disk-disk.result in
+    let s0 = g.P.Kept.Store.state c.in-Ok.opened.kept in
+    let s1 = g.P.Kept.Store.state c.prepare.new.store in
+    let s2 = g.P.Kept.Store.state c.run-done.new.store in
+    let place = g.P.OpenStation.place c.args.station in
+    let opened = c.in-Ok.ensures.opened in
+    let looked = c.prepare.ensures in
+    let did = c.run-done.ensures in
+    let f0 = g.D.Disk.failures c.args.disk in
+    let f1 = g.P.Kept.Store.failures c.in-Ok.opened.kept in
+    let f2 = g.P.Kept.Store.failures c.prepare.new.store in
+    let f3 = g.P.Kept.Store.failures c.run-done.new.store in
+    let f4 = g.D.Disk.failures c.into_disk-disk.result in
+    let first : f0 ≤ f1 = opened.later in
+    let second : f1 ≤ f2 = looked.later in
+    let same : f4 ≡ f3 = c.into_disk-disk.ensures.failures in
+    let quiet = c.into_disk-disk.ensures.quiet in
+    let honest2 = quiet.honest honest in
+    let honest1 = did.crash.beside.honest honest2 in
+    let honest0 = looked.looks.quiet.honest honest1 in
+    let begun = looks_open place d0 s0 s1 looked.looks (opened.begun honest0) in
+    let of = looks_of place d0 s0 s1 looked.looks opened.of_place in
+    inl (record {
+      file = c.in-Ok.opened.links;
+      read = opened.read honest0;
+      runs = λ base stands.
+          run_on place d0 d2 s1 s2 begun of quiet base stands _ _ _ _ c.run-done.result f2 f3 honest2
+          (did.answers honest2 base) (did.committed honest2 base) did.ready did.met did.crash did.cause;
+      cause = λ is. inl (failed_wider f0 f2 f3 f4 (omega arith) (omega (arith, same)) (did.cause.failed (ap (λ r. store_answer r) is)));
+    })
+
+pub returns-in-Ok-prepare-clause-elsewhere : goal.returns-in-Ok-prepare-clause-elsewhere
+returns-in-Ok-prepare-clause-elsewhere g c =
+    let d0 = g.D.Disk.state c.args.disk in
+    let s0 = g.P.Kept.Store.state c.in-Ok.opened.kept in
+    let s1 = g.P.Kept.Store.state c.prepare.new.store in
+    let place = g.P.OpenStation.place c.args.station in
+    elsewhere_after place d0 (g.D.Disk.state c.into_disk-disk.result) s1 (g.P.Kept.Store.state c.run-done.new.store)
+    (looks_of place d0 s0 s1 c.prepare.ensures.looks c.in-Ok.ensures.opened.of_place) c.run-done.ensures.crash.beside c.into_disk-disk.ensures.quiet
+
+pub returns-in-Ok-clause-runs : goal.returns-in-Ok-clause-runs
+returns-in-Ok-clause-runs g c = λ honest.
+    let d0 = g.D.Disk.state c.args.disk in
+    let d2 = g.D.Disk.state c.into_disk-disk-in-Err-prepare.result in
+    let s0 = g.P.Kept.Store.state c.in-Ok.opened.kept in
+    let s1 = g.P.Kept.Store.state c.prepare.new.store in
+    let place = g.P.OpenStation.place c.args.station in
+    let quiet = c.into_disk-disk-in-Err-prepare.ensures.quiet in
+    let looks = c.prepare.ensures.looks in
+    let honest0 = looks.quiet.honest (quiet.honest honest) in
+    let begun = looks_open place d0 s0 s1 looks (c.in-Ok.ensures.opened.begun honest0) in
+    inr (record {
+      fault = c.in-Err-prepare.fault;
+      is = refl;
+      cause = inr c.in-Err-prepare.ensures.stopped;
+      printed = refl;
+      crash = λ base stands. then_nothing d0 s1.disk d2 (StandsOrWasLeft place d0 base) (begun.run base stands) quiet;
+    })

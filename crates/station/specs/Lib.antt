@@ -1,0 +1,4 @@
+pub mod Command
+pub mod Opening
+pub mod Place
+pub mod Running

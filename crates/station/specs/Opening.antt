@@ -1,0 +1,38 @@
+-- How a station is opened as a store.
+use Rattle.std.specs.Prelude.{◌≡◌, ◌≤◌, ◌⊎◌, ℕ, List, Option, None}
+use Rattle.echo_base.specs.Base.{Base}
+use Rattle.echo_device.specs.Device.{Failed}
+use Rattle.echo_disk.specs.Disk.{DiskState, Honestly}
+use Rattle.echo_disk.specs.Runs.{LeavesOnly}
+use Rattle.echo_links.specs.Links.{LinkFile}
+use Rattle.echo_status.specs.declared.fault.Fault.{Fault}
+use Rattle.echo_store.specs.Store.{StoreState}
+use Rattle.station.specs.Place.{IsOfPlace, KeepsElsewhere, Place, StandsOrWasLeft}
+
+-- no file is locked: of the two locks, the files whose locks they hold
+abbrev pub AreFree : Option (List ℕ) → Option (List ℕ) → Type 0
+AreFree links base = (links ≡ None) × (base ≡ None)
+
+-- The disk failed, or one of the two locks did: of each how often it did before, and does now.
+abbrev pub HaveFailed : ℕ → ℕ → ℕ → ℕ → ℕ → ℕ → Type 0
+HaveFailed disk disk_now links links_now base base_now = Failed disk disk_now ⊎ (Failed links links_now ⊎ Failed base base_now)
+
+-- The store holds the base for which the files stood, and that was committed last; opening it changed no base.
+pub record IsOpenFor (place : Place) (old : DiskState) (s : StoreState) : Type 0 where
+  pub keeps : (base : Base) → place.stands_for base old.seen → s.keeps base
+  pub committed : (base : Base) → place.stands_for base old.seen → s.committed base
+  pub run : (base : Base) → place.stands_for base old.seen → LeavesOnly old s.disk (StandsOrWasLeft place old base)
+
+-- The station is open as this store, whose disk failed so often before and now, with this link file.
+pub record IsOpened (place : Place) (Reads : LinkFile → Type 0) (old : DiskState) (before now : ℕ) (s : StoreState) (links : LinkFile) : Type 0 where
+  pub ready : s.is_ready
+  pub read : Honestly s.disk (Reads links)
+  pub begun : Honestly s.disk (IsOpenFor place old s)
+  pub of_place : IsOfPlace place old s
+  pub later : before ≤ now
+
+-- The station is not opened, for this reason: a crash meanwhile leaves the base from before.
+pub record IsNotOpened (place : Place) (Shut : Fault → Type 0) (old new : DiskState) (fault : Fault) : Type 0 where
+  pub cause : Honestly new (Shut fault)
+  pub crash : Honestly new ((base : Base) → place.stands_for base old.seen → LeavesOnly old new (StandsOrWasLeft place old base))
+  pub elsewhere : KeepsElsewhere place old new

@@ -1,0 +1,61 @@
+-- A command is run on a station.
+use Rattle.std.specs.Prelude.{◌≡◌, ◌⊎◌, Result, Err, IfErr, OnOk, IsErrOf}
+use Rattle.echo_base.specs.Base.{Base}
+use Rattle.echo_disk.specs.Disk.{DiskState, Files}
+use Rattle.echo_disk.specs.Runs.{LeavesOnly}
+use Rattle.echo_links.specs.Links.{LinkFile}
+use Rattle.echo_status.specs.declared.fault.Fault.{Fault}
+use Rattle.echo_status.specs.Devices.{Output}
+use Rattle.echo_store.specs.declared.store_error.StoreError.TheVariants.{Damaged, Device}
+use Rattle.echo_store_changing.specs.declared.stop.Stop.{Stop}
+use Rattle.echo_store_changing.specs.declared.stop.Stop.TheVariants.{Met, Store}
+use Rattle.station.specs.Place.{Place, SameElsewhere, StandsOrWasLeft}
+
+-- the files stand for a base that the command makes, as they are seen and whatever a crash leaves
+pub record IsKept (place : Place) (IsMade : Base → Type 0) (now : DiskState) : Type 0 where
+  pub next : Base
+  pub made : IsMade next
+  pub seen : place.stands_for next now.seen
+  pub stands : (c : Files) → now.may_leave c → place.stands_for next c
+
+-- the base from before, or one that the command makes; nothing elsewhere has changed
+pub record StandsForMadeAlone (place : Place) (old : DiskState) (IsMade : Base → Type 0) (base : Base) (c : Files) : Type 0 where
+  pub elsewhere : SameElsewhere place old c
+  pub stands : place.stands_for base c ⊎ ((next : Base) × IsMade next × place.stands_for next c)
+
+-- or it is what a crash might have left before
+abbrev pub MadeOrWasLeft : Place → DiskState → (Base → Type 0) → Base → Files → Type 0
+MadeOrWasLeft place old IsMade base c = StandsForMadeAlone place old IsMade base c ⊎ old.may_leave c
+
+-- where the store did not fail, a crash meanwhile leaves the base from before
+abbrev pub LeavesWhereMet : Place → DiskState → DiskState → Base → Stop → Type 0
+LeavesWhereMet place old new base (Met fault) = LeavesOnly old new (StandsOrWasLeft place old base)
+LeavesWhereMet place old new base (Store cause) = Unit {0}
+
+-- what is so of a run on a station whose files stood for this base
+pub record IsRunOn {A : Type 0} (IsAnswer : Type 0) (Makes May : Base → Type 0) (place : Place) (old new : DiskState) (base : Base) (result : Result A Stop) : Type 0 where
+  pub answer : IsAnswer
+  pub kept : OnOk result (IsKept place Makes new)
+  pub met : IfErr result (LeavesWhereMet place old new base)
+  pub crash : LeavesOnly old new (MadeOrWasLeft place old May base)
+  pub whole : IsErrOf result (Store Damaged) → ⊥
+
+-- the command was run with this link file, for whatever base the files stood
+pub record IsRun {A : Type 0} (IsAnswer : LinkFile → Base → Type 0) (Makes May : LinkFile → Base → Base → Type 0) (place : Place) (Reads : LinkFile → Type 0) (failed : Type 0) (old new : DiskState) (result : Result A Stop) : Type 0 where
+  pub file : LinkFile
+  pub read : Reads file
+  pub runs : (base : Base) → place.stands_for base old.seen → IsRunOn (IsAnswer file base) (Makes file base) (May file base) place old new base result
+  pub cause : IsErrOf result (Store Device) → failed
+
+-- The command was not run, for this reason: nothing is printed, and a crash meanwhile leaves the base from before.
+pub record IsNotRun {A : Type 0} (place : Place) (Shut : Fault → Type 0) (old new : DiskState) (old_out new_out : Output) (result : Result A Stop) : Type 0 where
+  pub fault : Fault
+  pub is : result ≡ Err (Met fault)
+  pub cause : Shut fault
+  pub printed : new_out ≡ old_out
+  pub crash : (base : Base) → place.stands_for base old.seen → LeavesOnly old new (StandsOrWasLeft place old base)
+
+-- What comes of a command on a station. It is not run where that is shut, as is said of the fault.
+abbrev pub RunsIn : {A : Type 0} → (LinkFile → Base → Type 0) → (LinkFile → Base → Base → Type 0) → (LinkFile → Base → Base → Type 0) → Place → (LinkFile → Type 0) → (Fault → Type 0) → Type 0 → DiskState → DiskState → Output → Output → Result A Stop → Type 0
+RunsIn IsAnswer Makes May place Reads Shut failed old new old_out new_out result =
+    IsRun IsAnswer Makes May place Reads failed old new result ⊎ IsNotRun place Shut old new old_out new_out result

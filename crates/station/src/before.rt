@@ -1,0 +1,51 @@
+//! What a program does with the store of a station before the command.
+ghost use Rattle.std.specs.Prelude.{◌≡◌, ◌≤◌, ◌⊎◌, Some, IfErr};
+ghost use Rattle.echo_status.specs.declared.fault.Fault.{Fault as TheFault};
+ghost use Rattle.echo_store.specs.Store.{LooksOn};
+
+use echo_status::Fault;
+use echo_store::Store;
+
+/// What a program does with a store that is open, before the command: it may look at it, and stop the command.
+pub trait BeforeCommand<'a, S: Store> {
+    // Why it stopped a command.
+    ghost stops: { Self → TheFault → Type 0 };
+
+    /// Is handed the store, under the locks of the command.
+    fn prepare(&mut self, store: &mut S) -> Result<(), Fault<'a>>
+        requires { (S.state store.old).is_ready }
+        ensures looks { LooksOn (S.state store.old) (S.state store.new) }
+        ensures later { S.failures store.old ≤ S.failures store.new }
+        ensures stopped { IfErr result (stops self.new) };
+}
+
+/// Does nothing before the command.
+#[derive(Drop)]
+pub struct Nothing;
+
+impl<'a, S: Store> BeforeCommand<'a, S> for Nothing {
+    ghost stops = { λ _ fault. ⊥ };
+
+    fn prepare(&mut self, _store: &mut S) -> Result<(), Fault<'a>> {
+        Ok(())
+    }
+}
+
+/// Stops the command by the fault of something that was not read, unless what is done first stops it.
+#[derive(Drop)]
+pub struct Unread<'a, Q> {
+    pub first: Q,
+    pub fault: Option<Fault<'a>>,
+}
+
+impl<'a, S: Store, Q: BeforeCommand<'a, S>> BeforeCommand<'a, S> for Unread<'a, Q> {
+    ghost stops = { λ unread fault. Q.stops unread.first fault ⊎ (unread.fault ≡ Some fault) };
+
+    fn prepare(&mut self, store: &mut S) -> Result<(), Fault<'a>> {
+        self.first.prepare(store)?;
+        match self.fault {
+            Some(fault) => Err(fault),
+            None => Ok(()),
+        }
+    }
+}

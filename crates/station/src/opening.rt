@@ -1,0 +1,72 @@
+//! What a kind of station owes.
+ghost use Rattle.std.specs.Prelude.{◌≡◌, ◌⊎◌, ℕ, List, Option, IfErr, IfOk, OnOk};
+ghost use Rattle.echo_disk.specs.Disk.{DiskState, Honestly};
+ghost use Rattle.echo_disk.specs.Runs.{ChangesNothing};
+ghost use Rattle.echo_links.specs.Links.{LinkFile as TheLinks};
+ghost use Rattle.echo_status.specs.declared.fault.Fault.{Fault as TheFault};
+ghost use Rattle.station.specs.Opening.{AreFree, HaveFailed, IsNotOpened, IsOpened};
+ghost use Rattle.station.specs.Place.{Place};
+
+use crate::locks::Locks;
+use echo_disk::Disk;
+use echo_links::LinkFile;
+use echo_station_files::FileLock;
+use echo_status::Fault;
+use echo_store::PurgedStore;
+use std::alloc::Global;
+
+/// The link file of a station, and its base as a store.
+#[derive(Drop)]
+pub struct Opened<T> {
+    pub links: LinkFile,
+    pub kept: T,
+}
+
+/// The disk, and why the station is not open on it.
+#[derive(Drop)]
+pub struct Stopped<'a, D> {
+    pub disk: D,
+    pub fault: Fault<'a>,
+}
+
+/// A station, whatever its base is kept in.
+pub trait OpenStation<'a, D: Disk> {
+    type Kept: PurgedStore;
+
+    // Which files stand for which base, and which paths are its own.
+    ghost place: { Self → Place };
+
+    // What an honest disk has to have.
+    ghost can_open: { Self → DiskState → Type 0 };
+
+    // The files whose locks are held are those that it needs.
+    ghost is_locked: { Self → Option (List ℕ) → Option (List ℕ) → Type 0 };
+
+    // The link file that the disk showed.
+    ghost reads: { Self → DiskState → TheLinks → Type 0 };
+
+    // Why it is not opened: where a device failed, and the disk before and now.
+    ghost is_shut: { Self → Type 0 → DiskState → DiskState → TheFault → Type 0 };
+
+    /// Takes the locks, reads the link file and opens the base as a store.
+    fn open<L: FileLock, K: FileLock>(
+        self,
+        alloc: Global,
+        disk: D,
+        locks: &mut Locks<L, K>,
+    ) -> Result<Opened<Self::Kept>, Stopped<'a, D>>
+        requires free { AreFree (L.held locks.old.links) (K.held locks.old.base) }
+        requires can { Honestly (D.state disk) (can_open self (D.state disk)) }
+        ensures both { OnOk result (is_locked self (L.held locks.new.links) (K.held locks.new.base)) }
+        ensures locked { IfErr result (λ stopped. is_locked self (L.held locks.new.links) (K.held locks.new.base) ⊎ ChangesNothing (D.state disk) (D.state stopped.disk)) }
+        ensures opened { IfOk result (λ opened. IsOpened (place self) (reads self (D.state disk)) (D.state disk) (D.failures disk) (Self.Kept.failures opened.kept)
+            (Self.Kept.state opened.kept) opened.links) }
+        ensures stopped { IfErr result (λ stopped. IsNotOpened (place self) (is_shut self
+            (HaveFailed (D.failures disk) (D.failures stopped.disk) (L.failures locks.old.links) (L.failures locks.new.links) (K.failures locks.old.base) (K.failures locks.new.base))
+            (D.state disk) (D.state stopped.disk)) (D.state disk) (D.state stopped.disk) stopped.fault) };
+
+    /// The disk, taken out of the store.
+    fn into_disk(kept: Self::Kept) -> D
+        ensures quiet { ChangesNothing (Self.Kept.state kept).disk (D.state result) }
+        ensures failures { D.failures result ≡ Self.Kept.failures kept };
+}

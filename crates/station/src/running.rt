@@ -1,0 +1,85 @@
+//! A command is run on a station.
+ghost use Rattle.std.specs.Prelude.{◌≡◌, ◌⊎◌};
+ghost use Rattle.echo_disk.specs.Disk.{Honestly};
+ghost use Rattle.echo_disk.specs.Runs.{ChangesNothing};
+ghost use Rattle.echo_status.specs.Devices.{output_of};
+ghost use Rattle.station.specs.Opening.{AreFree, HaveFailed};
+ghost use Rattle.station.specs.Place.{KeepsElsewhere};
+ghost use Rattle.station.specs.Running.{RunsIn};
+
+use crate::before::BeforeCommand;
+use crate::command::StoreCommand;
+use crate::locks::Locks;
+use crate::opening::{OpenStation, Opened};
+use echo_device::Sink;
+use echo_disk::Disk;
+use echo_station_files::FileLock;
+use echo_store_changing::Stop;
+use std::alloc::Global;
+
+/// The disk after a command, and how that ended.
+#[derive(Drop)]
+pub struct Ended<'a, D, A> {
+    pub disk: D,
+    pub done: Result<A, Stop<'a>>,
+}
+
+/// Opens a station as a store, hands that to the program, and runs a command on it.
+pub fn run_command<
+    'a,
+    D: Disk,
+    P: OpenStation<'a, D>,
+    Q: BeforeCommand<'a, P::Kept>,
+    C: StoreCommand<'a>,
+    L: FileLock,
+    K: FileLock,
+    W: Sink,
+>(
+    alloc: Global,
+    disk: D,
+    locks: &mut Locks<L, K>,
+    station: P,
+    before: &mut Q,
+    command: &mut C,
+    out: &mut W,
+) -> Ended<'a, D, C::Answer>
+    requires free { AreFree (L.held locks.old.links) (K.held locks.old.base) }
+    requires can { Honestly (D.state disk) (P.can_open station (D.state disk)) }
+    ensures locked { P.is_locked station (L.held locks.new.links) (K.held locks.new.base) ⊎ ChangesNothing (D.state disk) (D.state result.disk) }
+    ensures runs { let failed = HaveFailed (D.failures disk) (D.failures result.disk) (L.failures locks.old.links) (L.failures locks.new.links) (K.failures locks.old.base) (K.failures locks.new.base) in
+        Honestly (D.state result.disk) (RunsIn
+        (λ file base. C.answers command.old command.new file base (output_of W.contents W.failures W.holds out.old) (output_of W.contents W.failures W.holds out.new) result.done)
+        (λ file base. C.makes command.old command.new file base (output_of W.contents W.failures W.holds out.old) (output_of W.contents W.failures W.holds out.new) result.done)
+        (C.may command.old)
+        (P.place station)
+        (P.reads station (D.state disk))
+        (λ fault. P.is_shut station failed (D.state disk) (D.state result.disk) fault ⊎ Q.stops before.new fault)
+        failed (D.state disk) (D.state result.disk)
+        (output_of W.contents W.failures W.holds out.old) (output_of W.contents W.failures W.holds out.new) result.done) }
+    ensures elsewhere { KeepsElsewhere (P.place station) (D.state disk) (D.state result.disk) }
+{
+    match station.open(alloc, disk, locks) {
+        Ok(opened) => {
+            let Opened { links, kept } = opened;
+            let mut kept = kept;
+            match before.prepare(&mut kept) {
+                Ok(()) => {
+                    let done = command.run(alloc, &links, &mut kept, out);
+                    let disk = P::into_disk(kept);
+                    Ended { disk, done }
+                }
+                Err(fault) => {
+                    let disk = P::into_disk(kept);
+                    Ended {
+                        disk,
+                        done: Err(Stop::Met(fault)),
+                    }
+                }
+            }
+        }
+        Err(stopped) => Ended {
+            disk: stopped.disk,
+            done: Err(Stop::Met(stopped.fault)),
+        },
+    }
+}

@@ -1,0 +1,13 @@
+use Rattle.std.proofs.Common.{List, ℕ, Ok, rules, subst, sym}
+use Rattle.echo_base.specs.BaseFile.{LoadOf}
+use Rattle.echo_packet.specs.Header.{AreBytes}
+use Rattle.echo_status.specs.Inputs.{IsBaseGiven}
+use Rattle.station_file.proofs.Opened.{same_loaded}
+use Rattle.station_file.proofs.loading.loaded.Goals as goal
+
+pub returns-in_ok-load-in-Some-clause-same : goal.returns-in_ok-load-in-Some-clause-same
+returns-in_ok-load-in-Some-clause-same g c base given =
+    let of = subst (λ b. IsBaseGiven b base.messages base.cursor) c.in-Some.is given in
+    let are : AreBytes c.as_slice-left.result.now = search rules in
+    same_loaded (Ok c.in_ok-load-in-Some.field-0) base of.0
+    (c.in_ok-load-in-Some.ensures.only (Ok (base.messages, base.cursor, of.0)) are (subst (λ (l : List ℕ). LoadOf l (Ok (base.messages, base.cursor, of.0))) (sym c.as_slice-left.ensures) of.1))

@@ -1,0 +1,121 @@
+//! A base in memory with its file on a disk, as a store.
+ghost use Rattle.std.specs.Prelude.{◌≡◌, ◌≢◌, All};
+ghost use Rattle.station_file.specs.InFile.{file_state};
+
+use crate::saving::{check_room, write_file};
+use echo_addr::Items;
+use echo_base::Base;
+use echo_disk::Disk;
+use echo_filed::{Filed, Key};
+use echo_store::{PurgedStore, Store, StoreError};
+use std::alloc::Global;
+use std::hash::BuildHasher;
+
+/// A base in memory, and the path of the file in whose place a commit puts it. `own` is the name of the system, for the path
+/// beside it.
+#[derive(Drop)]
+pub struct FileStore<'a, D: Disk, S: BuildHasher> {
+    alloc: Global,
+    disk: D,
+    base: Base<S>,
+    // The place of the message at hand.
+    place: usize,
+    path: &'a str,
+    own: Items<u8>,
+}
+
+impl<'a, D: Disk, S: BuildHasher> FileStore<'a, D, S> {
+    /// The base of the file with this path, as a store.
+    pub fn new(
+        alloc: Global,
+        disk: D,
+        base: Base<S>,
+        path: &'a str,
+        own: Items<u8>,
+    ) -> FileStore<'a, D, S>
+        requires { All (λ b. b ≢ 47) own }
+        ensures disk { result.disk ≡ disk }
+        ensures base { result.base ≡ base }
+        ensures path { result.path.now ≡ path.now }
+        ensures own { result.own ≡ own }
+    {
+        FileStore {
+            alloc,
+            disk,
+            base,
+            place: 0,
+            path,
+            own,
+        }
+    }
+
+    /// The disk.
+    pub fn into_disk(self) -> D
+    where
+        S: Drop,
+        ensures { result ≡ self.entry.disk }
+    {
+        self.disk
+    }
+}
+
+impl<'a, D: Disk, S: BuildHasher> Store for FileStore<'a, D, S> {
+    ghost state = { λ store. file_state (D.state store.disk) store.path.now store.own store.base store.place };
+
+    ghost failures = { λ store. D.failures store.disk };
+
+    fn len(&self) -> usize {
+        self.base.len()
+    }
+
+    fn cursor(&self) -> usize {
+        self.base.cursor()
+    }
+
+    fn knows(&mut self, key: &Key) -> Result<bool, StoreError> {
+        Ok(self.base.knows(key))
+    }
+
+    fn has_id(&mut self, msgid: &[u8]) -> Result<bool, StoreError> {
+        Ok(self.base.has_id(msgid)?)
+    }
+
+    fn fetch(&mut self, place: usize) -> Result<(), StoreError> {
+        self.place = place;
+        Ok(())
+    }
+
+    fn at_hand(&self) -> Option<&Filed> {
+        self.base.message(self.place)
+    }
+
+    fn file(&mut self, key: Key, message: Filed) -> Result<(), StoreError> {
+        // A caller need not know it where the disk is not honest.
+        if self.base.knows(&key) {
+            return Err(StoreError::Damaged);
+        }
+        check_room(self.alloc, &self.base, &message)?;
+        Ok(self.base.file(key, message)?)
+    }
+
+    fn move_to_end(&mut self) -> Result<(), StoreError> {
+        self.base.move_to_end();
+        Ok(())
+    }
+
+    fn commit(&mut self) -> Result<(), StoreError> {
+        write_file(
+            self.alloc,
+            &mut self.disk,
+            &self.base,
+            self.path,
+            self.own.as_slice(),
+        )
+    }
+}
+
+impl<'a, D: Disk, S: BuildHasher> PurgedStore for FileStore<'a, D, S> {
+    fn purge(&mut self) -> Result<u64, StoreError> {
+        Ok(self.base.purge()?)
+    }
+}

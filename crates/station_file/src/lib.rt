@@ -1,0 +1,13 @@
+//! A base file as a store, and a station whose base is a file.
+//!
+//! Modules in reading order: `saving` (a base is put in the place of its file), `file_store`, `loading` (the link file and the
+//! base file are read) and `file_station`.
+#![tactic(auto)]
+
+mod file_station;
+mod file_store;
+mod loading;
+mod saving;
+
+pub use file_station::FileStation;
+pub use file_store::FileStore;

@@ -1,0 +1,70 @@
+//! A station whose base is a folder.
+ghost use Rattle.std.specs.Prelude.{◌≡◌, Some};
+ghost use Rattle.echo_disk.specs.Runs.{ChangesNothing};
+ghost use Rattle.echo_folder.specs.Opening.{AreAlone};
+ghost use Rattle.station_folder.specs.InFolder.{IsFolderShut, IsOwnLinks, folder_place};
+
+use echo_disk::Disk;
+use echo_folder_changing::{Begun, FolderPlace, Found, open_store};
+use echo_folder_store::FolderStore;
+use echo_keys::Digest;
+use echo_station_files::FileLock;
+use echo_store::Store;
+use station::{Locks, OpenStation, Opened, Stopped};
+use std::alloc::Global;
+use std::marker::PhantomData;
+
+/// Where a station with a base folder is, and what a program found of the folder. Digests go by `H`.
+#[derive(Drop)]
+pub struct FolderStation<'a, H> {
+    pub at: FolderPlace<'a>,
+    pub found: Found,
+    pub digests: PhantomData<H>,
+}
+
+impl<'a, D: Disk + Drop, H: Digest> OpenStation<'a, D> for FolderStation<'a, H> {
+    type Kept = FolderStore<D, H>;
+
+    ghost place = { λ station. folder_place H.keyed station.at.path.now };
+
+    ghost can_open = { λ station disk. AreAlone station.at.path.now disk };
+
+    ghost is_locked = { λ station links base. (links ≡ Some station.at.links.now) × (base ≡ Some station.at.base.now) };
+
+    ghost reads = { λ station disk file. IsOwnLinks station.at.links.now station.at.path.now station.found.strange disk file };
+
+    ghost is_shut = { λ station failed old new fault. IsFolderShut station.at.links.now station.at.base.now station.at.path.now station.found.strange failed old new fault };
+
+    fn open<L: FileLock, K: FileLock>(
+        self,
+        alloc: Global,
+        disk: D,
+        locks: &mut Locks<L, K>,
+    ) -> Result<Opened<FolderStore<D, H>>, Stopped<'a, D>> {
+        match open_store(
+            alloc,
+            disk,
+            &mut locks.links,
+            &mut locks.base,
+            self.at,
+            self.found,
+        ) {
+            Ok(begun) => {
+                let Begun { links, store } = begun;
+                Ok(Opened { links, kept: store })
+            }
+            Err(stopped) => Err(Stopped {
+                disk: stopped.disk,
+                fault: stopped.fault,
+            }),
+        }
+    }
+
+    fn into_disk(kept: FolderStore<D, H>) -> D
+        ensures quiet { ChangesNothing (⟦<FolderStore<D, H> as Store>⟧.state kept).disk (D.state result) }
+        ensures failures { D.failures result ≡ ⟦<FolderStore<D, H> as Store>⟧.failures kept }
+    {
+        let (disk, _folder) = kept.into_parts();
+        disk
+    }
+}
