@@ -1,0 +1,35 @@
+#!/usr/bin/env python3
+"""try_edits.py CRATE [EDIT..]: tries wrong bodies of a crate that is proved, those of must-fail and of edits/, or the ones that
+are named without `.edit`. Each is tried over a copy of what the crate's own proof kept, so only what it changes is proved
+again. That is for who writes an edit; the gate tries its edits from nothing."""
+import glob
+import importlib.machinery
+import importlib.util
+import os
+import shutil
+import subprocess
+import sys
+import tempfile
+
+if len(sys.argv) < 2:
+    sys.exit("usage: try_edits.py CRATE [EDIT..]")
+top = os.path.dirname(os.path.dirname(os.path.abspath(__file__)))
+name, wanted = sys.argv[1], sys.argv[2:]
+path = os.path.realpath(shutil.which("rt"))
+sys.path.insert(0, os.path.dirname(path))
+loader = importlib.machinery.SourceFileLoader("rt", path)
+rt = importlib.util.module_from_spec(importlib.util.spec_from_loader("rt", loader))
+loader.exec_module(rt)
+os.chdir(top)
+rt.rtlib.guarded()
+crate = next(it for it in rt.rtlib.crates_below(top) if it.folder == f"{top}/crates/{name}")
+edits = sorted(glob.glob(f"crates/{name}/must-fail/*.edit") + glob.glob(f"edits/{name}/*.edit"))
+edits = [it for it in edits if not wanted or os.path.basename(it)[: -len(".edit")] in wanted]
+failed = 0 if edits else 1
+with tempfile.TemporaryDirectory(prefix="edits-") as kept:
+    subprocess.run(["cp", "-a", f"crates/{name}/out/incremental/.", kept], check=True)
+    for edit in edits:
+        refused, text = rt.must_fail(crate, os.path.abspath(edit), ["--jobs", "1"], kept)
+        print(text[:300], flush=True)
+        failed += not refused
+sys.exit(failed > 0)
