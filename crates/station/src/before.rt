@@ -1,5 +1,5 @@
 //! What a program does with the store of a station before the command.
-ghost use Rattle.std.specs.Prelude.{◌≡◌, ◌≤◌, ◌⊎◌, Some, IfErr};
+ghost use Rattle.std.specs.Prelude.{◌≡◌, ◌≤◌, ◌⊎◌, None, Some, IfErr, OnOk};
 ghost use Rattle.echo_status.specs.declared.fault.Fault.{Fault as TheFault};
 ghost use Rattle.echo_store.specs.Store.{LooksOn};
 
@@ -11,12 +11,16 @@ pub trait BeforeCommand<'a, S: Store> {
     // Why it stopped a command.
     ghost stops: { Self → TheFault → Type 0 };
 
+    // Whether it lets the command run.
+    ghost lets: { Self → Type 0 };
+
     /// Is handed the store, under the locks of the command.
     fn prepare(&mut self, store: &mut S) -> Result<(), Fault<'a>>
         requires { (S.state store.old).is_ready }
         ensures looks { LooksOn (S.state store.old) (S.state store.new) }
         ensures later { S.failures store.old ≤ S.failures store.new }
-        ensures stopped { IfErr result (stops self.new) };
+        ensures stopped { IfErr result (stops self.new) }
+        ensures passed { OnOk result (lets self.new) };
 }
 
 /// Does nothing before the command.
@@ -25,6 +29,8 @@ pub struct Nothing;
 
 impl<'a, S: Store> BeforeCommand<'a, S> for Nothing {
     ghost stops = { λ _ fault. ⊥ };
+
+    ghost lets = { λ _. Unit {0} };
 
     fn prepare(&mut self, _store: &mut S) -> Result<(), Fault<'a>> {
         Ok(())
@@ -40,6 +46,8 @@ pub struct Unread<'a, Q> {
 
 impl<'a, S: Store, Q: BeforeCommand<'a, S>> BeforeCommand<'a, S> for Unread<'a, Q> {
     ghost stops = { λ unread fault. Q.stops unread.first fault ⊎ (unread.fault ≡ Some fault) };
+
+    ghost lets = { λ unread. Q.lets unread.first × (unread.fault ≡ None) };
 
     fn prepare(&mut self, store: &mut S) -> Result<(), Fault<'a>> {
         self.first.prepare(store)?;

@@ -1,5 +1,5 @@
 //! A command is run on a station.
-ghost use Rattle.std.specs.Prelude.{◌≡◌, ◌⊎◌};
+ghost use Rattle.std.specs.Prelude.{◌≡◌, ◌⊎◌, OnOk};
 ghost use Rattle.echo_disk.specs.Disk.{Honestly};
 ghost use Rattle.echo_disk.specs.Runs.{ChangesNothing};
 ghost use Rattle.echo_status.specs.Devices.{output_of};
@@ -57,6 +57,7 @@ pub fn run_command<
         failed (D.state disk) (D.state result.disk)
         (output_of W.contents W.failures W.holds out.old) (output_of W.contents W.failures W.holds out.new) result.done) }
     ensures elsewhere { KeepsElsewhere (P.place station) (D.state disk) (D.state result.disk) }
+    ensures passed { OnOk result.done (Q.lets before.new) }
 {
     match station.open(alloc, disk, locks) {
         Ok(opened) => {
