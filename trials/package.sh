@@ -86,7 +86,7 @@ command=$(sed -n 's/^ExecStart=//p' "$share/echonet.service" | sed "s|\\$\\$|\$|
 check 'the unit ends with the status of the toss' "$?" 1
 check 'the scan has run' "$(cut -d ' ' -f 2,4,5 "$root/ftn/log" | xargs)" 'aside from - sent to 1:10/2'
 check 'into the folders of binkd' "$(cut -c 1-6 "$root/ftn/outb/000a0002.flo"; ls "$root/ftn/inb")" "$(cut -c 1-6 <<< "^$root")"
-for prefix in /usr/local '/opt/a&b'; do
+for prefix in /usr/local '/srv/a&b'; do
   make -s install DESTDIR="$root/two" PREFIX="$prefix" > /dev/null || exit 1
   check "the unit below $prefix" "$(grep -c "$prefix/bin/echonet\|$prefix/share/echonet/toss.*$prefix/share/echonet/scan" \
     "$root/two$prefix/share/echonet/echonet.service")" 2
