@@ -25,7 +25,11 @@ rt.rtlib.guarded()
 crate = next(it for it in rt.rtlib.crates_below(top) if it.folder == f"{top}/crates/{name}")
 edits = sorted(glob.glob(f"crates/{name}/must-fail/*.edit") + glob.glob(f"edits/{name}/*.edit"))
 edits = [it for it in edits if not wanted or os.path.basename(it)[: -len(".edit")] in wanted]
-failed = 0 if edits else 1
+if not edits:
+    sys.exit(f"try_edits.py: {name} has no such edit")
+if not os.path.isdir(f"crates/{name}/out/incremental"):
+    sys.exit(f"try_edits.py: crates/{name} has no kept proof: run `rt check` there first")
+failed = 0
 with tempfile.TemporaryDirectory(prefix="edits-") as kept:
     subprocess.run(["cp", "-a", f"crates/{name}/out/incremental/.", kept], check=True)
     for edit in edits:
