@@ -11,7 +11,7 @@ use Rattle.echo_steps.specs.Purging.{changed, purged}
 use Rattle.echo_steps.specs.Scanning.{ScanStep, scanned}
 use Rattle.echo_steps.specs.SystemState.{SystemState, state_with}
 use Rattle.echo_changing.specs.declared.leaving.Files.{Files}
-use Rattle.echo_changing.specs.PacketFiles.{PacketFile}
+use Rattle.echo_steps.specs.PacketFiles.{PacketFile}
 use Rattle.echo_changing.specs.declared.posting.NewMessage.{NewMessage}
 use Rattle.echo_steps.specs.declared.fault.PostFault.{PostFault}
 use Rattle.echo_steps.specs.declared.fault.PostFault.TheVariants as post

@@ -14,7 +14,7 @@ use Rattle.echo_steps.specs.SystemState.{SystemState}
 use Rattle.echo_status.specs.declared.fault.Fault.{Fault}
 use Rattle.echo_status.specs.declared.fault.Fault.TheVariants.{Scan}
 use Rattle.echo_changing.specs.declared.leaving.Files.{Files}
-use Rattle.echo_changing.specs.PacketFiles.{PacketFile}
+use Rattle.echo_steps.specs.PacketFiles.{PacketFile}
 use Rattle.echo_status.specs.Ended.{Answers}
 use Rattle.echo_changing.specs.Handed.{Handed}
 use Rattle.echo_changing.specs.System.{IsFirstFaultOf, IsSystemGiven, IsTooMany}

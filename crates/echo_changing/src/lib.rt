@@ -26,7 +26,7 @@ mod tossing;
 
 pub use coming::PacketFiles;
 pub use given::Given;
-pub use leaving::{Done, Files, PacketFile};
+pub use leaving::{Done, Files};
 pub use lines::{MOST_TALLY, push_posted, push_purged, push_tally};
 pub use posting::{NewMessage, draft_of, post};
 pub use purging::purge;

@@ -15,7 +15,7 @@ use Rattle.echo_run.specs.Event.{Scanning}
 use Rattle.echo_run.specs.Run.{Run, System, after_event, change, nth, scanning, scanning_at, state_of}
 use Rattle.echo_run.proofs.Lists.{nth-append, some_same}
 use Rattle.echo_changing.specs.declared.leaving.Files.{Files}
-use Rattle.echo_changing.specs.PacketFiles.{PacketFile}
+use Rattle.echo_steps.specs.PacketFiles.{PacketFile}
 use Rattle.echo_changing.specs.Scanned.{file_sent}
 use Rattle.echo_stations.specs.Agreement.{HasFiles}
 use Rattle.echo_stations.specs.Commands.{Scans}

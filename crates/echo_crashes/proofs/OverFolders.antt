@@ -12,7 +12,7 @@ use Rattle.echo_text.specs.Ids.{id_of}
 use Rattle.echo_run.specs.Run.{nth}
 use Rattle.echo_status.specs.declared.fault.Fault.{Fault}
 use Rattle.echo_changing.specs.declared.leaving.Files.{Files}
-use Rattle.echo_changing.specs.PacketFiles.{PacketFile}
+use Rattle.echo_steps.specs.PacketFiles.{PacketFile}
 use Rattle.echo_changing.specs.declared.posting.NewMessage.{NewMessage}
 use Rattle.echo_changing.specs.Files.{done_of, only_base}
 use Rattle.echo_changing.specs.Lines.{posted_line, purged_line}

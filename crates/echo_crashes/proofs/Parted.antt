@@ -4,7 +4,7 @@ use Rattle.std.specs.List.{AllByRecursion}
 use Rattle.echo_filed.specs.Filed.{Filed}
 use Rattle.echo_graph.specs.Walk.{Among}
 use Rattle.echo_links.specs.Links.{LinkFile}
-use Rattle.echo_changing.specs.PacketFiles.{PacketFile}
+use Rattle.echo_steps.specs.PacketFiles.{PacketFile}
 use Rattle.echo_stations.specs.InOrder.{StationHolds}
 use Rattle.echo_stations.specs.Nets.{Net, bytes_of}
 use Rattle.echo_crashes.specs.Disks.{Beside, Disks, with_packet}

@@ -5,7 +5,7 @@ use Rattle.echo_graph.specs.Walk.{Among, Different}
 use Rattle.echo_steps.specs.declared.stamp.Stamp.{Stamp}
 use Rattle.echo_run.specs.Event.{Scanning}
 use Rattle.echo_run.specs.Run.{Run, after_event, after_events, nth, start}
-use Rattle.echo_changing.specs.PacketFiles.{PacketFile}
+use Rattle.echo_steps.specs.PacketFiles.{PacketFile}
 use Rattle.echo_stations.specs.Agreement.{Agrees, HasFiles, own_address}
 use Rattle.echo_stations.specs.Commands.{Command, CommandEvent, Happen, Leads, Post, Purge, Scan, Scans, Toss, Tosses}
 use Rattle.echo_stations.specs.InOrder.{StationHolds}

@@ -20,7 +20,7 @@ use Rattle.echo_status.specs.declared.status.Status.TheVariants.{Good}
 use Rattle.echo_status.specs.Devices.{Output}
 use Rattle.echo_status.specs.Inputs.{IsBaseGiven}
 use Rattle.echo_checking.specs.Checking.{CheckAnswers}
-use Rattle.echo_changing.specs.PacketFiles.{PacketFile}
+use Rattle.echo_steps.specs.PacketFiles.{PacketFile}
 use Rattle.echo_changing.specs.declared.posting.NewMessage.{NewMessage}
 use Rattle.echo_changing.specs.Coming.{Coming}
 use Rattle.echo_changing.specs.Posted.{base_after, draft_given, refusal_given}

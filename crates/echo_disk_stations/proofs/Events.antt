@@ -17,7 +17,7 @@ use Rattle.echo_changing.specs.declared.replying.Answer.{Answer}
 use Rattle.echo_changing.specs.Files.{Leaves, only_base}
 use Rattle.echo_changing.specs.FreeSerial.{FreeAnswers, with_serial}
 use Rattle.echo_changing.specs.Handed.{Handed}
-use Rattle.echo_changing.specs.PacketFiles.{PacketFile}
+use Rattle.echo_steps.specs.PacketFiles.{PacketFile}
 use Rattle.echo_changing.specs.Posted.{PostAnswers, draft_given}
 use Rattle.echo_changing.specs.Purged.{PurgeAnswers}
 use Rattle.echo_changing.specs.Replied.{IsReply, PostsAs, RepliesTo, ReplyAnswers}

@@ -6,7 +6,7 @@ use Rattle.echo_disk.specs.Disk.{DiskState, Files}
 use Rattle.echo_disk.specs.Runs.{LeavesOnly, OneStepOn}
 use Rattle.echo_disk.proofs.Moments.{no_call}
 use Rattle.echo_changing.specs.declared.leaving.Done.{Done}
-use Rattle.echo_changing.specs.PacketFiles.{PacketFile}
+use Rattle.echo_steps.specs.PacketFiles.{PacketFile}
 use Rattle.echo_placing.specs.Changes.{ChangesOnly}
 use Rattle.echo_placing.specs.Finishing.{FinishesEach, IsOver}
 use Rattle.echo_placing.specs.declared.finishing.Left.{Left}

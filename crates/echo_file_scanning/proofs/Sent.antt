@@ -5,7 +5,7 @@ use Rattle.std.proofs.lemmas.List.{get_or-map, length-map}
 use Rattle.std.proofs.lemmas.List.Elements.{All-contains, Contains-get_or}
 use Rattle.echo_device.specs.Fixed.{AreBytes}
 use Rattle.echo_disk.specs.Disk.{DiskState, Files, IsIn}
-use Rattle.echo_changing.specs.PacketFiles.{PacketFile}
+use Rattle.echo_steps.specs.PacketFiles.{PacketFile}
 use Rattle.echo_placing.specs.Commits.{replacing}
 use Rattle.echo_placing.specs.Naming.{HasItsPath}
 use Rattle.echo_placing.specs.Outgoing.{AreApart, ArePlaced, IsOfOne}

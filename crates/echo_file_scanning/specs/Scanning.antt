@@ -10,7 +10,7 @@ use Rattle.echo_steps.specs.declared.stamp.Stamp.{Stamp}
 use Rattle.echo_changing.specs.declared.leaving.Done.{Done}
 use Rattle.echo_changing.specs.Files.{Leaves}
 use Rattle.echo_changing.specs.Handed.{Handed}
-use Rattle.echo_changing.specs.PacketFiles.{PacketFile}
+use Rattle.echo_steps.specs.PacketFiles.{PacketFile}
 use Rattle.echo_changing.specs.Scanned.{ScanAnswers}
 use Rattle.echo_placing.specs.Changes.{DifferAt}
 use Rattle.echo_placing.specs.Finishing.{FinishesEach, IsOfLeft}

@@ -2,7 +2,7 @@
 use Rattle.std.specs.Prelude.{◌≡◌, ◌≢◌, ◌⊎◌, ◌<◌, ℕ, List, ◌++◌, length, get_or, All, Contains, Option, Some}
 use Rattle.echo_device.specs.Fixed.{AreBytes}
 use Rattle.echo_disk.specs.Disk.{DiskState, Files}
-use Rattle.echo_changing.specs.PacketFiles.{PacketFile}
+use Rattle.echo_steps.specs.PacketFiles.{PacketFile}
 use Rattle.echo_placing.specs.Changes.{DifferAt, HasOnDisk}
 use Rattle.echo_placing.specs.declared.outgoing.Outgoing.{Outgoing}
 use Rattle.echo_station_files.specs.Paths.{path_beside}

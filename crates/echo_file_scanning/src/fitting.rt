@@ -3,7 +3,7 @@ ghost use Rattle.std.specs.Prelude.{◌≡◌, ◌≢◌, true, false, All, AllP
 ghost use Rattle.echo_file_scanning.specs.Sending.{HaveOtherPaths, IsNameByte, IsOffBase};
 
 use crate::sending::TwoPaths;
-use echo_changing::PacketFile;
+use echo_steps::PacketFile;
 
 /// Whether it may be a packet's name: no byte of it is a slash or a tilde.
 pub(crate) fn is_name(name: &[u8]) -> bool

@@ -8,9 +8,9 @@ ghost use Rattle.echo_file_scanning.specs.Scanning.{IsTouchedAs, SendsOut};
 use crate::finishing::finish_left;
 use crate::listing::Listing;
 use crate::publishing::publish_scan;
-use echo_changing::PacketFile;
 use echo_disk::Disk;
 use echo_placing::PlacingError;
+use echo_steps::PacketFile;
 use std::alloc::Global;
 
 /// Brings what earlier scans left to its end, and puts these packets and this base in place.

@@ -16,10 +16,10 @@ ghost use Rattle.echo_file_scanning.specs.Sending.{AreAllBytes, IsAtItsPath, IsO
 use crate::dropping::drop_packets;
 use crate::fitting::{all_differ, are_names, are_off_base};
 use crate::sending::{outgoing_of, paths_of};
-use echo_changing::PacketFile;
 use echo_disk::{Disk, folder_of};
 use echo_placing::{Outgoing, PlacingError, Replacing, publish, replace_file};
 use echo_station_files::path_beside;
+use echo_steps::PacketFile;
 use std::alloc::Global;
 
 // Puts these bytes in the place of those of the base file.

@@ -3,9 +3,9 @@ ghost use Rattle.std.specs.Prelude.{◌≡◌, map, length, IfOk};
 ghost use Rattle.echo_file_scanning.specs.Sending.{AreSent, file_paths, two_paths};
 
 use echo_addr::Items;
-use echo_changing::PacketFile;
 use echo_placing::Outgoing;
 use echo_station_files::path_beside;
+use echo_steps::PacketFile;
 use std::alloc::{AllocError, Global};
 
 /// The path that a packet is to have, and the one beside it at which it stands before.

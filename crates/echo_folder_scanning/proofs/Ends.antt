@@ -5,7 +5,7 @@ use Rattle.std.proofs.lemmas.Bool.{cases_lt}
 use Rattle.echo_disk.specs.Disk.{DiskState, Files, IsIn}
 use Rattle.echo_disk.specs.Runs.{LeavesOnly, OneStepOn}
 use Rattle.echo_disk.proofs.Moments.{left_now, no_call, then_run, weaker_run}
-use Rattle.echo_changing.specs.PacketFiles.{PacketFile}
+use Rattle.echo_steps.specs.PacketFiles.{PacketFile}
 use Rattle.echo_folder.specs.Standing.{BaseBytes, StandsFor}
 use Rattle.echo_folder_publishing.specs.Publishing.{IsCommitted}
 use Rattle.echo_folder_publishing.proofs.Apart.{committed_apart, held_apart, open_apart, stands_apart}

@@ -2,7 +2,7 @@
 use Rattle.std.proofs.Common.{◌∙◌, inl, inr, ⊎_elim, ℕ, List, refl}
 use Rattle.echo_disk.specs.Disk.{DiskState, IsIn}
 use Rattle.echo_disk.specs.Runs.{ChangesNothing}
-use Rattle.echo_changing.specs.PacketFiles.{PacketFile}
+use Rattle.echo_steps.specs.PacketFiles.{PacketFile}
 use Rattle.echo_folder.specs.Moments.{KeepsOutside}
 use Rattle.echo_folder_publishing.specs.Publishing.{KeepsApart}
 use Rattle.echo_placing.specs.Changes.{ChangesOnly}

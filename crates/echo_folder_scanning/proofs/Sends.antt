@@ -4,7 +4,7 @@ use Rattle.std.specs.Prelude.{All}
 use Rattle.echo_disk.specs.Disk.{DiskState, Files, IsIn}
 use Rattle.echo_disk.specs.Runs.{LeavesOnly, OneStepOn}
 use Rattle.echo_disk.proofs.Moments.{weaker_run}
-use Rattle.echo_changing.specs.PacketFiles.{PacketFile}
+use Rattle.echo_steps.specs.PacketFiles.{PacketFile}
 use Rattle.echo_folder.specs.Moments.{IsBeforeOrAfter, LeavesOutside, SameNamedOutside}
 use Rattle.echo_folder.specs.Standing.{BaseBytes, StandsFor}
 use Rattle.echo_folder_publishing.specs.Publishing.{PublishesWith}

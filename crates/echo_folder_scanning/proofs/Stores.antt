@@ -1,7 +1,7 @@
 -- What is put in place of an open folder, as of a store on it.
 use Rattle.std.proofs.Common.{ℕ, List, Option, Result}
 use Rattle.echo_base.specs.Base.{Base}
-use Rattle.echo_changing.specs.PacketFiles.{PacketFile}
+use Rattle.echo_steps.specs.PacketFiles.{PacketFile}
 use Rattle.echo_disk.specs.Disk.{DiskState, IsIn}
 use Rattle.echo_folder.specs.Standing.{StandsFor}
 use Rattle.echo_folder_store.specs.Held.{StandsForBase}

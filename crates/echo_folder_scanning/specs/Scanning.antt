@@ -3,7 +3,7 @@ use Rattle.std.specs.Prelude.{◌≡◌, ◌⊎◌, ℕ, Bool, List, Option, Non
 use Rattle.echo_addr.specs.declared.address.Address.{Address}
 use Rattle.echo_base.specs.Base.{Base}
 use Rattle.echo_base_folder.specs.Ours.{IsOfOther}
-use Rattle.echo_changing.specs.PacketFiles.{PacketFile}
+use Rattle.echo_steps.specs.PacketFiles.{PacketFile}
 use Rattle.echo_disk.specs.Disk.{DiskState, Files, IsIn}
 use Rattle.echo_disk.specs.Runs.{LeavesOnly}
 use Rattle.echo_folder_store.specs.Held.{StandsForBase, StandsForBaseOrWasLeft}

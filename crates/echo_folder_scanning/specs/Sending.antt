@@ -2,7 +2,7 @@
 use Rattle.std.specs.Prelude.{◌≡◌, ◌⊎◌, ℕ, List, ◌++◌, All, Contains, OnOk, Result}
 use Rattle.echo_disk.specs.Disk.{DiskState, Files}
 use Rattle.echo_disk.specs.Runs.{KeepsAlone, KeepsFlushed, KeepsNamed, LeavesOnly, OneStepOn}
-use Rattle.echo_changing.specs.PacketFiles.{PacketFile}
+use Rattle.echo_steps.specs.PacketFiles.{PacketFile}
 use Rattle.echo_placing.specs.Changes.{DifferAt}
 use Rattle.echo_placing.specs.Finishing.{FinishesEach, IsOfLeft}
 use Rattle.echo_placing.specs.declared.finishing.Left.{Left}

@@ -1,6 +1,6 @@
 //! The packets of a scan and the commit of its folder are put on the disk.
 ghost use Rattle.std.specs.Prelude.{◌≡◌, ◌≢◌, ℕ, List, length, All, OnOk, IsErrOf};
-ghost use Rattle.echo_changing.specs.PacketFiles.{PacketFile as ThePacket};
+ghost use Rattle.echo_steps.specs.PacketFiles.{PacketFile as ThePacket};
 ghost use Rattle.echo_disk.specs.Disk.{Honestly, IsIn};
 ghost use Rattle.echo_disk.specs.Runs.{LeavesOnly, OneStepOn};
 ghost use Rattle.echo_file_scanning.specs.Sending.{HasBytes, IsAtItsPath};
@@ -9,12 +9,12 @@ ghost use Rattle.echo_folder_publishing.specs.Publishing.{HasPublishCause, IsCom
 ghost use Rattle.echo_folder_store.specs.Opened.{IsNamed, IsOpen, committed_by, held_by, path_of};
 ghost use Rattle.echo_folder_scanning.specs.Sending.{IsOfThese, KeepsBut, MaySend};
 
-use echo_changing::PacketFile;
 use echo_disk::Disk;
 use echo_file_scanning::{all_differ, are_names, outgoing_of, paths_of};
 use echo_folder_publishing::{Unpublished, publish_with};
 use echo_folder_store::Folder;
 use echo_placing::PlacingError;
+use echo_steps::PacketFile;
 use echo_store::StoreError;
 use std::alloc::Global;
 

@@ -9,11 +9,11 @@ ghost use Rattle.echo_store.specs.declared.store_error.StoreError.TheVariants as
 ghost use Rattle.echo_folder_scanning.specs.Sending.{IsTouched, KeepsBut, SendsOut};
 
 use crate::publishing::publish_files;
-use echo_changing::PacketFile;
 use echo_disk::Disk;
 use echo_file_scanning::{Listing, finish_left};
 use echo_folder_publishing::Unpublished;
 use echo_folder_store::Folder;
+use echo_steps::PacketFile;
 use std::alloc::Global;
 
 /// Brings what earlier scans left to its end, by the cursor that was committed last, and puts these packets and the commit

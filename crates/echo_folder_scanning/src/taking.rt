@@ -11,10 +11,9 @@ ghost use Rattle.echo_toss.specs.PacketsIn.{state_in};
 
 use crate::watching::{Watched, Watching};
 use echo_addr::Items;
-use echo_changing::PacketFile;
 use echo_device::Sink;
 use echo_links::LinkFile;
-use echo_steps::Stamp;
+use echo_steps::{PacketFile, Stamp};
 use echo_store::Store;
 use echo_store_changing::{Stop, scan_on};
 use std::alloc::Global;

@@ -9,7 +9,7 @@ use Rattle.echo_packet.specs.Header.{AreBytes}
 use Rattle.echo_run.specs.Run.{nth}
 use Rattle.echo_steps.specs.declared.stamp.Stamp.{Stamp}
 use Rattle.echo_toss.specs.PacketsIn.{state_in}
-use Rattle.echo_changing.specs.PacketFiles.{PacketFile}
+use Rattle.echo_steps.specs.PacketFiles.{PacketFile}
 use Rattle.echo_status.specs.Devices.{Output}
 use Rattle.echo_stations.specs.Commands.{Scan}
 use Rattle.echo_crashes.specs.Disks.{Disks}

@@ -11,7 +11,7 @@ use Rattle.echo_run.specs.Run.{change}
 use Rattle.echo_status.specs.Devices.{Output}
 use Rattle.echo_steps.specs.declared.stamp.Stamp.{Stamp}
 use Rattle.echo_toss.specs.PacketsIn.{state_in}
-use Rattle.echo_changing.specs.PacketFiles.{PacketFile}
+use Rattle.echo_steps.specs.PacketFiles.{PacketFile}
 use Rattle.echo_stations.specs.Commands.{Scan}
 use Rattle.echo_stations.specs.Nets.{with_left}
 use Rattle.echo_crashes.specs.Disks.{Disks}

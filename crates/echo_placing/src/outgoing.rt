@@ -1,5 +1,5 @@
 //! A packet that goes out.
-use echo_changing::PacketFile;
+use echo_steps::PacketFile;
 
 /// A packet that goes out: its path, the path beside it at which it stands until a commit, and its file, whose bytes
 /// are made when they are written.

@@ -15,7 +15,7 @@ use Rattle.echo_status.specs.declared.fault.Fault.{Fault}
 use Rattle.echo_status.specs.Devices.{Output}
 use Rattle.echo_steps.specs.declared.stamp.Stamp.{Stamp}
 use Rattle.echo_toss.specs.PacketsIn.{state_in}
-use Rattle.echo_changing.specs.PacketFiles.{PacketFile}
+use Rattle.echo_steps.specs.PacketFiles.{PacketFile}
 use Rattle.echo_stations.specs.InOrder.{StationHolds}
 use Rattle.echo_stations.specs.Nets.{bytes_of, with_base, with_left}
 use Rattle.echo_stations.proofs.BaseFiles.{gives-base, saved-file}

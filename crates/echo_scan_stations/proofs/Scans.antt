@@ -15,7 +15,7 @@ use Rattle.echo_run.proofs.Lists.{some_same}
 use Rattle.echo_status.specs.Devices.{Output}
 use Rattle.echo_status.specs.Inputs.{IsBaseGiven}
 use Rattle.echo_changing.specs.declared.leaving.Files as leaving
-use Rattle.echo_changing.specs.PacketFiles.{PacketFile}
+use Rattle.echo_steps.specs.PacketFiles.{PacketFile}
 use Rattle.echo_changing.specs.Scanned.{ScanAnswers, file_sent}
 use Rattle.echo_placing.specs.Changes.{ChangesOnly}
 use Rattle.echo_placing.specs.declared.placing_error.PlacingError.TheVariants.{Device, Memory, Taken}

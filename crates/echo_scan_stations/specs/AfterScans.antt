@@ -3,7 +3,7 @@ use Rattle.std.specs.Prelude.{◌≡◌, ◌++◌, ℕ, List, [], map, Some}
 use Rattle.std.specs.List.{AllByRecursion}
 use Rattle.echo_disk.specs.Disk.{DiskState, Files}
 use Rattle.echo_steps.specs.declared.stamp.Stamp.{Stamp}
-use Rattle.echo_changing.specs.PacketFiles.{PacketFile}
+use Rattle.echo_steps.specs.PacketFiles.{PacketFile}
 use Rattle.echo_stations.specs.Commands.{Scan}
 use Rattle.echo_stations.specs.Nets.{bytes_of}
 use Rattle.echo_crashes.specs.Disks.{Disks, HasCursor}

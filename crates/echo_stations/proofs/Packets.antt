@@ -25,7 +25,7 @@ use Rattle.echo_steps.specs.declared.stamp.Stamp.{Stamp}
 use Rattle.echo_steps.specs.Scanning.{copy_to, exported, goes_to, header_to, packet_to, packets_of, recipients, scanned, targets}
 use Rattle.echo_steps.proofs.Copies.{exported_is_echo, links_are_addresses}
 use Rattle.echo_steps.proofs.Encoding.{IsWhole, written_packet}
-use Rattle.echo_changing.specs.PacketFiles.{PacketFile}
+use Rattle.echo_steps.specs.PacketFiles.{PacketFile}
 use Rattle.echo_changing.specs.Scanned.{file_sent}
 use Rattle.echo_stations.specs.Agreement.{IsPacketFile}
 use Rattle.echo_stations.specs.Nets.{Paired, bytes_of}

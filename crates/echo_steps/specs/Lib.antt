@@ -4,3 +4,4 @@ pub mod Posting
 pub mod Tossing
 pub mod Scanning
 pub mod Purging
+pub mod PacketFiles

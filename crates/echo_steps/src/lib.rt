@@ -5,7 +5,7 @@
 //! that each keeps what holds of each base.
 //!
 //! Modules in reading order: `stamp` and `draft` (what is posted), `outcome` (what became of a tossed
-//! message), `packet` (what a scan makes), `fault`, and `laws` (what holds of the steps).
+//! message), `packet` (what a scan makes), `packet_file` (the file that it becomes), `fault`, and `laws` (what holds of the steps).
 #![tactic(auto)]
 
 mod draft;
@@ -13,6 +13,7 @@ mod fault;
 mod laws;
 mod outcome;
 mod packet;
+mod packet_file;
 mod stamp;
 
 pub use draft::Draft;
@@ -22,4 +23,5 @@ pub use laws::{
 };
 pub use outcome::Outcome;
 pub use packet::Packet;
+pub use packet_file::PacketFile;
 pub use stamp::Stamp;

@@ -1,7 +1,7 @@
 -- Scans of a store.
 use Rattle.std.proofs.Common.{◌≡◌, ◌++◌, ℕ, true, List, [], map, inr, Err, refl, ap, ◌∙◌}
 use Rattle.std.specs.List.{flat_map}
-use Rattle.echo_changing.specs.PacketFiles.{PacketFile}
+use Rattle.echo_steps.specs.PacketFiles.{PacketFile}
 use Rattle.echo_changing.specs.Scanned.{file_sent, line_sent}
 use Rattle.echo_status.proofs.Lines.{alone}
 use Rattle.echo_status.specs.Devices.{Output}

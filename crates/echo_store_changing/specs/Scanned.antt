@@ -1,7 +1,7 @@
 -- What `scan` prints of the base that a store holds, and its packets.
 use Rattle.std.specs.Prelude.{◌≡◌, true, false, ℕ, List, map, Result}
 use Rattle.std.specs.List.{flat_map}
-use Rattle.echo_changing.specs.PacketFiles.{PacketFile}
+use Rattle.echo_steps.specs.PacketFiles.{PacketFile}
 use Rattle.echo_changing.specs.Scanned.{file_sent, line_sent}
 use Rattle.echo_status.specs.declared.fault.Fault.{Fault}
 use Rattle.echo_status.specs.declared.fault.Fault.TheVariants.{Scan}

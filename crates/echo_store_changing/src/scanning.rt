@@ -11,11 +11,11 @@ ghost use Rattle.echo_store_changing.specs.Stops.{store_answer};
 
 use crate::stop::Stop;
 use echo_addr::Items;
-use echo_changing::{PacketFile, packet_files};
+use echo_changing::packet_files;
 use echo_device::Sink;
 use echo_links::LinkFile;
 use echo_status::print_rest;
-use echo_steps::Stamp;
+use echo_steps::{PacketFile, Stamp};
 use echo_store::Store;
 use echo_toss::scan_in;
 use std::alloc::Global;

@@ -1,6 +1,6 @@
 use Rattle.std.proofs.Common.{◌-◌, ℕ, List, Some, refl, ap, inl, inr}
 use Rattle.echo_changing.specs.declared.leaving.Files.{Files}
-use Rattle.echo_changing.specs.PacketFiles.{PacketFile}
+use Rattle.echo_steps.specs.PacketFiles.{PacketFile}
 use Rattle.std.proofs.lemmas.Result.{err_from_is_err_and}
 use Rattle.echo_changing.proofs.Stationed.{scan_refused, scan_unsaved, was_scanned}
 use Rattle.echo_changing.proofs.scanning.scan_system.Goals as goal

@@ -1,6 +1,6 @@
 -- The packets of the files up to here are there.
 use Rattle.std.proofs.Common.{◌≡◌, ◌<◌, ℕ, length, get_or}
-use Rattle.echo_changing.specs.PacketFiles.{PacketFile}
+use Rattle.echo_steps.specs.PacketFiles.{PacketFile}
 use Rattle.echo_placing.specs.declared.outgoing.Outgoing.{Outgoing}
 use Rattle.echo_file_scanning.specs.declared.sending.TwoPaths.{TwoPaths}
 use Rattle.echo_file_scanning.specs.Sending.{IsSent}
