@@ -1,16 +1,21 @@
-//! A station on a disk in memory, and its commands.
+//! A station on a disk in memory, and its lock.
 ghost use Rattle.std.specs.Prelude.{◌≡◌, None};
 
 use echo_addr::Items;
 use echo_disk::DiskError;
-use echo_station_files::{FileLock, StationPaths};
+use echo_station_files::FileLock;
+use station_file::FileStation;
 use std::alloc::Global;
+use std::hash::{BuildHasherDefault, FoldHasher};
 
-/// Where the files of the station are.
-pub const AT: StationPaths<'static> = StationPaths {
-    links: "links",
-    base: "base",
-};
+/// The station, whose base is a file.
+pub fn station() -> FileStation<'static, BuildHasherDefault<FoldHasher>> {
+    FileStation {
+        links: "links",
+        base: "base",
+        hasher: BuildHasherDefault::default(),
+    }
+}
 
 /// The link file of the station 1:10/1, which is linked with 1:10/2.
 pub const LINKS: &[u8] = b"SYSTEM 1:10/1\nNAME Alpha\nAREA TEST 1:10/2\n";

@@ -1,54 +1,58 @@
-//! The commands that change the base of a system. They hold the lock of its link file from before it is
-//! read until their last file stands, and wait where another run holds it.
+//! The commands that change the base of a system, as their words ask for them. They hold the lock of its link file from
+//! before it is read until their last file stands, and wait where another run holds it.
 
-use crate::on_file::{post_here, post_mail_here, purge_here, reply_here, toss_here};
-use crate::on_folder::{
-    Replying, post_mail_there, post_there, purge_there, reply_there, toss_there,
-};
+use crate::place::{Place, find_base, locked_links};
 use crate::posting::new_message;
-use crate::scan_on_file::scan_here;
-use crate::scan_on_folder::scan_there;
-use cmd_base::is_folder;
-use cmd_input::{
-    MAX_TEXT_FILE, PacketPaths, PathNames, Progress, Tossing, input_fault, lock_file, moment_of,
-    names_of, read_file, read_standard_input, serial_from,
-};
+use crate::running::{Before, run_on};
+use cmd_input::{MAX_TEXT_FILE, moment_of, read_file, read_standard_input, serial_from};
 use echo_changing::{Answer, NewMessage};
 use echo_charset::Charset;
-use echo_device::{Sink, Watched};
-use echo_files::read_whole;
-use echo_mailing::{LetterFault, MailWords, Spare};
+use echo_device::Sink;
+use echo_mailing::{LetterFault, MailWords, PostMail, Spare};
 use echo_numbered::refuse_message;
-use echo_packet::Limits;
-use echo_status::{Fault, LIMITS, Status, limits_for, number_of};
+use echo_status::{Fault, Status, number_of};
 use echo_steps::Stamp;
+use echo_store_changing::{Post, Purge, Reply};
 use echo_stored::{StoredFault, read_stored};
-use echo_words::{PostMailWords, PostStoredWords, PostWords, ReplyWords, TossWords};
-use std::fs::File;
-use std::{fs, io};
+use echo_words::{PostMailWords, PostStoredWords, PostWords, ReplyWords};
 
-/// The paths of the link file and of the base of a system.
-#[derive(Clone, Copy)]
-pub struct Place<'a> {
-    pub links: &'a str,
-    pub base: &'a str,
+/// A command whose words and whose body were read.
+#[derive(Drop)]
+enum Asked<'w> {
+    Post(Post<'w>),
+    PostMail(PostMail<'w>),
+    Reply(Reply<'w>),
+    Purge(Purge),
 }
 
-/// The link file under its lock.
-pub fn locked_links<'a>(rt: &HostRuntime, path: &'a str) -> Result<(File, Vec<u8>), Fault<'a>> {
-    let file = fs::open(rt, path).map_err(|error| open_fault(&error, path))?;
-    lock_file(rt, &file, path).map_err(|_| Fault::CannotUse(path))?;
-    let bytes = read_whole(rt.alloc(), &mut Watched::new(&file), MAX_TEXT_FILE);
-    match bytes {
-        Ok(bytes) => Ok((file, bytes)),
-        Err(fault) => Err(input_fault(fault, path)),
-    }
-}
-
-fn open_fault<'a>(error: &io::Error, path: &'a str) -> Fault<'a> {
-    match error.kind() {
-        io::ErrorKind::OutOfMemory => Fault::OutOfMemory,
-        _ => Fault::CannotUse(path),
+// Runs a command on a station. What was not read before comes behind the faults of its files.
+fn change<W: Sink, E: Sink>(
+    rt: &HostRuntime,
+    place: Place<'_>,
+    asked: &mut Asked<'_>,
+    unread: Option<Fault<'_>>,
+    out: &mut W,
+    errors: &mut E,
+) -> Status {
+    let found = match find_base(rt, place) {
+        Ok(found) => found,
+        Err(fault) => return fault.report(errors),
+    };
+    let at = found.at(rt, place);
+    let before = Before {
+        toss: None,
+        progress: None,
+        unread,
+    };
+    let done = match asked {
+        Asked::Post(post) => run_on(at, before, post, out),
+        Asked::PostMail(post) => run_on(at, before, post, out),
+        Asked::Reply(reply) => run_on(at, before, reply, out),
+        Asked::Purge(purge) => run_on(at, before, purge, out),
+    };
+    match done {
+        Ok(()) => Status::Good,
+        Err(fault) => fault.report(errors),
     }
 }
 
@@ -64,41 +68,17 @@ pub fn run_post<W: Sink, E: Sink>(
         Ok(posting) => posting,
         Err(fault) => return fault.report(errors),
     };
-    let (body, stopped) = read_body(rt);
+    let (body, unread) = read_body(rt);
     let place = Place {
         links: words.links,
         base: words.base,
     };
-    let asked = Posting {
+    let post = Post {
         words: posting,
         free,
         body: &body,
     };
-    post_at(rt, place, asked, stopped, out, errors)
-}
-
-/// What is to be posted, whether its serial is the first free one from that on, and the body.
-#[derive(Clone, Copy)]
-pub struct Posting<'a> {
-    pub words: NewMessage<'a>,
-    pub free: bool,
-    pub body: &'a [u8],
-}
-
-// Posts at a system. What stopped reading before comes behind the faults of its files.
-fn post_at<'a, W: Sink, E: Sink>(
-    rt: &HostRuntime,
-    place: Place<'a>,
-    asked: Posting<'_>,
-    stopped: Option<Fault<'a>>,
-    out: &mut W,
-    errors: &mut E,
-) -> Status {
-    if is_folder(rt, place.base) {
-        post_there(rt, place, asked, stopped, out, errors)
-    } else {
-        post_here(rt, place, asked, stopped, out, errors)
-    }
+    change(rt, place, &mut Asked::Post(post), unread, out, errors)
 }
 
 // The body of a message, from standard input, and why it was not read.
@@ -138,10 +118,12 @@ pub fn run_post_mail<W: Sink, E: Sink>(
         links: words.links,
         base: words.base,
     };
-    if is_folder(rt, place.base) {
-        post_mail_there(rt, place, asked, &mail, out, errors)
-    } else {
-        post_mail_here(rt, place, asked, &mail, out, errors)
+    match PostMail::read(rt.alloc(), &mail, asked) {
+        Ok(post) => change(rt, place, &mut Asked::PostMail(post), None, out, errors),
+        Err(fault) => match locked_links(rt, place.links) {
+            Ok(_) => fault.report(errors),
+            Err(first) => first.report(errors),
+        },
     }
 }
 
@@ -181,21 +163,17 @@ pub fn run_reply<W: Sink, E: Sink>(
         Ok(asked) => asked,
         Err(fault) => return fault.report(errors),
     };
-    let (body, stopped) = read_body(rt);
+    let (body, unread) = read_body(rt);
     let place = Place {
         links: words.links,
         base: words.base,
     };
-    let asked = Replying {
+    let reply = Reply {
         index,
         answer,
         body: &body,
     };
-    if is_folder(rt, place.base) {
-        reply_there(rt, place, asked, stopped, out, errors)
-    } else {
-        reply_here(rt, place, asked, stopped, out, errors)
-    }
+    change(rt, place, &mut Asked::Reply(reply), unread, out, errors)
 }
 
 // What an answer says that its message does not, and the number of that.
@@ -241,12 +219,12 @@ pub fn run_post_stored<W: Sink, E: Sink>(
         links: words.links,
         base: words.base,
     };
-    let asked = Posting {
+    let post = Post {
         words: posting,
         free,
         body: draft.body.as_slice(),
     };
-    post_at(rt, place, asked, None, out, errors)
+    change(rt, place, &mut Asked::Post(post), None, out, errors)
 }
 
 // The serial, whether it is the first free one from that on, the stamp, and the bytes of the stored message.
@@ -264,85 +242,10 @@ fn stored_given<'a>(
 pub fn run_purge<W: Sink, E: Sink>(
     rt: &HostRuntime,
     links: &str,
-    base_path: &str,
+    base: &str,
     out: &mut W,
     errors: &mut E,
 ) -> Status {
-    let place = Place {
-        links,
-        base: base_path,
-    };
-    if is_folder(rt, base_path) {
-        purge_there(rt, place, out, errors)
-    } else {
-        purge_here(rt, place, out, errors)
-    }
-}
-
-/// `scan`: the stamp is judged first. The packets get their names once the base is written.
-pub fn run_scan<'a, 'r, W: Sink, E: Sink>(
-    rt: &'r HostRuntime,
-    at: &'a str,
-    links: &'a str,
-    base_path: &'a str,
-    folder: &'a str,
-    progress: &Progress<'r>,
-    out: &mut W,
-    errors: &mut E,
-) -> Status {
-    let stamp = match moment_of(rt, at) {
-        Ok(stamp) => stamp,
-        Err(fault) => return fault.report(errors),
-    };
-    let place = Place {
-        links,
-        base: base_path,
-    };
-    if is_folder(rt, base_path) {
-        return scan_there(rt, place, stamp, folder, progress, out, errors);
-    }
-    scan_here(rt, place, stamp, folder, progress, out, errors)
-}
-
-/// `toss`: the limit of a text is judged first, and a list of packets is read before the lock is taken; each
-/// packet file is opened when its turn comes.
-pub fn run_toss<W: Sink, E: Sink>(
-    rt: &HostRuntime,
-    words: &TossWords<'_>,
-    progress: &Progress<'_>,
-    out: &mut W,
-    errors: &mut E,
-) -> Status {
-    let limits = match toss_limits(words.text_limit) {
-        Ok(limits) => limits,
-        Err(fault) => return fault.report(errors),
-    };
-    let PathNames { names, stopped } = names_of(rt, &words.packets);
-    let mut packets = PacketPaths {
-        rt,
-        names: names.as_slice(),
-        packets: names.len(),
-        progress,
-    };
-    let place = Place {
-        links: words.links,
-        base: words.base,
-    };
-    let by = Tossing {
-        names: names.as_slice(),
-        limits,
-        each: words.each,
-    };
-    if is_folder(rt, place.base) {
-        return toss_there(rt, place, by, stopped, &mut packets, out, errors);
-    }
-    toss_here(rt, place, by, stopped, packets, progress, out, errors)
-}
-
-// What is taken of packets.
-fn toss_limits<'a>(text_limit: Option<&str>) -> Result<Limits, Fault<'a>> {
-    match text_limit {
-        Some(word) => Ok(limits_for(number_of(word)?)),
-        None => Ok(LIMITS),
-    }
+    let place = Place { links, base };
+    change(rt, place, &mut Asked::Purge(Purge), None, out, errors)
 }

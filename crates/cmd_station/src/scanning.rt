@@ -1,0 +1,172 @@
+//! `scan`, as its words ask for it, on the files of the system. What it reads, and what it puts in place, is settled by what
+//! it is over any disk.
+
+use crate::place::{Place, Station, find_base};
+use crate::running::{by_name, counting, fault_in_folder, folder_place};
+use crate::unplaced::report_unplaced;
+use cmd_base_file::{LeftFiles, ScanFiles};
+use cmd_base_folder::Opened;
+use cmd_input::{LinkLock, Progress, folder_path, moment_of};
+use echo_base::BaseFault;
+use echo_device::Sink;
+use echo_file_scanning::{ScanFault, scan_at};
+use echo_folder_changing::Found;
+use echo_folder_scanning::{ScanStop, Watching, scan_in};
+use echo_keys::SipDigest;
+use echo_real_disk::{RealDisk, Unknown};
+use echo_station_files::StationPaths;
+use echo_status::{Fault, Status};
+use echo_steps::Stamp;
+use std::collections::hash_map::RandomState;
+
+/// How many messages are taken at hand between two looks at the clock.
+const SOME: usize = 1_000;
+
+/// The words of `scan`.
+#[derive(Clone, Copy)]
+pub struct ScanWords<'a> {
+    pub at: &'a str,
+    pub links: &'a str,
+    pub base: &'a str,
+    pub folder: &'a str,
+}
+
+/// What is scanned, and into which folder, by the name that was given and by the path that its files have before their
+/// names.
+#[derive(Clone, Copy)]
+pub struct Scan<'a> {
+    pub at: Station<'a>,
+    pub stamp: Stamp,
+    pub folder: &'a str,
+    pub slashed: &'a str,
+    pub progress: &'a Progress<'a>,
+}
+
+/// `scan`: the stamp is judged first. The packets get their names once the base is written.
+pub fn run_scan<W: Sink, E: Sink>(
+    rt: &HostRuntime,
+    words: ScanWords<'_>,
+    progress: &Progress<'_>,
+    out: &mut W,
+    errors: &mut E,
+) -> Status {
+    let stamp = match moment_of(rt, words.at) {
+        Ok(stamp) => stamp,
+        Err(fault) => return fault.report(errors),
+    };
+    let place = Place {
+        links: words.links,
+        base: words.base,
+    };
+    let found = match find_base(rt, place) {
+        Ok(found) => found,
+        Err(fault) => return fault.report(errors),
+    };
+    let Ok(slashed) = folder_path(rt, words.folder) else {
+        return Fault::OutOfMemory.report(errors);
+    };
+    let scan = Scan {
+        at: found.at(rt, place),
+        stamp,
+        folder: words.folder,
+        slashed: slashed.as_str(),
+        progress,
+    };
+    scan_at_once(scan, out, errors)
+}
+
+// Scans, and reports what it met.
+fn scan_at_once<W: Sink, E: Sink>(scan: Scan<'_>, out: &mut W, errors: &mut E) -> Status {
+    let at = scan.at;
+    let files = ScanFiles::new(at.rt, at.path, scan.slashed, scan.progress);
+    let done = match at.folder {
+        Some(found) => scan_folder(scan, found, &files, out),
+        None => scan_file(scan, &files, out),
+    };
+    match done {
+        Ok(()) => Status::Good,
+        Err(ScanFault::Command(fault)) => by_name(at, fault).report(errors),
+        Err(ScanFault::Placing(cause)) => report_unplaced(scan, &files, cause, errors),
+    }
+}
+
+// Scans a base file.
+fn scan_file<'a, W: Sink>(
+    scan: Scan<'a>,
+    files: &ScanFiles<'_, '_>,
+    out: &mut W,
+) -> Result<(), ScanFault<'a>> {
+    let Scan { at, progress, .. } = scan;
+    let Ok(keys) = RandomState::new(at.rt) else {
+        return Err(ScanFault::Command(Fault::Base(BaseFault::Read)));
+    };
+    let hasher = counting(at, keys, Some(progress));
+    let paths = StationPaths {
+        links: at.place.links,
+        base: at.path,
+    };
+    let mut disk = RealDisk::new(files, Unknown);
+    let mut lock = LinkLock::new(at.rt);
+    let mut listing = LeftFiles::new(at.rt);
+    let done = scan_at(
+        at.rt.alloc(),
+        &mut disk,
+        &mut lock,
+        &mut listing,
+        paths,
+        scan.slashed.as_bytes(),
+        scan.stamp,
+        hasher,
+        out,
+    );
+    files.tidy();
+    done
+}
+
+// A terminal is told how far a scan is.
+#[derive(Drop)]
+struct ScanProgress<'p> {
+    progress: &'p Progress<'p>,
+}
+
+impl Watching for ScanProgress<'_> {
+    fn tell(&self, place: usize, messages: usize) {
+        if place % SOME == 0 && self.progress.is_due() {
+            self.progress
+                .tell_message((place as u64).saturating_add(1), messages as u64);
+        }
+    }
+}
+
+// Scans a base folder, into another folder than that.
+fn scan_folder<'a, W: Sink>(
+    scan: Scan<'a>,
+    found: Found,
+    files: &ScanFiles<'_, '_>,
+    out: &mut W,
+) -> Result<(), ScanFault<'a>> {
+    let Scan { at, progress, .. } = scan;
+    let mut opened = Opened::new(at.rt, at.place.base, None).apart_from(scan.folder);
+    let (mut lock, mut held) = (LinkLock::new(at.rt), LinkLock::new(at.rt));
+    let disk = RealDisk::new(files, Unknown);
+    let mut listing = LeftFiles::new(at.rt);
+    let scanned = scan_in::<_, SipDigest, _, _, _, _, _, _>(
+        at.rt.alloc(),
+        disk,
+        &mut lock,
+        &mut held,
+        folder_place(at),
+        found,
+        &mut opened,
+        &mut listing,
+        &ScanProgress { progress },
+        scan.slashed.as_bytes(),
+        scan.stamp,
+        out,
+    );
+    match scanned.done {
+        Ok(()) => Ok(()),
+        Err(ScanStop::Command(stop)) => Err(ScanFault::Command(fault_in_folder(at, stop))),
+        Err(ScanStop::Placing(cause)) => Err(ScanFault::Placing(cause)),
+    }
+}
