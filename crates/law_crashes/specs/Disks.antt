@@ -1,0 +1,41 @@
+-- What stands on the disks of stations where a command may be stopped: packet files under their names, and files beside such names.
+use Rattle.std.specs.Prelude.{ℕ, Bool, true, false, List, [], ◌∷◌, ◌++◌}
+use Rattle.echo_links.specs.Links.{LinkFile}
+use Rattle.echo_filed.specs.Filed.{Filed}
+use Rattle.law_stations.specs.InOrder.{StationHolds}
+use Rattle.law_stations.specs.Nets.{Net, first_net}
+
+-- A file beside the name of a packet: the station that wrote it, the number in the name, which is how many messages the
+-- station had scanned before, its bytes, and whether these stand under the name too.
+pub record Beside : Type 0 where
+  pub station : ℕ
+  pub number : ℕ
+  pub bytes : List ℕ
+  pub named : Bool
+
+-- The stations, with the packet files that got their names, in this order, each once; and the files beside names.
+pub record Disks : Type 0 where
+  pub net : Net
+  pub beside : List Beside
+
+-- the disks of these link files before the first command
+abbrev pub first_disks : List (List ℕ) → Disks
+first_disks links = record { net = first_net links; beside = [] }
+
+-- the base of the station has this cursor
+abbrev pub HasCursor : Net → ℕ → ℕ → Type 0
+HasCursor net i cursor = (file : LinkFile) × (messages : List Filed) × StationHolds net i file messages cursor
+
+-- one packet file more has its name
+abbrev pub with_packet : Net → List ℕ → Net
+with_packet net bytes = record {
+  stations = net.stations;
+  packets = net.packets ++ bytes ∷ [];
+  delivered = net.delivered;
+  postings = net.postings;
+}
+
+-- The bytes get the name; where they had it before, it is the same packet file that has it again.
+abbrev pub naming : Net → List ℕ → Bool → Net
+naming net bytes true = net
+naming net bytes false = with_packet net bytes
