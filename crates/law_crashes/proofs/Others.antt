@@ -1,181 +1,115 @@
 -- A posting, a purge or a toss on the disks is one on the net, and moves no cursor.
-use Rattle.std.proofs.Common.{◌≡◌, ◌⊎◌, inl, inr, refl, sym, subst, ap, ◌∙◌, ℕ, zero, suc, ◌-◌, ◌+◌, arith, append-nil, Bool, true, false, List, [], ◌∷◌, ◌++◌, length, map, take, Option, Some, None}
+use Rattle.std.proofs.Common.{◌≡◌, ◌⊎◌, inl, inr, refl, sym, subst, ap, ◌∙◌, ℕ, zero, suc, ◌-◌, ◌+◌, arith, append-nil, Bool, true, false, List, [], ◌∷◌, ◌++◌, length, map, take, Option, Some, None, Result, Ok, Err}
 use Rattle.std.specs.Prelude.{if◌then◌else◌, ◌==◌}
 use Rattle.std.specs.List.{list_any}
 use Rattle.std.proofs.lemmas.Bool.{eqb-true}
 use Rattle.std.proofs.lemmas.List.{length-map}
-use Rattle.echo_addr.specs.declared.address.Address.{Address}
-use Rattle.echo_graph.specs.Walk.{Among, Different}
-use Rattle.echo_packet.specs.Message.{Message}
+use Rattle.echo_base.specs.Base.{Base}
+use Rattle.echo_graph.specs.Walk.{Among}
 use Rattle.echo_filed.specs.Filed.{Filed}
+use Rattle.echo_links.specs.Links.{LinkFile}
+use Rattle.echo_packet.specs.declared.fault.PacketFault.TheVariants as packet
+use Rattle.echo_packet.specs.declared.limits.Limits.{Limits}
 use Rattle.echo_status.specs.declared.fault.Fault.{Fault}
-use Rattle.echo_steps.specs.declared.packet.Packet.{Packet}
-use Rattle.echo_steps.specs.Posting.{posted, posting}
-use Rattle.echo_steps.specs.Tossing.{sender_of, tossing}
-use Rattle.echo_run.specs.Event.{Delivery, PartDelivery, Posting, Purging, RunEvent, Scanning}
-use Rattle.echo_run.specs.Run.{Run, System, after_event, after_events, change, coming, delivery, filing, nth, part_delivery, posting_at, purging_at, receiver, taking, tossing_at, with_index}
-use Rattle.echo_run.proofs.Lists.{Among-map_to, any-from, map-change, none_some, some_same, with_index-from}
+use Rattle.echo_steps.specs.Posting.{posted}
+use Rattle.echo_steps.specs.SystemState.{SystemState}
+use Rattle.echo_store.specs.Store.{purged}
+use Rattle.echo_toss.specs.PacketSteps.{PacketStep, TossesPart}
+use Rattle.echo_toss.specs.PacketsIn.{state_in}
+use Rattle.echo_toss.specs.declared.fault.TossCause.{TossCause}
+use Rattle.echo_toss.specs.declared.fault.TossCause.TheVariants as stop
+use Rattle.echo_toss.specs.declared.fault.TossFault.{TossFault}
+use Rattle.echo_toss.specs.declared.tally.Tally.{Tally}
+use Rattle.echo_run.specs.Run.{change, nth, with_index}
+use Rattle.echo_run.proofs.Lists.{Among-map_to, any-from, none_some, some_same, with_index-from}
 use Rattle.echo_changing.specs.declared.posting.NewMessage.{NewMessage}
 use Rattle.echo_changing.specs.Coming.{Coming, Fails, Holds, Unknown}
 use Rattle.echo_changing.specs.Posted.{draft_given}
 use Rattle.echo_changing.specs.Tossed.{TossesEach, TossesFile, run_begun}
 use Rattle.echo_changing.specs.TossedPacket.{TossRun}
-use Rattle.law_stations.specs.Agreement.{Agrees, AreEventsOf, AreTossesOf, IsTossOf}
-use Rattle.law_stations.specs.Commands.{Command, IsPacketAt, Leads, Post, Posts, Purge, Purges, Scan, Toss, Tosses, itself, whole_of}
+use Rattle.law_stations.specs.Commands.{Command, IsAt, IsPacketAt, Leads, Post, Posts, Purge, Purges, Toss, Tosses, TossesAll, itself, whole_of}
 use Rattle.law_stations.specs.Nets.{Net, Paired, Station, with_base, with_indexes, with_left, with_posting, with_tossed}
-use Rattle.law_stations.proofs.EachEvent.{event-is-events}
 use Rattle.law_stations.proofs.OfToss.{opened-bytes, same-length, whole-more}
-use Rattle.law_stations.proofs.Pairs.{paired-nth}
-use Rattle.law_stations.proofs.Places.{addresses-stay}
-use Rattle.law_crashes.specs.Disks.{Disks}
+use Rattle.law_stations.proofs.Pairs.{change-here, change-map, paired-nth}
+use Rattle.law_crashes.specs.Disks.{Disks, cursor_of}
 use Rattle.law_crashes.proofs.Counting.{IsItem}
-use Rattle.law_crashes.proofs.Tracking.{IsTossedAt, Tracks, cursor_of, cursors, still}
+use Rattle.law_crashes.proofs.Tracking.{IsTossedAt, Tracks, still}
 
--- events that are no scan
-abbrev IsQuiet : RunEvent → Type 0
-IsQuiet (Scanning i stamp) = ⊥
-IsQuiet event = Unit {0}
+-- the toss of a packet keeps the cursor
+part-cursor : (limits : Limits) (old new : SystemState) (before after : Option (List ℕ)) (tally : Tally) (cause : TossCause) → TossesPart limits old before after tally cause new
+    → new.cursor ≡ old.cursor
+part-cursor limits old new before after tally (stop.NotForUs a) part = ap (λ (s : SystemState). s.cursor) part.nothing.0
+part-cursor limits old new before after tally stop.Memory part = ap (λ (s : SystemState). s.cursor) part.done.state
+part-cursor limits old new before after tally (stop.Packet packet.Memory) part = absurd part
+part-cursor limits old new before after tally (stop.Packet f) (inl header) = ap (λ (s : SystemState). s.cursor) header.nothing.0
+part-cursor limits old new before after tally (stop.Packet f) (inr up_to) = ap (λ (s : SystemState). s.cursor) up_to.some.done.state
 
-abbrev AreQuiet : List RunEvent → Type 0
-AreQuiet [] = Unit {0}
-AreQuiet (event ∷ later) = IsQuiet event × AreQuiet later
+step-cursor : (limits : Limits) (old new : SystemState) (before after : Option (List ℕ)) (answer : Result Tally TossFault) → PacketStep limits old before after answer new
+    → new.cursor ≡ old.cursor
+step-cursor limits old new before after (Ok tally) all = ap (λ (s : SystemState). s.cursor) all.done.state
+step-cursor limits old new before after (Err f) part = part-cursor limits old new before after f.tally f.cause part
 
-filing-cursor : (s : System) (o : Option Filed) → cursor_of (filing s o) ≡ cursor_of s
-filing-cursor s None = refl
-filing-cursor s (Some m) = refl
+-- and so does the toss of a file, and of files one after another
+file-cursor : (file : Coming) (old new : TossRun) (stopped : Option Fault) → TossesFile itself file old stopped new → new.system.cursor ≡ old.system.cursor
+file-cursor file old new stopped (inl opened) = elim opened.packet [
+  | inl none ↦ ap (λ (r : TossRun). r.system.cursor) none.1
+  | inr h ↦ step-cursor old.limits old.system new.system opened.reader.contents opened.left.contents h.answer h.step
+]
+file-cursor file old new stopped (inr unopened) = ap (λ (r : TossRun). r.system.cursor) unopened.same
 
-pub tossing-cursor : (sender : Address) (ms : List Message) (s : System) → cursor_of (tossing_at sender ms s) ≡ cursor_of s
-tossing-cursor sender [] s = refl
-tossing-cursor sender (q ∷ ms) s =
-    tossing-cursor sender ms (filing s (tossing s.file s.base sender q)) ∙ filing-cursor s (tossing s.file s.base sender q)
+each-cursor : (files : List Coming) (old new : TossRun) (stopped : Option Fault) (left : List Coming) → TossesEach itself files old stopped left new
+    → new.system.cursor ≡ old.system.cursor
+each-cursor [] old new stopped left each = ap (λ (r : TossRun). r.system.cursor) each.2
+each-cursor (file ∷ files) old new stopped left (inl (run, first, later)) = each-cursor files run new stopped left later ∙ file-cursor file old run None first
+each-cursor (file ∷ files) old new stopped left (inr (fault, is, rest, last)) = file-cursor file old new stopped last
 
-taking-cursor : (p : Packet) (n : ℕ) (s : System) → cursor_of (taking p n s) ≡ cursor_of s
-taking-cursor p n s = tossing-cursor (sender_of s.file p.header) (take n p.messages) s
+pub tosses-cursor : (files : List Coming) (file : LinkFile) (base next : Base) → TossesAll files file base next → next.cursor ≡ base.cursor
+tosses-cursor files file base next tosses =
+    sym (ap (λ (s : SystemState). s.cursor) tosses.state) ∙ each-cursor files (run_begun tosses.limits (state_in file base)) tosses.run tosses.stopped tosses.left tosses.each
 
-event-cursors : (run : Run) (event : RunEvent) → IsQuiet event → cursors (after_event run event) ≡ cursors run
-event-cursors run (Posting i tag draft serial stamp) quiet =
-    map-change cursor_of i (posting_at tag draft serial stamp) (λ s. filing-cursor s (posting s.file s.base tag draft serial stamp)) run.systems
-event-cursors run (Scanning i stamp) quiet = absurd quiet
-event-cursors run (Delivery k) quiet = by (nth k run.packets)
-  where
-    came : (p : Packet) (o : Option System) → cursors (coming run k p o) ≡ cursors run
-    came p None = refl
-    came p (Some s) = map-change cursor_of (receiver run p) (taking p (length p.messages)) (taking-cursor p (length p.messages)) run.systems
-
-    by : (o : Option Packet) → cursors (delivery run k o) ≡ cursors run
-    by None = refl
-    by (Some p) = came p (nth (receiver run p) run.systems)
-event-cursors run (PartDelivery k n) quiet = by (nth k run.packets)
-  where
-    by : (o : Option Packet) → cursors (part_delivery run n o) ≡ cursors run
-    by None = refl
-    by (Some p) = map-change cursor_of (receiver run p) (taking p n) (taking-cursor p n) run.systems
-event-cursors run (Purging i) quiet = map-change cursor_of i purging_at (λ s. refl) run.systems
-
-events-cursors : (events : List RunEvent) (run : Run) → AreQuiet events → cursors (after_events run events) ≡ cursors run
-events-cursors [] run quiet = refl
-events-cursors (event ∷ later) run quiet = events-cursors later (after_event run event) quiet.1 ∙ event-cursors run event quiet.0
-
-quiet-append : (xs ys : List RunEvent) → AreQuiet xs → AreQuiet ys → AreQuiet (xs ++ ys)
-quiet-append [] ys q r = r
-quiet-append (x ∷ xs) ys q r = (q.0, quiet-append xs ys q.1 r)
-
-toss-quiet : (k : ℕ) (events : List RunEvent) → IsTossOf k events → AreQuiet events
-toss-quiet k events (inl none) = subst AreQuiet (sym none) tt
-toss-quiet k events (inr (inl whole)) = subst AreQuiet (sym whole) (tt, tt)
-toss-quiet k events (inr (inr (n, part))) = subst AreQuiet (sym part) (tt, tt)
-
-tosses-quiet : (indexes : List ℕ) (events : List RunEvent) → AreTossesOf indexes events → AreQuiet events
-tosses-quiet [] events none = subst AreQuiet (sym none) tt
-tosses-quiet (k ∷ later) events (first, rest, whole, toss, tosses) =
-    subst AreQuiet (sym whole) (quiet-append first rest (toss-quiet k first toss) (tosses-quiet later rest tosses))
-
--- a command that is no scan
-abbrev IsNoScan : Command → Type 0
-IsNoScan (Scan stamp) = ⊥
-IsNoScan command = Unit {0}
-
-command-quiet : (command : Command) (i : ℕ) (events : List RunEvent) → IsNoScan command → AreEventsOf command i events → AreQuiet events
-command-quiet (Post words body) i events none are = subst AreQuiet (sym are) (tt, tt)
-command-quiet (Scan stamp) i events none are = absurd none
-command-quiet Purge i events none are = subst AreQuiet (sym are) (tt, tt)
-command-quiet (Toss indexes) i events none are = tosses-quiet indexes events are
-
--- what such a command on the net makes of the run
-record Quiet (run : Run) (next : Net) : Type 0 where
-  later : Run
-  agrees : Agrees next later
-  apart : Different (map (λ (s : System). s.file.system) later.systems)
-  same : cursors later ≡ cursors run
-
-quietly : (d : Disks) (net next : Net) (run : Run) (command : Command) (i : ℕ) → Tracks d net run → IsNoScan command → Leads command net i next → Quiet run next
-quietly d net next run command i t none leads =
-    let (events, are, agrees) = event-is-events (record { station = i; command = command }) net next run t.apart t.agrees (inr leads) in
-    record {
-      later = after_events run events;
-      agrees = agrees;
-      apart = addresses-stay events run t.apart;
-      same = events-cursors events run (elim are [ inl nothing ↦ subst AreQuiet (sym nothing) tt | inr of ↦ command-quiet command i events none of ]);
-    }
+-- the cursors of stations of which one has another base with the same cursor
+same-cursors : (i : ℕ) (station : Station) (next : Base) (stations : List Station) → nth i stations ≡ Some station → next.cursor ≡ station.base.cursor
+    → map cursor_of (change i (with_base next) stations) ≡ map cursor_of stations
+same-cursors i station next stations there same =
+    ap (map cursor_of) (change-here i (with_base next) station stations there) ∙ change-map cursor_of i station (with_base next station) stations there same
 
 -- the station of the disks stands in the net
 there-too : (d : Disks) (net : Net) (i : ℕ) (station : Station) → d.net.stations ≡ net.stations → nth i d.net.stations ≡ Some station → nth i net.stations ≡ Some station
 there-too d net i station same there = subst (λ (ss : List Station). nth i ss ≡ Some station) same there
 
--- the net and the run after a command on the disks
+at-too : (d : Disks) (net : Net) (i : ℕ) (station : Station) (file : LinkFile) → d.net.stations ≡ net.stations → IsAt d.net i station file → IsAt net i station file
+at-too d net i station file same at = record { there = there-too d net i station same at.there; links = at.links }
+
+-- the net after a command on the disks
 pub record Led (command : Command) (i : ℕ) (net : Net) (new : Disks) : Type 0 where
   pub next : Net
-  pub later : Run
   pub leads : Leads command net i next
-  pub tracks : Tracks new next later
+  pub tracks : Tracks new next
 
-pub posted-too : (words : NewMessage) (body : List ℕ) (i : ℕ) (d new : Disks) (net : Net) (run : Run) → Tracks d net run → Posts words body d.net i new.net → new.beside ≡ d.beside
+pub posted-too : (words : NewMessage) (body : List ℕ) (i : ℕ) (d new : Disks) (net : Net) → Tracks d net → Posts words body d.net i new.net → new.beside ≡ d.beside
     → Led (Post words body) i net new
-posted-too words body i d new net run t p beside =
+posted-too words body i d new net t p beside =
     let m = posted p.file words.tag.now (draft_given words body) words.serial words.stamp in
-    let next = with_posting net i p.base m in
-    let leads : Posts words body net i next = record {
-      station = p.station;
-      there = there-too d net i p.station t.stations p.there;
-      call = p.call;
-      done = p.done;
-      answer = p.answer;
-      base = p.base;
-      leaves = p.leaves;
-      file = p.file;
-      of_links = p.of_links;
-      becomes = refl;
-    } in
-    let q = quietly d net next run (Post words body) i t tt leads in
+    let at = at-too d net i p.station p.file t.stations p.at in
     record {
-      next = next;
-      later = q.later;
-      leads = leads;
-      tracks = still d new net next run q.later t q.agrees q.apart (ap (λ (n : Net). n.stations) p.becomes ∙ ap (change i (with_base p.base)) t.stations)
-          (ap (λ (n : Net). n.postings) p.becomes ∙ ap (λ (ms : List Filed). ms ++ m ∷ []) t.postings) (ap (λ (n : Net). n.packets) p.becomes) refl beside q.same
+      next = with_posting net i p.next m;
+      leads = record { station = p.station; file = p.file; at = at; next = p.next; makes = p.makes; becomes = refl };
+      tracks = still d new net (with_posting net i p.next m) t (ap (λ (n : Net). n.stations) p.becomes ∙ ap (change i (with_base p.next)) t.stations)
+          (ap (λ (n : Net). n.postings) p.becomes ∙ ap (λ (ms : List Filed). ms ++ m ∷ []) t.postings) (ap (λ (n : Net). n.packets) p.becomes) refl beside
+          (same-cursors i p.station p.next net.stations at.there (ap (λ (b : Base). b.cursor) p.makes.is))
           (subst (λ (n : Net). (j : ℕ) → Among j n.delivered → IsTossedAt t.places net.delivered j) (sym p.becomes) t.tossed);
     }
 
-pub purged-too : (i : ℕ) (d new : Disks) (net : Net) (run : Run) → Tracks d net run → Purges d.net i new.net → new.beside ≡ d.beside → Led Purge i net new
-purged-too i d new net run t p beside =
-    let next = with_left net i [] p.base in
-    let leads : Purges net i next = record {
-      station = p.station;
-      there = there-too d net i p.station t.stations p.there;
-      call = p.call;
-      done = p.done;
-      answer = p.answer;
-      base = p.base;
-      leaves = p.leaves;
-      becomes = refl;
-    } in
-    let q = quietly d net next run Purge i t tt leads in
+pub purged-too : (i : ℕ) (d new : Disks) (net : Net) → Tracks d net → Purges d.net i new.net → new.beside ≡ d.beside → Led Purge i net new
+purged-too i d new net t p beside =
+    let next = purged p.station.base in
+    let there = there-too d net i p.station t.stations p.there in
     record {
-      next = next;
-      later = q.later;
-      leads = leads;
-      tracks = still d new net next run q.later t q.agrees q.apart (ap (λ (n : Net). n.stations) p.becomes ∙ ap (change i (with_base p.base)) t.stations)
-          (ap (λ (n : Net). n.postings) p.becomes ∙ t.postings) (ap (λ (n : Net). n.packets) p.becomes ∙ append-nil d.net.packets) (append-nil net.packets) beside q.same
+      next = with_left net i [] next;
+      leads = record { station = p.station; there = there; becomes = refl };
+      tracks = still d new net (with_left net i [] next) t (ap (λ (n : Net). n.stations) p.becomes ∙ ap (change i (with_base next)) t.stations)
+          (ap (λ (n : Net). n.postings) p.becomes ∙ t.postings) (ap (λ (n : Net). n.packets) p.becomes ∙ append-nil d.net.packets) (append-nil net.packets) beside
+          (same-cursors i p.station next net.stations there refl)
           (subst (λ (n : Net). (j : ℕ) → Among j n.delivered → IsTossedAt t.places net.delivered j) (sym p.becomes) t.tossed);
     }
 
@@ -292,45 +226,41 @@ all-from (x ∷ xs) j ks h = elim (all-from xs j (with_index x ks) h) [
   | inr t ↦ elim (with_index-from x j ks t) [ inl e ↦ inl (inl e) | inr u ↦ inr u ]
 ]
 
-pub tossed-too : (indexes : List ℕ) (i : ℕ) (d new : Disks) (net : Net) (run : Run) → Tracks d net run → Tosses indexes d.net i new.net → new.beside ≡ d.beside
+pub tossed-too : (indexes : List ℕ) (i : ℕ) (d new : Disks) (net : Net) → Tracks d net → Tosses indexes d.net i new.net → new.beside ≡ d.beside
     → (others : List ℕ) × Led (Toss others) i net new
-tossed-too indexes i d new net run t p beside =
+tossed-too indexes i d new net t p beside =
     let place = place_at t.places in
     let others = map place indexes in
-    let whole = whole_of indexes p.answer.stopped p.left in
-    let next = with_tossed net i p.base (whole_of others p.answer.stopped p.left) in
-    let leads : Tosses others net i next = record {
-      station = p.station;
-      there = there-too d net i p.station t.stations p.there;
-      call = p.call;
-      went_on = p.went_on;
-      limits = p.limits;
-      files = p.files;
-      are = files-at net.packets d.net.packets t.places indexes p.files t.named p.are;
-      left = p.left;
-      done = p.done;
-      answer = p.answer;
-      base = p.base;
-      leaves = p.leaves;
-      becomes = refl;
-    } in
-    let q = quietly d net next run (Toss others) i t tt leads in
+    let all = p.tosses in
+    let whole = whole_of indexes all.stopped all.left in
+    let later = whole_of others all.stopped all.left in
+    let next = with_tossed net i p.next later in
+    let at = at-too d net i p.station p.file t.stations p.at in
     let tossed : (j : ℕ) → Among j (with_indexes whole d.net.delivered) → IsTossedAt t.places next.delivered j = λ j h. elim (all-from whole j d.net.delivered h) [
       | inl now ↦ (
-          let (bytes, at) = whole-there d.net.packets indexes p.files (run_begun p.limits p.answer.system) p.answer.stopped p.left p.answer.run p.are p.answer.each j now in
-          let is = is-placed net.packets d.net.packets t.places j bytes t.named at in
-          (place j, is.place, all-join (whole_of others p.answer.stopped p.left) (place j) net.delivered (whole-placed place j indexes p.answer.stopped p.left now)))
+          let (bytes, there) = whole-there d.net.packets indexes p.files (run_begun all.limits (state_in p.file p.station.base)) all.stopped all.left all.run p.are all.each j now in
+          let is = is-placed net.packets d.net.packets t.places j bytes t.named there in
+          (place j, is.place, all-join later (place j) net.delivered (whole-placed place j indexes all.stopped all.left now)))
       | inr was ↦ (
-          let (k, at, done) = t.tossed j was in
-          (k, at, all-stay (whole_of others p.answer.stopped p.left) k net.delivered done))
+          let (k, there, done) = t.tossed j was in
+          (k, there, all-stay later k net.delivered done))
     ] in (
       others,
       record {
         next = next;
-        later = q.later;
-        leads = leads;
-        tracks = still d new net next run q.later t q.agrees q.apart (ap (λ (n : Net). n.stations) p.becomes ∙ ap (change i (with_base p.base)) t.stations)
-            (ap (λ (n : Net). n.postings) p.becomes ∙ t.postings) (ap (λ (n : Net). n.packets) p.becomes) refl beside q.same
+        leads = record {
+          station = p.station;
+          file = p.file;
+          at = at;
+          files = p.files;
+          are = files-at net.packets d.net.packets t.places indexes p.files t.named p.are;
+          next = p.next;
+          tosses = all;
+          becomes = refl;
+        };
+        tracks = still d new net next t (ap (λ (n : Net). n.stations) p.becomes ∙ ap (change i (with_base p.next)) t.stations)
+            (ap (λ (n : Net). n.postings) p.becomes ∙ t.postings) (ap (λ (n : Net). n.packets) p.becomes) refl beside
+            (same-cursors i p.station p.next net.stations at.there (tosses-cursor p.files p.file p.station.base p.next all))
             (subst (λ (n : Net). (j : ℕ) → Among j n.delivered → IsTossedAt t.places next.delivered j) (sym p.becomes) tossed);
       },
     )
