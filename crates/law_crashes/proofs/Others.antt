@@ -1,71 +1,32 @@
 -- A posting, a purge or a toss on the disks is one on the net, and moves no cursor.
-use Rattle.std.proofs.Common.{◌≡◌, ◌⊎◌, inl, inr, refl, sym, subst, ap, ◌∙◌, ℕ, zero, suc, ◌-◌, ◌+◌, arith, append-nil, Bool, true, false, List, [], ◌∷◌, ◌++◌, length, map, take, Option, Some, None, Result, Ok, Err}
+use Rattle.std.proofs.Common.{◌≡◌, ◌⊎◌, inl, inr, refl, sym, subst, ap, ◌∙◌, ℕ, zero, suc, ◌-◌, ◌+◌, arith, append-nil, Bool, true, false, List, [], ◌∷◌, ◌++◌, length, map, take, Option, Some, None}
 use Rattle.std.specs.Prelude.{if◌then◌else◌, ◌==◌}
 use Rattle.std.specs.List.{list_any}
 use Rattle.std.proofs.lemmas.Bool.{eqb-true}
-use Rattle.std.proofs.lemmas.List.{length-map}
+use Rattle.std.proofs.lemmas.List.{take_all}
 use Rattle.echo_base.specs.Base.{Base}
 use Rattle.echo_graph.specs.Walk.{Among}
 use Rattle.echo_filed.specs.Filed.{Filed}
 use Rattle.echo_links.specs.Links.{LinkFile}
-use Rattle.echo_packet.specs.declared.fault.PacketFault.TheVariants as packet
-use Rattle.echo_packet.specs.declared.limits.Limits.{Limits}
 use Rattle.echo_status.specs.declared.fault.Fault.{Fault}
 use Rattle.echo_steps.specs.Posting.{posted}
 use Rattle.echo_steps.specs.SystemState.{SystemState}
 use Rattle.echo_store.specs.Store.{purged}
-use Rattle.echo_toss.specs.PacketSteps.{PacketStep, TossesPart}
 use Rattle.echo_toss.specs.PacketsIn.{state_in}
-use Rattle.echo_toss.specs.declared.fault.TossCause.{TossCause}
-use Rattle.echo_toss.specs.declared.fault.TossCause.TheVariants as stop
-use Rattle.echo_toss.specs.declared.fault.TossFault.{TossFault}
-use Rattle.echo_toss.specs.declared.tally.Tally.{Tally}
 use Rattle.echo_run.specs.Run.{change, nth, with_index}
 use Rattle.echo_run.proofs.Lists.{Among-map_to, any-from, none_some, some_same, with_index-from}
 use Rattle.echo_changing.specs.declared.posting.NewMessage.{NewMessage}
 use Rattle.echo_changing.specs.Coming.{Coming, Fails, Holds, Unknown}
 use Rattle.echo_changing.specs.Posted.{draft_given}
-use Rattle.echo_changing.specs.Tossed.{TossesEach, TossesFile, run_begun}
-use Rattle.echo_changing.specs.TossedPacket.{TossRun}
-use Rattle.law_stations.specs.Commands.{Command, IsAt, IsPacketAt, Leads, Post, Posts, Purge, Purges, Toss, Tosses, TossesAll, itself, whole_of}
+use Rattle.echo_changing.specs.Tossed.{run_begun}
+use Rattle.law_stations.specs.Commands.{Command, IsAt, IsPacketAt, Leads, Post, Posts, Purge, Purges, Toss, Tosses, whole_of}
 use Rattle.law_stations.specs.Nets.{Net, Paired, Station, with_base, with_indexes, with_left, with_posting, with_tossed}
-use Rattle.law_stations.proofs.OfToss.{opened-bytes, same-length, whole-more}
+use Rattle.law_stations.proofs.FileRuns.{IsPartly, TossedFiles, each-tossed, wholes}
+use Rattle.law_stations.proofs.OfToss.{same-length}
 use Rattle.law_stations.proofs.Pairs.{change-here, change-map, paired-nth}
 use Rattle.law_crashes.specs.Disks.{Disks, cursor_of}
 use Rattle.law_crashes.proofs.Counting.{IsItem}
 use Rattle.law_crashes.proofs.Tracking.{IsTossedAt, Tracks, still}
-
--- the toss of a packet keeps the cursor
-part-cursor : (limits : Limits) (old new : SystemState) (before after : Option (List ℕ)) (tally : Tally) (cause : TossCause) → TossesPart limits old before after tally cause new
-    → new.cursor ≡ old.cursor
-part-cursor limits old new before after tally (stop.NotForUs a) part = ap (λ (s : SystemState). s.cursor) part.nothing.0
-part-cursor limits old new before after tally stop.Memory part = ap (λ (s : SystemState). s.cursor) part.done.state
-part-cursor limits old new before after tally (stop.Packet packet.Memory) part = absurd part
-part-cursor limits old new before after tally (stop.Packet f) (inl header) = ap (λ (s : SystemState). s.cursor) header.nothing.0
-part-cursor limits old new before after tally (stop.Packet f) (inr up_to) = ap (λ (s : SystemState). s.cursor) up_to.some.done.state
-
-step-cursor : (limits : Limits) (old new : SystemState) (before after : Option (List ℕ)) (answer : Result Tally TossFault) → PacketStep limits old before after answer new
-    → new.cursor ≡ old.cursor
-step-cursor limits old new before after (Ok tally) all = ap (λ (s : SystemState). s.cursor) all.done.state
-step-cursor limits old new before after (Err f) part = part-cursor limits old new before after f.tally f.cause part
-
--- and so does the toss of a file, and of files one after another
-file-cursor : (file : Coming) (old new : TossRun) (stopped : Option Fault) → TossesFile itself file old stopped new → new.system.cursor ≡ old.system.cursor
-file-cursor file old new stopped (inl opened) = elim opened.packet [
-  | inl none ↦ ap (λ (r : TossRun). r.system.cursor) none.1
-  | inr h ↦ step-cursor old.limits old.system new.system opened.reader.contents opened.left.contents h.answer h.step
-]
-file-cursor file old new stopped (inr unopened) = ap (λ (r : TossRun). r.system.cursor) unopened.same
-
-each-cursor : (files : List Coming) (old new : TossRun) (stopped : Option Fault) (left : List Coming) → TossesEach itself files old stopped left new
-    → new.system.cursor ≡ old.system.cursor
-each-cursor [] old new stopped left each = ap (λ (r : TossRun). r.system.cursor) each.2
-each-cursor (file ∷ files) old new stopped left (inl (run, first, later)) = each-cursor files run new stopped left later ∙ file-cursor file old run None first
-each-cursor (file ∷ files) old new stopped left (inr (fault, is, rest, last)) = file-cursor file old new stopped last
-
-pub tosses-cursor : (files : List Coming) (file : LinkFile) (base next : Base) → TossesAll files file base next → next.cursor ≡ base.cursor
-tosses-cursor files file base next tosses =
-    sym (ap (λ (s : SystemState). s.cursor) tosses.state) ∙ each-cursor files (run_begun tosses.limits (state_in file base)) tosses.run tosses.stopped tosses.left tosses.each
 
 -- the cursors of stations of which one has another base with the same cursor
 same-cursors : (i : ℕ) (station : Station) (next : Base) (stations : List Station) → nth i stations ≡ Some station → next.cursor ≡ station.base.cursor
@@ -114,26 +75,23 @@ purged-too i d new net t p beside =
     }
 
 -- the place in the net of a packet file that has its name
+abbrev number : Option ℕ → ℕ
+number None = 0
+number (Some k) = k
+
 abbrev place_at : List ℕ → ℕ → ℕ
-place_at [] j = 0
-place_at (k ∷ places) zero = k
-place_at (k ∷ places) (suc j) = place_at places j
+place_at places j = number (nth j places)
 
-placed : (places : List ℕ) (j k : ℕ) → nth j places ≡ Some k → place_at places j ≡ k
-placed [] j k h = absurd (none_some h)
-placed (x ∷ places) zero k h = some_same h
-placed (x ∷ places) (suc j) k h = placed places j k h
-
--- the index of a packet file, its place, and that the net has the same bytes there
-record Placed (packets named : List (List ℕ)) (places : List ℕ) (j : ℕ) (bytes : List ℕ) : Type 0 where
+-- where the net has the same bytes
+record Placed (packets : List (List ℕ)) (places : List ℕ) (j : ℕ) (bytes : List ℕ) : Type 0 where
   place : nth j places ≡ Some (place_at places j)
   there : nth (place_at places j) packets ≡ Some bytes
 
 is-placed : (packets named : List (List ℕ)) (places : List ℕ) (j : ℕ) (bytes : List ℕ) → Paired (IsItem packets) named places → nth j named ≡ Some bytes
-    → Placed packets named places j bytes
+    → Placed packets places j bytes
 is-placed packets named places j bytes paired at =
     let (k, place, there) = paired-nth (IsItem packets) j bytes named places paired at in
-    let same = placed places j k place in
+    let same : place_at places j ≡ k = ap number place in
     record { place = place ∙ ap (λ (n : ℕ). Some n) (sym same); there = ap (λ (n : ℕ). nth n packets) same ∙ there }
 
 -- the files that `toss` is given are those of the places
@@ -150,45 +108,50 @@ files-at packets named places (j ∷ indexes) [] paired are = absurd are
 files-at packets named places (j ∷ indexes) (file ∷ files) paired are =
     (file-at packets named places j file paired are.0, files-at packets named places indexes files paired are.1)
 
--- a packet that was tossed whole is that of a file that was opened
-opened-whole : (packets : List (List ℕ)) (j : ℕ) (file : Coming) (old new : TossRun) → IsPacketAt packets j file → TossesFile itself file old None new
-    → (bytes : List ℕ) × (nth j packets ≡ Some bytes)
-opened-whole packets j file old new at (inl opened) = let (bytes, there, read) = opened-bytes packets j file opened.reader at opened.opened in (bytes, there)
-opened-whole packets j file old new at (inr unopened) = absurd (none_some unopened.is)
+-- a toss of packet files keeps the cursor
+partly-cursor : (packets : List (List ℕ)) (indexes : List ℕ) (files : List Coming) (old new : SystemState) → Paired (IsPacketAt packets) indexes files → IsPartly files old new
+    → new.cursor ≡ old.cursor
+partly-cursor packets indexes [] old new are same = ap (λ (s : SystemState). s.cursor) same
+partly-cursor packets indexes (Holds bytes ∷ files) old new are (inl same) = ap (λ (s : SystemState). s.cursor) same
+partly-cursor packets indexes (Holds bytes ∷ files) old new are (inr front) = ap (λ (s : SystemState). s.cursor) front.state
+partly-cursor packets indexes (Fails why ∷ files) old new are same = ap (λ (s : SystemState). s.cursor) same
+partly-cursor packets [] (Unknown ∷ files) old new are partly = absurd are
+partly-cursor packets (k ∷ indexes) (Unknown ∷ files) old new are partly = absurd are.0
 
-whole-there : (packets : List (List ℕ)) (indexes : List ℕ) (files : List Coming) (old : TossRun) (stopped : Option Fault) (left : List Coming) (new : TossRun)
-    → Paired (IsPacketAt packets) indexes files → TossesEach itself files old stopped left new → (j : ℕ) → Among j (whole_of indexes stopped left)
-    → (bytes : List ℕ) × (nth j packets ≡ Some bytes)
-whole-there packets [] (file ∷ files) old stopped left new are each j h = absurd are
-whole-there packets (k ∷ indexes) [] old stopped left new are each j h = absurd are
-whole-there packets [] [] old stopped left new are each j h = let P : Option Fault → Type 0 = λ o. Among j (whole_of [] o left) in absurd (subst P each.0 h)
-whole-there packets (k ∷ indexes) (file ∷ files) old stopped left new are (inl (run, whole, goes_on)) j h =
-    let P : List ℕ → Type 0 = λ ks. Among j ks in
-    elim (let there : Among j (k ∷ whole_of indexes stopped left) = subst P (sym (whole-more packets k indexes files run stopped left new are.1 goes_on)) h in there) [
-      | inl e ↦ (
-          let (bytes, at) = opened-whole packets k file old run are.0 whole in
-          (bytes, ap (λ (n : ℕ). nth n packets) e ∙ at))
-      | inr t ↦ whole-there packets indexes files run stopped left new are.1 goes_on j t
-    ]
-whole-there packets (k ∷ indexes) (file ∷ files) old stopped left new are (inr (fault, is, rest, last)) j h =
-    let P : Option Fault → Type 0 = λ o. Among j (whole_of (k ∷ indexes) o left) in
-    let Q : ℕ → Type 0 = λ n. Among j (take n (k ∷ indexes)) in
-    let none : suc (length indexes) - (length left + 1) ≡ 0 = omega (arith, ap (λ (l : List Coming). length l) rest, same-length packets indexes files are.1) in
-    absurd (subst Q none (subst P is h))
+tossed-cursor : (n : ℕ) (packets : List (List ℕ)) (indexes : List ℕ) (files : List Coming) (old new : SystemState) → Paired (IsPacketAt packets) indexes files → TossedFiles n files old new
+    → new.cursor ≡ old.cursor
+tossed-cursor zero packets indexes files old new are tossed = partly-cursor packets indexes files old new are tossed
+tossed-cursor (suc n) packets indexes [] old new are tossed = absurd tossed
+tossed-cursor (suc n) packets [] (file ∷ files) old new are tossed = absurd are
+tossed-cursor (suc n) packets (k ∷ indexes) (Holds bytes ∷ files) old new are (mid, whole, more) =
+    tossed-cursor n packets indexes files mid new are.1 more ∙ ap (λ (s : SystemState). s.cursor) whole.tossed_front.state
+tossed-cursor (suc n) packets (k ∷ indexes) (Fails why ∷ files) old new are tossed = absurd tossed.1.0
+tossed-cursor (suc n) packets (k ∷ indexes) (Unknown ∷ files) old new are tossed = absurd are.0
 
--- the places of those that were tossed whole
+-- and those that it tossed whole are there
+tossed-there : (n : ℕ) (packets : List (List ℕ)) (indexes : List ℕ) (files : List Coming) (old new : SystemState) → Paired (IsPacketAt packets) indexes files → TossedFiles n files old new
+    → (j : ℕ) → Among j (take n indexes) → (bytes : List ℕ) × (nth j packets ≡ Some bytes)
+tossed-there zero packets indexes files old new are tossed j h = absurd h
+tossed-there (suc n) packets indexes [] old new are tossed j h = absurd tossed
+tossed-there (suc n) packets [] (file ∷ files) old new are tossed j h = absurd are
+tossed-there (suc n) packets (k ∷ indexes) (Holds bytes ∷ files) old new are (mid, whole, more) j h = elim h [
+  | inl e ↦ (bytes, ap (λ (i : ℕ). nth i packets) e ∙ are.0)
+  | inr t ↦ tossed-there n packets indexes files mid new are.1 more j t
+]
+tossed-there (suc n) packets (k ∷ indexes) (Fails why ∷ files) old new are tossed j h = absurd tossed.1.0
+tossed-there (suc n) packets (k ∷ indexes) (Unknown ∷ files) old new are tossed j h = absurd are.0
+
+-- how many were tossed whole
+whole-first : (packets : List (List ℕ)) (indexes : List ℕ) (files : List Coming) (stopped : Option Fault) (left : List Coming) → Paired (IsPacketAt packets) indexes files
+    → take (wholes (length files) stopped left) indexes ≡ whole_of indexes stopped left
+whole-first packets indexes files None left are = take_all (length files) indexes (omega (arith, same-length packets indexes files are))
+whole-first packets indexes files (Some fault) left are = ap (λ (n : ℕ). take (n - (length left + 1)) indexes) (sym (same-length packets indexes files are))
+
+-- the places of those
 take-placed : (f : ℕ → ℕ) (n j : ℕ) (indexes : List ℕ) → Among j (take n indexes) → Among (f j) (take n (map f indexes))
 take-placed f zero j indexes h = absurd h
 take-placed f (suc n) j [] h = absurd h
 take-placed f (suc n) j (k ∷ indexes) h = elim h [ inl e ↦ inl (ap f e) | inr t ↦ inr (take-placed f n j indexes t) ]
-
-whole-placed : (f : ℕ → ℕ) (j : ℕ) (indexes : List ℕ) (stopped : Option Fault) (left : List Coming) → Among j (whole_of indexes stopped left)
-    → Among (f j) (whole_of (map f indexes) stopped left)
-whole-placed f j indexes None left h = Among-map_to f j indexes h
-whole-placed f j indexes (Some fault) left h =
-    let same : length indexes - (length left + 1) ≡ length (map f indexes) - (length left + 1) = let e = length-map indexes f in omega (arith, e) in
-    let P : ℕ → Type 0 = λ n. Among (f j) (take n (map f indexes)) in
-    subst P same (take-placed f (length indexes - (length left + 1)) j indexes h)
 
 -- indexes that join others
 joins : (k : ℕ) (ks : List ℕ) → Among k (with_index k ks)
@@ -232,15 +195,23 @@ tossed-too indexes i d new net t p beside =
     let place = place_at t.places in
     let others = map place indexes in
     let all = p.tosses in
+    let n = wholes (length p.files) all.stopped all.left in
     let whole = whole_of indexes all.stopped all.left in
     let later = whole_of others all.stopped all.left in
     let next = with_tossed net i p.next later in
     let at = at-too d net i p.station p.file t.stations p.at in
+    let are = files-at net.packets d.net.packets t.places indexes p.files t.named p.are in
+    let ran : TossedFiles n p.files (state_in p.file p.station.base) (state_in p.file p.next) =
+    subst (TossedFiles n p.files (state_in p.file p.station.base)) all.state
+    (each-tossed p.files (run_begun all.limits (state_in p.file p.station.base)) all.stopped all.left all.run all.each) in
     let tossed : (j : ℕ) → Among j (with_indexes whole d.net.delivered) → IsTossedAt t.places next.delivered j = λ j h. elim (all-from whole j d.net.delivered h) [
       | inl now ↦ (
-          let (bytes, there) = whole-there d.net.packets indexes p.files (run_begun all.limits (state_in p.file p.station.base)) all.stopped all.left all.run p.are all.each j now in
+          let P : List ℕ → Type 0 = λ ks. Among j ks in
+          let Q : List ℕ → Type 0 = λ ks. Among (place j) ks in
+          let first : Among j (take n indexes) = subst P (sym (whole-first d.net.packets indexes p.files all.stopped all.left p.are)) now in
+          let (bytes, there) = tossed-there n d.net.packets indexes p.files (state_in p.file p.station.base) (state_in p.file p.next) p.are ran j first in
           let is = is-placed net.packets d.net.packets t.places j bytes t.named there in
-          (place j, is.place, all-join later (place j) net.delivered (whole-placed place j indexes all.stopped all.left now)))
+          (place j, is.place, all-join later (place j) net.delivered (subst Q (whole-first net.packets others p.files all.stopped all.left are) (take-placed place n j indexes first))))
       | inr was ↦ (
           let (k, there, done) = t.tossed j was in
           (k, there, all-stay later k net.delivered done))
@@ -248,19 +219,10 @@ tossed-too indexes i d new net t p beside =
       others,
       record {
         next = next;
-        leads = record {
-          station = p.station;
-          file = p.file;
-          at = at;
-          files = p.files;
-          are = files-at net.packets d.net.packets t.places indexes p.files t.named p.are;
-          next = p.next;
-          tosses = all;
-          becomes = refl;
-        };
+        leads = record { station = p.station; file = p.file; at = at; files = p.files; are = are; next = p.next; tosses = all; becomes = refl };
         tracks = still d new net next t (ap (λ (n : Net). n.stations) p.becomes ∙ ap (change i (with_base p.next)) t.stations)
             (ap (λ (n : Net). n.postings) p.becomes ∙ t.postings) (ap (λ (n : Net). n.packets) p.becomes) refl beside
-            (same-cursors i p.station p.next net.stations at.there (tosses-cursor p.files p.file p.station.base p.next all))
+            (same-cursors i p.station p.next net.stations at.there (tossed-cursor n net.packets others p.files (state_in p.file p.station.base) (state_in p.file p.next) are ran))
             (subst (λ (n : Net). (j : ℕ) → Among j n.delivered → IsTossedAt t.places next.delivered j) (sym p.becomes) tossed);
       },
     )
