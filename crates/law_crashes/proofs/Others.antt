@@ -125,7 +125,7 @@ tossed-cursor (suc n) packets indexes [] old new are tossed = absurd tossed
 tossed-cursor (suc n) packets [] (file ∷ files) old new are tossed = absurd are
 tossed-cursor (suc n) packets (k ∷ indexes) (Holds bytes ∷ files) old new are (mid, whole, more) =
     tossed-cursor n packets indexes files mid new are.1 more ∙ ap (λ (s : SystemState). s.cursor) whole.tossed_front.state
-tossed-cursor (suc n) packets (k ∷ indexes) (Fails why ∷ files) old new are tossed = absurd tossed.1.0
+tossed-cursor (suc n) packets (k ∷ indexes) (Fails why ∷ files) old new are tossed = absurd tossed.1
 tossed-cursor (suc n) packets (k ∷ indexes) (Unknown ∷ files) old new are tossed = absurd are.0
 
 -- and those that it tossed whole are there
@@ -138,7 +138,7 @@ tossed-there (suc n) packets (k ∷ indexes) (Holds bytes ∷ files) old new are
   | inl e ↦ (bytes, ap (λ (i : ℕ). nth i packets) e ∙ are.0)
   | inr t ↦ tossed-there n packets indexes files mid new are.1 more j t
 ]
-tossed-there (suc n) packets (k ∷ indexes) (Fails why ∷ files) old new are tossed j h = absurd tossed.1.0
+tossed-there (suc n) packets (k ∷ indexes) (Fails why ∷ files) old new are tossed j h = absurd tossed.1
 tossed-there (suc n) packets (k ∷ indexes) (Unknown ∷ files) old new are tossed j h = absurd are.0
 
 -- how many were tossed whole
