@@ -14,7 +14,7 @@ use Rattle.echo_steps.specs.SystemState.{SystemState}
 use Rattle.echo_store.specs.Store.{purged}
 use Rattle.echo_toss.specs.PacketsIn.{state_in}
 use Rattle.echo_run.specs.Run.{change, nth, with_index}
-use Rattle.echo_run.proofs.Lists.{Among-map_to, any-from, none_some, some_same, with_index-from}
+use Rattle.echo_run.proofs.Lists.{any-from, with_index-from}
 use Rattle.echo_changing.specs.declared.posting.NewMessage.{NewMessage}
 use Rattle.echo_changing.specs.Coming.{Coming, Fails, Holds, Unknown}
 use Rattle.echo_changing.specs.Posted.{draft_given}
