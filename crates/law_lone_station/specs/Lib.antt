@@ -1,0 +1,2 @@
+pub mod LoneStations
+pub mod AloneInOrder
