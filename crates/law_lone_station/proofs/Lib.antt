@@ -4,3 +4,6 @@ pub mod Alone
 pub mod Steps
 pub mod Shown
 pub mod Stays
+pub mod Crashes
+pub mod Grown
+pub mod OverCrashes
