@@ -69,7 +69,7 @@ tossed-cursor zero files old new any partly = partly-cursor files old new any pa
 tossed-cursor (suc n) [] old new any tossed = absurd tossed
 tossed-cursor (suc n) (Holds bytes ∷ files) old new any (mid, whole, more) =
     tossed-cursor n files mid new any more ∙ ap (λ (s : SystemState). s.cursor) whole.tossed_front.state
-tossed-cursor (suc n) (Fails why ∷ files) old new any tossed = absurd tossed.1.0
+tossed-cursor (suc n) (Fails why ∷ files) old new any tossed = absurd tossed.1
 tossed-cursor (suc n) (Unknown ∷ files) old new any tossed = absurd any
 
 -- a toss of any files
