@@ -1,0 +1,5 @@
+pub mod Nets
+pub mod Commands
+pub mod Agreement
+pub mod InOrder
+pub mod Kinds
