@@ -1,4 +1,3 @@
-pub mod Command
 pub mod Opening
 pub mod Place
 pub mod Running
