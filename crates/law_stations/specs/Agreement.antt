@@ -2,13 +2,12 @@
 use Rattle.std.specs.Prelude.{◌≡◌, ◌≢◌, ◌⊎◌, ℕ, List, [], ◌∷◌, ◌++◌, map, length, Option, Some, None, Ok}
 use Rattle.echo_addr.specs.declared.address.Address.{Address}
 use Rattle.echo_graph.specs.Walk.{Among, Different}
-use Rattle.echo_packet.specs.Header.{AreBytes}
 use Rattle.echo_packet.specs.Packet.{PacketOf}
 use Rattle.echo_packet.specs.declared.limits.Limits.{Limits}
 use Rattle.echo_links.specs.Links.{LinkFile}
 use Rattle.echo_links.specs.LinkLines.{LinksOf}
 use Rattle.echo_filed.specs.Filed.{Filed}
-use Rattle.echo_base.specs.Base.{Base}
+use Rattle.echo_base.specs.Base.{Base, IsBase}
 use Rattle.echo_steps.specs.declared.packet.Packet.{Packet}
 use Rattle.echo_run.specs.Event.{Delivery, PartDelivery, Posting, Purging, RunEvent, Scanning}
 use Rattle.echo_run.specs.Run.{Run, System, after_events, run_of}
@@ -21,10 +20,11 @@ use Rattle.law_stations.specs.Nets.{Net, Paired, Station, first_net}
 abbrev pub base_of : System → Base
 base_of s = record { messages = s.base; cursor = s.cursor }
 
--- the link file and the base of a station are those of a system
+-- the link file and the base of a station are those of a system, and that is a base
 pub record HasSystem (station : Station) (s : System) : Type 0 where
   pub links : LinksOf station.links (Ok s.file)
   pub base : station.base ≡ base_of s
+  pub is_base : IsBase s.base s.cursor
 
 -- nothing of these bytes is too long
 abbrev pub limits_of : List ℕ → Limits

@@ -6,6 +6,7 @@ use Rattle.echo_packet.specs.Packet.{PacketOf}
 use Rattle.echo_packet.specs.declared.limits.Limits.{Limits}
 use Rattle.echo_links.specs.Links.{LinkFile, has_area, upper}
 use Rattle.echo_links.specs.LinkLines.{LinksOf}
+use Rattle.echo_base.specs.Base.{IsBase}
 use Rattle.echo_filed.specs.declared.key.Key.{Key}
 use Rattle.echo_filed.specs.Filed.{Filed, key_of}
 use Rattle.echo_filed.specs.Stubs.{stub_of}
@@ -54,9 +55,9 @@ IsUnchanged commands i messages cursor m posting = SameContent m posting ⊎ IsL
 
 -- what a net shows of all areas
 pub record IsSound (commands : List CommandEvent) (net : Net) : Type 0 where
-  -- each packet file is a packet, and each station has a base
+  -- each packet file is a packet, and what each station has is a base
   pub packets : (bytes : List ℕ) → Among bytes net.packets → (p : Packet) × ReadsAs bytes p
-  pub bases : (station : Station) → Among station net.stations → (file : LinkFile) × (messages : List Filed) × (cursor : ℕ) × StationSays station file messages cursor
+  pub bases : (station : Station) → Among station net.stations → (file : LinkFile) × (messages : List Filed) × (cursor : ℕ) × StationSays station file messages cursor × IsBase messages cursor
   -- it has each message at most once
   pub filed_once : (i : ℕ) (file : LinkFile) (messages : List Filed) (cursor : ℕ) → StationHolds net i file messages cursor → (key : Key) → count key messages ≤ 1
   -- and only messages that were posted, unchanged where no purge took what was scanned

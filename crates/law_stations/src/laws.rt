@@ -1,6 +1,6 @@
 //! What holds of the definitions. Each law is the contract of a function that does nothing.
 
-ghost use Rattle.std.specs.Prelude.{Bool, List};
+ghost use Rattle.std.specs.Prelude.{◌≡◌, Bool, List};
 ghost use Rattle.echo_base.specs.Base.{Base};
 ghost use Rattle.echo_links.specs.Links.{LinkFile};
 ghost use Rattle.echo_packet.specs.declared.limits.Limits.{Limits};
@@ -13,10 +13,12 @@ ghost use Rattle.law_stations.specs.InOrder.{HeadlineOnNets, NetsAreSound};
 
 use echo_device::Source;
 
-/// What `toss` does over readers of any type, with notes or without, it does over what is known of them.
+/// What `toss` does over readers of any type, with notes or without, it does over what is known of them: the same
+/// stops it, and the same files are left.
 pub fn tosses_are_what_is_known<R: Source>()
     ensures { (noting : Bool) (limits : Limits) (file : LinkFile) (files : List Coming) (base next : Base) →
-        Tosses noting limits (device_of R.remaining R.failures) file files base next → TossesAll files file base next }
+        (toss : Tosses noting limits (device_of R.remaining R.failures) file files base next) →
+        (known : TossesAll files file base next) × (known.stopped ≡ toss.stopped) × (known.left ≡ toss.left) }
 {}
 
 /// A command at one station of a net is some events of the run that the net agrees with: none, a posting, a scan, a
