@@ -1,9 +1,7 @@
 -- What stands on the disks of stations where a command may be stopped: packet files under their names, and files beside such names.
-use Rattle.std.specs.Prelude.{ℕ, Bool, true, false, List, [], ◌∷◌, ◌++◌}
-use Rattle.echo_links.specs.Links.{LinkFile}
-use Rattle.echo_filed.specs.Filed.{Filed}
-use Rattle.law_stations.specs.InOrder.{StationHolds}
-use Rattle.law_stations.specs.Nets.{Net, first_net}
+use Rattle.std.specs.Prelude.{◌≡◌, ℕ, Bool, true, false, List, [], ◌∷◌, ◌++◌, map, Some}
+use Rattle.echo_run.specs.Run.{nth}
+use Rattle.law_stations.specs.Nets.{Net, Station, first_net}
 
 -- A file beside the name of a packet: the station that wrote it, the number in the name, which is how many messages the
 -- station had scanned before, its bytes, and whether these stand under the name too.
@@ -22,9 +20,16 @@ pub record Disks : Type 0 where
 abbrev pub first_disks : List (List ℕ) → Disks
 first_disks links = record { net = first_net links; beside = [] }
 
--- the base of the station has this cursor
+-- the cursors of the bases of the stations, in order
+abbrev pub cursor_of : Station → ℕ
+cursor_of station = station.base.cursor
+
+abbrev pub cursors : Net → List ℕ
+cursors net = map cursor_of net.stations
+
+-- the base of the station of the index has this cursor
 abbrev pub HasCursor : Net → ℕ → ℕ → Type 0
-HasCursor net i cursor = (file : LinkFile) × (messages : List Filed) × StationHolds net i file messages cursor
+HasCursor net i cursor = nth i (cursors net) ≡ Some cursor
 
 -- one packet file more has its name
 abbrev pub with_packet : Net → List ℕ → Net

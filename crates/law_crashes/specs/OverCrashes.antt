@@ -53,8 +53,7 @@ pub record IsLikeEvent (event plain : CommandEvent) : Type 0 where
 
 -- whatever stops commands, the disks have the net that such commands lead to where nothing stops any of them inside
 abbrev pub CrashesAreNone : Type 0
-CrashesAreNone = (links : List (List ℕ)) (files : List LinkFile) → AreLinkFiles links files → Different (map file_address files)
-    → (commands : List CommandEvent) (d : Disks) → MayHappenAll commands (first_disks links) d
+CrashesAreNone = (links : List (List ℕ)) (commands : List CommandEvent) (d : Disks) → MayHappenAll commands (first_disks links) d
     → (plain : List CommandEvent) × (net : Net) × Paired IsLikeEvent commands plain × Happen plain (first_net links) net × HasNet d net
 
 -- the disks of a net without files beside names
@@ -63,8 +62,8 @@ disks_of net = record { net = net; beside = [] }
 
 -- and what commands do that nothing stops is among what they may do
 abbrev pub WholeAreAmong : Type 0
-WholeAreAmong = (links : List (List ℕ)) (files : List LinkFile) → AreLinkFiles links files → Different (map file_address files)
-    → (commands : List CommandEvent) (net : Net) → Happen commands (first_net links) net → MayHappenAll commands (first_disks links) (disks_of net)
+WholeAreAmong = (links : List (List ℕ)) (commands : List CommandEvent) (net : Net) → Happen commands (first_net links) net
+    → MayHappenAll commands (first_disks links) (disks_of net)
 
 -- what the disks show is sound
 abbrev pub SoundOverCrashes : Type 0
@@ -87,7 +86,7 @@ pub record InOrderOverCrashes (commands : List CommandEvent) (d : Disks) (tag : 
   pub never_own : (packets : List Packet) → Paired ReadsAs d.net.packets packets →
       (i : ℕ) (file : LinkFile) (messages : List Filed) (cursor : ℕ) → StationHolds d.net i file messages cursor → IsTrue (has_area file tag) →
       (m : Filed) → Among m messages → IsPosting tag m → sent_count file.system (key_of m) packets ≡ 0
-  -- and where the area has settled its base file has each posting once, unchanged
+  -- and where the area has settled its base has each posting once, unchanged
   pub all_came : HasSettled d tag → (posting : Filed) → Among posting d.net.postings → posting.echo.tag ≡ tag →
       (i : ℕ) (file : LinkFile) (messages : List Filed) (cursor : ℕ) → StationHolds d.net i file messages cursor → IsTrue (has_area file tag) →
       HasUnchanged commands i messages cursor posting

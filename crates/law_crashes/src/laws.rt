@@ -1,5 +1,6 @@
 //! What holds of the definitions. Each law is the contract of a function that does nothing.
 
+ghost use Rattle.law_crashes.specs.CanEnd.{LeftCanEnd};
 ghost use Rattle.law_crashes.specs.OverCrashes.{CrashesAreNone, HeadlineOverCrashes, SoundOverCrashes, WholeAreAmong};
 
 /// Whatever stops commands at whatever moment: the disks have the bases and postings of a net on which such
@@ -7,6 +8,12 @@ ghost use Rattle.law_crashes.specs.OverCrashes.{CrashesAreNone, HeadlineOverCras
 /// next scan of its station is to name it, and nothing under the name of a packet that is none of these.
 pub fn crashes_are_none()
     ensures { CrashesAreNone }
+{}
+
+/// Whatever stopped scans of a station left beside names, it can be brought to its end: so there are always disks from
+/// which the laws on scans, which begin behind that, can go on.
+pub fn left_packets_can_end()
+    ensures { LeftCanEnd }
 {}
 
 /// What commands do that nothing stops is among what they may do: all packets of a scan get their names.
