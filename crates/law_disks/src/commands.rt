@@ -12,6 +12,7 @@ use echo_mailing::PostMail;
 use echo_station_files::FileLock;
 use echo_status::Fault;
 use echo_store_changing::{Post, Purge, Reply, Toss};
+use law_stations::tosses_are_what_is_known;
 use station::{BeforeCommand, Ended, Locks, OpenStation, run_command};
 use std::alloc::Global;
 
@@ -139,5 +140,6 @@ pub fn toss_as_may<
     requires can { Honestly (D.state disk) (P.can_open station (D.state disk)) }
     ensures { Honestly (D.state result.disk) (TossesAsMay (F.coming command.old.packets) (P.place station) (P.reads station (D.state disk)) (D.state disk) (D.state result.disk) result.done) }
 {
+    tosses_are_what_is_known::<F::Reader>();
     run_command(alloc, disk, locks, station, before, command, out)
 }

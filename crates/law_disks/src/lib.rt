@@ -8,7 +8,5 @@
 mod commands;
 mod laws;
 
-pub use commands::{
-    mail_as_may, post_as_may, purge_as_may, reply_as_may, toss_as_may,
-};
+pub use commands::{mail_as_may, post_as_may, purge_as_may, reply_as_may, toss_as_may};
 pub use laws::others_stay;
