@@ -1,7 +1,9 @@
--- A command changes the files of its own station alone.
+-- A command changes the base of its own station alone.
 use Rattle.std.proofs.Common.{◌≡◌, ◌≢◌, ◌⊎◌, inl, inr, refl, ap, ◌∙◌, ℕ, zero, suc, Bool, true, false, List, [], ◌∷◌}
+use Rattle.echo_base.specs.Base.{Base}
 use Rattle.echo_steps.specs.declared.stamp.Stamp.{Stamp}
 use Rattle.echo_run.specs.Run.{change, nth}
+use Rattle.echo_store.specs.Store.{all_scanned, purged}
 use Rattle.law_stations.specs.Commands.{Command, CommandEvent, Post, Purge, Scan, Toss}
 use Rattle.law_stations.specs.Nets.{Net, with_base}
 use Rattle.law_crashes.specs.Disks.{Disks, naming}
@@ -35,7 +37,7 @@ pub written-stations : (i : ℕ) (d new : Disks) → Writes i d new → new.net.
 written-stations i d new w = ap (λ (x : Disks). x.net.stations) w.becomes
 
 -- what another base in one place leaves elsewhere
-left-elsewhere : (net new : Net) (i j : ℕ) (base : List ℕ) → new.stations ≡ change i (with_base base) net.stations → j ≢ i → nth j new.stations ≡ nth j net.stations
+left-elsewhere : (net new : Net) (i j : ℕ) (base : Base) → new.stations ≡ change i (with_base base) net.stations → j ≢ i → nth j new.stations ≡ nth j net.stations
 left-elsewhere net new i j base same other = ap (nth j) same ∙ change-other (with_base base) i j net.stations other
 
 far-elsewhere : (stamp : Stamp) (i j : ℕ) (d new : Disks) → j ≢ i → ScansFar stamp i d new → nth j new.net.stations ≡ nth j d.net.stations
@@ -46,16 +48,16 @@ far-elsewhere stamp i j d new other (n, ended, ends, rest) = by rest ∙ ap (nth
     by (inr (inl writes)) = ap (nth j) (written-stations i ended new writes)
     by (inr (inr (m, moved, moves, names))) =
         ap (nth j) (some-stations m i moved new names)
-        ∙ left-elsewhere ended.net moved.net i j moves.scans.base (ap (λ (x : Disks). x.net.stations) moves.becomes) other
+        ∙ left-elsewhere ended.net moved.net i j (all_scanned moves.scans.station.base) (ap (λ (x : Disks). x.net.stations) moves.becomes) other
 
 led-elsewhere : (command : Command) (i j : ℕ) (d new : Disks) → j ≢ i → LeadsFar command d i new → nth j new.net.stations ≡ nth j d.net.stations
 led-elsewhere (Post words body) i j d new other (posts, beside) =
-    left-elsewhere d.net new.net i j posts.base (ap (λ (n : Net). n.stations) posts.becomes) other
+    left-elsewhere d.net new.net i j posts.next (ap (λ (n : Net). n.stations) posts.becomes) other
 led-elsewhere (Scan stamp) i j d new other scan = far-elsewhere stamp i j d new other scan
 led-elsewhere Purge i j d new other (purges, beside) =
-    left-elsewhere d.net new.net i j purges.base (ap (λ (n : Net). n.stations) purges.becomes) other
+    left-elsewhere d.net new.net i j (purged purges.station.base) (ap (λ (n : Net). n.stations) purges.becomes) other
 led-elsewhere (Toss indexes) i j d new other (n, tosses, beside) =
-    left-elsewhere d.net new.net i j tosses.base (ap (λ (x : Net). x.stations) tosses.becomes) other
+    left-elsewhere d.net new.net i j tosses.next (ap (λ (x : Net). x.stations) tosses.becomes) other
 
 pub elsewhere : (event : CommandEvent) (j : ℕ) (d new : Disks) → j ≢ event.station → MayHappen event d new → nth j new.net.stations ≡ nth j d.net.stations
 elsewhere event j d new other (inl same) = ap (λ (x : Disks). nth j x.net.stations) same

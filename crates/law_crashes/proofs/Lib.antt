@@ -6,5 +6,6 @@ pub mod Others
 pub mod EachCommand
 pub mod Shown
 pub mod Whole
+pub mod Ended
 pub mod Elsewhere
 pub mod Parted

@@ -1,33 +1,27 @@
--- A scan is stopped before its base is put in place, or comes to that: then its packets wait for their names.
-use Rattle.std.proofs.Common.{◌≡◌, ◌≢◌, inl, inr, refl, sym, subst, ap, ◌∙◌, ℕ, zero, suc, ◌+◌, ◌≤◌, ◌<◌, arith, append-nil, append_assoc, length-append, true, List, [], ◌∷◌, ◌++◌, length, map, Option, Some, None}
+-- A scan is stopped before its base is committed, or comes to that: then its packets wait for their names.
+use Rattle.std.proofs.Common.{◌≡◌, ◌≢◌, inl, inr, refl, sym, subst, ap, ◌∙◌, ℕ, zero, suc, ◌+◌, ◌≤◌, ◌<◌, arith, append-nil, append_assoc, length-append, List, [], ◌∷◌, ◌++◌, length, map, Option, Some, None}
 use Rattle.std.specs.List.{AllByRecursion}
-use Rattle.std.proofs.lemmas.Bool.{cases_lt, cond-true}
+use Rattle.std.proofs.lemmas.Bool.{cases_lt}
 use Rattle.std.proofs.lemmas.List.{drop_all, length-map}
+use Rattle.echo_base.specs.Base.{Base}
 use Rattle.echo_graph.specs.Walk.{Among}
 use Rattle.echo_links.specs.Links.{LinkFile}
 use Rattle.echo_filed.specs.Filed.{Filed}
 use Rattle.echo_steps.specs.declared.stamp.Stamp.{Stamp}
-use Rattle.echo_steps.specs.Scanning.{packets_of, recipients, scanned}
-use Rattle.echo_steps.specs.Stamps.{is_stamp}
-use Rattle.echo_steps.specs.SystemState.{SystemState}
-use Rattle.echo_filed.specs.Sets.{address_set}
-use Rattle.echo_run.specs.Event.{Scanning}
-use Rattle.echo_run.specs.Run.{Run, System, after_event, change, nth, scanning, scanning_at, state_of}
-use Rattle.echo_run.proofs.Lists.{nth-append, some_same}
-use Rattle.echo_changing.specs.declared.leaving.Files.{Files}
 use Rattle.echo_steps.specs.PacketFiles.{PacketFile}
+use Rattle.echo_steps.specs.Scanning.{packets_of, recipients, scanned}
+use Rattle.echo_filed.specs.Sets.{address_set}
+use Rattle.echo_run.specs.Run.{change, nth}
+use Rattle.echo_run.proofs.Lists.{nth-append, some_same}
+use Rattle.echo_store.specs.Store.{all_scanned}
 use Rattle.echo_changing.specs.Scanned.{file_sent}
-use Rattle.law_stations.specs.Agreement.{HasFiles}
 use Rattle.law_stations.specs.Commands.{Scans}
 use Rattle.law_stations.specs.Nets.{Net, Paired, Station, bytes_of, with_base, with_left}
-use Rattle.law_stations.proofs.Leavings.{called-on, left}
-use Rattle.law_stations.proofs.OfScan.{scan-agrees}
-use Rattle.law_stations.proofs.Pairs.{change-found, change-here, paired-append, paired-nth}
-use Rattle.law_stations.proofs.Places.{addresses-stay}
-use Rattle.law_crashes.specs.Disks.{Beside, Disks}
+use Rattle.law_stations.proofs.Pairs.{changed-there, paired-append}
+use Rattle.law_crashes.specs.Disks.{Beside, Disks, HasCursor, cursor_of, cursors}
 use Rattle.law_crashes.specs.Stopping.{IsOfNext, Moves, Writes, beside_of}
 use Rattle.law_crashes.proofs.Counting.{IsItem, below, from, nones, waits-append, waits-from, waits-nones}
-use Rattle.law_crashes.proofs.Tracking.{IsTagged, Tracks, cursor_of, cursors, has-cursor, nth-map, paired-so}
+use Rattle.law_crashes.proofs.Tracking.{IsTagged, Tracks, cursor-too, has-cursor, paired-so}
 
 -- files that a stopped scan wrote have no packet that waits
 unfinished-tagged : (packets : List (List ℕ)) (at : List ℕ) (i c : ℕ) (files : List Beside) → nth i at ≡ Some c → AllByRecursion (IsOfNext i c) files
@@ -42,24 +36,18 @@ unfinished-tagged packets at i c (file ∷ files) there are = (
   unfinished-tagged packets at i c files there are.1,
 )
 
-pub written : (i : ℕ) (d new : Disks) (net : Net) (run : Run) → Tracks d net run → Writes i d new → Tracks new net run
-written i d new net run t w =
-    let there = has-cursor d.net net run i w.cursor t.agrees t.stations w.is_cursor in
-    let after : Disks = record { net = d.net; beside = d.beside ++ w.files } in
-    let tracks : Tracks after net run = record {
-      agrees = t.agrees;
-      apart = t.apart;
-      stations = t.stations;
-      postings = t.postings;
-      places = t.places;
-      named = t.named;
-      tags = t.tags ++ nones w.files;
-      beside = paired-append (IsTagged net.packets (cursors run)) d.beside w.files t.tags (nones w.files) t.beside
-          (unfinished-tagged net.packets (cursors run) i w.cursor w.files there w.are);
-      each = λ k. let was = t.each k in let split = waits-append k t.tags (nones w.files) in let none = waits-nones k w.files in omega (arith, was, split, none);
-      tossed = t.tossed;
-    } in
-    subst (λ (x : Disks). Tracks x net run) (sym w.becomes) tracks
+pub written : (i : ℕ) (d new : Disks) (net : Net) → Tracks d net → Writes i d new → Tracks new net
+written i d new net t w = subst (λ (x : Disks). Tracks x net) (sym w.becomes) (record {
+  stations = t.stations;
+  postings = t.postings;
+  places = t.places;
+  named = t.named;
+  tags = t.tags ++ nones w.files;
+  beside = paired-append (IsTagged net.packets (cursors net)) d.beside w.files t.tags (nones w.files) t.beside
+      (unfinished-tagged net.packets (cursors net) i w.cursor w.files (cursor-too d.net net i w.cursor t.stations w.is_cursor) w.are);
+  each = λ k. let was = t.each k in let split = waits-append k t.tags (nones w.files) in let none = waits-nones k w.files in omega (arith, was, split, none);
+  tossed = t.tossed;
+})
 
 nth-middle : {X : Type 0} (before : List X) (x : X) (after : List X) → nth (length before) (before ++ x ∷ after) ≡ Some x
 nth-middle [] x after = refl
@@ -76,7 +64,7 @@ waiting-tagged front at i c (p ∷ ps) less =
     let Q : ℕ → Type 0 = λ n. Paired (IsTagged ((front ++ p.bytes ∷ []) ++ map bytes_of ps) at) (map (beside_of i c) ps) (from n ps) in
     ((nth-middle front p.bytes (map bytes_of ps), refl, less p (inl refl)), subst P (append_assoc front (p.bytes ∷ []) (map bytes_of ps)) (subst Q long rest))
 
--- a change of another system
+-- a change of another station
 map-beside : {X Y : Type 0} (g : X → Y) (f : X → X) (i j : ℕ) (xs : List X) → j ≢ i → nth j (map g (change i f xs)) ≡ nth j (map g xs)
 map-beside g f i j [] other = refl
 map-beside g f zero zero (x ∷ xs) other = absurd (other refl)
@@ -89,22 +77,6 @@ none-scanned : (file : LinkFile) (base : List Filed) (cursor : ℕ) (stamp : Sta
 unfolding scanned packets_of recipients address_set
 none-scanned file base cursor stamp past = ap (packets_of file stamp) (drop_all cursor base past)
 
--- what is known of a scan that came to move the cursor
-pub record Moved (stamp : Stamp) (i : ℕ) (run : Run) (packets : List PacketFile) : Type 0 where
-  pub s : System
-  pub there : nth i run.systems ≡ Some s
-  pub makes : cursors (after_event run (Scanning i stamp)) ≡ map cursor_of (change i scanning_at run.systems)
-  pub less : (q : PacketFile) → Among q packets → s.cursor < length s.base
-
-is-scanned : (stamp : Stamp) (i : ℕ) (run : Run) (s : System) → nth i run.systems ≡ Some s → is_stamp stamp ≡ true
-    → cursors (after_event run (Scanning i stamp)) ≡ map cursor_of (change i scanning_at run.systems)
-is-scanned stamp i run s there moment =
-    ap cursors (ap (λ (o : Option System). scanning run i stamp o) there ∙ cond-true (is_stamp stamp) (record {
-      systems = change i scanning_at run.systems;
-      packets = run.packets ++ scanned s.file s.base s.cursor stamp;
-      delivered = run.delivered;
-    }) run moment)
-
 -- where there are packets something waited
 pub some-waits : (file : LinkFile) (base : List Filed) (cursor : ℕ) (stamp : Stamp) (packets : List PacketFile) → packets ≡ map (file_sent cursor) (scanned file base cursor stamp)
     → (q : PacketFile) → Among q packets → cursor < length base
@@ -115,83 +87,64 @@ some-waits file base cursor stamp packets made q h = elim (cases_lt cursor (leng
       absurd (subst P (made ∙ ap (map (file_sent cursor)) (none-scanned file base cursor stamp past)) h))
 ]
 
-pub moves : (stamp : Stamp) (net new : Net) (i : ℕ) (run : Run) (t : Paired HasFiles net.stations run.systems) (scans : Scans stamp net i new) → Moved stamp i run scans.done.files.packets
-moves stamp net new i run stations scans =
-    let (s, there, has) = paired-nth HasFiles i scans.station net.stations run.systems stations scans.there in
-    let answered = left _ scans.done scans.base scans.answer scans.leaves.base in
-    let right = answered.so.right.0 in
-    let same : right.system ≡ state_of s = called-on scans.station s scans.call right.system has answered.so.right.1 right.given in
-    let made : scans.done.files.packets ≡ map (file_sent s.cursor) (scanned s.file s.base s.cursor stamp) =
-    ap (λ (f : Files). f.packets) (answered.are ∙ right.left) ∙ ap (λ (x : SystemState). map (file_sent x.cursor) (scanned x.file x.base x.cursor stamp)) same in
-    record { s = s; there = there; makes = is-scanned stamp i run s there right.moment; less = some-waits s.file s.base s.cursor stamp scans.done.files.packets made }
+-- the cursors of a station before a scan, and after it, where it has packets
+pub scans-less : (stamp : Stamp) (net new : Net) (i : ℕ) → (scans : Scans stamp net i new) → (q : PacketFile) → Among q scans.packets
+    → scans.station.base.cursor < length scans.station.base.messages
+scans-less stamp net new i scans =
+    let base = scans.station.base in
+    some-waits scans.file base.messages base.cursor stamp scans.packets scans.made.sent
 
--- the cursor is at the end of the base
-pub now-cursor : (stamp : Stamp) (i : ℕ) (run : Run) (packets : List PacketFile) → (known : Moved stamp i run packets)
-    → nth i (cursors (after_event run (Scanning i stamp))) ≡ Some (length known.s.base)
-now-cursor stamp i run packets known =
-    let s = known.s in
-    let now = change-here i scanning_at s run.systems known.there in
-    let found = change-found i s (scanning_at s) run.systems known.there in
-    ap (nth i) (known.makes ∙ ap (map cursor_of) now) ∙ nth-map cursor_of i (scanning_at s) (change i (λ _. scanning_at s) run.systems) found
+pub now-cursor : (net : Net) (i : ℕ) (station : Station) (next : Base) (packets : List PacketFile) → nth i net.stations ≡ Some station
+    → HasCursor (with_left net i packets next) i next.cursor
+now-cursor net i station next packets there =
+    has-cursor (with_left net i packets next) i (with_base next station) (changed-there i (with_base next) station net.stations there)
 
--- the scan of the disks is one of the net
-scans-too : (stamp : Stamp) (net other new : Net) (i : ℕ) → net.stations ≡ other.stations → (scans : Scans stamp net i new)
-    → Scans stamp other i (with_left other i scans.done.files.packets scans.base)
-scans-too stamp net other new i same scans = record {
-  station = scans.station;
-  there = subst (λ (ss : List Station). nth i ss ≡ Some scans.station) same scans.there;
-  call = scans.call;
-  done = scans.done;
-  answer = scans.answer;
-  base = scans.base;
-  leaves = scans.leaves;
-  becomes = refl;
-}
-
-module _ (stamp : Stamp) (i : ℕ) (d new : Disks) (net : Net) (run : Run) (t : Tracks d net run) (m : Moves stamp i d new) where
+module _ (stamp : Stamp) (i : ℕ) (d new : Disks) (net : Net) (t : Tracks d net) (m : Moves stamp i d new) where
   abbrev packets : List PacketFile
-  packets = m.scans.done.files.packets
+  packets = m.scans.packets
+
+  abbrev next : Base
+  next = all_scanned m.scans.station.base
 
   -- the net after the scan
   abbrev pub then : Net
-  then = with_left net i packets m.scans.base
+  then = with_left net i packets next
 
-  abbrev pub later : Run
-  later = after_event run (Scanning i stamp)
+  there : nth i net.stations ≡ Some m.scans.station
+  there = subst (λ (ss : List Station). nth i ss ≡ Some m.scans.station) t.stations m.scans.at.there
 
+  -- the scan of the disks is one of the net
   pub scans : Scans stamp net i then
-  scans = scans-too stamp d.net net m.scanned i t.stations m.scans
-
-  known : Moved stamp i run packets
-  known =
-      let P : List Station → Type 0 = λ ss. Paired HasFiles ss run.systems in
-      moves stamp d.net m.scanned i run (subst P (sym t.stations) t.agrees.stations) m.scans
+  scans = record {
+    station = m.scans.station;
+    file = m.scans.file;
+    at = record { there = there; links = m.scans.at.links };
+    packets = packets;
+    made = m.scans.made;
+    becomes = refl;
+  }
 
   abbrev files : List (List ℕ)
   files = net.packets ++ map bytes_of packets
 
-  beside : (x : Beside) → Among x d.beside → nth x.station (cursors later) ≡ nth x.station (cursors run)
-  beside x h = ap (nth x.station) known.makes ∙ map-beside cursor_of scanning_at i x.station run.systems (m.none x h)
+  same : (x : Beside) → Among x d.beside → nth x.station (cursors then) ≡ nth x.station (cursors net)
+  same x h = map-beside cursor_of (with_base next) i x.station net.stations (m.none x h)
 
   -- a file of another station
-  others : (x : Beside) (o : Option ℕ) → Among x d.beside → IsTagged net.packets (cursors run) x o → IsTagged files (cursors later) x o
+  others : (x : Beside) (o : Option ℕ) → Among x d.beside → IsTagged net.packets (cursors net) x o → IsTagged files (cursors then) x o
   others x None h (inl named) = inl named
-  others x None h (inr late) = inr (λ c is. late c (sym (beside x h) ∙ is))
-  others x (Some k) h (there, unnamed, (c, is, less)) = (nth-append k x.bytes net.packets (map bytes_of packets) there, unnamed, (c, beside x h ∙ is, less))
+  others x None h (inr late) = inr (λ c is. late c (sym (same x h) ∙ is))
+  others x (Some k) h (at, unnamed, (c, is, less)) = (nth-append k x.bytes net.packets (map bytes_of packets) at, unnamed, (c, same x h ∙ is, less))
 
-  own : (q : PacketFile) → Among q packets → (n : ℕ) × (nth i (cursors later) ≡ Some n) × (m.cursor < n)
+  own : (q : PacketFile) → Among q packets → (n : ℕ) × (nth i (cursors then) ≡ Some n) × (m.cursor < n)
   own q h =
-      let s = known.s in
-      let is = now-cursor stamp i run packets known in
-      let one = some_same (sym (has-cursor d.net net run i m.cursor t.agrees t.stations m.is_cursor) ∙ nth-map cursor_of i s run.systems known.there) in
-      let less = known.less q h in
-      (length s.base, is, omega (arith, one, less))
+      let one = some_same (sym m.is_cursor ∙ has-cursor d.net i m.scans.station m.scans.at.there) in
+      let less = scans-less stamp d.net m.scanned i m.scans q h in
+      (next.cursor, now-cursor net i m.scans.station next packets there, omega (arith, one, less))
 
-  pub moved : Tracks new then later
-  moved = subst (λ (x : Disks). Tracks x then later) (sym m.becomes) (record {
-    agrees = scan-agrees stamp net then i run t.agrees scans;
-    apart = addresses-stay (Scanning i stamp ∷ []) run t.apart;
-    stations = ap (change i (with_base m.scans.base)) t.stations;
+  pub moved : Tracks new then
+  moved = subst (λ (x : Disks). Tracks x then) (sym m.becomes) (record {
+    stations = ap (change i (with_base next)) t.stations;
     postings = t.postings;
     places = t.places;
     named =
@@ -199,9 +152,9 @@ module _ (stamp : Stamp) (i : ℕ) (d new : Disks) (net : Net) (run : Run) (t : 
         subst P (sym (append-nil d.net.packets)) (paired-so (IsItem net.packets) (IsItem files) d.net.packets t.places
         (λ bytes k h is. nth-append k bytes net.packets (map bytes_of packets) is) t.named);
     tags = t.tags ++ from (length net.packets) packets;
-    beside = paired-append (IsTagged files (cursors later)) d.beside (map (beside_of i m.cursor) packets) t.tags (from (length net.packets) packets)
-        (paired-so (IsTagged net.packets (cursors run)) (IsTagged files (cursors later)) d.beside t.tags others t.beside)
-        (waiting-tagged net.packets (cursors later) i m.cursor packets own);
+    beside = paired-append (IsTagged files (cursors then)) d.beside (map (beside_of i m.cursor) packets) t.tags (from (length net.packets) packets)
+        (paired-so (IsTagged net.packets (cursors net)) (IsTagged files (cursors then)) d.beside t.tags others t.beside)
+        (waiting-tagged net.packets (cursors then) i m.cursor packets own);
     each = λ k.
         let was = t.each k in
         let split = waits-append k t.tags (from (length net.packets) packets) in

@@ -1,20 +1,12 @@
 -- Of packets that wait some have their paths: these get their names.
 use Rattle.std.proofs.Common.{◌≡◌, ◌⊎◌, inl, inr, refl, subst, ℕ, suc, ◌<◌, append-nil, append_assoc, List, [], ◌∷◌, ◌++◌, map}
 use Rattle.std.specs.List.{AllByRecursion}
-use Rattle.echo_filed.specs.Filed.{Filed}
 use Rattle.echo_graph.specs.Walk.{Among}
-use Rattle.echo_links.specs.Links.{LinkFile}
 use Rattle.echo_steps.specs.PacketFiles.{PacketFile}
-use Rattle.law_stations.specs.InOrder.{StationHolds}
 use Rattle.law_stations.specs.Nets.{Net, bytes_of}
-use Rattle.law_crashes.specs.Disks.{Beside, Disks, with_packet}
-use Rattle.law_crashes.specs.Stopping.{EndsOne, EndsSome, beside_of}
-use Rattle.law_crashes.proofs.Tracking.{holds-too}
-use Rattle.law_crashes.proofs.Whole.{with_packets}
-
--- these disks
-abbrev pub disks_with : Net → List Beside → Disks
-disks_with net beside = record { net = net; beside = beside }
+use Rattle.law_crashes.specs.Disks.{Beside, HasCursor, with_packet}
+use Rattle.law_crashes.specs.Stopping.{EndsSome, beside_of}
+use Rattle.law_crashes.proofs.Whole.{disks_with, gets-name, with_packets}
 
 -- Of packets that wait behind other files, those at their paths get their names.
 pub record Parted (IsAt IsBeside : PacketFile → Type 0) (i cursor : ℕ) (before : List Beside) (net : Net) (ps : List PacketFile) : Type 0 where
@@ -25,7 +17,7 @@ pub record Parted (IsAt IsBeside : PacketFile → Type 0) (i cursor : ℕ) (befo
   pub at_paths : AllByRecursion IsAt named
   pub beside_paths : AllByRecursion IsBeside waiting
 
-module _ (IsAt IsBeside : PacketFile → Type 0) (i cursor most : ℕ) (file : LinkFile) (messages : List Filed) where
+module _ (IsAt IsBeside : PacketFile → Type 0) (i cursor most : ℕ) where
   -- there are none
   abbrev no-more : (before : List Beside) (net : Net) → Parted IsAt IsBeside i cursor before net []
   no-more before net = record {
@@ -41,24 +33,9 @@ module _ (IsAt IsBeside : PacketFile → Type 0) (i cursor most : ℕ) (file : L
   }
 
   -- one that gets its name
-  gets-name : (p : PacketFile) (ps : List PacketFile) (before : List Beside) (net : Net) → StationHolds net i file messages most → cursor < most
-      → EndsOne i (disks_with net (before ++ map (beside_of i cursor) (p ∷ ps))) (disks_with (with_packet net p.bytes) (before ++ map (beside_of i cursor) ps))
-  gets-name p ps before net holds less = record {
-    before = before;
-    file = beside_of i cursor p;
-    after = map (beside_of i cursor) ps;
-    stood = refl;
-    own = refl;
-    cursor = most;
-    is_cursor = (file, messages, holds);
-    left = [];
-    ends = inl (less, refl, inl refl);
-    stands = refl;
-  }
-
-  abbrev one-more : (p : PacketFile) (ps : List PacketFile) (before : List Beside) (net : Net) → StationHolds net i file messages most → cursor < most → IsAt p
+  abbrev one-more : (p : PacketFile) (ps : List PacketFile) (before : List Beside) (net : Net) → HasCursor net i most → cursor < most → IsAt p
       → Parted IsAt IsBeside i cursor before (with_packet net p.bytes) ps → Parted IsAt IsBeside i cursor before net (p ∷ ps)
-  one-more p ps before net holds less at rest =
+  one-more p ps before net has less at rest =
       let P : List (List ℕ) → Type 0 = λ all.
       EndsSome rest.steps i (disks_with (with_packet net p.bytes) (before ++ map (beside_of i cursor) ps))
       (disks_with (record { stations = net.stations; packets = all; delivered = net.delivered; postings = net.postings }) (before ++ map (beside_of i cursor) rest.waiting)) in
@@ -68,7 +45,7 @@ module _ (IsAt IsBeside : PacketFile → Type 0) (i cursor most : ℕ) (file : L
         waiting = rest.waiting;
         ends = (
           disks_with (with_packet net p.bytes) (before ++ map (beside_of i cursor) ps),
-          gets-name p ps before net holds less,
+          gets-name i cursor most p ps before net has less,
           subst P (append_assoc net.packets (p.bytes ∷ []) (map bytes_of rest.named)) rest.ends,
         );
         at_paths = (at, rest.at_paths);
@@ -92,21 +69,18 @@ module _ (IsAt IsBeside : PacketFile → Type 0) (i cursor most : ℕ) (file : L
         beside_paths = (beside, rest.beside_paths);
       }
 
-  then-holds : (net : Net) (p : PacketFile) → StationHolds net i file messages most → StationHolds (with_packet net p.bytes) i file messages most
-  then-holds net p holds = holds-too net (with_packet net p.bytes) i file messages most refl holds
-
-  pub parted : (ps : List PacketFile) (before : List Beside) (net : Net) → StationHolds net i file messages most → ((q : PacketFile) → Among q ps → cursor < most)
+  pub parted : (ps : List PacketFile) (before : List Beside) (net : Net) → HasCursor net i most → ((q : PacketFile) → Among q ps → cursor < most)
       → AllByRecursion (λ (p : PacketFile). IsAt p ⊎ IsBeside p) ps → Parted IsAt IsBeside i cursor before net ps
-  parted [] before net holds less all = no-more before net
-  parted (p ∷ ps) before net holds less (inl at, all) =
-      one-more p ps before net holds (less p (inl refl)) at (parted ps before (with_packet net p.bytes) (then-holds net p holds) (λ q h. less q (inr h)) all)
-  parted (p ∷ ps) before net holds less (inr beside, all) =
-      one-waits p ps before net beside (parted ps (before ++ beside_of i cursor p ∷ []) net holds (λ q h. less q (inr h)) all)
+  parted [] before net has less all = no-more before net
+  parted (p ∷ ps) before net has less (inl at, all) =
+      one-more p ps before net has (less p (inl refl)) at (parted ps before (with_packet net p.bytes) has (λ q h. less q (inr h)) all)
+  parted (p ∷ ps) before net has less (inr beside, all) =
+      one-waits p ps before net beside (parted ps (before ++ beside_of i cursor p ∷ []) net has (λ q h. less q (inr h)) all)
 
   -- all of them are at their paths
-  pub all-named : (ps : List PacketFile) (before : List Beside) (net : Net) → StationHolds net i file messages most → ((q : PacketFile) → Among q ps → cursor < most)
+  pub all-named : (ps : List PacketFile) (before : List Beside) (net : Net) → HasCursor net i most → ((q : PacketFile) → Among q ps → cursor < most)
       → AllByRecursion IsAt ps → (whole : Parted IsAt IsBeside i cursor before net ps) × (whole.waiting ≡ [])
-  all-named [] before net holds less all = (no-more before net, refl)
-  all-named (p ∷ ps) before net holds less (at, all) =
-      let (rest, none) = all-named ps before (with_packet net p.bytes) (then-holds net p holds) (λ q h. less q (inr h)) all in
-      (one-more p ps before net holds (less p (inl refl)) at rest, none)
+  all-named [] before net has less all = (no-more before net, refl)
+  all-named (p ∷ ps) before net has less (at, all) =
+      let (rest, none) = all-named ps before (with_packet net p.bytes) has (λ q h. less q (inr h)) all in
+      (one-more p ps before net has (less p (inl refl)) at rest, none)

@@ -1,4 +1,4 @@
--- What files show without crashes the disks show over them.
+-- What nets show without crashes the disks show over them.
 use Rattle.std.proofs.Common.{◌≡◌, inl, inr, refl, sym, subst, ap, ◌∙◌, ℕ, ◌+◌, ◌≤◌, arith, append-nil, List, [], ◌∷◌, map, Some}
 use Rattle.std.specs.Prelude.{if◌then◌else◌}
 use Rattle.echo_addr.specs.declared.address.Address.{Address}
@@ -8,21 +8,21 @@ use Rattle.echo_filed.specs.declared.key.Key.{Key}
 use Rattle.echo_filed.specs.Filed.{Filed, key_of}
 use Rattle.echo_steps.specs.declared.packet.Packet.{Packet}
 use Rattle.echo_run.specs.Orderly.{copies, count, sent_count}
-use Rattle.echo_run.specs.Run.{destination}
+use Rattle.echo_run.specs.Run.{destination, nth}
 use Rattle.echo_run.proofs.Histories.{among-nth}
 use Rattle.echo_run.proofs.Lists.{nth-among, some_same}
 use Rattle.law_stations.specs.Commands.{Command, CommandEvent, Post, Purge, Scan, Toss}
 use Rattle.law_stations.specs.InOrder.{HasUnchanged, InOrder, IsSettled, IsSound, IsUnchanged, ReadsAs, StationHolds, WasPurged}
 use Rattle.law_stations.specs.Nets.{Net, Paired, Station}
-use Rattle.law_stations.proofs.Headline.{checked, headline-on-files}
+use Rattle.law_stations.proofs.Headline.{headline-on-nets}
 use Rattle.law_stations.proofs.Pairs.{paired-among, paired-back, paired-nth}
 use Rattle.law_stations.proofs.Readings.{one-packet}
-use Rattle.law_stations.proofs.Sound.{files-are-sound}
+use Rattle.law_stations.proofs.Sound.{nets-are-sound}
 use Rattle.law_crashes.specs.Disks.{Disks}
 use Rattle.law_crashes.specs.OverCrashes.{HasNet, HasSettled, HeadlineOverCrashes, InOrderOverCrashes, IsLike, IsLikeEvent, SoundOverCrashes}
 use Rattle.law_crashes.proofs.Counting.{IsItem, picked-total, total}
 use Rattle.law_crashes.proofs.EachCommand.{crashes-are-none}
-use Rattle.law_crashes.proofs.Tracking.{holds-too, nth-map}
+use Rattle.law_crashes.proofs.Tracking.{nth-map}
 
 -- a command that is like a purge is one
 like-purge : (command : Command) → IsLike command Purge → command ≡ Purge
@@ -98,6 +98,15 @@ sent-less address key files some places ps qs picked apart read other =
     let less = picked-total (map w ps) (map w qs) places (picked-weights w files some places ps qs picked read other) apart in
     omega (arith, less, sent-total address key ps, sent-total address key qs)
 
+-- what a station holds is the same where the stations are
+holds-too : (net other : Net) (i : ℕ) (file : LinkFile) (messages : List Filed) (cursor : ℕ) → net.stations ≡ other.stations → StationHolds net i file messages cursor
+    → StationHolds other i file messages cursor
+holds-too net other i file messages cursor same holds = record {
+  station = holds.station;
+  there = subst (λ (ss : List Station). nth i ss ≡ Some holds.station) same holds.there;
+  says = holds.says;
+}
+
 module _ (commands plain : List CommandEvent) (d : Disks) (net : Net) (like : Paired IsLikeEvent commands plain) (has : HasNet d net) where
   held : (i : ℕ) (file : LinkFile) (messages : List Filed) (cursor : ℕ) → StationHolds d.net i file messages cursor → StationHolds net i file messages cursor
   held i file messages cursor = holds-too d.net net i file messages cursor has.stations
@@ -162,11 +171,10 @@ module _ (commands plain : List CommandEvent) (d : Disks) (net : Net) (like : Pa
 
 pub sound-over-crashes : SoundOverCrashes
 sound-over-crashes links files are apart commands d happen =
-    let (plain, net, like, plainly, has) = crashes-are-none links files are apart commands d happen in
-    sound-too commands plain d net like has (files-are-sound links files are apart plain net plainly)
+    let (plain, net, like, plainly, has) = crashes-are-none links commands d happen in
+    sound-too commands plain d net like has (nets-are-sound links files are apart plain net plainly)
 
 pub headline-over-crashes : HeadlineOverCrashes
 headline-over-crashes nodelist tag links stopped old new good commands d happen =
-    let (files, are, tidy, orderly) = checked nodelist tag links stopped old new good in
-    let (plain, net, like, plainly, has) = crashes-are-none links files are tidy.joined.one_file commands d happen in
-    in-order commands plain d net like has (upper tag) (headline-on-files nodelist tag links stopped old new good plain net plainly)
+    let (plain, net, like, plainly, has) = crashes-are-none links commands d happen in
+    in-order commands plain d net like has (upper tag) (headline-on-nets nodelist tag links stopped old new good plain net plainly)

@@ -83,3 +83,8 @@ paired-put {X} {Y} R i f g x y xs ys p at there r =
     let P : X → Type 0 = λ z. R (f z) (g b) in
     let Q : Y → Type 0 = λ z. R (f x) (g z) in
     subst P (some_same (sym at ∙ k)) (subst Q (some_same (sym there ∙ l)) r))
+
+pub changed-among : {X : Type 0} (i : ℕ) (f : X → X) (x : X) (xs : List X) → nth i xs ≡ Some x → Among (f x) (change i f xs)
+changed-among i f x [] there = absurd (none_some there)
+changed-among zero f x (z ∷ xs) there = inl (ap f (sym (some_same there)))
+changed-among (suc i) f x (z ∷ xs) there = inr (changed-among i f x xs there)

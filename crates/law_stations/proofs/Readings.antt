@@ -1,5 +1,5 @@
--- A packet file is read as one packet, and a toss of it tosses first messages of that packet.
-use Rattle.std.proofs.Common.{◌≡◌, ◌⊎◌, inl, inr, sym, subst, ap, ◌∙◌, ℕ, ◌+◌, ◌≤◌, arith, append_assoc, List, [], ◌∷◌, ◌++◌, length, take, Option, Some, None, Result, Ok, Err}
+-- Bytes are read as one packet, and a toss of them tosses messages that stand in front of them.
+use Rattle.std.proofs.Common.{◌≡◌, ◌⊎◌, inl, inr, sym, subst, ap, ◌∙◌, ℕ, ◌+◌, ◌≤◌, arith, append-nil, append_assoc, List, [], ◌∷◌, ◌++◌, length, take, Option, Some, None, Result, Ok, Err}
 use Rattle.std.specs.List.{AllByRecursion}
 use Rattle.echo_packet.specs.declared.header.Header.{Header}
 use Rattle.echo_packet.specs.declared.limits.Limits.{Limits}
@@ -8,19 +8,17 @@ use Rattle.echo_packet.specs.declared.fault.PacketFault.TheVariants as fault
 use Rattle.echo_packet.specs.Header.{header_bytes, word}
 use Rattle.echo_packet.specs.Message.{AreMessages, IsMessage, Message, messages_bytes}
 use Rattle.echo_packet.specs.Packet.{PacketOf}
-use Rattle.echo_steps.specs.declared.packet.Packet.{Packet}
 use Rattle.echo_steps.specs.SystemState.{SystemState}
 use Rattle.echo_steps.specs.Tossing.{sender_of, tossed}
 use Rattle.echo_toss.specs.declared.fault.TossCause.{TossCause}
 use Rattle.echo_toss.specs.declared.fault.TossCause.TheVariants as stop
 use Rattle.echo_toss.specs.declared.fault.TossFault.{TossFault}
 use Rattle.echo_toss.specs.declared.tally.Tally.{Tally}
-use Rattle.echo_toss.specs.PacketSteps.{BeginsWith, TossesUpToFault, FailsInHeader, HasTossed, IsForUs, PacketStep, TossesAll, TossesPart, TossesSome}
+use Rattle.echo_toss.specs.PacketSteps.{BeginsWith, FailsInHeader, IsForUs, PacketStep, TossesAll, TossesPart, TossesSome, TossesUpToFault}
 use Rattle.echo_toss.proofs.Parsed.{first_messages, one_header, one_list}
-use Rattle.law_stations.specs.Agreement.{IsPacketFile, limits_of}
 
 -- limits that both are within
-abbrev pub both : Limits → Limits → Limits
+abbrev both : Limits → Limits → Limits
 both a b = record { text = a.text + b.text; messages = a.messages + b.messages }
 
 wider : (most more : ℕ) → most ≤ more → (m : Message) → IsMessage most m → IsMessage more m
@@ -43,87 +41,107 @@ all-wider : (most more : ℕ) → most ≤ more → (ms : List Message) → AllB
 all-wider most more room [] all = tt
 all-wider most more room (m ∷ ms) all = (wider most more room m all.0, all-wider most more room ms all.1)
 
-pub in-both : (a b : Limits) (ms : List Message) → AreMessages a ms → AreMessages (both a b) ms
-in-both a b ms are = record {
-  each = all-wider a.text (a.text + b.text) (omega arith) ms are.each;
-  room = (let room = are.room in omega (arith, room));
+-- messages in front of the same bytes, within limits of their own
+record Fronts (a b : Limits) (ms all : List Message) : Type 0 where
+  mine : AllByRecursion (IsMessage (a.text + b.text)) ms
+  theirs : AllByRecursion (IsMessage (a.text + b.text)) all
+  room : 0 + length ms ≤ a.messages + b.messages
+  more : 0 + length all ≤ a.messages + b.messages
+
+fronts : (a b : Limits) (ms all : List Message) → AreMessages a ms → AreMessages b all → Fronts a b ms all
+fronts a b ms all are other = record {
+  mine = all-wider a.text (a.text + b.text) (omega arith) ms are.each;
+  theirs = all-wider b.text (a.text + b.text) (omega arith) all other.each;
+  room = (let r = are.room in omega (arith, r));
+  more = (let r = other.room in omega (arith, r));
 }
 
-pub both-in : (a b : Limits) (ms : List Message) → AreMessages b ms → AreMessages (both a b) ms
-both-in a b ms are = record {
-  each = all-wider b.text (a.text + b.text) (omega arith) ms are.each;
-  room = (let room = are.room in omega (arith, room));
-}
+-- a packet in front of bytes, part by part
+spread : (limits : Limits) (header : Header) (messages : List Message) (bytes front behind : List ℕ) → PacketOf limits header messages front
+    → bytes ≡ front ++ behind → bytes ≡ header_bytes header ++ (messages_bytes messages ++ (word 0 ++ behind))
+spread limits header messages bytes front behind packet parts =
+    parts ∙ ap (λ (t : List ℕ). t ++ behind) packet.bytes ∙ append_assoc (header_bytes header) (messages_bytes messages ++ word 0) behind
+    ∙ ap (λ (t : List ℕ). header_bytes header ++ t) (append_assoc (messages_bytes messages) (word 0) behind)
 
--- bytes are one packet
+-- bytes have one packet in front of them
+pub one-in_front : (a b : Limits) (h k : Header) (ms all : List Message) (bytes front behind other rest : List ℕ) → PacketOf a h ms front → bytes ≡ front ++ behind
+    → PacketOf b k all other → bytes ≡ other ++ rest → (k ≡ h) × (all ≡ ms)
+one-in_front a b h k ms all bytes front behind other rest is parts has same =
+    let one = one_header h k (messages_bytes ms ++ (word 0 ++ behind)) (messages_bytes all ++ (word 0 ++ rest)) is.header has.header
+    (sym (spread a h ms bytes front behind is parts) ∙ spread b k all bytes other rest has same) in
+    let f = fronts a b ms all is.messages has.messages in
+    (one.0, (one_list (both a b) 0 ms all behind rest f.mine f.theirs f.room f.more one.1).0)
+
+-- and are one packet
 pub one-packet : (a b : Limits) (h k : Header) (ms all : List Message) (bytes came left : List ℕ) → PacketOf a h ms bytes → PacketOf b k all came → bytes ≡ came ++ left
     → (k ≡ h) × (all ≡ ms)
-one-packet a b h k ms all bytes came left is other same =
-    let parts : came ++ left ≡ header_bytes k ++ (messages_bytes all ++ (word 0 ++ left)) =
-    ap (λ t. t ++ left) other.bytes ∙ append_assoc (header_bytes k) (messages_bytes all ++ word 0) left
-    ∙ ap (λ t. header_bytes k ++ t) (append_assoc (messages_bytes all) (word 0) left) in
-    let one = one_header h k (messages_bytes ms ++ word 0) (messages_bytes all ++ (word 0 ++ left)) is.header other.header (sym is.bytes ∙ same ∙ parts) in
-    let mine = in-both a b ms is.messages in
-    let theirs = both-in a b all other.messages in
-    let room : 0 + length ms ≤ (both a b).messages = let r = mine.room in omega (arith, r) in
-    let more : 0 + length all ≤ (both a b).messages = let r = theirs.room in omega (arith, r) in
-    (one.0, (one_list (both a b) 0 ms all [] left mine.each theirs.each room more one.1).0)
+one-packet a b h k ms all bytes came left is other same = one-in_front a b h k ms all bytes bytes [] came left is (sym (append-nil bytes)) other same
 
 -- what stands at the front of a packet's bytes
 pub front-packet : (a b : Limits) (h k : Header) (ms all : List Message) (bytes : List ℕ) → PacketOf a h ms bytes → BeginsWith b k all bytes
     → (k ≡ h) × ((n : ℕ) × (n ≤ length ms) × (all ≡ take n ms))
 front-packet a b h k ms all bytes is begins =
     let one = one_header h k (messages_bytes ms ++ word 0) (messages_bytes all ++ begins.rest) is.header begins.is_header (sym is.bytes ∙ begins.bytes) in
-    let mine = in-both a b ms is.messages in
-    let theirs = both-in a b all begins.are_messages in
-    let room : 0 + length ms ≤ (both a b).messages = let r = mine.room in omega (arith, r) in
-    let more : 0 + length all ≤ (both a b).messages = let r = theirs.room in omega (arith, r) in
-    (one.0, first_messages (both a b) 0 ms all [] begins.rest mine.each theirs.each room more one.1)
+    let f = fronts a b ms all is.messages begins.are_messages in
+    (one.0, first_messages (both a b) 0 ms all [] begins.rest f.mine f.theirs f.room f.more one.1)
 
--- the system after the toss of messages of a sender
-abbrev pub after_messages : SystemState → Packet → List Message → SystemState
-after_messages old p ms = record { file = old.file; base = tossed old.file old.base (sender_of old.file p.header) ms; cursor = old.cursor }
+-- a system after the toss of these messages
+abbrev pub after_messages : SystemState → Header → List Message → SystemState
+after_messages old header ms = record { file = old.file; base = tossed old.file old.base (sender_of old.file header) ms; cursor = old.cursor }
 
--- the packet is for the system, which tossed these of its messages
-pub record TossedThese (p : Packet) (ms : List Message) (old new : SystemState) : Type 0 where
-  pub for_us : IsForUs old p.header
-  pub state : new ≡ after_messages old p ms
+-- these messages in front of the bytes were tossed
+pub record TossesFront (bytes : List ℕ) (old new : SystemState) : Type 0 where
+  pub limits : Limits
+  pub header : Header
+  pub messages : List Message
+  pub begins : BeginsWith limits header messages bytes
+  pub for_us : IsForUs old header
+  pub state : new ≡ after_messages old header messages
 
--- first messages of the packet were tossed
-pub record TossedFront (p : Packet) (old new : SystemState) : Type 0 where
-  pub number : ℕ
-  pub these : TossedThese p (take number p.messages) old new
+-- and they are all messages of a packet there
+pub record TossesPacketThere (bytes : List ℕ) (old new : SystemState) : Type 0 where
+  pub tossed_front : TossesFront bytes old new
+  pub front : List ℕ
+  pub behind : List ℕ
+  pub parts : bytes ≡ front ++ behind
+  pub packet : PacketOf tossed_front.limits tossed_front.header tossed_front.messages front
 
 -- what the toss of a packet may do, by its answer
-abbrev pub TossedSo : Packet → SystemState → SystemState → Result Tally TossFault → Type 0
-TossedSo p old new (Ok tally) = TossedThese p p.messages old new
-TossedSo p old new (Err fault) = (new ≡ old) ⊎ TossedFront p old new
+abbrev pub TossesSo : List ℕ → SystemState → SystemState → Result Tally TossFault → Type 0
+TossesSo bytes old new (Ok tally) = TossesPacketThere bytes old new
+TossesSo bytes old new (Err fault) = (new ≡ old) ⊎ TossesFront bytes old new
 
-these-of : (p : Packet) (header : Header) (all ms : List Message) (old new : SystemState) (tally : Tally) → header ≡ p.header → all ≡ ms → IsForUs old header
-    → HasTossed (sender_of old.file header) all old tally new → TossedThese p ms old new
-these-of p header all ms old new tally same_header same_messages for_us done = record {
-  for_us = subst (IsForUs old) same_header for_us;
-  state = done.state
-      ∙ (λ i. record { file = old.file; base = tossed old.file old.base (sender_of old.file (same_header i)) (same_messages i); cursor = old.cursor });
-}
-
-whole : (limits : Limits) (p : Packet) (bytes : List ℕ) (rest : Option (List ℕ)) (old new : SystemState) (tally : Tally) → IsPacketFile bytes p
-    → TossesAll limits old (Some bytes) rest tally new → TossedThese p p.messages old new
-whole limits p bytes None old new tally is step = absurd step.bytes.1
-whole limits p bytes (Some left) old new tally is step =
-    let one = one-packet (limits_of bytes) limits p.header step.header p.messages step.messages bytes step.bytes.0 left is.packet step.bytes.2 step.bytes.1 in
-    these-of p step.header step.messages p.messages old new tally one.0 one.1 step.for_us step.done
-
-some : (limits : Limits) (p : Packet) (bytes : List ℕ) (old new : SystemState) (tally : Tally) → IsPacketFile bytes p → TossesSome limits old (Some bytes) tally new → TossedFront p old new
-some limits p bytes old new tally is step =
-    let one = front-packet (limits_of bytes) limits p.header step.header p.messages step.messages bytes is.packet step.begins in
+whole : (limits : Limits) (bytes : List ℕ) (rest : Option (List ℕ)) (old new : SystemState) (tally : Tally) → TossesAll limits old (Some bytes) rest tally new
+    → TossesPacketThere bytes old new
+whole limits bytes None old new tally step = absurd step.bytes.1
+whole limits bytes (Some left) old new tally step =
+    let packet = step.bytes.2 in
     record {
-      number = one.1.0;
-      these = these-of p step.header step.messages (take one.1.0 p.messages) old new tally one.0 one.1.2 step.for_us step.done;
+      tossed_front = record {
+        limits = limits;
+        header = step.header;
+        messages = step.messages;
+        begins = record {
+          is_header = packet.header;
+          are_messages = packet.messages;
+          rest = word 0 ++ left;
+          bytes = spread limits step.header step.messages bytes step.bytes.0 left packet step.bytes.1;
+        };
+        for_us = step.for_us;
+        state = step.done.state;
+      };
+      front = step.bytes.0;
+      behind = left;
+      parts = step.bytes.1;
+      packet = packet;
     }
 
+some : (limits : Limits) (bytes : List ℕ) (old new : SystemState) (tally : Tally) → TossesSome limits old (Some bytes) tally new → TossesFront bytes old new
+some limits bytes old new tally step =
+    record { limits = limits; header = step.header; messages = step.messages; begins = step.begins; for_us = step.for_us; state = step.done.state }
+
 -- a fault of the header, or behind it
-pub where-failed : (limits : Limits) (old new : SystemState) (before after : Option (List ℕ)) (tally : Tally) (f : PacketFault) → TossesPart limits old before after tally (stop.Packet f) new
+where-failed : (limits : Limits) (old new : SystemState) (before after : Option (List ℕ)) (tally : Tally) (f : PacketFault) → TossesPart limits old before after tally (stop.Packet f) new
     → FailsInHeader old before after tally f new ⊎ TossesUpToFault limits old before after tally f new
 where-failed limits old new before after tally fault.Memory h = absurd h
 where-failed limits old new before after tally (fault.Truncated at) h = h
@@ -137,17 +155,16 @@ where-failed limits old new before after tally (fault.Write n) h = h
 where-failed limits old new before after tally (fault.TooManyMessages at) h = h
 where-failed limits old new before after tally (fault.BadField n) h = h
 
-part : (limits : Limits) (p : Packet) (bytes : List ℕ) (rest : Option (List ℕ)) (old new : SystemState) (tally : Tally) (cause : TossCause) → IsPacketFile bytes p
-    → TossesPart limits old (Some bytes) rest tally cause new → (new ≡ old) ⊎ TossedFront p old new
-part limits p bytes rest old new tally (stop.NotForUs a) is step = inl step.nothing.0
-part limits p bytes rest old new tally stop.Memory is step = inr (some limits p bytes old new tally is step)
-part limits p bytes rest old new tally (stop.Packet f) is step = elim (where-failed limits old new (Some bytes) rest tally f step) [
+part : (limits : Limits) (bytes : List ℕ) (rest : Option (List ℕ)) (old new : SystemState) (tally : Tally) (cause : TossCause)
+    → TossesPart limits old (Some bytes) rest tally cause new → (new ≡ old) ⊎ TossesFront bytes old new
+part limits bytes rest old new tally (stop.NotForUs a) step = inl step.nothing.0
+part limits bytes rest old new tally stop.Memory step = inr (some limits bytes old new tally step)
+part limits bytes rest old new tally (stop.Packet f) step = elim (where-failed limits old new (Some bytes) rest tally f step) [
   | inl front ↦ inl front.nothing.0
-  | inr behind ↦ inr (some limits p bytes old new tally is behind.some)
+  | inr later ↦ inr (some limits bytes old new tally later.some)
 ]
 
--- the toss of a packet file
-pub tossed-so : (limits : Limits) (p : Packet) (bytes : List ℕ) (rest : Option (List ℕ)) (old new : SystemState) (answer : Result Tally TossFault) → IsPacketFile bytes p
-    → PacketStep limits old (Some bytes) rest answer new → TossedSo p old new answer
-tossed-so limits p bytes rest old new (Ok tally) is step = whole limits p bytes rest old new tally is step
-tossed-so limits p bytes rest old new (Err f) is step = part limits p bytes rest old new f.tally f.cause is step
+pub tosses-so : (limits : Limits) (bytes : List ℕ) (rest : Option (List ℕ)) (old new : SystemState) (answer : Result Tally TossFault)
+    → PacketStep limits old (Some bytes) rest answer new → TossesSo bytes old new answer
+tosses-so limits bytes rest old new (Ok tally) step = whole limits bytes rest old new tally step
+tosses-so limits bytes rest old new (Err f) step = part limits bytes rest old new f.tally f.cause step
