@@ -1,3 +1,4 @@
+pub mod Beneath
 pub mod Command
 pub mod Opening
 pub mod Place
