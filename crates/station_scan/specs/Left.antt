@@ -66,9 +66,9 @@ pub record AreLent (paths : List LeftPaths) (found : List Left) : Type 0 where
   pub as_many : length found ≡ length paths
   pub each : (k : ℕ) (w : LeftPaths) (l : Left) → k < length paths → IsLent (get_or paths k w) (get_or found k l)
 
--- one whose end is settled: it is gone beside its path, or, where the cursor was moved past it, it has that
-abbrev pub IsEndedAt : ℕ → List Left → List ℕ → Type 0
-IsEndedAt cursor found m = (l : Left) × Contains found l × ((m ≡ l.beside.now) ⊎ ((l.before < cursor) × (m ≡ l.path.now)))
+-- the path beside one of these, or that of one past which the cursor was moved, or one that leads to no file
+abbrev pub IsEndedAt : ℕ → List Left → Files → List ℕ → Type 0
+IsEndedAt cursor found c m = (l : Left) × Contains found l × ((m ≡ l.beside.now) ⊎ ((m ≡ l.path.now) × ((l.before < cursor) ⊎ (c m ≡ None))))
 
 -- These are brought to their end, and that is on the disk. A crash at any moment leaves each packet of a committed scan at one of its two paths at least, and
 -- none other at its path.
@@ -77,7 +77,7 @@ pub record EndsThese (cursor : ℕ) (paths : List LeftPaths) (old new : DiskStat
   pub lent : AreLent paths found
   pub over : OnOk result (All (IsOver cursor old new) found)
   pub named : OnOk result ((m : List ℕ) → IsOfLeft found m → new.is_named m)
-  pub flushed : OnOk result ((m : List ℕ) → IsEndedAt cursor found m → new.is_flushed m)
+  pub flushed : OnOk result ((m : List ℕ) → IsEndedAt cursor found new.seen m → new.is_flushed m)
   pub any_moment : LeavesOnly old new (OneStepOn (FinishesEach cursor found) old)
   pub changes : ChangesOnly (IsOfLeft found) old new
 
@@ -115,7 +115,7 @@ pub record EndsLeft (is_true : Type 0) (Own : List ℕ → Type 0) (folder own :
   pub all : OnOk result (AreAllLeft is_true Own folder own old.seen found)
   pub over : OnOk result (All (IsOver cursor old new) found)
   pub named : OnOk result ((m : List ℕ) → IsOfLeft found m → new.is_named m)
-  pub flushed : OnOk result ((m : List ℕ) → IsEndedAt cursor found m → new.is_flushed m)
+  pub flushed : OnOk result ((m : List ℕ) → IsEndedAt cursor found new.seen m → new.is_flushed m)
   pub any_moment : LeavesOnly old new (OneStepOn (FinishesEach cursor found) old)
   pub changes : ChangesOnly (IsOfLeft found) old new
 

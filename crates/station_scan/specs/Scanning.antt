@@ -48,7 +48,7 @@ pub record CommitsScan (Own : List ℕ → Type 0) (outbound own : List ℕ) (On
   pub between : Files
   pub ended : All (IsEnded cursor seen between) found
   pub beside_them : DifferAt (IsOfLeft found) seen between
-  pub others : (m : List ℕ) → (IsOfThese Own outbound own files m → ⊥) → OnDisk m ⊎ IsEndedAt cursor found m → after m ≡ between m
+  pub others : (m : List ℕ) → (IsOfThese Own outbound own files m → ⊥) → (OnDisk m × (IsOfLeft found m → ⊥)) ⊎ IsEndedAt cursor found between m → after m ≡ between m
   pub either : (Stays after × All (IsFreeAt outbound after) files) ⊎ (Comes after × All (StandsWhole outbound own after) files × All HasBytes files)
 
 -- What earlier scans left was brought to its end, and then the packets of this one and the new base were put on the disk.
