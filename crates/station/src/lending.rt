@@ -23,7 +23,7 @@ pub trait LendStation<'a, D: Disk>: OpenStation<'a, D> {
     /// What the store has beside the disk.
     type Rest;
 
-    type Paths: OwnPaths;
+    type Paths: OwnPaths + Drop;
 
     // What the store is with this disk.
     ghost store_on: { Self.Rest → D → StoreState };

@@ -2,7 +2,7 @@ mod Names
 mod Found
 mod Lefts
 mod Sent
-mod Used
+mod Lent
 mod Published
 mod Sends
 mod Outs

@@ -27,7 +27,7 @@ pub(crate) struct Taken<'a, S> {
 
 /// Makes the packets of the messages that wait, prints a line for each, and moves the cursor in the store. Nothing is
 /// committed. It is told which message is taken at hand.
-pub(crate) fn take_waiting<'a, S: Store + Drop, T: Watching, W: Sink>(
+pub(crate) fn take_waiting<'a, S: Store, T: Watching, W: Sink>(
     alloc: Global,
     stamp: Stamp,
     links: &LinkFile,
