@@ -1,0 +1,59 @@
+//! How far a scan is: each message that waits is taken at hand once, so a store tells it.
+use echo_filed::{Filed, Key};
+use echo_store::{Store, StoreError};
+
+/// One who is told how far a scan is.
+pub trait Watching {
+    /// Is told that the message of this number, counted from 0, is taken at hand, of so many.
+    fn tell(&self, place: usize, messages: usize);
+}
+
+/// A store that tells which of its messages is taken at hand.
+#[derive(Drop)]
+pub struct Watched<'w, S, T> {
+    pub store: S,
+    pub watch: &'w T,
+}
+
+impl<S: Store, T: Watching> Store for Watched<'_, S, T> {
+    ghost state = { λ watched. S.state watched.store };
+
+    ghost failures = { λ watched. S.failures watched.store };
+
+    fn len(&self) -> usize {
+        self.store.len()
+    }
+
+    fn cursor(&self) -> usize {
+        self.store.cursor()
+    }
+
+    fn knows(&mut self, key: &Key) -> Result<bool, StoreError> {
+        self.store.knows(key)
+    }
+
+    fn has_id(&mut self, msgid: &[u8]) -> Result<bool, StoreError> {
+        self.store.has_id(msgid)
+    }
+
+    fn fetch(&mut self, place: usize) -> Result<(), StoreError> {
+        self.watch.tell(place, self.store.len());
+        self.store.fetch(place)
+    }
+
+    fn at_hand(&self) -> Option<&Filed> {
+        self.store.at_hand()
+    }
+
+    fn file(&mut self, key: Key, message: Filed) -> Result<(), StoreError> {
+        self.store.file(key, message)
+    }
+
+    fn move_to_end(&mut self) -> Result<(), StoreError> {
+        self.store.move_to_end()
+    }
+
+    fn commit(&mut self) -> Result<(), StoreError> {
+        self.store.commit()
+    }
+}
