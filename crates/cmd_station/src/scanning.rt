@@ -2,22 +2,24 @@
 //! it is over any disk.
 
 use crate::place::{Place, Station, find_base};
-use crate::running::{by_name, counting, fault_in_folder, folder_place};
+use crate::running::{counting, fault_of, folder_place};
 use crate::unplaced::report_unplaced;
 use cmd_base_file::{LeftFiles, ScanFiles};
 use cmd_base_folder::Opened;
 use cmd_input::{LinkLock, Progress, folder_path, moment_of};
 use echo_base::BaseFault;
 use echo_device::Sink;
-use echo_file_scanning::{ScanFault, scan_at};
-use echo_folder_changing::Found;
-use echo_folder_scanning::{ScanStop, Watching, scan_in};
 use echo_keys::SipDigest;
 use echo_real_disk::{RealDisk, Unknown};
-use echo_station_files::StationPaths;
 use echo_status::{Fault, Status};
 use echo_steps::Stamp;
+use echo_store_changing::Stop;
+use station::{Locks, Nothing};
+use station_file::FileStation;
+use station_folder::{FolderStation, Found};
+use station_scan::{Scan as Wanted, ScanStop, Watching, run_scan as scan_station};
 use std::collections::hash_map::RandomState;
+use std::marker::PhantomData;
 
 /// How many messages are taken at hand between two looks at the clock.
 const SOME: usize = 1_000;
@@ -85,8 +87,10 @@ fn scan_at_once<W: Sink, E: Sink>(scan: Scan<'_>, out: &mut W, errors: &mut E) -
     };
     match done {
         Ok(()) => Status::Good,
-        Err(ScanFault::Command(fault)) => by_name(at, fault).report(errors),
-        Err(ScanFault::Placing(cause)) => report_unplaced(scan, &files, cause, errors),
+        Err(ScanStop::Command(stop)) => fault_of(at, stop).report(errors),
+        Err(ScanStop::Placing(cause) | ScanStop::Staying(cause)) => {
+            report_unplaced(scan, &files, cause, errors)
+        }
     }
 }
 
@@ -95,32 +99,73 @@ fn scan_file<'a, W: Sink>(
     scan: Scan<'a>,
     files: &ScanFiles<'_, '_>,
     out: &mut W,
-) -> Result<(), ScanFault<'a>> {
-    let Scan { at, progress, .. } = scan;
+) -> Result<(), ScanStop<'a>> {
+    let at = scan.at;
     let Ok(keys) = RandomState::new(at.rt) else {
-        return Err(ScanFault::Command(Fault::Base(BaseFault::Read)));
+        return Err(ScanStop::Command(Stop::Met(Fault::Base(BaseFault::Read))));
     };
-    let hasher = counting(at, keys, Some(progress));
-    let paths = StationPaths {
+    let station = FileStation {
         links: at.place.links,
         base: at.path,
+        hasher: counting(at, keys, Some(scan.progress)),
     };
-    let mut disk = RealDisk::new(files, Unknown);
-    let mut lock = LinkLock::new(at.rt);
-    let mut listing = LeftFiles::new(at.rt);
-    let done = scan_at(
+    let mut locks = Locks {
+        links: LinkLock::new(at.rt),
+        base: LinkLock::new(at.rt),
+    };
+    let scanned = scan_station(
         at.rt.alloc(),
-        &mut disk,
-        &mut lock,
-        &mut listing,
-        paths,
-        scan.slashed.as_bytes(),
-        scan.stamp,
-        hasher,
+        RealDisk::new(files, Unknown),
+        &mut locks,
+        station,
+        &mut Nothing,
+        &mut wanted(scan),
         out,
     );
     files.tidy();
-    done
+    scanned.done
+}
+
+// Scans a base folder, into another folder than that.
+fn scan_folder<'a, W: Sink>(
+    scan: Scan<'a>,
+    found: Found,
+    files: &ScanFiles<'_, '_>,
+    out: &mut W,
+) -> Result<(), ScanStop<'a>> {
+    let at = scan.at;
+    let station = FolderStation {
+        at: folder_place(at),
+        found,
+        digests: PhantomData::<SipDigest>,
+    };
+    let mut locks = Locks {
+        links: LinkLock::new(at.rt),
+        base: LinkLock::new(at.rt),
+    };
+    let mut opened = Opened::new(at.rt, at.place.base, None).apart_from(scan.folder);
+    let scanned = scan_station(
+        at.rt.alloc(),
+        RealDisk::new(files, Unknown),
+        &mut locks,
+        station,
+        &mut opened,
+        &mut wanted(scan),
+        out,
+    );
+    scanned.done
+}
+
+// What is asked of a scan.
+fn wanted<'a>(scan: Scan<'a>) -> Wanted<'a, LeftFiles<'a>, ScanProgress<'a>> {
+    Wanted {
+        stamp: scan.stamp,
+        outbound: scan.slashed.as_bytes(),
+        listing: LeftFiles::new(scan.at.rt),
+        watch: ScanProgress {
+            progress: scan.progress,
+        },
+    }
 }
 
 // A terminal is told how far a scan is.
@@ -135,38 +180,5 @@ impl Watching for ScanProgress<'_> {
             self.progress
                 .tell_message((place as u64).saturating_add(1), messages as u64);
         }
-    }
-}
-
-// Scans a base folder, into another folder than that.
-fn scan_folder<'a, W: Sink>(
-    scan: Scan<'a>,
-    found: Found,
-    files: &ScanFiles<'_, '_>,
-    out: &mut W,
-) -> Result<(), ScanFault<'a>> {
-    let Scan { at, progress, .. } = scan;
-    let mut opened = Opened::new(at.rt, at.place.base, None).apart_from(scan.folder);
-    let (mut lock, mut held) = (LinkLock::new(at.rt), LinkLock::new(at.rt));
-    let disk = RealDisk::new(files, Unknown);
-    let mut listing = LeftFiles::new(at.rt);
-    let scanned = scan_in::<_, SipDigest, _, _, _, _, _, _>(
-        at.rt.alloc(),
-        disk,
-        &mut lock,
-        &mut held,
-        folder_place(at),
-        found,
-        &mut opened,
-        &mut listing,
-        &ScanProgress { progress },
-        scan.slashed.as_bytes(),
-        scan.stamp,
-        out,
-    );
-    match scanned.done {
-        Ok(()) => Ok(()),
-        Err(ScanStop::Command(stop)) => Err(ScanFault::Command(fault_in_folder(at, stop))),
-        Err(ScanStop::Placing(cause)) => Err(ScanFault::Placing(cause)),
     }
 }
