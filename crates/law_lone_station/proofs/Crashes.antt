@@ -7,7 +7,7 @@ use Rattle.echo_run.specs.Run.{change}
 use Rattle.echo_changing.specs.Coming.{Coming, Fails, Holds, Unknown}
 use Rattle.echo_changing.specs.Tossed.{run_begun}
 use Rattle.law_stations.specs.Commands.{Command, CommandEvent, Happens, Post, Purge, Scan}
-use Rattle.law_stations.specs.Nets.{Net, Paired, Station, first_net, with_base, with_left}
+use Rattle.law_stations.specs.Nets.{Net, Paired, Station, with_base, with_left}
 use Rattle.law_stations.proofs.FileRuns.{IsPartly, TossedFiles, each-tossed, wholes}
 use Rattle.law_crashes.specs.Disks.{cursor_of}
 use Rattle.law_crashes.specs.OverCrashes.{IsLike}
