@@ -7,7 +7,7 @@ use Rattle.echo_run.specs.Run.{change}
 use Rattle.echo_changing.specs.Coming.{Coming, Fails, Holds, Unknown}
 use Rattle.echo_changing.specs.Tossed.{run_begun}
 use Rattle.law_stations.specs.Commands.{Command, CommandEvent, Happens, Post, Purge, Scan}
-use Rattle.law_stations.specs.Nets.{Net, Paired, Station, first_net, with_base, with_left}
+use Rattle.law_stations.specs.Nets.{Net, Paired, Station, with_base, with_left}
 use Rattle.law_stations.proofs.FileRuns.{IsPartly, TossedFiles, each-tossed, wholes}
 use Rattle.law_crashes.specs.Disks.{cursor_of}
 use Rattle.law_crashes.specs.OverCrashes.{IsLike}
@@ -69,7 +69,7 @@ tossed-cursor zero files old new any partly = partly-cursor files old new any pa
 tossed-cursor (suc n) [] old new any tossed = absurd tossed
 tossed-cursor (suc n) (Holds bytes ∷ files) old new any (mid, whole, more) =
     tossed-cursor n files mid new any more ∙ ap (λ (s : SystemState). s.cursor) whole.tossed_front.state
-tossed-cursor (suc n) (Fails why ∷ files) old new any tossed = absurd tossed.1.0
+tossed-cursor (suc n) (Fails why ∷ files) old new any tossed = absurd tossed.1
 tossed-cursor (suc n) (Unknown ∷ files) old new any tossed = absurd any
 
 -- a toss of any files

@@ -70,8 +70,8 @@ led Purge net new i run apart agrees leads = record {
   ];
 }
 led (Toss indexes) net new i run apart agrees leads =
-    let (events, are, then, as_filed) = toss-agrees indexes net new i run apart agrees leads in
-    record { events = events; are = are; agrees = then; as_filed = λ j. inr (as_filed j) }
+    let (events, are, made, as_filed) = toss-agrees indexes net new i run apart agrees leads in
+    record { events = events; are = are; agrees = made; as_filed = λ j. inr (as_filed j) }
 
 -- one command after another
 pub record LedAll (commands : List CommandEvent) (new : Net) (run : Run) : Type 0 where
@@ -93,8 +93,8 @@ led-all (command ∷ later) net new run apart agrees (next, inl same, rest) =
     }
 led-all (command ∷ later) net new run apart agrees (next, inr leads, rest) =
     let first = led command.command net next command.station run apart agrees leads in
-    let then = after_events run first.events in
-    let more = led-all later next new then (addresses-stay first.events run apart) first.agrees rest in
+    let mid = after_events run first.events in
+    let more = led-all later next new mid (addresses-stay first.events run apart) first.agrees rest in
     let same = sym (after-append first.events more.events run) in
     record {
       events = first.events ++ more.events;

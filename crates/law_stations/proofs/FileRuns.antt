@@ -1,5 +1,5 @@
 -- A toss of packet files, by their bytes: some first ones are tossed whole, and the next may be tossed in part.
-use Rattle.std.proofs.Common.{◌≡◌, ◌⊎◌, inl, inr, refl, sym, subst, ap, ◌∙◌, ℕ, zero, suc, ◌+◌, ◌-◌, ◌≤◌, arith, List, [], ◌∷◌, length, take, Option, Some, None, Result, Ok, Err}
+use Rattle.std.proofs.Common.{◌≡◌, ◌⊎◌, inl, inr, refl, sym, subst, ap, ℕ, zero, suc, ◌+◌, ◌-◌, ◌≤◌, arith, List, [], ◌∷◌, length, Option, Some, None, Result, Ok, Err}
 use Rattle.echo_status.specs.Devices.{Device}
 use Rattle.echo_status.specs.declared.fault.Fault.{Fault}
 use Rattle.echo_steps.specs.SystemState.{SystemState}
@@ -44,7 +44,7 @@ left-behind [] old fault left new (none, rest, end) = absurd (none_some (sym non
 left-behind (file ∷ files) old fault left new (inl (run, first, more)) = let less = left-behind files run fault left new more in omega (arith, less)
 left-behind (file ∷ files) old fault left new (inr (why, is, same, last)) = omega (arith, ap (λ (l : List Coming). length l) same)
 
-pub one-more : (files : List Coming) (old : TossRun) (stopped : Option Fault) (left : List Coming) (new : TossRun) → TossesEach itself files old stopped left new
+one-more : (files : List Coming) (old : TossRun) (stopped : Option Fault) (left : List Coming) (new : TossRun) → TossesEach itself files old stopped left new
     → wholes (suc (length files)) stopped left ≡ suc (wholes (length files) stopped left)
 one-more files old None left new each = refl
 one-more files old (Some fault) left new each = let less = left-behind files old fault left new each in omega (arith, less)

@@ -1,5 +1,5 @@
 -- A posting, a scan and a purge at a station are events of the run.
-use Rattle.std.proofs.Common.{◌≡◌, ◌⊎◌, inl, inr, refl, sym, subst, ap, ◌∙◌, ℕ, arith, true, cond, List, [], ◌∷◌, ◌++◌, append-nil, length, map, Option, Some, None}
+use Rattle.std.proofs.Common.{◌≡◌, inl, inr, refl, sym, subst, ap, ◌∙◌, ℕ, arith, cond, List, [], ◌∷◌, ◌++◌, append-nil, map, Option, Some, None}
 use Rattle.std.specs.Prelude.{is_none}
 use Rattle.std.specs.List.{AllByRecursion}
 use Rattle.std.proofs.lemmas.Bool.{cond-true}
@@ -8,10 +8,9 @@ use Rattle.echo_graph.proofs.Members.{Among-append_cases, Among-append_left, Amo
 use Rattle.echo_packet.specs.Header.{AreBytes}
 use Rattle.echo_links.specs.Links.{LinkFile}
 use Rattle.echo_filed.specs.Filed.{Filed}
-use Rattle.echo_base.specs.Base.{Base, IsBase}
+use Rattle.echo_base.specs.Base.{Base}
 use Rattle.echo_steps.specs.declared.draft.Draft.{Draft}
 use Rattle.echo_steps.specs.declared.fault.PostFault.{PostFault}
-use Rattle.echo_steps.specs.declared.packet.Packet.{Packet}
 use Rattle.echo_steps.specs.declared.stamp.Stamp.{Stamp}
 use Rattle.echo_steps.specs.PacketFiles.{PacketFile}
 use Rattle.echo_steps.specs.Posting.{post_refusal, posted, posting}

@@ -1,14 +1,13 @@
 -- The toss of packet files at a station is some deliveries of the run.
-use Rattle.std.proofs.Common.{◌≡◌, ◌≢◌, inl, inr, refl, sym, subst, ap, ◌∙◌, ℕ, zero, suc, ◌+◌, ◌-◌, ◌==◌, arith, append-nil, List, [], ◌∷◌, ◌++◌, length, map, take, Option, Some, Ok}
+use Rattle.std.proofs.Common.{◌≡◌, ◌≢◌, inl, inr, refl, sym, subst, ap, ◌∙◌, ℕ, zero, suc, ◌+◌, ◌-◌, ◌==◌, arith, append-nil, List, [], ◌∷◌, ◌++◌, length, map, take, Option, None, Some, Ok}
 use Rattle.std.proofs.lemmas.Bool.{cond-false, ne_eqb}
 use Rattle.std.proofs.lemmas.List.{take_all}
-use Rattle.echo_graph.specs.Walk.{Among, Different}
+use Rattle.echo_graph.specs.Walk.{Different}
 use Rattle.echo_packet.specs.declared.header.Header.{Header}
 use Rattle.echo_packet.specs.Message.{Message}
 use Rattle.echo_links.specs.Links.{IsFile, LinkFile}
 use Rattle.echo_links.specs.LinkLines.{LinksOf}
-use Rattle.echo_filed.specs.Filed.{Filed}
-use Rattle.echo_base.specs.Base.{Base, IsBase}
+use Rattle.echo_base.specs.Base.{IsBase}
 use Rattle.echo_steps.specs.declared.packet.Packet.{Packet}
 use Rattle.echo_steps.specs.SystemState.{SystemState}
 use Rattle.echo_steps.specs.Tossing.{destination_of, sender_of, zone_of}
@@ -19,14 +18,12 @@ use Rattle.echo_run.specs.Run.{Run, System, after_events, change, coming, delive
 use Rattle.echo_run.proofs.LaterSystems.{after-append}
 use Rattle.echo_run.proofs.Lists.{some_same}
 use Rattle.echo_status.specs.declared.fault.Fault.{Fault}
-use Rattle.echo_status.specs.Devices.{Device}
-use Rattle.echo_changing.specs.Coming.{Coming, Fails, Holds, Opens, Unknown}
-use Rattle.echo_changing.specs.Tossed.{TossesEach, run_begun}
-use Rattle.echo_changing.specs.TossedPacket.{TossRun}
+use Rattle.echo_changing.specs.Coming.{Coming, Fails, Holds, Unknown}
+use Rattle.echo_changing.specs.Tossed.{run_begun}
 use Rattle.law_stations.specs.Agreement.{Agrees, AreTossesOf, HasSystem, IsPacketFile, IsTossOf, base_of, limits_of, own_address}
-use Rattle.law_stations.specs.Commands.{IsPacketAt, Tosses, itself, whole_of}
+use Rattle.law_stations.specs.Commands.{IsPacketAt, Tosses, whole_of}
 use Rattle.law_stations.specs.Nets.{Net, Paired, with_indexes, with_tossed}
-use Rattle.law_stations.proofs.FileRuns.{IsPartly, TossedFiles, each-tossed, one-more, wholes}
+use Rattle.law_stations.proofs.FileRuns.{IsPartly, TossedFiles, each-tossed, wholes}
 use Rattle.law_stations.proofs.Pairs.{change-again, change-found, change-here, change-map, change-same, paired-nth}
 use Rattle.law_stations.proofs.Places.{place-of}
 use Rattle.law_stations.proofs.Putting.{puts-agree}
@@ -114,7 +111,7 @@ delivered run i s k p bytes new before there is w =
 part-delivered : (run : Run) (i : ℕ) (s : System) (k : ℕ) (p : Packet) (bytes : List ℕ) (new : SystemState) → Before run i s → nth k run.packets ≡ Some p → IsPacketFile bytes p
     → TossesFront bytes (state_of s) new → Tossing (IsTossOf k) run i s [] new
 part-delivered run i s k p bytes new before there is t =
-    let (header, n, room, messages) = front-packet (limits_of bytes) t.limits p.header t.header p.messages t.messages bytes is.packet t.begins in
+    let (header, (n, room, messages)) = front-packet (limits_of bytes) t.limits p.header t.header p.messages t.messages bytes is.packet t.begins in
     let took = taken run i s p n bytes new before is t header messages in
     record {
       events = PartDelivery k n ∷ [];
@@ -186,7 +183,7 @@ module _ (packets : List (List ℕ)) (i : ℕ) where
   each-toss zero [] [] run s new before paired are same = nothing (AreTossesOf []) refl run i s new before same
   each-toss (suc n) [] [] run s new before paired are tossed = absurd tossed
   each-toss zero (k ∷ later) (file ∷ files) run s new before paired are partly = last-file k later file files run s new before paired are.0 partly
-  each-toss (suc n) (k ∷ later) (Fails why ∷ files) run s new before paired are tossed = absurd tossed.1.0
+  each-toss (suc n) (k ∷ later) (Fails why ∷ files) run s new before paired are tossed = absurd tossed.1
   each-toss (suc n) (k ∷ later) (Unknown ∷ files) run s new before paired are tossed = absurd are.0
   each-toss (suc n) (k ∷ later) (Holds bytes ∷ files) run s new before paired are (mid, whole, more) =
       let (p, there, is) = paired-nth IsPacketFile k bytes packets run.packets paired are.0 in
@@ -202,27 +199,10 @@ same-length packets [] (file ∷ files) are = absurd are
 same-length packets (k ∷ indexes) [] are = absurd are
 same-length packets (k ∷ indexes) (file ∷ files) are = let e = same-length packets indexes files are.1 in omega (arith, e)
 
-whole-first : (packets : List (List ℕ)) (indexes : List ℕ) (files : List Coming) (stopped : Option Fault) (left : List Coming) → Paired (IsPacketAt packets) indexes files
+pub whole-first : (packets : List (List ℕ)) (indexes : List ℕ) (files : List Coming) (stopped : Option Fault) (left : List Coming) → Paired (IsPacketAt packets) indexes files
     → take (wholes (length files) stopped left) indexes ≡ whole_of indexes stopped left
 whole-first packets indexes files None left are = take_all (length files) indexes (omega (arith, same-length packets indexes files are))
 whole-first packets indexes files (Some fault) left are = ap (λ (n : ℕ). take (n - (length left + 1)) indexes) (sym (same-length packets indexes files are))
-
--- what is read of a packet file is its bytes
-pub opened-bytes : (packets : List (List ℕ)) (k : ℕ) (file : Coming) (reader : Device) → IsPacketAt packets k file → Opens (λ (d : Device). d.contents) file (Ok reader)
-    → (bytes : List ℕ) × (nth k packets ≡ Some bytes) × (reader.contents ≡ Some bytes)
-opened-bytes packets k (Holds bytes) reader at opened = (bytes, at, opened)
-opened-bytes packets k (Fails why) reader at opened = absurd opened
-opened-bytes packets k Unknown reader at opened = absurd at
-
--- one more was tossed whole
-pub whole-more : (packets : List (List ℕ)) (k : ℕ) (indexes : List ℕ) (files : List Coming) (old : TossRun) (stopped : Option Fault) (left : List Coming) (new : TossRun)
-    → Paired (IsPacketAt packets) indexes files → TossesEach itself files old stopped left new
-    → k ∷ whole_of indexes stopped left ≡ whole_of (k ∷ indexes) stopped left
-whole-more packets k indexes files old None left new are each = refl
-whole-more packets k indexes files old (Some fault) left new are each =
-    let more = one-more files old (Some fault) left new each in
-    let e : suc (length indexes) - (length left + 1) ≡ suc (length indexes - (length left + 1)) = omega (arith, more, same-length packets indexes files are) in
-    sym (ap (λ (n : ℕ). take n (k ∷ indexes)) e)
 
 linked : (links : List ℕ) (s z : System) → LinksOf links (Ok s.file) → z.file ≡ s.file → LinksOf links (Ok z.file)
 linked links s z is same = subst (λ (f : LinkFile). LinksOf links (Ok f)) (sym same) is

@@ -1,11 +1,11 @@
 -- One station and its system change: what agreed with a run agrees with what becomes of it.
-use Rattle.std.proofs.Common.{◌≡◌, ◌⊎◌, inl, inr, subst, ap, ◌∙◌, ℕ, zero, suc, List, [], ◌∷◌, Some}
+use Rattle.std.proofs.Common.{◌≡◌, ◌⊎◌, inl, inr, refl, sym, subst, ap, ◌∙◌, ℕ, zero, suc, List, [], ◌∷◌, Some}
 use Rattle.echo_graph.specs.Walk.{Among}
 use Rattle.echo_filed.specs.Filed.{Filed}
 use Rattle.echo_base.specs.Base.{Base}
 use Rattle.echo_steps.specs.declared.packet.Packet.{Packet}
 use Rattle.echo_run.specs.Run.{Run, System, change, nth}
-use Rattle.echo_run.proofs.Lists.{none_some, nth-among, some_same}
+use Rattle.echo_run.proofs.Lists.{nth-among, some_same}
 use Rattle.law_stations.specs.Agreement.{Agrees, HasPosting, HasSystem, IsPacketFile}
 use Rattle.law_stations.specs.Nets.{Net, Paired, Station, with_base, with_indexes}
 use Rattle.law_stations.proofs.Pairs.{changed-among, paired-put}

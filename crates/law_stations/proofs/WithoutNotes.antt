@@ -1,5 +1,5 @@
 -- A toss from any readers, with notes or without, is one from what is known of them, without notes, whose lines are others.
-use Rattle.std.proofs.Common.{◌≡◌, ◌∙◌, inl, inr, refl, sym, ap, subst, Bool, true, false, ℕ, List, [], ◌∷◌, ◌++◌, Option, None, Result, Ok, Err}
+use Rattle.std.proofs.Common.{◌≡◌, ◌∙◌, inl, inr, refl, sym, subst, Bool, true, false, ℕ, List, [], ◌∷◌, ◌++◌, Option, None, Result, Ok, Err}
 use Rattle.echo_status.specs.Devices.{Device}
 use Rattle.echo_status.specs.declared.fault.Fault.{Fault}
 use Rattle.echo_steps.specs.SystemState.{SystemState}

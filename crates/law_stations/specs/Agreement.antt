@@ -1,5 +1,5 @@
 -- A net of stations and a run of systems that say the same.
-use Rattle.std.specs.Prelude.{◌≡◌, ◌≢◌, ◌⊎◌, ℕ, List, [], ◌∷◌, ◌++◌, map, length, Option, Some, None, Ok}
+use Rattle.std.specs.Prelude.{◌≡◌, ◌≢◌, ◌⊎◌, ℕ, List, [], ◌∷◌, ◌++◌, map, length, None, Ok}
 use Rattle.echo_addr.specs.declared.address.Address.{Address}
 use Rattle.echo_graph.specs.Walk.{Among, Different}
 use Rattle.echo_packet.specs.Packet.{PacketOf}
