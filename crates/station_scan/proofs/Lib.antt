@@ -7,5 +7,6 @@ mod Published
 mod Sends
 mod Outs
 mod Looked
+mod Through
 mod Stops
 mod Runs

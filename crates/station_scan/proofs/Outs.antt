@@ -88,7 +88,7 @@ module _ (Own : List ℕ → Type 0) (outbound own : List ℕ) (is_true : Type 0
           with.others m (λ of. other (of_these m of))
           (⊎_elim (λ on. (ends.changes.named m on.1 on.0.0, ends.changes.flushed m on.1 on.0.1))
           (λ ended. (ends.named m (ended.0, ended.1, ⊎_elim (λ e. inl e) (λ p. inr p.0) ended.2), ends.flushed m ended)) at);
-      either = ⊎_elim (λ none. inl ((used.same.stands first c).0 none.0, none.1)) (λ all. inr ((used.same.stands next c).0 all.0, all.1)) with.either;
+      either = ⊎_elim (λ none. inl ((used.same.stands first c).0 none.0, none.1)) (λ all. inr ((used.same.stands next c).0 all.0, all.1, all.2)) with.either;
     })
 
     sent_crash : LeavesOnly s1.disk s2.disk (SendsThese s1 outbound own files first next) → LeavesOnly s0.disk s2.disk All_may
@@ -127,4 +127,4 @@ module _ (Own : List ℕ → Type 0) (outbound own : List ℕ) (s0 s1 : StoreSta
   sent_keeps files s2 kept =
       store_then (IsTouched s0.is_own outbound) s0 s1 s2 ended_keeps
       (store_wider (IsOfThese s1.is_own outbound own files) (IsTouched s0.is_own outbound) s1 s2
-      (λ m of. ⊎_elim (λ o. inl ((used.same.own m).0 o)) (λ p. inr (own, p.0.name, p.2, p.3)) of) kept)
+      (λ m of. ⊎_elim (λ o. inl ((used.same.own m).0 o)) (λ p. inr (own, (p.0.name, p.2, p.3))) of) kept)

@@ -102,7 +102,7 @@ module _ (place : Place) (d0 d2 : DiskState) (s1 s2 : StoreState) (begun : IsOpe
         others = λ m other on.
             with.others m (λ these. other (these_as Own place.is_own in_own outbound own files own_in m these))
             (⊎_elim (λ is. inl (on_disk_still m (λ o. other (inl o)) is.0, is.1)) (λ ended. inr ended) on);
-        either = ⊎_elim (λ none. inl ((of.stands base c).0 none.0, none.1)) (λ all. inr ((of.stands (all_scanned base) c).0 all.0, all.1)) with.either;
+        either = ⊎_elim (λ none. inl ((of.stands base c).0 none.0, none.1)) (λ all. inr ((of.stands (all_scanned base) c).0 all.0, all.1, all.2)) with.either;
       }))
 
       put_crash : LeavesOnly d0 d2 May

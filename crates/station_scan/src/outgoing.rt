@@ -53,7 +53,7 @@ fn fitting_packets<'p, O: OwnPaths>(
     sending: Sending<'p>,
     two: &'p [TwoPaths],
 ) -> Result<Vec<Outgoing<'p>>, Unpublished>
-    requires { two.now ≡ map (file_paths sending.entry.outbound.now sending.entry.own.now) sending.entry.files.now }
+    requires { two.now ≡ map (file_paths sending.outbound.now sending.own.now) sending.files.now }
     ensures fit { IfOk result (λ packets. AreFitting (O.is_own paths.now) sending.entry.outbound.now sending.entry.own.now sending.entry.files.now packets.items) }
     ensures err { IfErr result IsUnfit }
 {
