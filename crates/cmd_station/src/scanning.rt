@@ -2,12 +2,11 @@
 //! it is over any disk.
 
 use crate::place::{Place, Station, find_base};
-use crate::running::{by_name, counting, fault_in_folder, folder_place};
+use crate::running::{by_name, fault_in_folder, file_station, folder_place};
 use crate::unplaced::report_unplaced;
 use cmd_base_file::{LeftFiles, ScanFiles};
 use cmd_base_folder::Opened;
 use cmd_input::{LinkLock, Progress, folder_path, moment_of};
-use echo_base::BaseFault;
 use echo_device::Sink;
 use echo_file_scanning::{ScanFault, scan_at};
 use echo_folder_changing::Found;
@@ -17,7 +16,7 @@ use echo_real_disk::{RealDisk, Unknown};
 use echo_station_files::StationPaths;
 use echo_status::{Fault, Status};
 use echo_steps::Stamp;
-use std::collections::hash_map::RandomState;
+use station_file::FileStation;
 
 /// How many messages are taken at hand between two looks at the clock.
 const SOME: usize = 1_000;
@@ -97,14 +96,12 @@ fn scan_file<'a, W: Sink>(
     out: &mut W,
 ) -> Result<(), ScanFault<'a>> {
     let Scan { at, progress, .. } = scan;
-    let Ok(keys) = RandomState::new(at.rt) else {
-        return Err(ScanFault::Command(Fault::Base(BaseFault::Read)));
-    };
-    let hasher = counting(at, keys, Some(progress));
-    let paths = StationPaths {
-        links: at.place.links,
-        base: at.path,
-    };
+    let FileStation {
+        links,
+        base,
+        hasher,
+    } = file_station(at, Some(progress))?;
+    let paths = StationPaths { links, base };
     let mut disk = RealDisk::new(files, Unknown);
     let mut lock = LinkLock::new(at.rt);
     let mut listing = LeftFiles::new(at.rt);
