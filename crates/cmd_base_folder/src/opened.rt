@@ -6,7 +6,6 @@ use cmd_base::flush_name;
 use cmd_input::Tossing;
 use echo_disk::Disk;
 use echo_filed::Key;
-use echo_folder_changing::Preparing;
 use echo_folder_store::FolderStore;
 use echo_keys::SipDigest;
 use echo_status::Fault;
@@ -95,14 +94,5 @@ impl<'a, D: Disk> BeforeCommand<'a, FolderStore<D, SipDigest>> for Opened<'a, '_
                 Err(fault)
             }
         }
-    }
-}
-
-// For `scan`.
-impl<'a, D: Disk> Preparing<'a, FolderStore<D, SipDigest>> for Opened<'a, '_, '_> {
-    ghost met = { λ opened. opened.met };
-
-    fn prepare(&mut self, store: &mut FolderStore<D, SipDigest>) -> Result<(), Fault<'a>> {
-        BeforeCommand::prepare(self, store)
     }
 }

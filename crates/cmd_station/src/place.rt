@@ -5,9 +5,9 @@ use cmd_base_folder::{FoundFolder, found_in};
 use cmd_input::{MAX_TEXT_FILE, input_fault, lock_file, locked_folder};
 use echo_device::Watched;
 use echo_files::{OutputFault, read_whole, target_of};
-use echo_folder_changing::Found;
 use echo_links::LinkFile;
 use echo_status::Fault;
+use station_folder::Found;
 use std::fs::File;
 use std::{fs, io};
 

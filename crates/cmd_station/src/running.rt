@@ -9,7 +9,6 @@ use cmd_base_folder::Opened;
 use cmd_input::{LinkLock, Progress, Tossing};
 use echo_base::BaseFault;
 use echo_device::Sink;
-use echo_folder_changing::{FolderPlace, Found};
 use echo_keys::SipDigest;
 use echo_real_disk::{RealDisk, Unknown};
 use echo_status::Fault;
@@ -17,7 +16,7 @@ use echo_store::StoreError;
 use echo_store_changing::{Stop, StoreCommand};
 use station::{Ended, Locks, Nothing, Unread, run_command};
 use station_file::FileStation;
-use station_folder::FolderStation;
+use station_folder::{FolderPlace, FolderStation, Found};
 use std::collections::hash_map::RandomState;
 use std::marker::PhantomData;
 
@@ -74,7 +73,7 @@ fn run_on_file<'a, C: StoreCommand<'a>, W: Sink>(
     files.tidy();
     match done {
         Ok(answer) => Ok(answer),
-        Err(stop) => Err(by_name(at, stop.fault(at.place.base))),
+        Err(stop) => Err(fault_of(at, stop)),
     }
 }
 
@@ -96,16 +95,6 @@ pub fn file_station<'a>(
         base: at.path,
         hasher: Counting::new(keys, progress, messages),
     })
-}
-
-/// A fault of a station, whose base file is reported by the name that was given.
-pub fn by_name<'a>(at: Station<'a>, fault: Fault<'a>) -> Fault<'a> {
-    match fault {
-        Fault::CannotUse(other) if at.folder.is_none() && other == at.path => Fault::CannotUse(
-            at.place.base,
-        ),
-        other => other,
-    }
 }
 
 // The same where the base is a folder.
@@ -142,7 +131,7 @@ fn run_on_folder<'a, C: StoreCommand<'a>, W: Sink>(
     );
     match done {
         Ok(answer) => Ok(answer),
-        Err(stop) => Err(fault_in_folder(at, stop)),
+        Err(stop) => Err(fault_of(at, stop)),
     }
 }
 
@@ -155,11 +144,21 @@ pub fn folder_place<'a>(at: Station<'a>) -> FolderPlace<'a> {
     }
 }
 
-/// Why a command on a base folder stopped. Where a message is damaged it is told which one is the first.
-pub fn fault_in_folder<'a>(at: Station<'a>, stop: Stop<'a>) -> Fault<'a> {
+/// Why a command on a station stopped. Of a base folder with a damaged message it is reported which one is the first.
+pub fn fault_of<'a>(at: Station<'a>, stop: Stop<'a>) -> Fault<'a> {
     match stop {
-        Stop::Store(StoreError::Damaged) => damaged_in(at.rt, at.place.base),
-        other => other.fault(at.place.base),
+        Stop::Store(StoreError::Damaged) if at.folder.is_some() => damaged_in(at.rt, at.place.base),
+        other => by_name(at, other.fault(at.place.base)),
+    }
+}
+
+/// A fault of a station, whose base file is reported by the name that was given.
+pub fn by_name<'a>(at: Station<'a>, fault: Fault<'a>) -> Fault<'a> {
+    match fault {
+        Fault::CannotUse(path) if at.folder.is_none() && path == at.path => Fault::CannotUse(
+            at.place.base,
+        ),
+        other => other,
     }
 }
 

@@ -2,21 +2,21 @@
 //! it is over any disk.
 
 use crate::place::{Place, Station, find_base};
-use crate::running::{by_name, fault_in_folder, file_station, folder_place};
+use crate::running::{fault_of, file_station, folder_place};
 use crate::unplaced::report_unplaced;
 use cmd_base_file::{LeftFiles, ScanFiles};
 use cmd_base_folder::Opened;
 use cmd_input::{LinkLock, Progress, folder_path, moment_of};
 use echo_device::Sink;
-use echo_file_scanning::{ScanFault, scan_at};
-use echo_folder_changing::Found;
-use echo_folder_scanning::{ScanStop, Watching, scan_in};
 use echo_keys::SipDigest;
 use echo_real_disk::{RealDisk, Unknown};
-use echo_station_files::StationPaths;
 use echo_status::{Fault, Status};
 use echo_steps::Stamp;
-use station_file::FileStation;
+use echo_store_changing::Stop;
+use station::{Locks, Nothing};
+use station_folder::{FolderStation, Found};
+use station_scan::{Scan as Wanted, ScanStop, Watching, run_scan as scan_station};
+use std::marker::PhantomData;
 
 /// How many messages are taken at hand between two looks at the clock.
 const SOME: usize = 1_000;
@@ -84,8 +84,10 @@ fn scan_at_once<W: Sink, E: Sink>(scan: Scan<'_>, out: &mut W, errors: &mut E) -
     };
     match done {
         Ok(()) => Status::Good,
-        Err(ScanFault::Command(fault)) => by_name(at, fault).report(errors),
-        Err(ScanFault::Placing(cause)) => report_unplaced(scan, &files, cause, errors),
+        Err(ScanStop::Command(stop)) => fault_of(at, stop).report(errors),
+        Err(ScanStop::Placing(cause) | ScanStop::Staying(cause)) => {
+            report_unplaced(scan, &files, cause, errors)
+        }
     }
 }
 
@@ -94,30 +96,72 @@ fn scan_file<'a, W: Sink>(
     scan: Scan<'a>,
     files: &ScanFiles<'_, '_>,
     out: &mut W,
-) -> Result<(), ScanFault<'a>> {
-    let Scan { at, progress, .. } = scan;
-    let FileStation {
-        links,
-        base,
-        hasher,
-    } = file_station(at, Some(progress))?;
-    let paths = StationPaths { links, base };
-    let mut disk = RealDisk::new(files, Unknown);
-    let mut lock = LinkLock::new(at.rt);
-    let mut listing = LeftFiles::new(at.rt);
-    let done = scan_at(
+) -> Result<(), ScanStop<'a>> {
+    let at = scan.at;
+    let station = match file_station(at, Some(scan.progress)) {
+        Ok(station) => station,
+        Err(fault) => return Err(ScanStop::Command(Stop::Met(fault))),
+    };
+    let mut locks = Locks {
+        links: LinkLock::new(at.rt),
+        base: LinkLock::new(at.rt),
+    };
+    let scanned = scan_station(
         at.rt.alloc(),
-        &mut disk,
-        &mut lock,
-        &mut listing,
-        paths,
-        scan.slashed.as_bytes(),
-        scan.stamp,
-        hasher,
+        RealDisk::new(files, Unknown),
+        &mut locks,
+        station,
+        &mut Nothing,
+        &mut wanted(scan),
         out,
     );
     files.tidy();
-    done
+    scanned.done
+}
+
+// Scans a base folder, into another folder than that.
+fn scan_folder<'a, W: Sink>(
+    scan: Scan<'a>,
+    found: Found,
+    files: &ScanFiles<'_, '_>,
+    out: &mut W,
+) -> Result<(), ScanStop<'a>> {
+    let at = scan.at;
+    let station = FolderStation {
+        at: folder_place(at),
+        found,
+        digests: PhantomData::<SipDigest>,
+    };
+    let mut locks = Locks {
+        links: LinkLock::new(at.rt),
+        base: LinkLock::new(at.rt),
+    };
+    let mut opened = Opened::new(at.rt, at.place.base, None).apart_from(scan.folder);
+    let scanned = scan_station(
+        at.rt.alloc(),
+        RealDisk::new(files, Unknown),
+        &mut locks,
+        station,
+        &mut opened,
+        &mut wanted(scan),
+        out,
+    );
+    match scanned.done {
+        Err(ScanStop::Command(stop)) => Err(ScanStop::Command(Stop::Met(fault_of(at, stop)))),
+        done => done,
+    }
+}
+
+// What is asked of a scan.
+fn wanted<'a>(scan: Scan<'a>) -> Wanted<'a, LeftFiles<'a>, ScanProgress<'a>> {
+    Wanted {
+        stamp: scan.stamp,
+        outbound: scan.slashed.as_bytes(),
+        listing: LeftFiles::new(scan.at.rt),
+        watch: ScanProgress {
+            progress: scan.progress,
+        },
+    }
 }
 
 // A terminal is told how far a scan is.
@@ -132,38 +176,5 @@ impl Watching for ScanProgress<'_> {
             self.progress
                 .tell_message((place as u64).saturating_add(1), messages as u64);
         }
-    }
-}
-
-// Scans a base folder, into another folder than that.
-fn scan_folder<'a, W: Sink>(
-    scan: Scan<'a>,
-    found: Found,
-    files: &ScanFiles<'_, '_>,
-    out: &mut W,
-) -> Result<(), ScanFault<'a>> {
-    let Scan { at, progress, .. } = scan;
-    let mut opened = Opened::new(at.rt, at.place.base, None).apart_from(scan.folder);
-    let (mut lock, mut held) = (LinkLock::new(at.rt), LinkLock::new(at.rt));
-    let disk = RealDisk::new(files, Unknown);
-    let mut listing = LeftFiles::new(at.rt);
-    let scanned = scan_in::<_, SipDigest, _, _, _, _, _, _>(
-        at.rt.alloc(),
-        disk,
-        &mut lock,
-        &mut held,
-        folder_place(at),
-        found,
-        &mut opened,
-        &mut listing,
-        &ScanProgress { progress },
-        scan.slashed.as_bytes(),
-        scan.stamp,
-        out,
-    );
-    match scanned.done {
-        Ok(()) => Ok(()),
-        Err(ScanStop::Command(stop)) => Err(ScanFault::Command(fault_in_folder(at, stop))),
-        Err(ScanStop::Placing(cause)) => Err(ScanFault::Placing(cause)),
     }
 }

@@ -1,0 +1,4 @@
+mod Leading
+pub mod Commands
+pub mod Runs
+pub mod Neighbours

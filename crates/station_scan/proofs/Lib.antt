@@ -1,0 +1,11 @@
+mod Names
+mod Found
+mod Lefts
+mod Sent
+mod Lent
+mod Published
+mod Sends
+mod Outs
+mod Looked
+mod Stops
+mod Runs
