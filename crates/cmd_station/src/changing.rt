@@ -120,10 +120,20 @@ pub fn run_post_mail<W: Sink, E: Sink>(
     };
     match PostMail::read(rt.alloc(), &mail, asked) {
         Ok(post) => change(rt, place, &mut Asked::PostMail(post), None, out, errors),
-        Err(fault) => match locked_links(rt, place.links) {
-            Ok(_) => fault.report(errors),
-            Err(first) => first.report(errors),
-        },
+        Err(fault) => refuse_mail(rt, place.links, fault, errors),
+    }
+}
+
+// A mail is refused once the link file can be read.
+fn refuse_mail<E: Sink>(
+    rt: &HostRuntime,
+    links: &str,
+    fault: LetterFault,
+    errors: &mut E,
+) -> Status {
+    match locked_links(rt, links) {
+        Ok(_) => fault.report(errors),
+        Err(first) => first.report(errors),
     }
 }
 

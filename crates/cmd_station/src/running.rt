@@ -42,7 +42,7 @@ pub fn run_on<'a, C: StoreCommand<'a>, W: Sink>(
     }
 }
 
-// The same where the base is a file. A seed for its hasher that cannot be had is a failed read.
+// The same where the base is a file.
 fn run_on_file<'a, C: StoreCommand<'a>, W: Sink>(
     at: Station<'a>,
     before: Before<'a>,
@@ -50,14 +50,7 @@ fn run_on_file<'a, C: StoreCommand<'a>, W: Sink>(
     out: &mut W,
 ) -> Result<C::Answer, Fault<'a>> {
     let rt = at.rt;
-    let Ok(keys) = RandomState::new(rt) else {
-        return Err(Fault::Base(BaseFault::Read));
-    };
-    let station = FileStation {
-        links: at.place.links,
-        base: at.path,
-        hasher: counting(at, keys, before.progress),
-    };
+    let station = file_station(at, before.progress)?;
     let mut locks = Locks {
         links: LinkLock::new(rt),
         base: LinkLock::new(rt),
@@ -84,17 +77,24 @@ fn run_on_file<'a, C: StoreCommand<'a>, W: Sink>(
     }
 }
 
-/// The hasher of a base file.
-pub fn counting<'a>(
+/// A station whose base is a file, with a hasher that tells how far its reading is. A seed for that which cannot be had is a
+/// failed read.
+pub fn file_station<'a>(
     at: Station<'a>,
-    keys: RandomState,
     progress: Option<&'a Progress<'a>>,
-) -> Counting<'a, 'a> {
+) -> Result<FileStation<'a, Counting<'a, 'a>>, Fault<'a>> {
+    let Ok(keys) = RandomState::new(at.rt) else {
+        return Err(Fault::Base(BaseFault::Read));
+    };
     let messages = match progress {
         Some(_) => messages_at(at.rt, at.path),
         None => 0,
     };
-    Counting::new(keys, progress, messages)
+    Ok(FileStation {
+        links: at.place.links,
+        base: at.path,
+        hasher: Counting::new(keys, progress, messages),
+    })
 }
 
 // The same where the base is a folder.

@@ -2,12 +2,11 @@
 //! it is over any disk.
 
 use crate::place::{Place, Station, find_base};
-use crate::running::{counting, fault_of, folder_place};
+use crate::running::{fault_of, file_station, folder_place};
 use crate::unplaced::report_unplaced;
 use cmd_base_file::{LeftFiles, ScanFiles};
 use cmd_base_folder::Opened;
 use cmd_input::{LinkLock, Progress, folder_path, moment_of};
-use echo_base::BaseFault;
 use echo_device::Sink;
 use echo_keys::SipDigest;
 use echo_real_disk::{RealDisk, Unknown};
@@ -15,10 +14,8 @@ use echo_status::{Fault, Status};
 use echo_steps::Stamp;
 use echo_store_changing::Stop;
 use station::{Locks, Nothing};
-use station_file::FileStation;
 use station_folder::{FolderStation, Found};
 use station_scan::{Scan as Wanted, ScanStop, Watching, run_scan as scan_station};
-use std::collections::hash_map::RandomState;
 use std::marker::PhantomData;
 
 /// How many messages are taken at hand between two looks at the clock.
@@ -101,13 +98,9 @@ fn scan_file<'a, W: Sink>(
     out: &mut W,
 ) -> Result<(), ScanStop<'a>> {
     let at = scan.at;
-    let Ok(keys) = RandomState::new(at.rt) else {
-        return Err(ScanStop::Command(Stop::Met(Fault::Base(BaseFault::Read))));
-    };
-    let station = FileStation {
-        links: at.place.links,
-        base: at.path,
-        hasher: counting(at, keys, Some(scan.progress)),
+    let station = match file_station(at, Some(scan.progress)) {
+        Ok(station) => station,
+        Err(fault) => return Err(ScanStop::Command(Stop::Met(fault))),
     };
     let mut locks = Locks {
         links: LinkLock::new(at.rt),
@@ -153,7 +146,10 @@ fn scan_folder<'a, W: Sink>(
         &mut wanted(scan),
         out,
     );
-    scanned.done
+    match scanned.done {
+        Err(ScanStop::Command(stop)) => Err(ScanStop::Command(Stop::Met(fault_of(at, stop)))),
+        done => done,
+    }
 }
 
 // What is asked of a scan.
