@@ -5,7 +5,7 @@
 //! what the index names. So wherever a run is stopped, there stands a base with the first of its messages, and what is
 //! left behind the last of them is seen by nobody; only the number of active messages may be too small, until the next run.
 
-use crate::locked::{begun_again, locked_headers};
+use crate::locked::{begun_again, locked_headers, unlock};
 use crate::named::{bytes_of, jam_fault, open_file, open_or_make, write_at};
 use cmd_base::base_bytes;
 use echo_base::BaseFault;
@@ -57,7 +57,7 @@ pub fn run_export_jam<W: Sink, E: Sink>(
         Ok(()) => Ok(Status::Good),
         Err(fault) => Err(fault),
     };
-    let _ = files.headers.unlock();
+    unlock(&files.headers);
     match stopped {
         Some(error) => jam_fault(&error, path).report(errors),
         None => {

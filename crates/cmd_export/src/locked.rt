@@ -47,6 +47,12 @@ fn lock_first_byte<'a>(headers: &File, path: &'a str) -> Result<(), Fault<'a>> {
     }
 }
 
+/// Gives both locks back, first the one that no run waits for.
+pub(crate) fn unlock(headers: &File) {
+    let _ = os::try_lock_range(headers.as_raw_fd(), RangeLock::Unlock, 0, 1);
+    let _ = headers.unlock();
+}
+
 // Whether something has the path of one of the files.
 fn is_there<'a>(rt: &HostRuntime, path: &'a str, file: &str) -> Result<bool, Fault<'a>> {
     fs::exists(rt, file).map_err(|error| jam_fault(&error, path))
