@@ -48,16 +48,21 @@ def write(path, content):
         file.write(content)
 
 
+def quiet(words, mask=0o022):
+    """Runs the program under this umask."""
+    return subprocess.run(words, stdout=subprocess.PIPE, stderr=subprocess.DEVNULL, umask=mask, check=False)
+
+
 def waited(form, path, base, locked, change):
     """What a run prints that waits for a lock, while this is done."""
-    with open(locked, "rb") as file:
-        fcntl.flock(file, fcntl.LOCK_EX)
-        with subprocess.Popen(words_of(form, path, base), stdout=subprocess.PIPE) as waiting:
-            time.sleep(0.3)
-            expect("a run that waits", waiting.poll(), None)
-            change()
-            fcntl.flock(file, fcntl.LOCK_UN)
-            return waiting.communicate()[0].decode()
+    lock = os.open(locked, os.O_RDONLY)
+    fcntl.flock(lock, fcntl.LOCK_EX)
+    with subprocess.Popen(words_of(form, path, base), stdout=subprocess.PIPE) as waiting:
+        time.sleep(0.3)
+        expect("a run that waits", waiting.poll(), None)
+        change()
+        os.close(lock)
+        return waiting.communicate()[0].decode()
 
 
 def exported(count, end):
@@ -132,6 +137,7 @@ def post(path, number):
             headers.write(header + fields)
             headers.flush()
             index.write(struct.pack("<2I", jam.crc(to), place))
+        time.sleep(0.003)
         os.pwrite(headers.fileno(), struct.pack("<2I", changes + 1, active + 1), 8)
 
 
@@ -144,7 +150,7 @@ def try_posting(place, base, messages, posts, runs):
     if child == 0:
         for number in range(posts):
             post(path, number)
-            time.sleep(0.001)
+            time.sleep(0.003)
         os._exit(0)
     refused = 0
     for number in range(runs):
@@ -182,8 +188,11 @@ def try_first_byte(place, base, messages):
         fcntl.lockf(headers, fcntl.LOCK_EX, 1, 0)
         expect("a base that is locked", jam.run(path, base, 5), (3, "", "echonet: cannot use %s\n" % path))
         expect("what stands there", jam.contents(path), files)
+        # To close a file that was read gave the lock back.
+        fcntl.lockf(headers, fcntl.LOCK_EX, 1, 0)
         words = [os.path.join(TOP, "examples", "net", "reader.sh"), "--jam", station, "TEST", path]
-        with subprocess.Popen(words, stdout=subprocess.PIPE, env={**os.environ, "ECHONET": jam.PROGRAM}) as reader:
+        with subprocess.Popen(words, stdout=subprocess.PIPE, stderr=subprocess.DEVNULL,
+                              env={**os.environ, "ECHONET": jam.PROGRAM}) as reader:
             time.sleep(1.5)
             expect("reader.sh", reader.poll(), None)
             fcntl.lockf(headers, fcntl.LOCK_UN, 1, 0)
@@ -277,7 +286,7 @@ def try_left(place, base, messages):
         others = ["x.msg.~msg~.new", "4.msg.~1.10.2~.new", "4.msg.new"]
         for name in others:
             write(os.path.join(folder, name), content)
-        expect("left", subprocess.run(words_of("--msg", folder, base), stdout=subprocess.DEVNULL, check=False).returncode, 0)
+        expect("left", quiet(words_of("--msg", folder, base)).returncode, 0)
         expect("what is there", sorted(name for name in os.listdir(folder) if name.endswith("new")), sorted(others))
     for name in others:
         os.remove(os.path.join(folder, name))
@@ -286,7 +295,7 @@ def try_left(place, base, messages):
     os.link(path + ".jhr", beside)
     os.symlink(os.path.join(place, "base"), os.path.join(folder, "9.msg.~msg~.new"))
     for words in (words_of("--msg", folder, base), words_of("--jam", path, base)):
-        expect("linked", subprocess.run(words, stdout=subprocess.PIPE, check=False).stdout.decode(), exported(0, len(messages)))
+        expect("linked", quiet(words).stdout.decode(), exported(0, len(messages)))
     expect("stopped before it was removed", [os.path.exists(beside), os.path.exists(os.path.join(folder, "5.msg.~msg~.new"))],
            [False, False])
     expect("a link stays", os.path.islink(os.path.join(folder, "9.msg.~msg~.new")), True)
@@ -302,7 +311,7 @@ def try_modes(place, base, messages):
         path, folder = os.path.join(place, "mode%o" % mask), os.path.join(place, "mode%o.msg" % mask)
         os.makedirs(folder)
         for form, where in (("--jam", path), ("--msg", folder)):
-            subprocess.run(words_of(form, where, base), stdout=subprocess.DEVNULL, umask=mask, check=True)
+            expect("an export", quiet(words_of(form, where, base), mask).returncode, 0)
         files = [path + end for end in jam.ENDS] + [os.path.join(folder, name) for name in os.listdir(folder)]
         expect("modes", {os.stat(file).st_mode & 0o777 for file in files}, {0o666 & ~mask})
 
@@ -315,7 +324,6 @@ def main():
     for message in messages:
         if message.by == message.to == message.subject == b"":
             message.subject = b"x"
-    refused = 0
     for trial in (try_two_jam, try_begun, try_two_msg, try_first_byte, try_zeros, try_alone, try_links, try_left, try_modes):
         with tempfile.TemporaryDirectory() as place:
             trial(place, os.path.join(place, "base"), messages[:20])
