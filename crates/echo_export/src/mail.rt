@@ -1,5 +1,5 @@
 //! A message as one of a mailbox.
-ghost use Rattle.std.specs.Prelude.{◌≡◌, ◌==◌, ◌++◌, ◌<◌, IfOk, OnOk, length, option_copied, slice_index};
+ghost use Rattle.std.specs.Prelude.{◌≡◌, ◌==◌, ◌++◌, ◌<◌, IfOk, OnOk, codes, length, option_copied, slice_index};
 ghost use Rattle.std.specs.List.{flat_map, list_any};
 ghost use Rattle.echo_charset.specs.Losses as losses;
 ghost use Rattle.echo_export.specs.MailText.{are_digits_at, area_text, body_text, century, customary_line, date_line, echo_head, form_lines, found_lines, group_byte, has_day, has_time, head_text, id_lines, is_byte_at, is_customary, has_early_month, has_late_month, is_month, is_pair_at, pair_at, is_digit_at, all_bytes, name_bytes, mail_lost, mail_text, name_lines, seen_line, tag_line, way_lines, written_path};
@@ -291,9 +291,16 @@ fn push_group_byte(mail: &mut Vec<u8>, byte: u8) -> Result<(), AllocError>
 fn push_tag(mail: &mut Vec<u8>, tag: &[u8]) -> Result<(), AllocError>
     ensures { OnOk result (mail.new.items ≡ mail.old.items ++ tag_line tag.now) }
 {
-    if !has_comma(tag) {
-        return Ok(());
+    if has_comma(tag) {
+        push_whole_tag(mail, tag)
+    } else {
+        Ok(())
     }
+}
+
+fn push_whole_tag(mail: &mut Vec<u8>, tag: &[u8]) -> Result<(), AllocError>
+    ensures { OnOk result (mail.new.items ≡ mail.old.items ++ (codes "\nX-FTN-Area: " ++ tag.now)) }
+{
     push_bytes(mail, b"\nX-FTN-Area: ")?;
     push_bytes(mail, tag)
 }
