@@ -1,5 +1,4 @@
 pub mod Beneath
-pub mod Command
 pub mod Opening
 pub mod Place
 pub mod Running

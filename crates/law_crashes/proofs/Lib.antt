@@ -1,0 +1,11 @@
+pub mod Counting
+pub mod Tracking
+pub mod Ending
+pub mod Moving
+pub mod Others
+pub mod EachCommand
+pub mod Shown
+pub mod Whole
+pub mod Ended
+pub mod Elsewhere
+pub mod Parted

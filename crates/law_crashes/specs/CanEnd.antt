@@ -1,0 +1,15 @@
+-- What stopped scans of a station left beside names can be brought to its end.
+use Rattle.std.specs.Prelude.{ℕ}
+use Rattle.law_crashes.specs.Disks.{Disks, HasCursor}
+use Rattle.law_crashes.specs.Stopping.{EndsSome, HasNoneBeside}
+
+-- so many steps of a scan bring it to its end, all of it
+pub record CanEnd (i : ℕ) (d : Disks) : Type 0 where
+  pub steps : ℕ
+  pub ended : Disks
+  pub ends : EndsSome steps i d ended
+  pub none : HasNoneBeside i ended.beside
+
+-- so it is on any disks, at each station
+abbrev pub LeftCanEnd : Type 0
+LeftCanEnd = (i : ℕ) (d : Disks) (cursor : ℕ) → HasCursor d.net i cursor → CanEnd i d

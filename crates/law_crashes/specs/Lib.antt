@@ -1,0 +1,4 @@
+pub mod Disks
+pub mod Stopping
+pub mod CanEnd
+pub mod OverCrashes

@@ -1,0 +1,4 @@
+pub mod LoneStations
+pub mod AloneInOrder
+pub mod LoneDisks
+pub mod AloneOverCrashes

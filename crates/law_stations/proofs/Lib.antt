@@ -1,0 +1,15 @@
+pub mod Pairs
+pub mod Systems
+pub mod Packets
+pub mod Readings
+pub mod Places
+pub mod Putting
+pub mod OfEvents
+pub mod Tossed
+pub mod FileRuns
+pub mod OfToss
+pub mod EachEvent
+pub mod Unpurged
+pub mod Sound
+pub mod Headline
+pub mod WithoutNotes

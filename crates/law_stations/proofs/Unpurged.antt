@@ -1,0 +1,58 @@
+-- Where no purge was called a base has its messages as they were filed.
+use Rattle.std.proofs.Common.{◌≡◌, ◌⊎◌, inl, inr, refl, sym, subst, ap, ◌∙◌, ℕ, zero, suc, List, [], ◌∷◌, ◌++◌, take, Option, Some, None}
+use Rattle.echo_addr.specs.declared.address.Address.{Address}
+use Rattle.echo_graph.specs.Walk.{Among}
+use Rattle.echo_packet.specs.Message.{Message}
+use Rattle.echo_filed.specs.Filed.{Filed}
+use Rattle.echo_filed.specs.Stubs.{stub_of}
+use Rattle.echo_steps.specs.Tossing.{tossing}
+use Rattle.echo_run.specs.Run.{System, change, filing, nth, tossing_at}
+use Rattle.echo_run.proofs.Bases.{IsKept, Kept}
+use Rattle.echo_run.proofs.Lists.{nth-change}
+
+-- the system has its messages as they were filed
+abbrev pub IsAsFiled : System → Type 0
+IsAsFiled s = s.base ≡ s.history
+
+-- so has the one of this index
+abbrev pub AsFiledAt : ℕ → List System → Type 0
+AsFiledAt i systems = (s : System) → nth i systems ≡ Some s → IsAsFiled s
+
+pub filing-as_filed : (s : System) (o : Option Filed) → IsAsFiled s → IsAsFiled (filing s o)
+filing-as_filed s None same = same
+filing-as_filed s (Some m) same = ap (λ (ms : List Filed). ms ++ m ∷ []) same
+
+pub tossing-as_filed : (sender : Address) (ms : List Message) (s : System) → IsAsFiled s → IsAsFiled (tossing_at sender ms s)
+tossing-as_filed sender [] s same = same
+tossing-as_filed sender (q ∷ ms) s same =
+    tossing-as_filed sender ms (filing s (tossing s.file s.base sender q)) (filing-as_filed s (tossing s.file s.base sender q) same)
+
+-- a change of some system that leaves what is filed
+pub change-as_filed : (i j : ℕ) (f : System → System) (systems : List System) → (j ≡ i → (s : System) → nth j systems ≡ Some s → IsAsFiled s → IsAsFiled (f s))
+    → AsFiledAt i systems → AsFiledAt i (change j f systems)
+change-as_filed i j f systems keeps at z there =
+    elim (nth-change j i f z systems there) [
+      | inl other ↦ at z other.1
+      | inr here ↦ (
+          let (s, was, is) = here.1 in
+          let P : ℕ → Type 0 = λ n. nth n systems ≡ Some s in
+          subst IsAsFiled (sym is) (keeps here.0 s (subst P (sym here.0) was) (at s was)))
+    ]
+
+-- a message of a base is as it was filed, or stands before the cursor as a purge leaves it
+pub kept-where : (c : ℕ) (base history : List Filed) → Kept c base history → (m : Filed) → Among m base
+    → (filed : Filed) × Among filed history × IsKept m filed × ((m ≡ filed) ⊎ (Among m (take c base) × (m ≡ stub_of filed)))
+kept-where zero base history k m h =
+    let P : List Filed → Type 0 = λ ms. Among m ms in
+    (m, subst P k h, record { form = inl refl; key = refl; sender = refl }, inl refl)
+kept-where (suc c) [] history k m h = absurd h
+kept-where (suc c) (b ∷ base) [] k m h = absurd k
+kept-where (suc c) (b ∷ base) (filed ∷ history) k m h =
+    elim h [
+      | inl e ↦ (
+          let P : Filed → Type 0 = λ n. IsKept n filed in
+          (filed, inl refl, subst P (sym e) k.0, (elim k.0.form [ inl same ↦ inl (e ∙ same) | inr stub ↦ inr (inl e, e ∙ stub) ])))
+      | inr t ↦ (
+          let (f, at, is, form) = kept-where c base history k.1 m t in
+          (f, inr at, is, (elim form [ inl same ↦ inl same | inr left ↦ inr (inr left.0, left.1) ])))
+    ]

@@ -1,0 +1,91 @@
+-- A net of stations and a run of systems that say the same.
+use Rattle.std.specs.Prelude.{◌≡◌, ◌≢◌, ◌⊎◌, ℕ, List, [], ◌∷◌, ◌++◌, map, length, None, Ok}
+use Rattle.echo_addr.specs.declared.address.Address.{Address}
+use Rattle.echo_graph.specs.Walk.{Among, Different}
+use Rattle.echo_packet.specs.Packet.{PacketOf}
+use Rattle.echo_packet.specs.declared.limits.Limits.{Limits}
+use Rattle.echo_links.specs.Links.{LinkFile}
+use Rattle.echo_links.specs.LinkLines.{LinksOf}
+use Rattle.echo_filed.specs.Filed.{Filed}
+use Rattle.echo_base.specs.Base.{Base, IsBase}
+use Rattle.echo_steps.specs.declared.packet.Packet.{Packet}
+use Rattle.echo_run.specs.Event.{Delivery, PartDelivery, Posting, Purging, RunEvent, Scanning}
+use Rattle.echo_run.specs.Run.{Run, System, after_events, run_of}
+use Rattle.echo_status.specs.Inputs.{AreLinkFiles}
+use Rattle.echo_changing.specs.Posted.{draft_given}
+use Rattle.law_stations.specs.Commands.{Command, CommandEvent, Happen, Happens, Post, Purge, Scan, Toss}
+use Rattle.law_stations.specs.Nets.{Net, Paired, Station, first_net}
+
+-- the messages and the cursor of a system
+abbrev pub base_of : System → Base
+base_of s = record { messages = s.base; cursor = s.cursor }
+
+-- the link file and the base of a station are those of a system, and that is a base
+pub record HasSystem (station : Station) (s : System) : Type 0 where
+  pub links : LinksOf station.links (Ok s.file)
+  pub base : station.base ≡ base_of s
+  pub is_base : IsBase s.base s.cursor
+
+-- nothing of these bytes is too long
+abbrev pub limits_of : List ℕ → Limits
+limits_of bytes = record { text = length bytes; messages = length bytes }
+
+-- the bytes are those of the packet, whose header names the zone of the system that it is for
+pub record IsPacketFile (bytes : List ℕ) (p : Packet) : Type 0 where
+  pub packet : PacketOf (limits_of bytes) p.header p.messages bytes
+  pub zone : p.header.dest_zone ≢ 0
+
+-- the system filed the message, and it was posted there
+pub record HasPosting (m : Filed) (s : System) : Type 0 where
+  pub filed : Among m s.history
+  pub own : m.sender ≡ None
+
+-- The stations have the link files and the bases of the systems, the packet files are the bytes of the packets, in order, the same
+-- packets were delivered, and just what was posted was filed by its system.
+pub record Agrees (net : Net) (run : Run) : Type 0 where
+  pub stations : Paired HasSystem net.stations run.systems
+  pub packets : Paired IsPacketFile net.packets run.packets
+  pub delivered : net.delivered ≡ run.delivered
+  pub postings : (m : Filed) → Among m net.postings → (s : System) × Among s run.systems × HasPosting m s
+  pub only_postings : (s : System) → Among s run.systems → (m : Filed) → HasPosting m s → Among m net.postings
+
+-- the own address of a system
+abbrev pub own_address : System → Address
+own_address s = s.file.system
+
+abbrev pub file_address : LinkFile → Address
+file_address file = file.system
+
+-- what the toss of one packet file may be: no event, where it is refused, the delivery of the packet, or one that
+-- stops after its first messages
+abbrev pub IsTossOf : ℕ → List RunEvent → Type 0
+IsTossOf k events = (events ≡ []) ⊎ ((events ≡ Delivery k ∷ []) ⊎ ((messages : ℕ) × (events ≡ PartDelivery k messages ∷ [])))
+
+-- and of some, in order
+abbrev pub AreTossesOf : List ℕ → List RunEvent → Type 0
+AreTossesOf [] events = events ≡ []
+AreTossesOf (k ∷ later) events = (first : List RunEvent) × (rest : List RunEvent) × (events ≡ first ++ rest) × IsTossOf k first × AreTossesOf later rest
+
+-- the events of a run that a command which ends well is: one posting, one scan, one purge, or the tosses of its packets
+abbrev pub AreEventsOf : Command → ℕ → List RunEvent → Type 0
+AreEventsOf (Post words body) i events = events ≡ Posting i words.tag.now (draft_given words body) words.serial words.stamp ∷ []
+AreEventsOf (Scan stamp) i events = events ≡ Scanning i stamp ∷ []
+AreEventsOf Purge i events = events ≡ Purging i ∷ []
+AreEventsOf (Toss indexes) i events = AreTossesOf indexes events
+
+-- the events of some commands, one after another: those of the first, or none, and then those of the later ones
+abbrev pub AreEventsOfAll : List CommandEvent → List RunEvent → Type 0
+AreEventsOfAll [] events = events ≡ []
+AreEventsOfAll (command ∷ later) events =
+    (first : List RunEvent) × (rest : List RunEvent) × (events ≡ first ++ rest) × ((first ≡ []) ⊎ AreEventsOf command.command command.station first) × AreEventsOfAll later rest
+
+-- A command event that leads from a net to another is these events of the run that the net agrees with, or none.
+abbrev pub EventIsEvents : Type 0
+EventIsEvents = (event : CommandEvent) (net new : Net) (run : Run) → Different (map own_address run.systems) → Agrees net run → Happens event net new
+    → (events : List RunEvent) × ((events ≡ []) ⊎ AreEventsOf event.command event.station events) × Agrees new (after_events run events)
+
+-- after any command events, from stations with empty bases, the net agrees with a run of the events of these commands
+abbrev pub EventsAreARun : Type 0
+EventsAreARun = (links : List (List ℕ)) (files : List LinkFile) → AreLinkFiles links files → Different (map file_address files)
+    → (commands : List CommandEvent) (net : Net) → Happen commands (first_net links) net
+    → (events : List RunEvent) × AreEventsOfAll commands events × Agrees net (run_of files events)

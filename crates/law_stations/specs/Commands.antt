@@ -1,0 +1,125 @@
+-- What a command may do to a net of stations: it makes a base of that of one station, and that is committed there.
+use Rattle.std.specs.Prelude.{◌≡◌, ℕ, ◌⊎◌, ◌+◌, ◌-◌, true, List, [], ◌∷◌, length, map, take, Option, Some, None, Ok}
+use Rattle.std.specs.List.{AllByRecursion}
+use Rattle.echo_base.specs.Base.{Base}
+use Rattle.echo_packet.specs.Header.{AreBytes}
+use Rattle.echo_packet.specs.declared.limits.Limits.{Limits}
+use Rattle.echo_links.specs.Links.{LinkFile}
+use Rattle.echo_links.specs.LinkLines.{LinksOf}
+use Rattle.echo_steps.specs.PacketFiles.{PacketFile}
+use Rattle.echo_steps.specs.declared.stamp.Stamp.{Stamp}
+use Rattle.echo_steps.specs.Posting.{posted}
+use Rattle.echo_steps.specs.Scanning.{scanned}
+use Rattle.echo_steps.specs.Stamps.{is_stamp}
+use Rattle.echo_run.specs.Run.{nth}
+use Rattle.echo_status.specs.declared.fault.Fault.{Fault}
+use Rattle.echo_status.specs.Devices.{Device}
+use Rattle.echo_store.specs.Store.{all_scanned, purged}
+use Rattle.echo_toss.specs.PacketsIn.{state_in}
+use Rattle.echo_changing.specs.declared.posting.NewMessage.{NewMessage}
+use Rattle.echo_changing.specs.Coming.{Coming, Fails, Holds, Unknown}
+use Rattle.echo_changing.specs.Posted.{draft_given}
+use Rattle.echo_changing.specs.Scanned.{file_sent}
+use Rattle.echo_changing.specs.Tossed.{TossesEach, run_begun}
+use Rattle.echo_changing.specs.TossedPacket.{TossRun}
+use Rattle.echo_store_changing.specs.Posted as store
+use Rattle.law_stations.specs.Nets.{Net, Paired, Station, with_left, with_posting, with_tossed}
+
+-- the station of the index, and what its link file says
+pub record IsAt (net : Net) (i : ℕ) (station : Station) (file : LinkFile) : Type 0 where
+  pub there : nth i net.stations ≡ Some station
+  pub links : LinksOf station.links (Ok file)
+
+-- `post` commits the base with the message
+pub record Posts (words : NewMessage) (body : List ℕ) (net : Net) (i : ℕ) (new : Net) : Type 0 where
+  pub station : Station
+  pub file : LinkFile
+  pub at : IsAt net i station file
+  pub next : Base
+  pub makes : store.Posts file words body station.base next
+  pub becomes : new ≡ with_posting net i next (posted file words.tag.now (draft_given words body) words.serial words.stamp)
+
+-- the packets of a scan of this base, each of bytes
+pub record AreScanned (stamp : Stamp) (file : LinkFile) (base : Base) (packets : List PacketFile) : Type 0 where
+  pub moment : is_stamp stamp ≡ true
+  pub sent : packets ≡ map (file_sent base.cursor) (scanned file base.messages base.cursor stamp)
+  pub bytes : AllByRecursion (λ packet. AreBytes packet.bytes) packets
+
+-- `scan` leaves packet files, and commits the base with its cursor at the end
+pub record Scans (stamp : Stamp) (net : Net) (i : ℕ) (new : Net) : Type 0 where
+  pub station : Station
+  pub file : LinkFile
+  pub at : IsAt net i station file
+  pub packets : List PacketFile
+  pub made : AreScanned stamp file station.base packets
+  pub becomes : new ≡ with_left net i packets (all_scanned station.base)
+
+-- `purge` commits the base with its stubs
+pub record Purges (net : Net) (i : ℕ) (new : Net) : Type 0 where
+  pub station : Station
+  pub there : nth i net.stations ≡ Some station
+  pub becomes : new ≡ with_left net i [] (purged station.base)
+
+-- a reader of which just this is known
+abbrev pub itself : Device → Device
+itself reader = reader
+
+-- a file that `toss` is given is the packet file of the index, or it cannot be used
+abbrev pub IsPacketAt : List (List ℕ) → ℕ → Coming → Type 0
+IsPacketAt packets k (Holds bytes) = nth k packets ≡ Some bytes
+IsPacketAt packets k (Fails why) = Unit {0}
+IsPacketAt packets k Unknown = ⊥
+
+-- The indexes of the packets that were tossed whole: all where nothing stopped the run, else those before the one that
+-- did; behind that one are those that are left.
+abbrev pub whole_of : List ℕ → Option Fault → List Coming → List ℕ
+whole_of indexes None left = indexes
+whole_of indexes (Some fault) left = take (length indexes - (length left + 1)) indexes
+
+-- Files are tossed at a system with this base, in order, up to the first fault; then it has the other.
+pub record TossesAll (files : List Coming) (file : LinkFile) (base next : Base) : Type 0 where
+  pub limits : Limits
+  pub run : TossRun
+  pub stopped : Option Fault
+  pub left : List Coming
+  pub each : TossesEach itself files (run_begun limits (state_in file base)) stopped left run
+  pub state : run.system ≡ state_in file next
+
+-- `toss` commits what it filed, also where a fault ended its run
+pub record Tosses (indexes : List ℕ) (net : Net) (i : ℕ) (new : Net) : Type 0 where
+  pub station : Station
+  pub file : LinkFile
+  pub at : IsAt net i station file
+  pub files : List Coming
+  pub are : Paired (IsPacketAt net.packets) indexes files
+  pub next : Base
+  pub tosses : TossesAll files file station.base next
+  pub becomes : new ≡ with_tossed net i next (whole_of indexes tosses.stopped tosses.left)
+
+-- A command and what it was given on its command line; packets go by their index in the list of all packet files.
+pub data Command : Type 0 where
+  Post : (words : NewMessage) (body : List ℕ) → Command
+  Scan : (stamp : Stamp) → Command
+  Purge : Command
+  Toss : (indexes : List ℕ) → Command
+
+-- a command is called at the station of an index
+pub record CommandEvent : Type 0 where
+  pub station : ℕ
+  pub command : Command
+
+-- the command ends well
+abbrev pub Leads : Command → Net → ℕ → Net → Type 0
+Leads (Post words body) net i new = Posts words body net i new
+Leads (Scan stamp) net i new = Scans stamp net i new
+Leads Purge net i new = Purges net i new
+Leads (Toss indexes) net i new = Tosses indexes net i new
+
+-- What a command event may do. Where the command is refused, or a device fails before it has committed, all is as before.
+abbrev pub Happens : CommandEvent → Net → Net → Type 0
+Happens event net new = (new ≡ net) ⊎ Leads event.command net event.station new
+
+-- what command events may do, one after another
+abbrev pub Happen : List CommandEvent → Net → Net → Type 0
+Happen [] net new = new ≡ net
+Happen (event ∷ later) net new = (next : Net) × Happens event net next × Happen later next new

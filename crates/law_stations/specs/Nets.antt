@@ -1,0 +1,77 @@
+-- Nets of stations, and the packet files between them.
+use Rattle.std.specs.Prelude.{ℕ, List, [], ◌∷◌, ◌++◌, map}
+use Rattle.echo_base.specs.Base.{Base}
+use Rattle.echo_filed.specs.Filed.{Filed}
+use Rattle.echo_run.specs.Run.{change, with_index}
+use Rattle.echo_steps.specs.PacketFiles.{PacketFile}
+
+-- the items of two lists are so, pair by pair
+abbrev pub Paired : {X Y : Type 0} → (X → Y → Type 0) → List X → List Y → Type 0
+Paired IsSo [] [] = Unit {0}
+Paired IsSo (x ∷ xs) (y ∷ ys) = IsSo x y × Paired IsSo xs ys
+Paired IsSo _ _ = ⊥
+
+-- a station: the bytes of its link file, and its base, whatever that is kept in
+pub record Station : Type 0 where
+  pub links : List ℕ
+  pub base : Base
+
+-- The stations; the bytes of all packet files that scans left, in order; the indexes of those that were
+-- tossed whole where they are for, each once; and the messages that were posted, in order.
+pub record Net : Type 0 where
+  pub stations : List Station
+  pub packets : List (List ℕ)
+  pub delivered : List ℕ
+  pub postings : List Filed
+
+-- a base with no message
+abbrev pub empty_base : Base
+empty_base = record { messages = []; cursor = 0 }
+
+-- a station of this link file whose base is empty
+abbrev pub new_station : List ℕ → Station
+new_station links = record { links = links; base = empty_base }
+
+-- the net of these link files before the first command
+abbrev pub first_net : List (List ℕ) → Net
+first_net links = record { stations = map new_station links; packets = []; delivered = []; postings = [] }
+
+-- the station with this base in place of the old one
+abbrev pub with_base : Base → Station → Station
+with_base base station = record { links = station.links; base = base }
+
+-- the bytes of a packet file
+abbrev pub bytes_of : PacketFile → List ℕ
+bytes_of file = file.bytes
+
+-- one index after the other joins those that were delivered
+abbrev pub with_indexes : List ℕ → List ℕ → List ℕ
+with_indexes [] delivered = delivered
+with_indexes (k ∷ later) delivered = with_indexes later (with_index k delivered)
+
+-- a command has ended: its packet files stand behind the others, and its base at the station of the index
+abbrev pub with_left : Net → ℕ → List PacketFile → Base → Net
+with_left net i packets base = record {
+  stations = change i (with_base base) net.stations;
+  packets = net.packets ++ map bytes_of packets;
+  delivered = net.delivered;
+  postings = net.postings;
+}
+
+-- the same, and this message was posted
+abbrev pub with_posting : Net → ℕ → Base → Filed → Net
+with_posting net i base m = record {
+  stations = change i (with_base base) net.stations;
+  packets = net.packets;
+  delivered = net.delivered;
+  postings = net.postings ++ m ∷ [];
+}
+
+-- the same, and the packets of these indexes were tossed whole
+abbrev pub with_tossed : Net → ℕ → Base → List ℕ → Net
+with_tossed net i base whole = record {
+  stations = change i (with_base base) net.stations;
+  packets = net.packets;
+  delivered = with_indexes whole net.delivered;
+  postings = net.postings;
+}
