@@ -5,7 +5,6 @@ use Rattle.echo_steps.specs.SystemState.{SystemState}
 use Rattle.echo_toss.specs.PacketsIn.{state_in}
 use Rattle.echo_run.specs.Run.{change}
 use Rattle.echo_changing.specs.Coming.{Coming, Fails, Holds, Unknown}
-use Rattle.echo_changing.specs.Tossed.{run_begun}
 use Rattle.law_stations.specs.Commands.{Command, CommandEvent, Happens, Post, Purge, Scan}
 use Rattle.law_stations.specs.Nets.{Net, Paired, Station, with_base, with_left}
 use Rattle.law_stations.proofs.FileRuns.{IsPartly, TossedFiles, tossed-all, wholes}

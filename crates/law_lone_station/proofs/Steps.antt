@@ -14,7 +14,6 @@ use Rattle.echo_toss.specs.PacketsIn.{state_in}
 use Rattle.echo_run.specs.Run.{Run, change, nth, scanning_at, state_of}
 use Rattle.echo_changing.specs.Coming.{Coming}
 use Rattle.echo_changing.specs.Posted.{draft_given}
-use Rattle.echo_changing.specs.Tossed.{run_begun}
 use Rattle.law_stations.specs.Agreement.{Agrees, HasSystem, IsPacketFile}
 use Rattle.law_stations.specs.Nets.{Paired, Station, with_left}
 use Rattle.law_stations.proofs.FileRuns.{TossedFiles, tossed-all, wholes}
