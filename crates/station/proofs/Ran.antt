@@ -6,11 +6,10 @@ use Rattle.echo_disk.specs.Disk.{DiskState, Files}
 use Rattle.echo_disk.specs.Runs.{ChangesNothing, LeavesOnly}
 use Rattle.echo_disk.proofs.Moments.{then_nothing, then_run, weaker_run}
 use Rattle.echo_store.specs.Store.{HasStoreCause, KeepsBeside, LooksOn, SameBesideStore, StandsForEither, StandsBeside, StoreState}
-use Rattle.echo_store_changing.specs.Answered.{HasCommitted, MayMake, StandsForMade}
+use Rattle.echo_store_changing.specs.Answered.{HasCommitted, MayMake, StandsForMade, StaysWhereMet}
 use Rattle.echo_store_changing.specs.Stops.{store_answer}
 use Rattle.echo_store_changing.specs.declared.stop.Stop.{Stop}
 use Rattle.echo_store_changing.specs.declared.stop.Stop.TheVariants.{Met, Store}
-use Rattle.station.specs.Command.{StaysWhereMet}
 use Rattle.station.specs.Opening.{IsOpenFor}
 use Rattle.station.specs.Place.{IsOfPlace, KeepsElsewhere, Place, SameElsewhere, StandsAlone, StandsOrWasLeft}
 use Rattle.station.specs.Running.{IsKept, IsRunOn, LeavesWhereMet, MadeOrWasLeft}

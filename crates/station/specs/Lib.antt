@@ -1,4 +1,4 @@
-pub mod Command
+pub mod Beneath
 pub mod Opening
 pub mod Place
 pub mod Running

@@ -8,13 +8,12 @@ ghost use Rattle.station.specs.Place.{KeepsElsewhere};
 ghost use Rattle.station.specs.Running.{RunsIn};
 
 use crate::before::BeforeCommand;
-use crate::command::StoreCommand;
 use crate::locks::Locks;
 use crate::opening::{OpenStation, Opened};
 use echo_device::Sink;
 use echo_disk::Disk;
 use echo_station_files::FileLock;
-use echo_store_changing::Stop;
+use echo_store_changing::{Stop, StoreCommand};
 use std::alloc::Global;
 
 /// The disk after a command, and how that ended.

@@ -1,0 +1,4 @@
+mod Leading
+pub mod Events
+pub mod Runs
+pub mod Neighbours

@@ -1,0 +1,82 @@
+-- Each command that was run on a station does what its command event may do.
+use Rattle.std.proofs.Common.{inr, ℕ, Bool, List, Option, Result, Ok, slice_get}
+use Rattle.echo_base.specs.Base.{Base}
+use Rattle.echo_changing.specs.declared.posting.NewMessage.{NewMessage}
+use Rattle.echo_changing.specs.declared.replying.Answer.{Answer}
+use Rattle.echo_changing.specs.Coming.{Coming}
+use Rattle.echo_disk.specs.Disk.{DiskState}
+use Rattle.echo_links.specs.Links.{LinkFile}
+use Rattle.echo_links.specs.LinkLines.{LinksOf}
+use Rattle.echo_mailing.specs.declared.letter.Letter.{Letter}
+use Rattle.echo_mailing.specs.declared.mailed.MailWords.{MailWords}
+use Rattle.echo_mailing.specs.Posted.{Mails, MailsOn}
+use Rattle.echo_packet.specs.declared.limits.Limits.{Limits}
+use Rattle.echo_status.specs.declared.fault.Fault.{Fault}
+use Rattle.echo_status.specs.Devices.{Device, Output}
+use Rattle.echo_store_changing.specs.declared.stop.Stop.{Stop}
+use Rattle.echo_store_changing.specs.FreeSerial.{PostsAs, PostsAsOn}
+use Rattle.echo_store_changing.specs.Purged.{HoldsOrPurges, Purges, PurgesOn}
+use Rattle.echo_store_changing.specs.Replied.{Replies, RepliesOn}
+use Rattle.echo_store_changing.specs.Tossed.{Tosses, TossesIn, TossesTo}
+use Rattle.echo_toss.specs.PacketsIn.{state_in}
+use Rattle.station.specs.Place.{KeepsElsewhere, Place}
+use Rattle.station.specs.Running.{RunsIn}
+use Rattle.law_stations.specs.Commands.{TossesAll}
+use Rattle.law_stations.specs.Kinds.{IsPurge, IsToss}
+use Rattle.law_disks.specs.Kinds.{IsMail, IsPostAs, IsReplyAs}
+use Rattle.law_disks.specs.OnDisks.{AsMay, TossesAsMay}
+use Rattle.law_disks.proofs.Events.{holding-or-purging, mailing, posting-as, purging, replying, tossing}
+use Rattle.law_disks.proofs.Leading.{does}
+
+module _ (place : Place) (Reads : LinkFile → Type 0) (Shut : Fault → Type 0) (failed : Type 0) (old new : DiskState) (kept : KeepsElsewhere place old new) (out out_now : Output) where
+  pub purge-does : (result : Result (Unit {0}) Stop) → RunsIn (λ file base. PurgesOn base out out_now result) (λ file. Purges) (λ file. HoldsOrPurges) place Reads Shut failed old new out out_now result
+      → AsMay (λ base. IsPurge) place Reads old new result
+  purge-does result runs i d links read at =
+      does IsPurge place links i d old new at kept
+      (λ file base. PurgesOn base out out_now result) (λ file. Purges) (λ file. HoldsOrPurges) Reads read Shut failed result
+      (λ file next says may. holding-or-purging at.shows.station file i d at.shows.there says next may)
+      (λ file next says purges. purging at.shows.station file i d at.shows.there says next purges) out out_now runs
+
+  pub post-does : (free : Bool) (words : NewMessage) (body : List ℕ) (result : Result (Unit {0}) Stop)
+      → RunsIn (λ file base. PostsAsOn free words (state_in file base) body out out_now result) (λ file. PostsAs free file words body) (λ file. PostsAs free file words body) place Reads Shut failed old new out out_now result
+      → AsMay (λ base. IsPostAs free words body) place Reads old new result
+  post-does free words body result runs i d links read at =
+      let leads = λ (file : LinkFile) (next : Base) (says : LinksOf at.shows.station.links (Ok file)) (posts : PostsAs free file words body at.shows.station.base next).
+      posting-as at.shows.station file i d at.shows.there says (IsPostAs free words body) free words body next (λ command is. is) posts in
+      does (IsPostAs free words body) place links i d old new at kept
+      (λ file base. PostsAsOn free words (state_in file base) body out out_now result) (λ file. PostsAs free file words body) (λ file. PostsAs free file words body) Reads read Shut failed result
+      (λ file next says posts. inr (leads file next says posts)) leads out out_now runs
+
+  pub reply-does : (index : ℕ) (answer : Answer) (body : List ℕ) (result : Result (Unit {0}) Stop)
+      → RunsIn (λ file base. RepliesOn (slice_get base.messages index) answer (state_in file base) body out out_now result) (λ file. Replies file index answer body) (λ file. Replies file index answer body)
+      place Reads Shut failed old new out out_now result → AsMay (IsReplyAs index answer body) place Reads old new result
+  reply-does index answer body result runs i d links read at =
+      let leads = λ (file : LinkFile) (next : Base) (says : LinksOf at.shows.station.links (Ok file)) (replies : Replies file index answer body at.shows.station.base next).
+      replying at.shows.station file i d at.shows.there says index answer body next replies in
+      does (IsReplyAs index answer body at.shows.station.base) place links i d old new at kept
+      (λ file base. RepliesOn (slice_get base.messages index) answer (state_in file base) body out out_now result) (λ file. Replies file index answer body) (λ file. Replies file index answer body)
+      Reads read Shut failed result (λ file next says replies. inr (leads file next says replies)) leads out out_now runs
+
+  pub mail-does : (letter : Letter) (asked : MailWords) (result : Result (Unit {0}) Stop)
+      → RunsIn (λ file base. MailsOn letter asked (state_in file base) out out_now result) (λ file. Mails file letter asked) (λ file. Mails file letter asked) place Reads Shut failed old new out out_now result
+      → AsMay (λ base. IsMail letter asked) place Reads old new result
+  mail-does letter asked result runs i d links read at =
+      let leads = λ (file : LinkFile) (next : Base) (says : LinksOf at.shows.station.links (Ok file)) (mails : Mails file letter asked at.shows.station.base next).
+      mailing at.shows.station file i d at.shows.there says letter asked next mails in
+      does (IsMail letter asked) place links i d old new at kept
+      (λ file base. MailsOn letter asked (state_in file base) out out_now result) (λ file. Mails file letter asked) (λ file. Mails file letter asked)
+      Reads read Shut failed result (λ file next says mails. inr (leads file next says mails)) leads out out_now runs
+
+  module _ {R : Type 0} (noting : Bool) (limits : Limits) (device : R → Device)
+      (known : (file : LinkFile) (files : List Coming) (base next : Base) → Tosses noting limits device file files base next → TossesAll files file base next) where
+    pub toss-does : (files left : List Coming) (result : Result (Option Fault) Stop)
+        → RunsIn (λ file base. TossesIn noting limits device file base files left out out_now result) (λ file base. TossesTo noting limits device file base files left out out_now result) (λ file. Tosses noting limits device file files)
+        place Reads Shut failed old new out out_now result → TossesAsMay files place Reads old new result
+    toss-does files left result runs indexes i d are links read at =
+        let leads = λ (file : LinkFile) (next : Base) (says : LinksOf at.shows.station.links (Ok file)) (tosses : Tosses noting limits device file files at.shows.station.base next).
+        tossing at.shows.station file i d at.shows.there says files indexes next are (known file files at.shows.station.base next tosses) in
+        does (IsToss indexes) place links i d old new at kept
+        (λ file base. TossesIn noting limits device file base files left out out_now result) (λ file base. TossesTo noting limits device file base files left out out_now result) (λ file. Tosses noting limits device file files)
+        Reads read Shut failed result
+        (λ file next says tosses. inr (leads file next says tosses))
+        (λ file next says to. leads file next says (record { stopped = to.tossed.stopped; left = left; run = to.tossed.run; each = to.tossed.each; state = to.state })) out out_now runs

@@ -1,0 +1,3 @@
+pub mod Kinds
+pub mod OnDisks
+pub mod Neighbours
