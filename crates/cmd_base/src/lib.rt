@@ -15,6 +15,6 @@ mod loading;
 
 pub use converting::run_convert;
 pub use folders::{base_bytes, drawn_key, flush_name, is_folder, is_strange, look_into};
-pub use front::BASE_START;
+pub use front::{BASE_START, messages_at, messages_in};
 pub use listing::list_folder;
 pub use loading::Counting;

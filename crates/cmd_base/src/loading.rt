@@ -3,7 +3,6 @@
 
 ghost use Rattle.std.specs.RandomState.{initial_hasher};
 
-use crate::front::{messages_at, messages_in};
 use cmd_input::Progress;
 use std::cell::Cell;
 use std::collections::hash_map::RandomState;
@@ -14,47 +13,21 @@ use std::hash::{BuildHasher, DefaultHasher};
 pub struct Counting<'p, 'r> {
     keys: RandomState,
     progress: Option<&'p Progress<'r>>,
-    // The base file, until its front was looked at.
-    unseen: Cell<Option<BaseAt<'p, 'r>>>,
-    messages: Cell<u64>,
+    messages: u64,
     found: Cell<u64>,
 }
 
-// A base file that is to be read.
-#[derive(Clone, Copy)]
-struct BaseAt<'p, 'r> {
-    rt: &'r HostRuntime,
-    path: &'p str,
-}
-
 impl<'p, 'r> Counting<'p, 'r> {
-    /// For the base file with these bytes, if there is one. Where no progress is given nothing is told.
+    /// For a base of so many messages. Where no progress is given nothing is told.
     pub fn new(
         keys: RandomState,
         progress: Option<&'p Progress<'r>>,
-        base: Option<&[u8]>,
+        messages: u64,
     ) -> Counting<'p, 'r> {
         Counting {
             keys,
             progress,
-            unseen: Cell::new(None),
-            messages: Cell::new(messages_in(base)),
-            found: Cell::new(0),
-        }
-    }
-
-    /// For the base file with this path, at which is looked once the first of its messages came.
-    pub fn at(
-        keys: RandomState,
-        progress: &'p Progress<'r>,
-        rt: &'r HostRuntime,
-        path: &'p str,
-    ) -> Counting<'p, 'r> {
-        Counting {
-            keys,
-            progress: Some(progress),
-            unseen: Cell::new(Some(BaseAt { rt, path })),
-            messages: Cell::new(0),
+            messages,
             found: Cell::new(0),
         }
     }
@@ -64,14 +37,10 @@ impl<'p, 'r> Counting<'p, 'r> {
         let Some(progress) = self.progress else {
             return;
         };
-        if let Some(base) = self.unseen.take() {
-            self.messages.set(messages_at(base.rt, base.path));
-        }
         let found = self.found.get().saturating_add(1);
         self.found.set(found);
-        let messages = self.messages.get();
-        if found <= messages && progress.is_due() {
-            progress.tell_message(found, messages);
+        if found <= self.messages && progress.is_due() {
+            progress.tell_message(found, self.messages);
         }
     }
 }

@@ -1,11 +1,11 @@
 //! The packets that earlier scans left beside their names, listed. The number in a name is how many messages were scanned
 //! before, so it shows whether that scan came to move the cursor.
 ghost use Rattle.std.specs.Prelude.{◌≡◌, IfOk};
-ghost use Rattle.echo_file_scanning.specs.Listing.{AreListed};
+ghost use Rattle.station_scan.specs.Listing.{AreListed};
 
 use echo_addr::Items;
 use echo_disk::DiskError;
-use echo_file_scanning::{LeftPacket, Listing};
+use station_scan::{LeftPacket, Listing};
 use std::alloc::{AllocError, Global};
 use std::fs::DirEntry;
 use std::io::ErrorKind;

@@ -2,8 +2,8 @@
 
 use cmd_base::{drawn_key, is_strange};
 use cmd_input::folder_path;
-use echo_folder_changing::Found;
 use echo_status::Fault;
+use station_folder::Found;
 
 /// What is found of a base folder before it is opened, and the path that its files have before their names.
 #[derive(Drop)]

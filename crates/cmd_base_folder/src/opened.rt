@@ -1,16 +1,16 @@
 //! What the program does with a base folder that is open, before a command on it.
-ghost use Rattle.std.specs.Prelude.{None};
+ghost use Rattle.std.specs.Prelude.{◌≡◌, Some};
 
 use crate::expecting::expected_keys;
 use cmd_base::flush_name;
 use cmd_input::Tossing;
 use echo_disk::Disk;
 use echo_filed::Key;
-use echo_folder_changing::Preparing;
 use echo_folder_store::FolderStore;
 use echo_keys::SipDigest;
 use echo_status::Fault;
 use echo_store::Store;
+use station::BeforeCommand;
 use std::fs;
 use std::os::unix::fs::MetadataExt;
 
@@ -79,8 +79,10 @@ fn are_one_folder(rt: &HostRuntime, one: &str, other: &str) -> bool {
     }
 }
 
-impl<'a, D: Disk> Preparing<'a, FolderStore<D, SipDigest>> for Opened<'a, '_, '_> {
-    ghost met = { λ opened. opened.met };
+impl<'a, D: Disk> BeforeCommand<'a, FolderStore<D, SipDigest>> for Opened<'a, '_, '_> {
+    ghost stops = { λ opened fault. opened.met ≡ Some fault };
+
+    ghost lets = { λ opened. Unit {0} };
 
     fn prepare(&mut self, store: &mut FolderStore<D, SipDigest>) -> Result<(), Fault<'a>> {
         let keys = self.keys(store.len());

@@ -1,6 +1,6 @@
 //! The commands that print what a base holds.
 
-use cmd_base::{Counting, base_bytes, is_folder, list_folder};
+use cmd_base::{Counting, base_bytes, is_folder, list_folder, messages_in};
 use cmd_input::Progress;
 use echo_base::BaseFault;
 use echo_device::Sink;
@@ -30,7 +30,7 @@ pub fn run_list<'a, W: Sink>(
     }
     let keys = RandomState::new(rt).map_err(|_| Fault::Base(BaseFault::Read))?;
     let bytes = base_bytes(rt, base)?;
-    let hasher = Counting::new(keys, Some(progress), Some(&bytes));
+    let hasher = Counting::new(keys, Some(progress), messages_in(&bytes));
     list(rt.alloc(), area, first, &bytes, hasher, out)
 }
 

@@ -5,20 +5,20 @@
 //! is proved to be safe and to end, and no more. What these commands read and write is promised by the crates that run
 //! them on any disk.
 //!
-//! Modules in reading order: `station` (what the words ask for) and `posting` (the words of `post`). Where the base is a
-//! file, `on_file` and `scan_on_file`; where it is a folder, `on_folder` and `scan_on_folder`. `unplaced` names the file at
-//! which a scan failed.
+//! Modules in reading order: `place` (where the base is, and whether it is a file or a folder), `running` (a command on it),
+//! `posting` (the words of `post`), `changing` and `tossing` (the commands as their words ask for them), `scanning`, and
+//! `unplaced` (the file at which a scan failed).
 #![tactic(auto)]
 
-mod on_file;
-mod on_folder;
+mod changing;
+mod place;
 mod posting;
-mod scan_on_file;
-mod scan_on_folder;
-mod station;
+mod running;
+mod scanning;
+mod tossing;
 mod unplaced;
 
+pub use changing::{run_post, run_post_mail, run_post_stored, run_purge, run_reply};
 pub use posting::new_message;
-pub use station::{
-    run_post, run_post_mail, run_post_stored, run_purge, run_reply, run_scan, run_toss,
-};
+pub use scanning::{ScanWords, run_scan};
+pub use tossing::run_toss;

@@ -1,10 +1,34 @@
 //! Where the packets of a scan could not be put in place.
 
-use crate::station::Place;
+use crate::place::Place;
+use crate::scanning::Scan;
+use cmd_base_file::ScanFiles;
+use echo_device::Sink;
+use echo_placing::PlacingError;
+use echo_status::{Fault, Status};
 
-/// The path at which a call failed, by the name that was given: of the folder of packets, of the base, or of a packet. The
-/// base has this path, which ends in a slash where it is a folder, and so has the folder of packets.
-pub fn named<'n>(
+/// Reports why the packets of a scan were not put in place, and where, if that was noted.
+pub fn report_unplaced<E: Sink>(
+    scan: Scan<'_>,
+    files: &ScanFiles<'_, '_>,
+    cause: PlacingError,
+    errors: &mut E,
+) -> Status {
+    let met = match cause {
+        PlacingError::Memory => return Fault::OutOfMemory.report(errors),
+        PlacingError::Taken => files.taken_at(),
+        PlacingError::Device => files.failed_at().or(files.taken_at()),
+    };
+    let path = match &met {
+        Some(met) => named(scan.at.place, scan.at.path, scan.folder, scan.slashed, met),
+        None => scan.folder,
+    };
+    Fault::CannotUse(path).report(errors)
+}
+
+// The path at which a call failed, by the name that was given: of the folder of packets, of the base, or of a packet. The
+// base has this path, which ends in a slash where it is a folder, and so has the folder of packets.
+fn named<'n>(
     place: Place<'n>,
     base: &str,
     folder: &'n str,

@@ -1,14 +1,13 @@
-//! The first posting of the worked examples, and what crashes leave of it and of a purge.
-use crate::station::{AT, LINKS, NoWaiting};
+//! The first posting of the worked examples, and what crashes leave of it.
+use crate::memory_station::{LINKS, NoWaiting, station};
 use echo_changing::NewMessage;
 use echo_device::Watched;
 use echo_disk::{Disk, DiskError, read_file};
-use echo_file_changing::{post_at, purge_at};
 use echo_memory_disk::{MemoryDisk, Tear};
-use echo_status::Fault;
 use echo_steps::Stamp;
+use echo_store_changing::{Post, Stop};
+use station::{Ended, Locks, Nothing, run_command};
 use std::alloc::{AllocError, Global};
-use std::hash::{BuildHasherDefault, FoldHasher};
 use std::test::Fail;
 
 /// The base with the first posting, field by field: the numbers; first byte, sender, DateTime; names and subject; the
@@ -49,15 +48,40 @@ fn started(alloc: Global, tears: Vec<Tear>) -> Result<MemoryDisk, DiskError> {
     Ok(disk)
 }
 
-// Posts the first message, and answers what was printed.
-fn post_first(alloc: Global, disk: &mut MemoryDisk) -> (Result<(), Fault<'static>>, Vec<u8>) {
+/// The disk after a posting, how that ended, and what it printed.
+#[derive(Drop)]
+struct Posted {
+    disk: MemoryDisk,
+    done: Result<(), Stop<'static>>,
+    printed: Vec<u8>,
+}
+
+// Posts the first message.
+fn post_first(alloc: Global, disk: MemoryDisk) -> Posted {
     let mut out = Watched::new(Vec::new(alloc));
-    let mut lock = NoWaiting::new(alloc);
-    let hasher: BuildHasherDefault<FoldHasher> = BuildHasherDefault::default();
-    let ended = post_at(
-        alloc, disk, &mut lock, AT, hasher, WORDS, b"Hello", None, &mut out,
+    let mut locks = Locks {
+        links: NoWaiting::new(alloc),
+        base: NoWaiting::new(alloc),
+    };
+    let mut post = Post {
+        words: WORDS,
+        free: false,
+        body: b"Hello",
+    };
+    let Ended { disk, done } = run_command(
+        alloc,
+        disk,
+        &mut locks,
+        station(),
+        &mut Nothing,
+        &mut post,
+        &mut out,
     );
-    (ended, out.into_inner())
+    Posted {
+        disk,
+        done,
+        printed: out.into_inner(),
+    }
 }
 
 // The bytes of the base file, none where there is no such file.
@@ -71,14 +95,14 @@ fn base_of(alloc: Global, disk: &mut MemoryDisk) -> Result<Vec<u8>, DiskError> {
 #[test]
 fn the_first_posting_is_in_the_base_file(rt: HostRuntime) -> Result<(), Fail> {
     let alloc = rt.alloc();
-    let mut disk = started(alloc, Vec::new(alloc))?;
-    let (ended, printed) = post_first(alloc, &mut disk);
-    assert!(rt; ended.is_ok());
+    let disk = started(alloc, Vec::new(alloc))?;
+    let mut posted = post_first(alloc, disk);
+    assert!(rt; posted.done.is_ok());
     assert_eq!(rt;
-        printed.as_slice(),
+        posted.printed.as_slice(),
         b"posted TEST 1:10/1 00000001\n".as_slice()
     );
-    let base = base_of(alloc, &mut disk)?;
+    let base = base_of(alloc, &mut posted.disk)?;
     assert_eq!(rt; base.as_slice(), POSTED);
     Ok(())
 }
@@ -106,14 +130,14 @@ fn a_crash_leaves_no_base_file_or_the_whole(rt: HostRuntime) -> Result<(), Fail>
         'calls: for calls in 0..40 {
             let mut disk = started(alloc, tears(alloc, way)?)?;
             disk.crash(calls)?;
-            let (ended, _) = post_first(alloc, &mut disk);
-            disk.crash(u64::MAX)?;
-            let base = base_of(alloc, &mut disk)?;
+            let mut posted = post_first(alloc, disk);
+            posted.disk.crash(u64::MAX)?;
+            let base = base_of(alloc, &mut posted.disk)?;
             assert!(rt;
                 base.is_empty() || base.as_slice() == POSTED,
                 "way {way}, {calls} calls"
             );
-            if ended.is_ok() {
+            if posted.done.is_ok() {
                 assert!(rt; !base.is_empty());
                 whole = whole.saturating_add(1);
                 break 'calls;

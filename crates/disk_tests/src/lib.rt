@@ -14,12 +14,12 @@ mod crashes;
 #[cfg(test)]
 mod files;
 #[cfg(test)]
+mod memory_station;
+#[cfg(test)]
 mod on_real_files;
 #[cfg(test)]
 mod random;
 #[cfg(test)]
 mod real_disk;
-#[cfg(test)]
-mod station;
 #[cfg(test)]
 mod system_files;

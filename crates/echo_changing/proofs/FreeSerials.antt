@@ -1,5 +1,5 @@
 -- Serials that are looked for.
-use Rattle.std.proofs.Common.{◌≡◌, ℕ, zero, suc, ◌+◌, ◌-◌, ◌%◌, ◌^◌, ◌<◌, ◌⊎◌, inl, inr, true, false, List, Some, None, Result, Ok, Err, refl, subst, sym, arith}
+use Rattle.std.proofs.Common.{◌≡◌, ℕ, zero, suc, ◌+◌, ◌-◌, ◌%◌, ◌^◌, ◌<◌, ◌⊎◌, inl, inr, true, false, List, Some, None, refl, subst, sym, arith}
 use Rattle.std.proofs.lemmas.Bool.{cases_Bool, cases_order}
 use Rattle.echo_filed.specs.Filed.{Filed}
 use Rattle.echo_links.specs.Links.{LinkFile}
@@ -8,20 +8,9 @@ use Rattle.echo_steps.specs.declared.fault.PostFault.{PostFault}
 use Rattle.echo_steps.specs.declared.fault.PostFault.TheVariants as post
 use Rattle.echo_steps.specs.declared.stamp.Stamp.{Stamp}
 use Rattle.echo_steps.specs.Posting.{IsPostFault, post_refusal}
-use Rattle.echo_steps.specs.SystemState.{SystemState}
 use Rattle.echo_steps.proofs.FirstRefusals.{refusal_first}
 use Rattle.echo_steps.proofs.Posted.{allowed}
-use Rattle.echo_status.specs.declared.fault.Fault.{Fault}
-use Rattle.echo_status.specs.declared.fault.Fault.TheVariants.{Post}
-use Rattle.echo_status.specs.Devices.{Output}
-use Rattle.echo_status.specs.Ended.{Answers, IsOutOfMemory}
-use Rattle.echo_changing.specs.declared.leaving.Files.{Files}
-use Rattle.echo_changing.specs.declared.posting.NewMessage.{NewMessage}
-use Rattle.echo_changing.specs.FreeSerial.{FilesFree, IsFirstFree, PostsFree, is_taken, serial_after, with_serial}
-use Rattle.echo_changing.specs.Handed.{Handed}
-use Rattle.echo_changing.specs.Posted.{IsLeft, draft_given}
-use Rattle.echo_changing.specs.System.{IsSystemGiven, IsTooMany}
-use Rattle.echo_changing.proofs.Stationed.{post_left, refusal_answered}
+use Rattle.echo_changing.specs.FreeSerial.{IsFirstFree, is_taken, serial_after}
 
 -- the serials of so many first steps are taken
 abbrev pub AreTaken : LinkFile → List Filed → ℕ → ℕ → Type 0
@@ -100,33 +89,3 @@ taken_where_known file base tag draft start steps serial stamp why at is known =
     let refused = subst (IsPostFault file base tag draft serial stamp) known is in
     let all = (refusal_first file base tag draft serial stamp post.KnownSerial).0 refused in
     subst (λ (n : ℕ). is_taken file base n ≡ true) at all.5
-
--- there is no memory
-pub free_memory : (words : NewMessage) (handed : Handed) (body : List ℕ) (system : SystemState) (fault : Fault) (old : Output) → IsOutOfMemory fault
-    → PostsFree words handed body old old (Err fault) system
-free_memory words handed body system fault old none =
-    let found = first_of_all system.file system.base words.serial in
-    record { serial = found.0; first = found.1; posted = inr (inl none, refl) }
-
--- a message is not filed
-pub free_refused : (words : NewMessage) (handed : Handed) (body : List ℕ) (system left : SystemState) (draft : Draft) (why : PostFault) (old : Output)
-    → IsSystemGiven handed.links handed.base system → handed.stopped ≡ None → draft ≡ draft_given words body
-    → FilesFree system words.tag.now draft words.serial words.stamp (Err why) left → PostsFree words handed body old old (Err (Post why)) system
-free_refused words handed body system left draft why old given went_on drafted (inl memory) =
-    rw memory (free_memory words handed body system (Post post.Memory) old tt)
-free_refused words handed body system left draft why old given went_on drafted (inr (serial, first, refused)) = record {
-  serial = serial;
-  first = first;
-  posted = refusal_answered (with_serial words serial) handed body system draft why old given went_on drafted refused;
-}
-
--- a message is filed, and its line printed and its base left, or not
-pub free_left : (words : NewMessage) (handed : Handed) (body : List ℕ) (system left : SystemState) (draft : Draft) (serial : ℕ) (old new : Output)
-    (answer : Result Files Fault) → IsSystemGiven handed.links handed.base system → handed.stopped ≡ None → draft ≡ draft_given words body
-    → FilesFree system words.tag.now draft words.serial words.stamp (Ok serial) left
-    → Answers (IsLeft words.tag.now serial left) (IsTooMany left.base left.cursor) old new answer → PostsFree words handed body old new answer system
-free_left words handed body system left draft serial old new answer given went_on drafted filed done = record {
-  serial = serial;
-  first = filed.0;
-  posted = post_left (with_serial words serial) handed body system left draft old new answer given went_on drafted filed.1 filed.2 done;
-}

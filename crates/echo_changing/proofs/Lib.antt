@@ -1,3 +1,2 @@
-pub mod Stationed
 pub mod FreeSerials
 pub mod Tossings

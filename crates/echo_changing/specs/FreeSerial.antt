@@ -1,23 +1,11 @@
 -- A posting whose serial is looked for.
-use Rattle.std.specs.Prelude.{◌≡◌, ℕ, ◌⊎◌, ◌+◌, ◌-◌, ◌%◌, ◌^◌, ◌<◌, Bool, true, false, List, Some, None, Result, Ok, Err}
+use Rattle.std.specs.Prelude.{◌≡◌, ℕ, ◌⊎◌, ◌+◌, ◌-◌, ◌%◌, ◌^◌, ◌<◌, Bool, true, false, List}
 use Rattle.std.specs.List.{list_any}
 use Rattle.echo_text.specs.Ids.{id_of}
 use Rattle.echo_filed.specs.Filed.{Filed, has_id}
 use Rattle.echo_links.specs.Links.{LinkFile}
-use Rattle.echo_steps.specs.declared.draft.Draft.{Draft}
-use Rattle.echo_steps.specs.declared.fault.PostFault.{PostFault}
 use Rattle.echo_steps.specs.declared.fault.PostFault.TheVariants as post
-use Rattle.echo_steps.specs.declared.stamp.Stamp.{Stamp}
-use Rattle.echo_steps.specs.Posting.{post_refusal, posted}
-use Rattle.echo_steps.specs.SystemState.{SystemState, state_with}
-use Rattle.echo_status.specs.declared.fault.Fault.{Fault}
-use Rattle.echo_status.specs.Devices.{Output}
-use Rattle.echo_status.specs.Ended.{IsOutOfMemory}
-use Rattle.echo_changing.specs.declared.leaving.Files.{Files}
 use Rattle.echo_changing.specs.declared.posting.NewMessage.{NewMessage}
-use Rattle.echo_changing.specs.Handed.{Handed}
-use Rattle.echo_changing.specs.Posted.{PostAnswers}
-use Rattle.echo_changing.specs.System.{IsFirstFaultOf, IsSystemGiven}
 
 -- a message of the base has the id that the system gives with this serial
 abbrev pub is_taken : LinkFile → List Filed → ℕ → Bool
@@ -45,30 +33,3 @@ with_serial words serial = record {
   serial = serial;
   stamp = words.stamp;
 }
-
--- a message is filed with the first serial that is free, or it is refused with that one; there may be no memory
-abbrev pub FilesFree : SystemState → List ℕ → Draft → ℕ → Stamp → Result ℕ PostFault → SystemState → Type 0
-FilesFree old tag draft start stamp (Ok serial) new =
-    IsFirstFree old.file old.base start serial
-    × (post_refusal old.file old.base tag draft serial stamp ≡ None)
-    × (new ≡ state_with old (Some (posted old.file tag draft serial stamp)))
-FilesFree old tag draft start stamp (Err why) new =
-    (why ≡ post.Memory)
-    ⊎ ((serial : ℕ) × IsFirstFree old.file old.base start serial × (post_refusal old.file old.base tag draft serial stamp ≡ Some why))
-
--- the files have the fault, or there was no memory, and nothing is printed
-abbrev pub FilesRefuse : Handed → Output → Output → Result Files Fault → Type 0
-FilesRefuse handed old new (Ok files) = ⊥
-FilesRefuse handed old new (Err fault) = (IsOutOfMemory fault ⊎ IsFirstFaultOf handed fault) × (new ≡ old)
-
--- the message is posted as with the first serial that is free at a system
-pub record PostsFree (words : NewMessage) (handed : Handed) (body : List ℕ) (old new : Output) (answer : Result Files Fault) (system : SystemState) : Type 0 where
-  pub serial : ℕ
-  pub first : IsFirstFree system.file system.base words.serial serial
-  pub posted : PostAnswers (with_serial words serial) handed body old new answer
-
--- what is answered where a message is to be posted with the first serial, from the one of the words on, that is free at the system of the files
-abbrev pub FreeAnswers : NewMessage → Handed → List ℕ → Output → Output → Result Files Fault → Type 0
-FreeAnswers words handed body old new answer =
-    FilesRefuse handed old new answer
-    ⊎ ((system : SystemState) × IsSystemGiven handed.links handed.base system × PostsFree words handed body old new answer system)

@@ -1,9 +1,5 @@
-pub mod Handed
 pub mod Lines
-pub mod Files
-pub mod System
 pub mod Scanned
-pub mod Purged
 pub mod Posted
 pub mod FreeSerial
 pub mod Replied

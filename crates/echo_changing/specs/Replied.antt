@@ -1,22 +1,13 @@
 -- An answer to a message of the base: the words that the message gives.
-use Rattle.std.specs.Prelude.{◌≡◌, ℕ, ◌⊎◌, ◌-◌, ◌++◌, ◌==◌, ◌&&◌, not, nat_lt, Bool, true, false, codes, List, [], length, Option, Some, None, if◌then◌else◌, slice_get, slice_index, take, Result, Ok, Err}
+use Rattle.std.specs.Prelude.{◌≡◌, ℕ, ◌-◌, ◌++◌, ◌==◌, ◌&&◌, not, nat_lt, Bool, codes, List, [], length, Option, Some, None, if◌then◌else◌, slice_index, take}
 use Rattle.std.specs.Char.{eq_ignore_ascii_case}
 use Rattle.echo_filed.specs.Filed.{Filed}
 use Rattle.echo_packet.specs.Message.{max_subject}
-use Rattle.echo_steps.specs.SystemState.{SystemState}
 use Rattle.echo_text.specs.Echo.{msgid_of}
 use Rattle.echo_text.specs.Ids.{is_id}
-use Rattle.echo_status.specs.declared.fault.Fault.{Fault}
-use Rattle.echo_status.specs.declared.fault.Fault.TheVariants.{BadNumber}
-use Rattle.echo_status.specs.Devices.{Output}
-use Rattle.echo_changing.specs.declared.leaving.Files.{Files}
 use Rattle.echo_changing.specs.declared.posting.NewMessage.{NewMessage}
 use Rattle.echo_changing.specs.declared.replying.Answer.{Answer}
 use Rattle.echo_changing.specs.declared.replying.Found.{Found}
-use Rattle.echo_changing.specs.FreeSerial.{FilesRefuse, PostsFree}
-use Rattle.echo_changing.specs.Handed.{Handed}
-use Rattle.echo_changing.specs.Posted.{PostAnswers}
-use Rattle.echo_changing.specs.System.{IsSystemGiven}
 
 -- whether a subject is that of an answer: it begins with `Re:`, in letters of either case
 abbrev pub is_answer : List ℕ → Bool
@@ -55,31 +46,3 @@ pub record IsReply (m : Filed) (answer : Answer) (words : NewMessage) : Type 0 w
   pub reply : words.reply.now ≡ named_id (msgid_of m.echo.kept)
   pub serial : words.serial ≡ answer.serial
   pub stamp : words.stamp ≡ answer.stamp
-
--- words are posted with their serial, or with the first from that on that is free
-abbrev pub PostsAs : Bool → NewMessage → Handed → List ℕ → Output → Output → Result Files Fault → SystemState → Type 0
-PostsAs false words handed body old new ended system = PostAnswers words handed body old new ended
-PostsAs true words handed body old new ended system = PostsFree words handed body old new ended system
-
--- the words of an answer are posted
-pub record PostsReply (m : Filed) (answer : Answer) (handed : Handed) (body : List ℕ) (old new : Output) (ended : Result Files Fault) (system : SystemState) : Type 0 where
-  pub words : NewMessage
-  pub of_message : IsReply m answer words
-  pub posted : PostsAs answer.free words handed body old new ended system
-
--- there is no such message, and nothing is printed
-abbrev pub HasNone : Output → Output → Result Files Fault → Type 0
-HasNone old new (Ok files) = ⊥
-HasNone old new (Err fault) = (fault ≡ BadNumber) × (new ≡ old)
-
--- what becomes of an answer to the message that is found, or not
-abbrev pub RepliesTo : Option Filed → Answer → Handed → List ℕ → Output → Output → Result Files Fault → SystemState → Type 0
-RepliesTo None answer handed body old new ended system = HasNone old new ended
-RepliesTo (Some m) answer handed body old new ended system = PostsReply m answer handed body old new ended system
-
--- what is answered where the message of this number is to be answered, at the system of the files
-abbrev pub ReplyAnswers : ℕ → Answer → Handed → List ℕ → Output → Output → Result Files Fault → Type 0
-ReplyAnswers index answer handed body old new ended =
-    FilesRefuse handed old new ended
-    ⊎ ((system : SystemState) × IsSystemGiven handed.links handed.base system
-    × RepliesTo (slice_get system.base index) answer handed body old new ended system)

@@ -1,5 +1,5 @@
 //! `post --mail` as a command on a store.
-ghost use Rattle.std.specs.Prelude.{◌≡◌, false};
+ghost use Rattle.std.specs.Prelude.{false};
 ghost use Rattle.echo_toss.specs.PacketsIn.{state_in};
 ghost use Rattle.echo_mailing.specs.Posted.{Mails, MailsOn, ReadsMail};
 

@@ -14,15 +14,14 @@ use Rattle.echo_filed.specs.Written.{echo_of}
 use Rattle.echo_filed.proofs.Texts.{says_accepted, says_one}
 use Rattle.echo_steps.specs.declared.outcome.Outcome.{Outcome}
 use Rattle.echo_steps.specs.declared.outcome.Outcome.TheVariants.{BadTag, Filed, Known, NoArea, NotEcho, NotLinked}
-use Rattle.echo_steps.specs.SystemState.{SystemState, state_with}
-use Rattle.echo_steps.specs.Tossing.{received, toss_outcome, tossed, tossing, where_filed}
+use Rattle.echo_steps.specs.SystemState.{SystemState}
+use Rattle.echo_steps.specs.Tossing.{toss_outcome, tossed, tossing, where_filed}
 use Rattle.echo_toss.specs.declared.tally.Tally.{Tally}
 use Rattle.echo_toss.specs.declared.fault.TossCause.TheVariants as stop
-use Rattle.echo_toss.specs.Messages.{HasTaken, IsOpened, TakesSome, TossesToEnd}
+use Rattle.echo_toss.specs.Messages.{HasTaken, IsOpened, TossesToEnd}
 use Rattle.echo_toss.specs.PacketSteps.{HasTossed, TossesAll}
 use Rattle.echo_toss.specs.Tallies.{tally_of}
 use Rattle.echo_toss.proofs.Stops.{some_tossed}
-use Rattle.echo_toss.proofs.Tossed.{state_same}
 use Rattle.echo_noting.specs.Notes.{area_said, note_of, notes_of, said_unless, text_said}
 use Rattle.echo_noting.specs.NotedPacket.{NotesSome, NotesTaken}
 
@@ -92,15 +91,6 @@ not_filed NoArea m other = refl
 not_filed NotLinked m other = refl
 not_filed Known m other = refl
 
-pub state_stays : (sender : Address) (mid new : SystemState) (m : Message) (answer : Outcome)
-    → (answer ≡ toss_outcome mid.file mid.base sender m) × (new ≡ state_with mid (tossing mid.file mid.base sender m)) → answer ≢ Filed → new ≡ mid
-unfolding tossing
-state_stays sender mid new m answer step other =
-    step.1
-    ∙ ap (λ o. state_with mid (where_filed o (received sender m))) (sym step.0)
-    ∙ ap (state_with mid) (not_filed answer (received sender m) other)
-    ∙ sym (state_same mid)
-
 -- the notes on a packet's messages
 pub noted_some : (limits : Limits) (sender : Address) (old new : SystemState) (before mid : Option (List ℕ)) (tally : Tally) (text noted : List ℕ)
     → IsOpened old.file before mid sender → NotesTaken limits sender old mid tally new text noted → NotesSome limits old before tally new text noted
@@ -139,28 +129,4 @@ none_noted limits sender old before tally text failed room none free = record {
   notes = sym (append-nil text);
   device = refl;
   free = free;
-}
-
--- the messages before one that was not noted
-pub some_noted : (limits : Limits) (sender : Address) (old mid new : SystemState) (before left : Option (List ℕ)) (ms : List Message) (given at : ℕ) (tally : Tally) (text noted still : List ℕ)
-    → HasTaken limits sender old before left ms given at tally mid → new ≡ mid → noted ≡ text ++ notes_of old.file old.base sender 1 58 ms → still ≡ noted
-    → NotesTaken limits sender old before tally new text still
-some_noted limits sender old mid new before left ms given at tally text noted still h stays notes same = record {
-  messages = ms;
-  left = left;
-  given = given;
-  at = at;
-  taken = subst (HasTaken limits sender old before left ms given at tally) (sym stays) h;
-  notes = same ∙ notes;
-}
-
-pub some_refused : (limits : Limits) (sender : Address) (old mid new : SystemState) (before left after : Option (List ℕ)) (ms : List Message) (given at : ℕ) (tally : Tally)
-    → HasTaken limits sender old before left ms given at tally mid → new ≡ mid → TakesSome limits sender old before after tally stop.Memory new
-some_refused limits sender old mid new before left after ms given at tally h stays = record {
-  messages = ms;
-  left = left;
-  given = given;
-  at = at;
-  taken = subst (HasTaken limits sender old before left ms given at tally) (sym stays) h;
-  stops = tt;
 }

@@ -13,14 +13,14 @@ ghost use Rattle.echo_toss.specs.Tallies.{tally_of};
 ghost use Rattle.echo_noting.specs.Notes.{note_of};
 ghost use Rattle.echo_noting.specs.NotedIn.{NotesMessagesIn, NotesPacketIn};
 
-use crate::noting::note_outcome;
+use crate::note::note_line;
 use echo_addr::Address;
 use echo_device::Source;
 use echo_links::LinkFile;
 use echo_packet::{HEADER_BYTES, Limits, Packed, read_next};
 use echo_store::Store;
 use echo_toss::{Outcome, StoppedToss, Tally, TossCause, TossStop, opened, toss_in};
-use std::alloc::Global;
+use std::alloc::{AllocError, Global};
 
 /// Tosses the packet at the front of what the reader has into the store, as `toss_packet_in` does, and adds to the text a
 /// line for each of its messages that was not filed. `room` more bytes stay free behind the text. Nothing is committed.
@@ -124,5 +124,33 @@ fn note_in(
     match note_outcome(alloc, text, room, number, place, outcome, message) {
         Ok(()) => Ok(()),
         Err(_) => Err(TossStop::Packet(TossCause::Memory)),
+    }
+}
+
+// Adds the line of a message that was not filed, and leaves as much room as there was.
+fn note_outcome(
+    alloc: Global,
+    text: &mut Vec<u8>,
+    room: usize,
+    number: u64,
+    place: u64,
+    outcome: Outcome,
+    message: &Packed,
+) -> Result<(), AllocError>
+    requires small { room < 2 ^ 62 }
+    requires room { vec_len text.old + room ≤ vec_capacity text.old }
+    ensures ok { OnOk result (text.new.items ≡ text.old.items ++ note_of number place outcome message.now) }
+    ensures err { OnErr result (text.new.items ≡ text.old.items) }
+    ensures other { IsErr result → outcome ≢ Filed }
+    ensures room { vec_len text.new + room ≤ vec_capacity text.new }
+{
+    match outcome {
+        Outcome::Filed => Ok(()),
+        other => {
+            let line = note_line(alloc, number, place, other, message)?;
+            text.reserve(line.len() + room)?;
+            text.extend_from_slice(&line).unwrap();
+            Ok(())
+        }
     }
 }

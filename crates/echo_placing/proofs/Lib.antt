@@ -4,6 +4,5 @@ pub mod Each
 pub mod Ended
 pub mod Named
 pub mod Packets
-pub mod Published
 pub mod Replaced
 pub mod Whole

@@ -1,5 +1,4 @@
 pub mod Changes
-pub mod Commits
 pub mod Finishing
 pub mod Naming
 pub mod Outgoing

@@ -1,13 +1,8 @@
 -- Packets and a commit.
-use Rattle.std.specs.Prelude.{◌≡◌, ◌≤◌, ◌⊎◌, ℕ, List, All, Result, IsErrOf}
+use Rattle.std.specs.Prelude.{◌≤◌, ℕ, List, Result, IsErrOf}
 use Rattle.echo_device.specs.Device.{Failed}
-use Rattle.echo_disk.specs.Disk.{Files}
 use Rattle.echo_disk.specs.declared.disk_error.DiskError.{DiskError}
 use Rattle.echo_disk.specs.declared.disk_error.DiskError.TheVariants as disk_error
-use Rattle.echo_placing.specs.Changes.{DifferAt}
-use Rattle.echo_placing.specs.Commits.{Change}
-use Rattle.echo_placing.specs.Naming.{StandsWhole}
-use Rattle.echo_placing.specs.Outgoing.{SendsBytes, IsOfOne}
 use Rattle.echo_placing.specs.declared.outgoing.Outgoing.{Outgoing}
 use Rattle.echo_placing.specs.declared.placing_error.PlacingError.{PlacingError}
 use Rattle.echo_placing.specs.declared.placing_error.PlacingError.TheVariants as error
@@ -16,16 +11,6 @@ use Rattle.echo_placing.specs.declared.placing_error.PlacingError.TheVariants as
 pub record IsApartFrom (paths : List ℕ → Type 0) (p : Outgoing) : Type 0 where
   pub path : paths p.path.now → ⊥
   pub beside : paths p.beside.now → ⊥
-
--- what a path has is what it had
-abbrev pub IsUntouched : Files → Files → Outgoing → Type 0
-IsUntouched before after p = after p.path.now ≡ before p.path.now
-
--- No commit, and no packet of these at its path; or the commit, and each packet, which is bytes, whole at its path or beside it. All else is
--- as it was.
-pub record Publishes (change : Change) (packets : List Outgoing) (before after : Files) : Type 0 where
-  pub others : DifferAt (λ m. change.own m ⊎ IsOfOne packets m) before after
-  pub either : (change.stays before after × All (IsUntouched before after) packets) ⊎ (change.comes after × All (StandsWhole after) packets × All SendsBytes packets)
 
 -- a disk's fault, as a fault of placing
 abbrev pub placing_cause : DiskError → PlacingError

@@ -1,5 +1,5 @@
 //! Packets get their paths: each a second path by a link, and then the path beside it goes.
-ghost use Rattle.std.specs.Prelude.{◌≡◌, ◌≢◌, ◌⊎◌, ◌↔◌, ◌≤◌, ℕ, List, true, false, All, IfOk, OnOk, IsSome};
+ghost use Rattle.std.specs.Prelude.{◌≡◌, ◌≢◌, ◌⊎◌, ◌↔◌, ℕ, List, true, false, All, IfOk, OnOk, IsSome};
 ghost use Rattle.echo_disk.specs.Disk.{Honestly, IsIn};
 ghost use Rattle.echo_disk.specs.Runs.{ChangesNothing, HasCause, LeavesOnly, OneStepOn};
 ghost use Rattle.echo_placing.specs.Changes.{ChangesOnly};

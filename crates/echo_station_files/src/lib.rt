@@ -1,21 +1,17 @@
-//! The files of a station on any disk: its link file and its base file read under the lock of the link file, and the base
-//! file put in the place of the old one, whatever a crash leaves.
+//! The link file of a station on any disk, read under its lock, and the paths beside its files.
 //!
-//! The contract for the commands: they are handed the bytes that the disk shows, and none before the lock is held; a base
-//! that was put in place is on the disk, and a crash at any moment leaves the old one or the new one.
+//! The contract for the commands: they are handed what the bytes say that the disk shows, and none is read before the lock is
+//! held.
 //!
-//! Modules in reading order: `locked` (the lock of the link file), `paths` (paths beside others), `reading`, `links` (the
-//! link file alone) and `writing`.
+//! Modules in reading order: `locked` (the lock of a file), `paths` (paths beside others), `reading` and `links` (the link
+//! file).
 #![tactic(auto)]
 
 mod links;
 mod locked;
 mod paths;
 mod reading;
-mod writing;
 
 pub use links::{links_at, lock_at, lock_links};
 pub use locked::FileLock;
 pub use paths::{path_beside, system_name};
-pub use reading::{StationFiles, StationPaths, lock_station};
-pub use writing::write_base;

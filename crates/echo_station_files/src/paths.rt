@@ -1,11 +1,9 @@
 //! The paths of files beside others.
-ghost use Rattle.std.specs.Prelude.{◌≡◌, ◌≢◌, All, IfErr, IfOk};
-ghost use Rattle.echo_status.specs.declared.fault.Fault.TheVariants.{OutOfMemory};
-ghost use Rattle.echo_station_files.specs.Paths.{IsOwnName, dotted, path_beside};
+ghost use Rattle.std.specs.Prelude.{◌≡◌, ◌≢◌, All, IfOk};
+ghost use Rattle.echo_station_files.specs.Paths.{dotted, path_beside};
 
 use echo_addr::Address;
-use echo_links::{LinkFault, LinkFile};
-use echo_status::Fault;
+use echo_links::LinkFile;
 use std::alloc::{AllocError, Global};
 
 /// The path beside a path that the system of this name writes.
@@ -17,19 +15,6 @@ pub fn path_beside(alloc: Global, path: &[u8], own: &[u8]) -> Result<Vec<u8>, Al
     beside.extend_from_slice(own)?;
     beside.extend_from_slice(b"~.new")?;
     Ok(beside)
-}
-
-/// The own system of a link file, as names of files have it.
-pub(crate) fn own_name<'a>(alloc: Global, links: &[u8]) -> Result<Vec<u8>, Fault<'a>>
-    ensures own { IfOk result (λ own. IsOwnName links.now own.items) }
-    ensures plain { IfOk result (λ own. All (λ b. b ≢ 47) own.items) }
-    ensures err { IfErr result (λ fault. fault ≡ OutOfMemory) }
-{
-    match LinkFile::read(alloc, links) {
-        Ok(file) => Ok(system_name(alloc, &file)?),
-        Err(LinkFault::Memory) => Err(Fault::OutOfMemory),
-        Err(_) => Ok(Vec::new(alloc)),
-    }
 }
 
 /// The own system of a link file that was read, as names of files have it.

@@ -8,4 +8,3 @@ pub mod Purges
 pub mod Tosses
 pub mod TossedFiles
 pub mod Runs
-pub mod AsOfFiles

@@ -6,4 +6,3 @@ pub mod Replied
 pub mod Scanned
 pub mod Purged
 pub mod Tossed
-pub mod AsOfFiles

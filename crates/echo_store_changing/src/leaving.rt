@@ -1,5 +1,5 @@
 //! The end of a command: its lines are printed, and what the store holds is committed.
-ghost use Rattle.std.specs.Prelude.{◌≡◌, IfErr, OnOk};
+ghost use Rattle.std.specs.Prelude.{IfErr, OnOk};
 ghost use Rattle.echo_status.specs.Devices.{output_of};
 ghost use Rattle.echo_store.specs.Store.{Commits, HasStoreCause, MayCommit};
 ghost use Rattle.echo_store_changing.specs.Answered.{LooksWhereMet, PrintsAll};

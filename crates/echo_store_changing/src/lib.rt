@@ -1,19 +1,17 @@
 //! The commands that change a base, on any store of messages: `post`, `reply`, `scan`, `purge` and `toss`.
 //!
-//! The contract for the program: on a store that holds a base the lines and the faults of a command are those of the same
-//! command on a base file of the same messages and cursor; where that would write its base file the store holds and
-//! has committed the base that the command makes, and else it has committed nothing. A crash at any moment leaves the
-//! base that was committed before, or the one that the command makes. What fails beside is the store, and is told so.
+//! The contract for the program: each command prints just the lines, or answers just the fault, that the base of the store
+//! and the command's words give. Where it ends well the store holds and has committed the base that the command makes;
+//! where it met a fault it has committed at most what the store held before. A crash at any moment leaves the base that was
+//! committed before, or the one that the command makes. A failure of the store is answered as one.
 //!
-//! Each is a type that implements `StoreCommand`, but for `scan`, which needs the disk of its packets.
+//! Each is a type that implements `StoreCommand`, except `scan`, which needs the disk for its packets.
 //!
 //! Modules in reading order: `stop` (why a command stopped), `command` (what a command owes), `leaving` (lines are printed,
-//! and the store committed), `serials` (the serial of a posting), `posting`, `replying`, `scanning`, `purging`, `tossing` and
-//! `laws` (what holds of the definitions).
+//! and the store committed), `serials` (the serial of a posting), `posting`, `replying`, `scanning`, `purging` and `tossing`.
 #![tactic(auto)]
 
 mod command;
-mod laws;
 mod leaving;
 mod posting;
 mod purging;
@@ -24,11 +22,10 @@ mod stop;
 mod tossing;
 
 pub use command::StoreCommand;
-pub use laws::file_laws;
 pub use leaving::commit_on;
-pub use posting::{Post, post_free_on, post_on};
-pub use purging::{Purge, purge_on};
-pub use replying::{Reply, reply_on};
+pub use posting::Post;
+pub use purging::Purge;
+pub use replying::Reply;
 pub use scanning::scan_on;
 pub use stop::Stop;
-pub use tossing::{Toss, toss_on};
+pub use tossing::Toss;

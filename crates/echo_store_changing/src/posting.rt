@@ -1,5 +1,5 @@
 //! The command `post` on a store.
-ghost use Rattle.std.specs.Prelude.{◌≡◌, false, IfErr, OnOk};
+ghost use Rattle.std.specs.Prelude.{false, IfErr, OnOk};
 ghost use Rattle.echo_disk.specs.Disk.{Honestly};
 ghost use Rattle.echo_base.specs.Base.{Base};
 ghost use Rattle.echo_changing.specs.Lines.{posted_line};
@@ -8,8 +8,7 @@ ghost use Rattle.echo_store.specs.Store.{Commits, HasStoreCause, MayCommit};
 ghost use Rattle.echo_text.specs.Ids.{id_of};
 ghost use Rattle.echo_toss.specs.PacketsIn.{state_in};
 ghost use Rattle.echo_store_changing.specs.Answered.{CommitsNoneWhereMet, HasCommitted, LooksWhereMet, MayMake, PrintsAll};
-ghost use Rattle.echo_store_changing.specs.FreeSerial.{PostsAs, PostsAsOn, PostsFree, PostsFreeOn};
-ghost use Rattle.echo_store_changing.specs.Posted.{Posts, PostsOn};
+ghost use Rattle.echo_store_changing.specs.FreeSerial.{PostsAs, PostsAsOn};
 ghost use Rattle.echo_store_changing.specs.Stops.{store_answer};
 
 use crate::command::StoreCommand;
@@ -77,50 +76,6 @@ pub(crate) fn post_as<'a, T: Store, W: Sink>(
     let draft = draft_of(alloc, words, body)?;
     let serial = file_as(alloc, free, words, links, store, &draft)?;
     leave_posted(alloc, words.tag, serial, links, store, out)
-}
-
-/// `Post` with the serial of the words.
-pub fn post_on<'a, T: Store, W: Sink>(
-    alloc: Global,
-    words: NewMessage<'_>,
-    links: &LinkFile,
-    store: &mut T,
-    body: &[u8],
-    out: &mut W,
-) -> Result<(), Stop<'a>>
-    requires { (T.state store.old).is_ready }
-    ensures answers { Honestly (T.state store.new).disk ((base : Base) → (T.state store.old).keeps base
-        → PostsOn words.entry (state_in links.now base) body.now (output_of W.contents W.failures W.holds out.old) (output_of W.contents W.failures W.holds out.new) result) }
-    ensures committed { Honestly (T.state store.new).disk ((base : Base) → (T.state store.old).keeps base
-        → OnOk result (HasCommitted (Posts links.now words.entry body.now base) (T.state store.new))) }
-    ensures ready { OnOk result (T.state store.new).is_ready }
-    ensures met { IfErr result (CommitsNoneWhereMet (T.state store.old) (T.state store.new)) }
-    ensures crash { MayMake (Posts links.now words.entry body.now) (T.state store.old) (T.state store.new) }
-    ensures cause { HasStoreCause (T.state store.old) (T.state store.new) (T.failures store.old) (T.failures store.new) (store_answer result) }
-{
-    post_as(alloc, false, words, links, store, body, out)
-}
-
-/// `Post` with a serial that is free.
-pub fn post_free_on<'a, T: Store, W: Sink>(
-    alloc: Global,
-    words: NewMessage<'_>,
-    links: &LinkFile,
-    store: &mut T,
-    body: &[u8],
-    out: &mut W,
-) -> Result<(), Stop<'a>>
-    requires { (T.state store.old).is_ready }
-    ensures answers { Honestly (T.state store.new).disk ((base : Base) → (T.state store.old).keeps base
-        → PostsFreeOn words.entry (state_in links.now base) body.now (output_of W.contents W.failures W.holds out.old) (output_of W.contents W.failures W.holds out.new) result) }
-    ensures committed { Honestly (T.state store.new).disk ((base : Base) → (T.state store.old).keeps base
-        → OnOk result (HasCommitted (PostsFree links.now words.entry body.now base) (T.state store.new))) }
-    ensures ready { OnOk result (T.state store.new).is_ready }
-    ensures met { IfErr result (CommitsNoneWhereMet (T.state store.old) (T.state store.new)) }
-    ensures crash { MayMake (PostsFree links.now words.entry body.now) (T.state store.old) (T.state store.new) }
-    ensures cause { HasStoreCause (T.state store.old) (T.state store.new) (T.failures store.old) (T.failures store.new) (store_answer result) }
-{
-    post_as(alloc, true, words, links, store, body, out)
 }
 
 // Prints the line of a message that was posted with this serial, and commits what the store holds.

@@ -1,5 +1,5 @@
 //! The command `purge` on a store.
-ghost use Rattle.std.specs.Prelude.{◌≡◌, true, IfErr, OnOk};
+ghost use Rattle.std.specs.Prelude.{true, IfErr, OnOk};
 ghost use Rattle.echo_disk.specs.Disk.{Honestly};
 ghost use Rattle.echo_base.specs.Base.{Base};
 ghost use Rattle.echo_status.specs.Devices.{output_of};
@@ -43,9 +43,9 @@ impl<'a> StoreCommand<'a> for Purge {
     }
 }
 
-/// `purge`: leaves of each scanned message with an id nothing of its text but the id, prints how many messages changed, and
-/// commits.
-pub fn purge_on<'a, T: PurgedStore, W: Sink>(
+// `purge`: leaves of each scanned message with an id nothing of its text but the id, prints how many messages changed, and
+// commits.
+fn purge_on<'a, T: PurgedStore, W: Sink>(
     alloc: Global,
     store: &mut T,
     out: &mut W,

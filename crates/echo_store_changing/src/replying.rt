@@ -1,5 +1,5 @@
 //! The command `reply` on a store.
-ghost use Rattle.std.specs.Prelude.{◌≡◌, false, IfErr, OnOk, slice_get};
+ghost use Rattle.std.specs.Prelude.{false, IfErr, OnOk, slice_get};
 ghost use Rattle.echo_disk.specs.Disk.{Honestly};
 ghost use Rattle.echo_base.specs.Base.{Base};
 ghost use Rattle.echo_status.specs.Devices.{output_of};
@@ -49,9 +49,9 @@ impl<'a> StoreCommand<'a> for Reply<'_> {
     }
 }
 
-/// `reply`: posts an answer to the message of this number, with this body: in its area, to its author, with its subject and
-/// its id. A number that no message has is a fault.
-pub fn reply_on<'a, T: Store, W: Sink>(
+// `reply`: posts an answer to the message of this number, with this body: in its area, to its author, with its subject and
+// its id. A number that no message has is a fault.
+fn reply_on<'a, T: Store, W: Sink>(
     alloc: Global,
     index: u64,
     answer: Answer<'_>,

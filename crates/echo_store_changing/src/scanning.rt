@@ -1,5 +1,5 @@
 //! The command `scan` on a store.
-ghost use Rattle.std.specs.Prelude.{◌≡◌, OnOk};
+ghost use Rattle.std.specs.Prelude.{OnOk};
 ghost use Rattle.echo_disk.specs.Disk.{Honestly};
 ghost use Rattle.echo_disk.specs.Runs.{ChangesNothing};
 ghost use Rattle.echo_base.specs.Base.{Base};

@@ -78,11 +78,11 @@ impl<'a, P: PacketFiles<'a>> StoreCommand<'a> for Toss<'a, P> {
     }
 }
 
-/// `toss`: tosses the packet at the front of each file into the store, in order, prints a line for each, and commits. At
-/// the fault of a packet, or of its file, the run ends: the fault is answered, and what was tossed before is committed,
-/// too; the files behind it are not opened. With `noting`, before the line of a packet stands one for each of its messages
-/// that was not filed (`toss --each`).
-pub fn toss_on<'a, T: Store, P: PacketFiles<'a>, W: Sink>(
+// `toss`: tosses the packet at the front of each file into the store, in order, prints a line for each, and commits. At
+// the fault of a packet, or of its file, the run ends: the fault is answered, and what was tossed before is committed,
+// too; the files behind it are not opened. With `noting`, before the line of a packet stands one for each of its messages
+// that was not filed (`toss --each`).
+fn toss_on<'a, T: Store, P: PacketFiles<'a>, W: Sink>(
     alloc: Global,
     limits: Limits,
     noting: bool,

@@ -12,7 +12,7 @@ use cmd_read::{
     run_why,
 };
 use cmd_station::{
-    run_post, run_post_mail, run_post_stored, run_purge, run_reply, run_scan, run_toss,
+    ScanWords, run_post, run_post_mail, run_post_stored, run_purge, run_reply, run_scan, run_toss,
 };
 use echo_device::{Sink, Watched};
 use echo_status::{Fault, Status, ended};
@@ -20,15 +20,15 @@ use echo_words::{Ending, Words, explain, parse};
 use std::process::ExitCode;
 use std::{env, io};
 
-// The words are lent, so that no case has to be proved to drop what another one has.
-fn run_words<'r, W: Sink, E: Sink>(
-    rt: &'r HostRuntime,
+// Runs a command of a net, if the words ask for one. They are lent, so that no case has to be proved to drop what another
+// one has.
+fn run_of_net<W: Sink, E: Sink>(
+    rt: &HostRuntime,
     words: &Words<'_>,
-    progress: &Progress<'r>,
     out: &mut W,
     errors: &mut E,
-) -> Status {
-    match words {
+) -> Option<Status> {
+    let status = match words {
         Words::Show { hex, packet } => ended(run_show(rt, *hex, *packet, out), errors),
         Words::Nodelist { find, file } => ended(run_nodelist(rt, *find, *file, out), errors),
         Words::Check(words) => ended(
@@ -41,18 +41,20 @@ fn run_words<'r, W: Sink, E: Sink>(
             run_picture(rt, *why, *tag, &names_of(rt, links), out),
             errors,
         ),
-        Words::Post(words) => run_post(rt, words, out, errors),
-        Words::PostMail(words) => run_post_mail(rt, words, out, errors),
-        Words::Reply(words) => run_reply(rt, words, out, errors),
-        Words::PostStored(words) => run_post_stored(rt, words, out, errors),
-        Words::Toss(words) => run_toss(rt, words, progress, out, errors),
-        Words::Scan {
-            at,
-            links,
-            base,
-            folder,
-        } => run_scan(rt, *at, *links, *base, *folder, progress, out, errors),
-        Words::Purge { links, base } => run_purge(rt, *links, *base, out, errors),
+        _ => return None,
+    };
+    Some(status)
+}
+
+// Runs a command that reads a base, or makes one, if the words ask for one.
+fn run_of_base<W: Sink, E: Sink>(
+    rt: &HostRuntime,
+    words: &Words<'_>,
+    progress: &Progress<'_>,
+    out: &mut W,
+    errors: &mut E,
+) -> Option<Status> {
+    let status = match words {
         Words::List { area, from, base } => ended(
             run_list(rt, *area, *from, *base, progress, out),
             errors,
@@ -67,6 +69,62 @@ fn run_words<'r, W: Sink, E: Sink>(
             let links = names_of(rt, links);
             ended(run_replay(rt, *script, &links, progress, out), errors)
         }
+        _ => return None,
+    };
+    Some(status)
+}
+
+// Runs a command that changes the base of a station, if the words ask for one.
+fn run_of_station<W: Sink, E: Sink>(
+    rt: &HostRuntime,
+    words: &Words<'_>,
+    progress: &Progress<'_>,
+    out: &mut W,
+    errors: &mut E,
+) -> Option<Status> {
+    let status = match words {
+        Words::Post(words) => run_post(rt, words, out, errors),
+        Words::PostMail(words) => run_post_mail(rt, words, out, errors),
+        Words::Reply(words) => run_reply(rt, words, out, errors),
+        Words::PostStored(words) => run_post_stored(rt, words, out, errors),
+        Words::Toss(words) => run_toss(rt, words, progress, out, errors),
+        Words::Scan {
+            at,
+            links,
+            base,
+            folder,
+        } => {
+            let words = ScanWords {
+                at: *at,
+                links: *links,
+                base: *base,
+                folder: *folder,
+            };
+            run_scan(rt, words, progress, out, errors)
+        }
+        Words::Purge { links, base } => run_purge(rt, *links, *base, out, errors),
+        _ => return None,
+    };
+    Some(status)
+}
+
+// Runs the command that the words ask for.
+fn run_words<W: Sink, E: Sink>(
+    rt: &HostRuntime,
+    words: &Words<'_>,
+    progress: &Progress<'_>,
+    out: &mut W,
+    errors: &mut E,
+) -> Status {
+    if let Some(status) = run_of_net(rt, words, out, errors) {
+        return status;
+    }
+    if let Some(status) = run_of_base(rt, words, progress, out, errors) {
+        return status;
+    }
+    match run_of_station(rt, words, progress, out, errors) {
+        Some(status) => status,
+        None => Status::CommandLine,
     }
 }
 

@@ -23,7 +23,7 @@ use Rattle.law_stations.specs.Commands.{Command, IsAt, IsPacketAt, Leads, Post, 
 use Rattle.law_stations.specs.Nets.{Net, Paired, Station, with_base, with_indexes, with_left, with_posting, with_tossed}
 use Rattle.law_stations.proofs.FileRuns.{IsPartly, TossedFiles, each-tossed, wholes}
 use Rattle.law_stations.proofs.OfToss.{same-length}
-use Rattle.law_stations.proofs.Pairs.{change-here, change-map, paired-nth}
+use Rattle.law_stations.proofs.Pairs.{change-map, paired-nth}
 use Rattle.law_crashes.specs.Disks.{Disks, cursor_of}
 use Rattle.law_crashes.proofs.Counting.{IsItem}
 use Rattle.law_crashes.proofs.Tracking.{IsTossedAt, Tracks, still}
@@ -32,7 +32,7 @@ use Rattle.law_crashes.proofs.Tracking.{IsTossedAt, Tracks, still}
 same-cursors : (i : ℕ) (station : Station) (next : Base) (stations : List Station) → nth i stations ≡ Some station → next.cursor ≡ station.base.cursor
     → map cursor_of (change i (with_base next) stations) ≡ map cursor_of stations
 same-cursors i station next stations there same =
-    ap (map cursor_of) (change-here i (with_base next) station stations there) ∙ change-map cursor_of i station (with_base next station) stations there same
+    change-map cursor_of i (with_base next) station stations there same
 
 -- the station of the disks stands in the net
 there-too : (d : Disks) (net : Net) (i : ℕ) (station : Station) → d.net.stations ≡ net.stations → nth i d.net.stations ≡ Some station → nth i net.stations ≡ Some station

@@ -1,6 +1,6 @@
 -- A toss from any readers, with notes or without, is one from what is known of them, without notes, whose lines are others.
 use Rattle.std.proofs.Common.{◌≡◌, ◌∙◌, inl, inr, refl, sym, subst, Bool, true, false, ℕ, List, [], ◌∷◌, ◌++◌, Option, None, Result, Ok, Err}
-use Rattle.echo_status.specs.Devices.{Device}
+use Rattle.echo_status.specs.Devices.{Device, Output}
 use Rattle.echo_status.specs.declared.fault.Fault.{Fault}
 use Rattle.echo_steps.specs.SystemState.{SystemState}
 use Rattle.echo_toss.specs.declared.fault.TossFault.{TossFault}
@@ -14,7 +14,7 @@ use Rattle.echo_changing.specs.Coming.{Coming, Fails, Holds, Opens, Unknown}
 use Rattle.echo_changing.specs.Lines.{tally_line}
 use Rattle.echo_changing.specs.Tossed.{TossesEach, TossesEachBy, TossesFile, TossesFileBy, run_begun}
 use Rattle.echo_changing.specs.TossedPacket.{ReportsPacket, TossRun, TossesPacket, TossesPacketBy}
-use Rattle.echo_store_changing.specs.Tossed.{Tosses}
+use Rattle.echo_store_changing.specs.Tossed.{Tosses, TossesTo}
 use Rattle.law_stations.specs.Commands.{TossesAll, itself}
 
 -- two runs at one system, which take as much of packets
@@ -107,3 +107,11 @@ module _ {R : Type 0} (device : R → Device) where
         refl,
         refl,
       )
+
+  pub tosses-answered : (noting : Bool) (limits : Limits) (file : LinkFile) (files left : List Coming) (base next : Base) (old new : Output) (answer : Option Fault)
+      → TossesTo noting limits device file base files left old new (Ok answer) next → (known : TossesAll files file base next) × (known.stopped ≡ answer) × (known.left ≡ left)
+  tosses-answered noting limits file files left base next old new answer to =
+      let t = to.tossed in
+      let toss : Tosses noting limits device file files base next = record { stopped = t.stopped; left = left; run = t.run; each = t.each; state = to.state } in
+      let (known, stopped, rest) = tosses-known noting limits file files base next toss in
+      (known, stopped ∙ sym t.ends.0, rest)

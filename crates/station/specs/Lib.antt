@@ -1,3 +1,4 @@
+pub mod Beneath
 pub mod Opening
 pub mod Place
 pub mod Running

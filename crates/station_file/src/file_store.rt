@@ -24,6 +24,15 @@ pub struct FileStore<'a, D: Disk, S: BuildHasher> {
     own: Items<u8>,
 }
 
+/// What a base file is as a store, but for the disk.
+#[derive(Drop)]
+pub struct FileRest<'a, S: BuildHasher> {
+    base: Base<S>,
+    place: usize,
+    path: &'a str,
+    own: Items<u8>,
+}
+
 impl<'a, D: Disk, S: BuildHasher> FileStore<'a, D, S> {
     /// The base of the file with this path, as a store.
     pub fn new(
@@ -56,6 +65,49 @@ impl<'a, D: Disk, S: BuildHasher> FileStore<'a, D, S> {
         ensures { result ≡ self.entry.disk }
     {
         self.disk
+    }
+
+    /// The disk and the rest, taken out.
+    pub(crate) fn into_parts(self) -> (D, FileRest<'a, S>)
+        ensures disk { result.0 ≡ self.entry.disk }
+        ensures rest { result.1 ≡ record { base = self.entry.base; place = self.entry.place; path = self.entry.path; own = self.entry.own } }
+    {
+        let FileStore {
+            disk,
+            base,
+            place,
+            path,
+            own,
+            ..
+        } = self;
+        let rest = FileRest {
+            base,
+            place,
+            path,
+            own,
+        };
+        (disk, rest)
+    }
+
+    /// The store of these parts.
+    pub(crate) fn of_parts(alloc: Global, disk: D, rest: FileRest<'a, S>) -> FileStore<'a, D, S>
+        ensures disk { result.disk ≡ disk }
+        ensures rest { record { base = result.base; place = result.place; path = result.path; own = result.own } ≡ rest }
+    {
+        let FileRest {
+            base,
+            place,
+            path,
+            own,
+        } = rest;
+        FileStore {
+            alloc,
+            disk,
+            base,
+            place,
+            path,
+            own,
+        }
     }
 }
 

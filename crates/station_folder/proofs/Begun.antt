@@ -1,11 +1,11 @@
 -- A folder that was begun, as a station that is open.
 use Rattle.std.proofs.Common.{◌≤◌, inl, inr, ⊎_elim, ℕ, Bool, List}
 use Rattle.echo_base.specs.Base.{Base}
-use Rattle.echo_disk.specs.Disk.{DiskState, Files, Honestly}
+use Rattle.echo_disk.specs.Disk.{DiskState, Honestly}
 use Rattle.echo_disk.specs.Runs.{LeavesOnly}
 use Rattle.echo_disk.proofs.Moments.{weaker_run}
 use Rattle.echo_folder.specs.Moments.{KeepsOutside}
-use Rattle.echo_folder_changing.specs.Opening.{IsBegun, IsLockedOut, IsOfFolder, IsShut}
+use Rattle.station_folder.specs.Opening.{IsBegun, IsOfFolder}
 use Rattle.echo_folder_store.specs.Held.{StandsForBase, StandsForBaseAlone, StandsForBaseOrWasLeft}
 use Rattle.echo_links.specs.Links.{LinkFile}
 use Rattle.echo_status.specs.declared.fault.Fault.{Fault}

@@ -4,7 +4,7 @@ use Rattle.echo_addr.specs.declared.address.Address.{Address}
 use Rattle.echo_base_folder.specs.Ours.{IsOfOther}
 use Rattle.echo_disk.specs.Disk.{DiskState, IsIn}
 use Rattle.echo_folder_store.specs.Held.{StandsForBase}
-use Rattle.echo_folder_changing.specs.Opening.{IsLockedOut, IsShut}
+use Rattle.station_folder.specs.Opening.{IsLockedOut, IsShut}
 use Rattle.echo_links.specs.Links.{LinkFile}
 use Rattle.echo_station_files.specs.Links.{AreLinks}
 use Rattle.echo_status.specs.declared.fault.Fault.{Fault}

@@ -4,8 +4,9 @@ ghost use Rattle.echo_disk.specs.Runs.{ChangesNothing};
 ghost use Rattle.echo_folder.specs.Opening.{AreAlone};
 ghost use Rattle.station_folder.specs.InFolder.{IsFolderShut, IsOwnLinks, folder_place};
 
+use crate::beginning::{Begun, open_store};
+use crate::place::{FolderPlace, Found};
 use echo_disk::Disk;
-use echo_folder_changing::{Begun, FolderPlace, Found, open_store};
 use echo_folder_store::FolderStore;
 use echo_keys::Digest;
 use echo_station_files::FileLock;

@@ -1,8 +1,10 @@
-use echo_addr::Items;
-use echo_changing::{Given, toss};
+use echo_base::Base;
 use echo_device::Watched;
+use echo_links::LinkFile;
 use echo_packet::Limits;
 use echo_stations::readers_are_what_is_known;
+use echo_store::MemoryStore;
+use echo_store_changing::{StoreCommand, Toss};
 use std::hash::{BuildHasherDefault, FoldHasher};
 use std::test::Fail;
 
@@ -14,17 +16,16 @@ const EMPTY: &[u8] =
 fn packets_in_memory(rt: HostRuntime) -> Result<(), Fail> {
     let alloc = rt.alloc();
     let mut out = Watched::new(Vec::new(alloc));
-    let packets = [EMPTY];
-    let mut coming: &[&[u8]] = &packets;
-    let given: Given<'_, BuildHasherDefault<FoldHasher>> = Given {
-        links: Items::new(Vec::from_slice(alloc, b"SYSTEM 1:10/2\n")?),
-        base: None,
-        stopped: None,
-        hasher: BuildHasherDefault::default(),
-    };
+    let links = LinkFile::read(alloc, b"SYSTEM 1:10/2\n")?;
+    let hasher: BuildHasherDefault<FoldHasher> = BuildHasherDefault::default();
+    let mut store = MemoryStore::new(Base::new(alloc, hasher));
     readers_are_what_is_known::<&[u8]>();
-    let done = toss(alloc, given, Limits::NONE, &mut coming, &mut out);
-    let base = done.files.base.as_ref().map(|bytes| bytes.as_slice());
-    assert!(rt; done.fault.is_none() && base == Some(b"ECHOBAS2\0\0\0\0\0\0\0\0".as_slice()));
+    let packets = [EMPTY];
+    let mut toss = Toss::new(Limits::NONE, false, packets.as_slice());
+    let stopped = toss.run(alloc, &links, &mut store, &mut out)?;
+    let mut file = Watched::new(Vec::new(alloc));
+    store.base().save(&mut file)?;
+    let base = file.into_inner();
+    assert!(rt; stopped.is_none() && base.as_slice() == b"ECHOBAS2\0\0\0\0\0\0\0\0".as_slice());
     Ok(())
 }

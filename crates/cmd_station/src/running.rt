@@ -1,0 +1,175 @@
+//! A command is run on a station, whatever its base is kept in, on the files of the system. What it reads, and what it
+//! puts in place, is settled by what `run_command` does over any disk. The locks are held until what the command left
+//! beside the base is gone, and what is damaged was found.
+
+use crate::place::Station;
+use cmd_base::{Counting, look_into, messages_at};
+use cmd_base_file::BaseFiles;
+use cmd_base_folder::Opened;
+use cmd_input::{LinkLock, Progress, Tossing};
+use echo_base::BaseFault;
+use echo_device::Sink;
+use echo_keys::SipDigest;
+use echo_real_disk::{RealDisk, Unknown};
+use echo_status::Fault;
+use echo_store::StoreError;
+use echo_store_changing::{Stop, StoreCommand};
+use station::{Ended, Locks, Nothing, Unread, run_command};
+use station_file::FileStation;
+use station_folder::{FolderPlace, FolderStation, Found};
+use std::collections::hash_map::RandomState;
+use std::marker::PhantomData;
+
+/// What the program does before a command: how packets are tossed, if they are; who is told how far the reading of a base
+/// file is; and why something that is read before the base was not read.
+#[derive(Clone, Copy)]
+pub struct Before<'a> {
+    pub toss: Option<Tossing<'a>>,
+    pub progress: Option<&'a Progress<'a>>,
+    pub unread: Option<Fault<'a>>,
+}
+
+/// Opens the station and runs a command on it.
+pub fn run_on<'a, C: StoreCommand<'a>, W: Sink>(
+    at: Station<'a>,
+    before: Before<'a>,
+    command: &mut C,
+    out: &mut W,
+) -> Result<C::Answer, Fault<'a>> {
+    match at.folder {
+        Some(found) => run_on_folder(at, found, before, command, out),
+        None => run_on_file(at, before, command, out),
+    }
+}
+
+// The same where the base is a file.
+fn run_on_file<'a, C: StoreCommand<'a>, W: Sink>(
+    at: Station<'a>,
+    before: Before<'a>,
+    command: &mut C,
+    out: &mut W,
+) -> Result<C::Answer, Fault<'a>> {
+    let rt = at.rt;
+    let station = file_station(at, before.progress)?;
+    let mut locks = Locks {
+        links: LinkLock::new(rt),
+        base: LinkLock::new(rt),
+    };
+    let mut before = Unread {
+        first: Nothing,
+        fault: before.unread,
+    };
+    let files = BaseFiles::new(rt);
+    let disk = RealDisk::new(&files, Unknown);
+    let Ended { done, .. } = run_command(
+        rt.alloc(),
+        disk,
+        &mut locks,
+        station,
+        &mut before,
+        command,
+        out,
+    );
+    files.tidy();
+    match done {
+        Ok(answer) => Ok(answer),
+        Err(stop) => Err(fault_of(at, stop)),
+    }
+}
+
+/// A station whose base is a file, with a hasher that tells how far its reading is. A seed for that which cannot be had is a
+/// failed read.
+pub fn file_station<'a>(
+    at: Station<'a>,
+    progress: Option<&'a Progress<'a>>,
+) -> Result<FileStation<'a, Counting<'a, 'a>>, Fault<'a>> {
+    let Ok(keys) = RandomState::new(at.rt) else {
+        return Err(Fault::Base(BaseFault::Read));
+    };
+    let messages = match progress {
+        Some(_) => messages_at(at.rt, at.path),
+        None => 0,
+    };
+    Ok(FileStation {
+        links: at.place.links,
+        base: at.path,
+        hasher: Counting::new(keys, progress, messages),
+    })
+}
+
+// The same where the base is a folder.
+fn run_on_folder<'a, C: StoreCommand<'a>, W: Sink>(
+    at: Station<'a>,
+    found: Found,
+    before: Before<'a>,
+    command: &mut C,
+    out: &mut W,
+) -> Result<C::Answer, Fault<'a>> {
+    let rt = at.rt;
+    let station = FolderStation {
+        at: folder_place(at),
+        found,
+        digests: PhantomData::<SipDigest>,
+    };
+    let mut locks = Locks {
+        links: LinkLock::new(rt),
+        base: LinkLock::new(rt),
+    };
+    let mut before = Unread {
+        first: Opened::new(rt, at.place.base, before.toss),
+        fault: before.unread,
+    };
+    let disk = RealDisk::new(rt, Unknown);
+    let Ended { done, .. } = run_command(
+        rt.alloc(),
+        disk,
+        &mut locks,
+        station,
+        &mut before,
+        command,
+        out,
+    );
+    match done {
+        Ok(answer) => Ok(answer),
+        Err(stop) => Err(fault_of(at, stop)),
+    }
+}
+
+/// The paths of a station whose base is a folder.
+pub fn folder_place<'a>(at: Station<'a>) -> FolderPlace<'a> {
+    FolderPlace {
+        links: at.place.links,
+        base: at.place.base,
+        path: at.path.as_bytes(),
+    }
+}
+
+/// Why a command on a station stopped. Of a base folder with a damaged message it is reported which one is the first.
+pub fn fault_of<'a>(at: Station<'a>, stop: Stop<'a>) -> Fault<'a> {
+    match stop {
+        Stop::Store(StoreError::Damaged) if at.folder.is_some() => damaged_in(at.rt, at.place.base),
+        other => by_name(at, other.fault(at.place.base)),
+    }
+}
+
+/// A fault of a station, whose base file is reported by the name that was given.
+pub fn by_name<'a>(at: Station<'a>, fault: Fault<'a>) -> Fault<'a> {
+    match fault {
+        Fault::CannotUse(path) if at.folder.is_none() && path == at.path => Fault::CannotUse(
+            at.place.base,
+        ),
+        other => other,
+    }
+}
+
+// What is wrong with a base folder that has a damaged message.
+fn damaged_in<'a>(rt: &HostRuntime, base: &'a str) -> Fault<'a> {
+    match look_into(rt, base, 0) {
+        Ok(seen) => match seen.as_file::<SipDigest>(rt.alloc()) {
+            Ok(_) => Fault::CannotUse(base),
+            Err(BaseFault::Memory) => Fault::OutOfMemory,
+            Err(fault) => Fault::Base(fault),
+        },
+        Err(fault) => fault,
+    }
+}

@@ -1,0 +1,180 @@
+//! `scan`, as its words ask for it, on the files of the system. What it reads, and what it puts in place, is settled by what
+//! it is over any disk.
+
+use crate::place::{Place, Station, find_base};
+use crate::running::{fault_of, file_station, folder_place};
+use crate::unplaced::report_unplaced;
+use cmd_base_file::{LeftFiles, ScanFiles};
+use cmd_base_folder::Opened;
+use cmd_input::{LinkLock, Progress, folder_path, moment_of};
+use echo_device::Sink;
+use echo_keys::SipDigest;
+use echo_real_disk::{RealDisk, Unknown};
+use echo_status::{Fault, Status};
+use echo_steps::Stamp;
+use echo_store_changing::Stop;
+use station::{Locks, Nothing};
+use station_folder::{FolderStation, Found};
+use station_scan::{Scan as Wanted, ScanStop, Watching, run_scan as scan_station};
+use std::marker::PhantomData;
+
+/// How many messages are taken at hand between two looks at the clock.
+const SOME: usize = 1_000;
+
+/// The words of `scan`.
+#[derive(Clone, Copy)]
+pub struct ScanWords<'a> {
+    pub at: &'a str,
+    pub links: &'a str,
+    pub base: &'a str,
+    pub folder: &'a str,
+}
+
+/// What is scanned, and into which folder, by the name that was given and by the path that its files have before their
+/// names.
+#[derive(Clone, Copy)]
+pub struct Scan<'a> {
+    pub at: Station<'a>,
+    pub stamp: Stamp,
+    pub folder: &'a str,
+    pub slashed: &'a str,
+    pub progress: &'a Progress<'a>,
+}
+
+/// `scan`: the stamp is judged first. The packets get their names once the base is written.
+pub fn run_scan<W: Sink, E: Sink>(
+    rt: &HostRuntime,
+    words: ScanWords<'_>,
+    progress: &Progress<'_>,
+    out: &mut W,
+    errors: &mut E,
+) -> Status {
+    let stamp = match moment_of(rt, words.at) {
+        Ok(stamp) => stamp,
+        Err(fault) => return fault.report(errors),
+    };
+    let place = Place {
+        links: words.links,
+        base: words.base,
+    };
+    let found = match find_base(rt, place) {
+        Ok(found) => found,
+        Err(fault) => return fault.report(errors),
+    };
+    let Ok(slashed) = folder_path(rt, words.folder) else {
+        return Fault::OutOfMemory.report(errors);
+    };
+    let scan = Scan {
+        at: found.at(rt, place),
+        stamp,
+        folder: words.folder,
+        slashed: slashed.as_str(),
+        progress,
+    };
+    scan_at_once(scan, out, errors)
+}
+
+// Scans, and reports what it met.
+fn scan_at_once<W: Sink, E: Sink>(scan: Scan<'_>, out: &mut W, errors: &mut E) -> Status {
+    let at = scan.at;
+    let files = ScanFiles::new(at.rt, at.path, scan.slashed, scan.progress);
+    let done = match at.folder {
+        Some(found) => scan_folder(scan, found, &files, out),
+        None => scan_file(scan, &files, out),
+    };
+    match done {
+        Ok(()) => Status::Good,
+        Err(ScanStop::Command(stop)) => fault_of(at, stop).report(errors),
+        Err(ScanStop::Placing(cause) | ScanStop::Staying(cause)) => {
+            report_unplaced(scan, &files, cause, errors)
+        }
+    }
+}
+
+// Scans a base file.
+fn scan_file<'a, W: Sink>(
+    scan: Scan<'a>,
+    files: &ScanFiles<'_, '_>,
+    out: &mut W,
+) -> Result<(), ScanStop<'a>> {
+    let at = scan.at;
+    let station = match file_station(at, Some(scan.progress)) {
+        Ok(station) => station,
+        Err(fault) => return Err(ScanStop::Command(Stop::Met(fault))),
+    };
+    let mut locks = Locks {
+        links: LinkLock::new(at.rt),
+        base: LinkLock::new(at.rt),
+    };
+    let scanned = scan_station(
+        at.rt.alloc(),
+        RealDisk::new(files, Unknown),
+        &mut locks,
+        station,
+        &mut Nothing,
+        &mut wanted(scan),
+        out,
+    );
+    files.tidy();
+    scanned.done
+}
+
+// Scans a base folder, into another folder than that.
+fn scan_folder<'a, W: Sink>(
+    scan: Scan<'a>,
+    found: Found,
+    files: &ScanFiles<'_, '_>,
+    out: &mut W,
+) -> Result<(), ScanStop<'a>> {
+    let at = scan.at;
+    let station = FolderStation {
+        at: folder_place(at),
+        found,
+        digests: PhantomData::<SipDigest>,
+    };
+    let mut locks = Locks {
+        links: LinkLock::new(at.rt),
+        base: LinkLock::new(at.rt),
+    };
+    let mut opened = Opened::new(at.rt, at.place.base, None).apart_from(scan.folder);
+    let scanned = scan_station(
+        at.rt.alloc(),
+        RealDisk::new(files, Unknown),
+        &mut locks,
+        station,
+        &mut opened,
+        &mut wanted(scan),
+        out,
+    );
+    match scanned.done {
+        Err(ScanStop::Command(stop)) => Err(ScanStop::Command(Stop::Met(fault_of(at, stop)))),
+        done => done,
+    }
+}
+
+// What is asked of a scan.
+fn wanted<'a>(scan: Scan<'a>) -> Wanted<'a, LeftFiles<'a>, ScanProgress<'a>> {
+    Wanted {
+        stamp: scan.stamp,
+        outbound: scan.slashed.as_bytes(),
+        listing: LeftFiles::new(scan.at.rt),
+        watch: ScanProgress {
+            progress: scan.progress,
+        },
+    }
+}
+
+// A terminal is told how far a scan is.
+#[derive(Drop)]
+struct ScanProgress<'p> {
+    progress: &'p Progress<'p>,
+}
+
+impl Watching for ScanProgress<'_> {
+    fn tell(&self, place: usize, messages: usize) {
+        if place % SOME == 0 && self.progress.is_due() {
+            self.progress
+                .tell_message((place as u64).saturating_add(1), messages as u64);
+        }
+    }
+}

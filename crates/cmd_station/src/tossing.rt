@@ -1,0 +1,75 @@
+//! `toss`, as its words ask for it.
+
+use crate::place::{Place, Station, find_base};
+use crate::running::{Before, by_name, run_on};
+use cmd_input::{PacketPaths, PathNames, Progress, Tossing, names_of};
+use echo_device::Sink;
+use echo_packet::Limits;
+use echo_status::{Fault, LIMITS, Status, limits_for, number_of};
+use echo_store_changing::Toss;
+use echo_words::TossWords;
+
+/// `toss`: the limit of a text is judged first, and a list of packets is read before the lock is taken; each
+/// packet file is opened when its turn comes. What ends it at a packet is reported once the base is committed.
+pub fn run_toss<W: Sink, E: Sink>(
+    rt: &HostRuntime,
+    words: &TossWords<'_>,
+    progress: &Progress<'_>,
+    out: &mut W,
+    errors: &mut E,
+) -> Status {
+    let limits = match toss_limits(words.text_limit) {
+        Ok(limits) => limits,
+        Err(fault) => return fault.report(errors),
+    };
+    let PathNames { names, stopped } = names_of(rt, &words.packets);
+    let place = Place {
+        links: words.links,
+        base: words.base,
+    };
+    let found = match find_base(rt, place) {
+        Ok(found) => found,
+        Err(fault) => return fault.report(errors),
+    };
+    let at = found.at(rt, place);
+    let by = Tossing {
+        names: names.as_slice(),
+        limits,
+        each: words.each,
+    };
+    match toss_at(at, by, stopped, progress, out) {
+        Ok(None) => Status::Good,
+        Ok(Some(fault)) => by_name(at, fault).report(errors),
+        Err(fault) => fault.report(errors),
+    }
+}
+
+// Tosses packets at a station. Where the list of them was not read, none is expected.
+fn toss_at<'a, W: Sink>(
+    at: Station<'a>,
+    by: Tossing<'a>,
+    unread: Option<Fault<'a>>,
+    progress: &'a Progress<'a>,
+    out: &mut W,
+) -> Result<Option<Fault<'a>>, Fault<'a>> {
+    let packets = PacketPaths {
+        rt: at.rt,
+        names: by.names,
+        packets: by.names.len(),
+        progress,
+    };
+    let before = Before {
+        toss: if unread.is_none() { Some(by) } else { None },
+        progress: Some(progress),
+        unread,
+    };
+    run_on(at, before, &mut Toss::new(by.limits, by.each, packets), out)
+}
+
+// What is taken of packets.
+fn toss_limits<'a>(text_limit: Option<&str>) -> Result<Limits, Fault<'a>> {
+    match text_limit {
+        Some(word) => Ok(limits_for(number_of(word)?)),
+        None => Ok(LIMITS),
+    }
+}

@@ -1,4 +1,0 @@
-pub mod Disks
-pub mod Stopping
-pub mod OverCrashes
-pub mod Folders

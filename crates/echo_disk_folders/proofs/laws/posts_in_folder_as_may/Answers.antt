@@ -1,5 +1,0 @@
-use Rattle.echo_disk_folders.proofs.Commands.{post-does}
-use Rattle.echo_disk_folders.proofs.laws.posts_in_folder_as_may.Goals as goal
-
-pub returns : goal.returns
-returns g c = post-does (g.D.Disk.state c.args._old.now) (g.D.Disk.state c.args._new.now)

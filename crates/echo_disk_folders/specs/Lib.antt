@@ -1,2 +1,0 @@
-pub mod InFolders
-pub mod AsMay

@@ -1,3 +1,0 @@
-pub mod Leading
-mod Events
-mod Tosses

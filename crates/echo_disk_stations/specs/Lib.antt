@@ -1,2 +1,0 @@
-pub mod OnDisks
-pub mod AsMay

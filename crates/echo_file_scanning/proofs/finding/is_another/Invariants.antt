@@ -1,7 +1,0 @@
--- Those up to here have other paths.
-use Rattle.std.specs.List.{AllWithin}
-use Rattle.echo_file_scanning.specs.Left.{HaveOtherLeft}
-use Rattle.echo_file_scanning.proofs.finding.is_another.Given as goal
-
-abbrev pub invariant-others : goal.invariant-others
-invariant-others l = AllWithin (HaveOtherLeft l.one) l.others 0 l.other-index

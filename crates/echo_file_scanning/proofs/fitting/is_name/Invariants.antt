@@ -1,7 +1,0 @@
--- So are the bytes up to here.
-use Rattle.std.specs.List.{AllWithin}
-use Rattle.echo_file_scanning.specs.Sending.{IsNameByte}
-use Rattle.echo_file_scanning.proofs.fitting.is_name.Given as goal
-
-abbrev pub invariant-bytes : goal.invariant-bytes
-invariant-bytes l = AllWithin IsNameByte l.name 0 l.byte-index

@@ -1,4 +1,0 @@
-pub mod Committed
-pub mod Postings
-pub mod Tosses
-pub mod Scans

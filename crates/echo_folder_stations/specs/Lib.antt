@@ -1,3 +1,0 @@
-pub mod OnStores
-pub mod EachCommand
-pub mod Scans

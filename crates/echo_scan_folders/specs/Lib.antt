@@ -1,2 +1,0 @@
-pub mod AfterScans
-pub mod ScansAsMay

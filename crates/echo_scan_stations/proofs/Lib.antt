@@ -1,4 +1,0 @@
-mod Touched
-mod Bases
-mod Scans
-mod Ended

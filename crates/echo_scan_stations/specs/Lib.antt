@@ -1,3 +1,0 @@
-pub mod AfterScans
-pub mod ScansAsMay
-pub mod CanEnd

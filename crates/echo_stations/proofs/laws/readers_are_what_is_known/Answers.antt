@@ -1,5 +1,0 @@
-use Rattle.echo_stations.proofs.AnyReader.{tossed-known}
-use Rattle.echo_stations.proofs.laws.readers_are_what_is_known.Goals as goal
-
-pub returns : goal.returns
-returns g c = tossed-known _

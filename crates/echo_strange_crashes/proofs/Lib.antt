@@ -1,4 +1,0 @@
-pub mod Retracked
-pub mod Lone
-pub mod Grown
-pub mod Shown

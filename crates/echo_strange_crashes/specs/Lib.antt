@@ -1,2 +1,0 @@
-pub mod LoneDisks
-pub mod AloneOverCrashes

@@ -1,2 +1,0 @@
-pub mod LoneFiles
-pub mod AloneInOrder

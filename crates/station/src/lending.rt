@@ -1,0 +1,49 @@
+//! A station whose disk can be used beneath its store, for files that are not the store's own.
+ghost use Rattle.std.specs.Prelude.{◌≡◌, ◌↔◌, ℕ, List, IsTrue};
+ghost use Rattle.echo_disk.specs.Runs.{ChangesNothing};
+ghost use Rattle.echo_store.specs.Store.{LooksOn, StoreState};
+ghost use Rattle.station.specs.Beneath.{IsGivenBack};
+
+use crate::opening::OpenStation;
+use echo_disk::Disk;
+use std::alloc::Global;
+
+/// Tells the paths of a station's own files from others.
+pub trait OwnPaths {
+    // The paths of its own files.
+    ghost is_own: { Self → List ℕ → Type 0 };
+
+    /// Whether a file of its own has this path.
+    fn owns(&self, path: &[u8]) -> bool
+        ensures { IsTrue result ↔ is_own self.now path.now };
+}
+
+/// A station whose disk can be taken out of its store, used for other files, and given back.
+pub trait LendStation<'a, D: Disk>: OpenStation<'a, D> {
+    /// What the store has beside the disk.
+    type Rest;
+
+    type Paths: OwnPaths + Drop;
+
+    // What the store is with this disk.
+    ghost store_on: { Self.Rest → D → StoreState };
+
+    /// The paths of its own files, told from others.
+    fn paths(&self) -> Self::Paths
+        ensures { (m : List ℕ) → Self.Paths.is_own result m ↔ (Self.place self.now).is_own m };
+
+    /// The disk and the rest, taken out of the store.
+    fn lend(kept: Self::Kept) -> (D, Self::Rest)
+        requires { (Self.Kept.state kept).is_ready }
+        ensures looks { LooksOn (Self.Kept.state kept) (store_on result.1 result.0) }
+        ensures quiet { ChangesNothing (Self.Kept.state kept).disk (D.state result.0) }
+        ensures failures { D.failures result.0 ≡ Self.Kept.failures kept }
+        ensures back { (w : D) → IsGivenBack (store_on result.1 result.0) (D.state result.0) (D.state w) (store_on result.1 w) };
+
+    /// The store with its disk again.
+    fn give_back(alloc: Global, disk: D, rest: Self::Rest) -> Self::Kept
+        requires { (store_on rest disk).is_ready }
+        ensures looks { LooksOn (store_on rest disk) (Self.Kept.state result) }
+        ensures quiet { ChangesNothing (D.state disk) (Self.Kept.state result).disk }
+        ensures failures { Self.Kept.failures result ≡ D.failures disk };
+}

@@ -1,0 +1,72 @@
+//! The disk of a station with a base file is used beneath its store.
+ghost use Rattle.std.specs.Prelude.{◌≡◌, ◌↔◌, [], ℕ, List, IsTrue};
+ghost use Rattle.echo_station_files.specs.Paths.{path_beside};
+ghost use Rattle.station_file.specs.InFile.{IsOfFile, file_state};
+
+use crate::file_station::FileStation;
+use crate::file_store::{FileRest, FileStore};
+use echo_disk::Disk;
+use station::{LendStation, OwnPaths};
+use std::alloc::Global;
+use std::hash::BuildHasher;
+
+/// The path of a base file, and those beside it, whichever system they are of.
+#[derive(Clone, Copy, Debug, Drop)]
+pub struct FilePaths<'a> {
+    pub path: &'a str,
+}
+
+impl OwnPaths for FilePaths<'_> {
+    ghost is_own = { λ paths m. (own : List ℕ) × IsOfFile paths.path.now own m };
+
+    fn owns(&self, path: &[u8]) -> bool {
+        is_of_file(self.path.as_bytes(), path)
+    }
+}
+
+// Whether the path is that of the base file, or one beside it.
+fn is_of_file(base: &[u8], path: &[u8]) -> bool
+    ensures { IsTrue result ↔ ((own : List ℕ) × IsOfFile base.now own path.now) }
+{
+    path == base || is_beside(base, path)
+}
+
+// Whether the path is one beside the other.
+fn is_beside(base: &[u8], path: &[u8]) -> bool
+    ensures { IsTrue result ↔ ((own : List ℕ) × (path.now ≡ path_beside base.now own)) }
+{
+    match path.strip_prefix(base) {
+        Some(rest) => is_ending(rest),
+        None => false,
+    }
+}
+
+// Whether a path beside another ends so.
+fn is_ending(rest: &[u8]) -> bool
+    ensures { IsTrue result ↔ ((own : List ℕ) × (rest.now ≡ path_beside [] own)) }
+{
+    match rest.strip_prefix(b".~".as_slice()) {
+        Some(rest) => rest.ends_with(b"~.new"),
+        None => false,
+    }
+}
+
+impl<'a, D: Disk + Drop, S: BuildHasher + Drop> LendStation<'a, D> for FileStation<'a, S> {
+    type Rest = FileRest<'a, S>;
+
+    type Paths = FilePaths<'a>;
+
+    ghost store_on = { λ rest disk. file_state (D.state disk) rest.path.now rest.own rest.base rest.place };
+
+    fn paths(&self) -> FilePaths<'a> {
+        FilePaths { path: self.base }
+    }
+
+    fn lend(kept: FileStore<'a, D, S>) -> (D, FileRest<'a, S>) {
+        kept.into_parts()
+    }
+
+    fn give_back(alloc: Global, disk: D, rest: FileRest<'a, S>) -> FileStore<'a, D, S> {
+        FileStore::of_parts(alloc, disk, rest)
+    }
+}

@@ -1,0 +1,281 @@
+-- What earlier scans left, as it is brought to its end.
+use Rattle.std.proofs.Common.{◌≡◌, ◌≢◌, ◌⊎◌, inl, inr, ⊎_elim, ◌∙◌, ◌<◌, ℕ, List, [], ◌++◌, ap, arith, get_or, length, map, refl, subst, sym}
+use Rattle.std.specs.Prelude.{All, Contains, Err, IsSome, None, Ok, OnOk, Result}
+use Rattle.std.proofs.lemmas.Bool.{cases_lt}
+use Rattle.std.proofs.lemmas.List.{get_or-map, length-map}
+use Rattle.std.proofs.lemmas.List.Elements.{All-contains, Contains-get_or}
+use Rattle.echo_disk.specs.Disk.{DiskState, Files, IsIn}
+use Rattle.echo_disk.specs.Runs.{ChangesNothing, LeavesOnly, OneStepOn}
+use Rattle.echo_disk.proofs.Moments.{no_call, then_nothing, weaker_run}
+use Rattle.echo_placing.specs.Changes.{ChangesOnly}
+use Rattle.echo_placing.specs.Finishing.{AreAway, AreLeftIn, FinishesEach, IsLeftIn, IsOfLeft, IsOver, IsThere}
+use Rattle.echo_placing.specs.declared.finishing.Left.{Left}
+use Rattle.echo_placing.specs.declared.placing_error.PlacingError.{PlacingError}
+use Rattle.echo_placing.proofs.Changes.{only_nothing, then_only}
+use Rattle.echo_placing.proofs.Ended.{quiet_then}
+use Rattle.echo_station_files.proofs.BesidePaths.{beside_other}
+use Rattle.station_scan.specs.Listing.{AreListed, IsNumbered}
+use Rattle.station_scan.specs.Sending.{IsOffOwn}
+use Rattle.station_scan.specs.declared.listing.LeftPacket.{LeftPacket}
+use Rattle.station_scan.specs.declared.finding.LeftPaths.{LeftPaths}
+use Rattle.station_scan.specs.declared.sending.TwoPaths.{TwoPaths}
+use Rattle.station_scan.specs.Left.{AreAllLeft, AreFound, AreLent, EndsLeft, EndsThese, IsBesideThere, IsFound, IsFoundWhere, IsEndedAt, IsLeftOf, IsLent, IsOfNameOff, IsOfPaths, IsToFind}
+use Rattle.station_scan.proofs.Names.{four_apart, name_beside_in, name_in}
+
+-- the packet with these paths
+as_left : LeftPaths → Left
+as_left w = record { path = record { ref_ptr = (0, 0); now = w.two.path }; beside = record { ref_ptr = (0, 0); now = w.two.beside }; before = w.before }
+
+-- nothing that was left
+no_paths : LeftPaths
+no_paths = record { two = record { path = []; beside = [] }; before = 0 }
+
+nobody_left : Left
+nobody_left = as_left no_paths
+
+all_lent : (paths : List LeftPaths) → AreLent paths (map as_left paths)
+unfolding as_left
+all_lent paths = record {
+  as_many = length-map paths as_left;
+  each = λ k w l lt.
+      let is = get_or-map as_left paths k w l lt in
+      record { path = ap (λ (x : Left). x.path.now) is; beside = ap (λ (x : Left). x.beside.now) is; before = ap (λ (x : Left). x.before) is };
+}
+
+-- a step that changes nothing
+pub finishes_none : (cursor : ℕ) (found : List Left) (c : Files) → FinishesEach cursor found c c
+finishes_none cursor found c = record { others = λ m other. refl; ends = λ k z lt. record { committed = λ below. inr refl; untouched = λ above. refl; either = inl refl } }
+
+-- a run that changes nothing
+pub none_moment : (cursor : ℕ) (found : List Left) (d0 d1 : DiskState) → ChangesNothing d0 d1 → LeavesOnly d0 d1 (OneStepOn (FinishesEach cursor found) d0)
+none_moment cursor found d0 d1 quiet = weaker_run d0 d1 d0.may_leave (OneStepOn (FinishesEach cursor found) d0) quiet.run (λ c left. (c, left, finishes_none cursor found c))
+
+pub nothing_these : (cursor : ℕ) (paths : List LeftPaths) (d0 d1 : DiskState) (cause : PlacingError) → ChangesNothing d0 d1 → EndsThese cursor paths d0 d1 (Err cause)
+nothing_these cursor paths d0 d1 cause quiet = record {
+  found = map as_left paths;
+  lent = all_lent paths;
+  over = tt;
+  named = tt;
+  flushed = tt;
+  any_moment = none_moment cursor (map as_left paths) d0 d1 quiet;
+  changes = only_nothing (IsOfLeft (map as_left paths)) d0 d1 quiet;
+}
+
+-- their paths are in the folder
+pub of_left_in : (folder : List ℕ) (found : List Left) → AreLeftIn folder found → (m : List ℕ) → IsOfLeft found m → IsIn folder m
+of_left_in folder found are m (l, is, at) =
+    let one : IsLeftIn folder l = All-contains (IsLeftIn folder) found l are.each is in
+    ⊎_elim (λ e. subst (IsIn folder) (sym e) one.beside_in) (λ e. subst (IsIn folder) (sym e) one.path_in) at
+
+-- one that is over is so while nothing changes
+module _ (cursor : ℕ) (d0 d1 d2 : DiskState) (quiet : ChangesNothing d1 d2) where
+  pub over_still : (l : Left) → IsOver cursor d0 d1 l → IsOver cursor d0 d2 l
+  over_still l is = record {
+    committed = λ below.
+        let moved = is.committed below in
+        record {
+          seen = quiet.seen l.path.now ∙ moved.seen;
+          gone = quiet.seen l.beside.now ∙ moved.gone;
+          named = quiet.named l.path.now (λ h. h) moved.named;
+          flushed = quiet.flushed l.path.now (λ h. h) moved.flushed;
+        };
+    gone = λ above. quiet.seen l.beside.now ∙ is.gone above;
+    untouched = λ above. quiet.seen l.path.now ∙ is.untouched above;
+  }
+
+-- they are at their end, and then it is on the disk that what is gone is gone
+module _ (cursor : ℕ) (folder : List ℕ) (found : List Left) (placed : AreLeftIn folder found) (d0 d1 d2 : DiskState) (quiet : ChangesNothing d1 d2) where
+  is_flushed : ((m : List ℕ) → IsIn folder m → d2.seen m ≡ None → d2.is_flushed m) → All (IsOver cursor d0 d2) found → (m : List ℕ) → IsEndedAt cursor found d2.seen m → d2.is_flushed m
+  is_flushed gone over m (l, is, at) =
+      let one : IsOver cursor d0 d2 l = All-contains (IsOver cursor d0 d2) found l over is in
+      let inside : IsLeftIn folder l = All-contains (IsLeftIn folder) found l placed.each is in
+      let none : d2.seen l.beside.now ≡ None = ⊎_elim (λ below. (one.committed below).gone) (λ above. one.gone above) (cases_lt l.before cursor) in
+      ⊎_elim (λ e. subst d2.is_flushed (sym e) (gone l.beside.now inside.beside_in none))
+      (λ path.
+      ⊎_elim (λ below. subst d2.is_flushed (sym path.0) (one.committed below).flushed)
+      (λ free. gone m (subst (IsIn folder) (sym path.0) inside.path_in) free) path.1)
+      at
+
+  pub settled_these : (paths : List LeftPaths) → AreLent paths found → ((m : List ℕ) → IsIn folder m → d2.seen m ≡ None → d2.is_flushed m) → All (IsOver cursor d0 d1) found → ((m : List ℕ) → IsIn folder m → d1.is_named m)
+      → LeavesOnly d0 d1 (OneStepOn (FinishesEach cursor found) d0) → ChangesOnly (IsOfLeft found) d0 d1 → EndsThese cursor paths d0 d2 (Ok tt)
+  settled_these paths lent gone over named run changes =
+      let still : All (IsOver cursor d0 d2) found = λ k z lt. over_still cursor d0 d1 d2 quiet (get_or found k z) (over k z lt) in
+      record {
+        found = found;
+        lent = lent;
+        over = still;
+        named = λ m is. quiet.named m (λ h. h) (named m (of_left_in folder found placed m is));
+        flushed = is_flushed gone still;
+        any_moment = then_nothing d0 d1 d2 (OneStepOn (FinishesEach cursor found) d0) run quiet;
+        changes = then_only (IsOfLeft found) d0 d1 d2 changes (only_nothing (IsOfLeft found) d1 d2 quiet);
+      }
+
+  pub unsettled_these : (paths : List LeftPaths) (cause : PlacingError) → AreLent paths found → LeavesOnly d0 d1 (OneStepOn (FinishesEach cursor found) d0) → ChangesOnly (IsOfLeft found) d0 d1 → EndsThese cursor paths d0 d2 (Err cause)
+  unsettled_these paths cause lent run changes = record {
+    found = found;
+    lent = lent;
+    over = tt;
+    named = tt;
+    flushed = tt;
+    any_moment = then_nothing d0 d1 d2 (OneStepOn (FinishesEach cursor found) d0) run quiet;
+    changes = then_only (IsOfLeft found) d0 d1 d2 changes (only_nothing (IsOfLeft found) d1 d2 quiet);
+  }
+
+module _ (paths : List LeftPaths) (found : List Left) (lent : AreLent paths found) where
+  within : (k : ℕ) → k < length found → k < length paths
+  within k lt = subst (λ (n : ℕ). k < n) lent.as_many lt
+
+  -- the files beside them are there
+  pub are_there : (disk : DiskState) → All (IsBesideThere disk.seen) paths → All (IsThere disk) found
+  are_there disk all k z lt =
+      let is = lent.each k no_paths z (within k lt) in
+      subst (λ (m : List ℕ). IsSome (disk.seen m)) (sym is.beside) (all k no_paths (within k lt))
+
+  pub of_paths : (m : List ℕ) → IsOfLeft found m → IsOfPaths paths m
+  of_paths m (l, is, at) =
+      let one : (w : LeftPaths) × Contains paths w × IsLent w l = All-contains (λ (x : Left). (w : LeftPaths) × Contains paths w × IsLent w x) found l
+      (λ k z lt. (get_or paths k no_paths, Contains-get_or paths k no_paths (within k lt), lent.each k no_paths z (within k lt))) is in
+      (one.0, one.1, ⊎_elim (λ e. inl (e ∙ one.2.beside)) (λ e. inr (e ∙ one.2.path)) at)
+
+  module _ (Own : List ℕ → Type 0) (folder own : List ℕ) (named : List LeftPacket) (own_plain : All (λ b. b ≢ 47) own) (are : AreFound Own folder own named paths) where
+    left_in : (k : ℕ) (z : Left) → k < length found → IsLeftIn folder (get_or found k z)
+    left_in k z lt =
+        let low = within k lt in
+        let is = lent.each k no_paths z low in
+        let (p, listed, like) = are.each k no_paths low in
+        let path = is.path ∙ ap (λ (t : TwoPaths). t.path) like.two in
+        let beside = is.beside ∙ ap (λ (t : TwoPaths). t.beside) like.two in
+        record {
+          path_in = subst (IsIn folder) (sym path) (name_in folder p.name like.plain);
+          beside_in = subst (IsIn folder) (sym beside) (name_beside_in folder own p.name like.plain own_plain);
+          other = λ e. beside_other (folder ++ p.name) own (sym beside ∙ e ∙ path);
+        }
+
+    two_away : (k j : ℕ) (z : Left) → k < j → j < length found → k < length found → AreAway (get_or found k z) (get_or found j z)
+    two_away k j z lt hi low =
+        let one = lent.each k no_paths z (within k low) in
+        let other = lent.each j no_paths z (within j hi) in
+        let (p, listed_p, like_p) = are.each k no_paths (within k low) in
+        let (q, listed_q, like_q) = are.each j no_paths (within j hi) in
+        let path_p = ap (λ (t : TwoPaths). t.path) like_p.two in
+        let path_q = ap (λ (t : TwoPaths). t.path) like_q.two in
+        let beside_p = one.beside ∙ ap (λ (t : TwoPaths). t.beside) like_p.two in
+        let beside_q = other.beside ∙ ap (λ (t : TwoPaths). t.beside) like_q.two in
+        let four = four_apart folder own p.name q.name like_p.plain like_q.plain (λ e. are.differ k j no_paths lt (within j hi) (path_p ∙ e ∙ sym path_q)) in
+        record {
+          paths = λ e. four.paths (sym (one.path ∙ path_p) ∙ e ∙ other.path ∙ path_q);
+          besides = λ e. four.besides (sym beside_p ∙ e ∙ beside_q);
+          path_beside = λ e. four.path_beside_other (sym (one.path ∙ path_p) ∙ e ∙ beside_q);
+          beside_path = λ e. four.beside_path (sym beside_p ∙ e ∙ other.path ∙ path_q);
+        }
+
+    pub are_left_in : AreLeftIn folder found
+    are_left_in = record { each = left_in; away = λ k j z lt hi. two_away k j z lt hi (omega arith) }
+
+    -- each has its name, and its number where the list was true
+    pub left_each : (is_true : Type 0) (files : Files) → (is_true → AreListed folder own files named) → All (IsLeftOf is_true Own folder own) found
+    left_each is_true files listed k z lt =
+        let low = within k lt in
+        let is = lent.each k no_paths z low in
+        let (p, among, like) = are.each k no_paths low in (
+          p.name,
+          record {
+            path = is.path ∙ ap (λ (t : TwoPaths). t.path) like.two;
+            beside = is.beside ∙ ap (λ (t : TwoPaths). t.beside) like.two;
+            plain = like.plain;
+            off = subst (IsOffOwn Own) like.two like.off;
+          },
+          λ truth. subst (λ (n : ℕ). IsNumbered n p.name) (sym (is.before ∙ like.before)) (All-contains (λ (l : LeftPacket). IsNumbered l.before l.name) named p (listed truth).each among),
+        )
+
+  -- and they are all
+  pub left_all : (is_true : Type 0) (Own : List ℕ → Type 0) (folder own : List ℕ) (files : Files) (named : List LeftPacket) → (is_true → AreListed folder own files named)
+      → All (IsFoundWhere Own folder own files paths) named → AreAllLeft is_true Own folder own files found
+  left_all is_true Own folder own files named listed all truth name before numbered to =
+      let (p, among, same) = (listed truth).all name before numbered to.there in
+      let (w, (k, lt, at), path) = All-contains (IsFoundWhere Own folder own files paths) named p all among (subst (IsToFind Own folder own files) (sym same) to) in
+      let high : k < length found = subst (λ (n : ℕ). k < n) (sym lent.as_many) lt in (
+        get_or found k nobody_left,
+        Contains-get_or found k nobody_left high,
+        (lent.each k w nobody_left lt).path ∙ ap (λ (x : LeftPaths). x.two.path) at ∙ path ∙ ap (λ (n : List ℕ). folder ++ n) same,
+      )
+
+-- a path of one is that of a name
+pub left_of_name : (Own : List ℕ → Type 0) (folder own : List ℕ) (named : List LeftPacket) (paths : List LeftPaths) → AreFound Own folder own named paths → (m : List ℕ) → IsOfPaths paths m → IsOfNameOff Own folder own m
+left_of_name Own folder own named paths are m (w, is, at) =
+    let (p, listed, like) = All-contains (IsFound Own folder own named) paths w are.each is in (
+      (p.name, like.plain, ⊎_elim (λ e. inl (e ∙ ap (λ (t : TwoPaths). t.beside) like.two)) (λ e. inr (e ∙ ap (λ (t : TwoPaths). t.path) like.two)) at),
+      λ o. ⊎_elim (λ (e : m ≡ w.two.beside). like.off.beside_path (subst Own e o)) (λ (e : m ≡ w.two.path). like.off.path (subst Own e o)) at,
+    )
+
+-- what was seen before is the same
+over_before : (cursor : ℕ) (d0 d1 d2 : DiskState) (l : Left) → ((m : List ℕ) → d1.seen m ≡ d0.seen m) → IsOver cursor d1 d2 l → IsOver cursor d0 d2 l
+over_before cursor d0 d1 d2 l same is = record {
+  committed = λ below. let moved = is.committed below in record { seen = moved.seen ∙ same l.beside.now; gone = moved.gone; named = moved.named; flushed = moved.flushed };
+  gone = is.gone;
+  untouched = λ above. is.untouched above ∙ same l.path.now;
+}
+
+pub on_ok_over : {T E : Type 0} (cursor : ℕ) (found : List Left) (d0 d1 d2 : DiskState) (result : Result T E) → ((m : List ℕ) → d1.seen m ≡ d0.seen m) → OnOk result (All (IsOver cursor d1 d2) found) → OnOk result (All (IsOver cursor d0 d2) found)
+on_ok_over cursor found d0 d1 d2 (Ok value) same all = λ k z lt. over_before cursor d0 d1 d2 (get_or found k z) same (all k z lt)
+on_ok_over cursor found d0 d1 d2 (Err cause) same all = tt
+
+on_ok_so : {T E P : Type 0} (result : Result T E) → P → OnOk result P
+on_ok_so (Ok value) is = is
+on_ok_so (Err cause) is = tt
+
+-- a run of no call
+pub quiet_start : (d : DiskState) → ChangesNothing d d
+quiet_start d = record {
+  seen = λ m. refl;
+  no_more = λ c left. left;
+  named = λ m other is. is;
+  flushed = λ m other is. is;
+  alone = λ m other is. is;
+  run = no_call d d.may_leave (λ c left. left);
+  keeps = λ t c le left. left;
+  honest = λ is. is;
+}
+
+module _ (is_true : Type 0) (Own : List ℕ → Type 0) (folder own : List ℕ) (cursor : ℕ) (d0 d1 : DiskState) (quiet : ChangesNothing d0 d1) where
+  -- nothing was brought to its end
+  pub nothing_left : (cause : PlacingError) → EndsLeft is_true Own folder own cursor d0 d1 (Err cause)
+  nothing_left cause = record {
+    found = [];
+    each = λ k z lt. absurd (omega (arith, lt));
+    all = tt;
+    over = tt;
+    named = tt;
+    flushed = tt;
+    any_moment = none_moment cursor [] d0 d1 quiet;
+    changes = only_nothing (IsOfLeft []) d0 d1 quiet;
+  }
+
+  module _ (named : List LeftPacket) (paths : List LeftPaths) (listed : is_true → AreListed folder own d0.seen named) (all : All (IsFoundWhere Own folder own d0.seen paths) named) where
+    -- there was nothing
+    pub none_left : length paths ≡ 0 → EndsLeft is_true Own folder own cursor d0 d1 (Ok tt)
+    none_left none = record {
+      found = [];
+      each = λ k z lt. absurd (omega (arith, lt));
+      all = let nobody : List Left = [] in left_all paths nobody (record { as_many = sym none; each = λ k w l lt. absurd (omega (arith, lt, none)) }) is_true Own folder own d0.seen named listed all;
+      over = λ k z lt. absurd (omega (arith, lt));
+      named = λ m is. let (k, lt, at) = is.1 in absurd (omega (arith, lt));
+      flushed = λ m is. let (k, lt, at) = is.1 in absurd (omega (arith, lt));
+      any_moment = none_moment cursor [] d0 d1 quiet;
+      changes = only_nothing (IsOfLeft []) d0 d1 quiet;
+    }
+
+    pub these_left : (d2 : DiskState) (result : Result (Unit {0}) PlacingError) → All (λ b. b ≢ 47) own → AreFound Own folder own named paths → EndsThese cursor paths d1 d2 result
+        → EndsLeft is_true Own folder own cursor d0 d2 result
+    these_left d2 result own_plain are ends =
+        let found = ends.found in
+        record {
+          found = found;
+          each = left_each paths found ends.lent Own folder own named own_plain are is_true d0.seen listed;
+          all = on_ok_so result (left_all paths found ends.lent is_true Own folder own d0.seen named listed all);
+          over = on_ok_over cursor found d0 d1 d2 result quiet.seen ends.over;
+          named = ends.named;
+          flushed = ends.flushed;
+          any_moment = quiet_then d0 d1 d2 (FinishesEach cursor found) (FinishesEach cursor found) quiet (finishes_none cursor found) ends.any_moment (λ a c f. f);
+          changes = then_only (IsOfLeft found) d0 d1 d2 (only_nothing (IsOfLeft found) d0 d1 quiet) ends.changes;
+        }

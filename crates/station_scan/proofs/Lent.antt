@@ -1,0 +1,28 @@
+-- A store whose disk was lent, used and given back.
+use Rattle.std.proofs.Common.{◌≡◌, ℕ, List}
+use Rattle.echo_disk.specs.Disk.{DiskState}
+use Rattle.echo_disk.specs.Runs.{ChangesNothing}
+use Rattle.echo_placing.specs.Changes.{ChangesOnly}
+use Rattle.echo_placing.proofs.Changes.{only_nothing, then_only, wider}
+use Rattle.echo_store.specs.Store.{LooksOn, StoreState}
+use Rattle.echo_store.proofs.Runs.{same_twice}
+use Rattle.station.specs.Beneath.{HoldsAsBefore, IsGivenBack}
+use Rattle.station_scan.specs.Beneath.{IsUsedAt}
+
+module _ (paths : List ℕ → Type 0) (s0 a b : StoreState) (d0 d1 : DiskState) (looks : LooksOn s0 a) (out : ChangesNothing s0.disk d0) (back : IsGivenBack a d0 d1 b) (off : (m : List ℕ) → s0.is_own m → paths m → ⊥)
+    (run : ChangesOnly paths d0 d1) where
+  pub held : HoldsAsBefore a b
+  held = back.holds looks.ready (wider paths (λ m. a.is_own m → ⊥) d0 d1 (λ m at own. off m ((looks.same.own m).0 own) at) run)
+
+  pub used : (s1 : StoreState) → LooksOn b s1 → ChangesNothing d1 s1.disk → IsUsedAt paths s0 s1
+  used s1 last into = record {
+    settled = λ base before after same stands.
+        (looks.same.stands base after).0 (back.settled base before after (λ m own. same m ((looks.same.own m).0 own)) ((looks.same.stands base before).1 stands));
+    same = same_twice s0 b s1 (same_twice s0 a b looks.same back.same) last.same;
+    holds = record {
+      ready = last.ready;
+      keeps = λ base h. last.keeps base (held.keeps base (looks.keeps base h));
+      committed = λ base h. last.committed base (held.committed base (looks.committed base h));
+    };
+    changes = then_only paths s0.disk d1 s1.disk (then_only paths s0.disk d0 d1 (only_nothing paths s0.disk d0 out) run) (only_nothing paths d1 s1.disk into);
+  }

@@ -1,0 +1,12 @@
+mod Names
+mod Found
+mod Lefts
+mod Sent
+mod Lent
+mod Published
+mod Sends
+mod Outs
+mod Looked
+mod Through
+mod Stops
+mod Runs

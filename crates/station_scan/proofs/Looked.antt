@@ -1,0 +1,81 @@
+-- A store that was looked through, before packets were sent out with its commit.
+use Rattle.std.proofs.Common.{◌≡◌, ◌⊎◌, inl, inr, ⊎_elim, ℕ, List, refl, subst}
+use Rattle.std.specs.Prelude.{All, Err, Ok, OnOk, Result}
+use Rattle.echo_disk.specs.Disk.{DiskState, Files}
+use Rattle.echo_disk.specs.Runs.{ChangesNothing, LeavesOnly, OneStepOn}
+use Rattle.echo_disk.proofs.Moments.{then_run, weaker_run}
+use Rattle.echo_placing.specs.declared.finishing.Left.{Left}
+use Rattle.echo_steps.specs.PacketFiles.{PacketFile}
+use Rattle.station_scan.specs.Left.{IsLeftOf}
+use Rattle.station_scan.specs.Publishing.{IsOnDisk}
+use Rattle.station_scan.specs.Scanning.{AreSentOut, CommitsScan, PreparesScan, SendsOut}
+use Rattle.station_scan.proofs.Lefts.{finishes_none}
+
+-- what is seen is the same
+pub same_seen : (a b : DiskState) → ChangesNothing a b → b.seen ≡ a.seen
+same_seen a b quiet =
+    let h : (m : List ℕ) → b.seen m ≡ a.seen m = quiet.seen in
+    λ i m. h m i
+
+module _ (Own : List ℕ → Type 0) (outbound own : List ℕ) (Stays Comes Stayed Came : Files → Type 0) (cursor : ℕ) (files : List PacketFile) (d0 d1 d2 : DiskState) (quiet : ChangesNothing d0 d1)
+    (stays : (c : Files) → Stayed c → Stays c) (comes : (c : Files) → Came c → Comes c) (stood : (c : Files) → d0.may_leave c → Stays c) (found : List Left) where
+  abbrev Before : Files → Type 0
+  Before c = OneStepOn (PreparesScan outbound own Stays cursor found files) d0 c ⊎ CommitsScan Own outbound own (IsOnDisk d0) Stays Comes cursor found files d0.seen c
+
+  abbrev After : Files → Type 0
+  After c = OneStepOn (PreparesScan outbound own Stayed cursor found files) d1 c ⊎ CommitsScan Own outbound own (IsOnDisk d1) Stayed Came cursor found files d1.seen c
+
+  commits_looked : (c : Files) → CommitsScan Own outbound own (IsOnDisk d1) Stayed Came cursor found files d1.seen c → CommitsScan Own outbound own (IsOnDisk d0) Stays Comes cursor found files d0.seen c
+  commits_looked c with =
+      let at : CommitsScan Own outbound own (IsOnDisk d1) Stayed Came cursor found files d0.seen c =
+      subst (λ (f : Files). CommitsScan Own outbound own (IsOnDisk d1) Stayed Came cursor found files f c) (same_seen d0 d1 quiet) with in
+      record {
+        between = at.between;
+        ended = at.ended;
+        beside_them = at.beside_them;
+        others = λ m other on. at.others m other (⊎_elim (λ is. inl ((quiet.named m (λ h. h) is.0.0, quiet.flushed m (λ h. h) is.0.1), is.1)) (λ ended. inr ended) on);
+        either = ⊎_elim (λ none. inl (stays c none.0, none.1)) (λ all. inr (comes c all.0, all.1, all.2)) at.either;
+      }
+
+  looked_step : (c : Files) → After c → Before c
+  looked_step c (inl step) =
+      inl (step.0, quiet.no_more step.0 step.1, record { between = step.2.between; ends = step.2.ends; writes = step.2.writes; stands = stays c step.2.stands })
+  looked_step c (inr with) = inr (commits_looked c with)
+
+  looked_moments : LeavesOnly d1 d2 After → LeavesOnly d0 d2 Before
+  looked_moments run =
+      then_run d0 d1 d2 Before After
+      (weaker_run d0 d1 d0.may_leave Before quiet.run (λ c left. inl (c, left, record { between = c; ends = finishes_none cursor found c; writes = λ m other. refl; stands = stood c left })))
+      run looked_step
+
+  looked_sent : {E : Type 0} (is_true : Type 0) (result : Result (Unit {0}) E) → OnOk result (AreSentOut is_true Own outbound own Came cursor found files d1.seen d2) → OnOk result (AreSentOut is_true Own outbound own Comes cursor found files d0.seen d2)
+  looked_sent is_true (Ok done) sent =
+      let at : AreSentOut is_true Own outbound own Came cursor found files d0.seen d2 =
+      subst (λ (f : Files). AreSentOut is_true Own outbound own Came cursor found files f d2) (same_seen d0 d1 quiet) sent in
+      record {
+        all = at.all;
+        between = at.between;
+        ended = at.ended;
+        beside_them = at.beside_them;
+        packets = at.packets;
+        shown = comes d2.seen at.shown;
+        on_disk = λ c left. comes c (at.on_disk c left);
+        others = at.others;
+        bytes = at.bytes;
+      }
+  looked_sent is_true (Err cause) sent = tt
+
+-- then the packets were sent out
+pub looked_out : {E : Type 0} (Own : List ℕ → Type 0) (outbound own : List ℕ) (Stays Comes Stayed Came : Files → Type 0) (cursor : ℕ) (files : List PacketFile) (d0 d1 d2 : DiskState) → ChangesNothing d0 d1
+    → ((c : Files) → Stayed c → Stays c) → ((c : Files) → Came c → Comes c) → ((c : Files) → d0.may_leave c → Stays c) → (IsTrue : Files → Type 0) (result : Result (Unit {0}) E)
+    → SendsOut (IsTrue d1.seen) Own outbound own Stayed Came cursor files d1 d2 result → SendsOut (IsTrue d0.seen) Own outbound own Stays Comes cursor files d0 d2 result
+looked_out Own outbound own Stays Comes Stayed Came cursor files d0 d1 d2 quiet stays comes stood IsTrue result sends =
+    let found = sends.found in
+    let seen = same_seen d0 d1 quiet in
+    record {
+      found = found;
+      each = subst (λ (f : Files). All (IsLeftOf (IsTrue f) Own outbound own) found) seen sends.each;
+      sent = subst (λ (f : Files). OnOk result (AreSentOut (IsTrue f) Own outbound own Comes cursor found files d0.seen d2)) seen
+          (looked_sent Own outbound own Stays Comes Stayed Came cursor files d0 d1 d2 quiet stays comes stood found (IsTrue d1.seen) result sends.sent);
+      crash = looked_moments Own outbound own Stays Comes Stayed Came cursor files d0 d1 d2 quiet stays comes stood found sends.crash;
+    }

@@ -1,0 +1,130 @@
+-- What earlier scans left comes to its end, and then the packets of a scan and the commit of its store are put on the disk.
+use Rattle.std.proofs.Common.{◌≡◌, ◌⊎◌, ◌≤◌, inl, inr, ⊎_elim, ◌∙◌, ℕ, List, All, get_or, refl, subst, sym}
+use Rattle.std.specs.Prelude.{Err, IfErr, Ok, OnOk, Result}
+use Rattle.std.proofs.lemmas.Bool.{cases_lt}
+use Rattle.std.proofs.lemmas.List.Elements.{All-contains}
+use Rattle.echo_base.specs.Base.{Base}
+use Rattle.echo_disk.specs.Disk.{DiskState, Files}
+use Rattle.echo_disk.specs.Runs.{LeavesOnly, OneStepOn}
+use Rattle.echo_disk.proofs.Moments.{left_now, then_run, weaker_run}
+use Rattle.echo_placing.specs.Finishing.{FinishesEach, IsOfLeft, IsOver}
+use Rattle.echo_placing.specs.declared.finishing.Left.{Left}
+use Rattle.echo_placing.specs.declared.placing_error.PlacingError.{PlacingError}
+use Rattle.echo_steps.specs.PacketFiles.{PacketFile}
+use Rattle.echo_store.specs.Store.{StoreState}
+use Rattle.station_scan.specs.Beneath.{IsUsedAt}
+use Rattle.station_scan.specs.Left.{EndsLeft, IsEnded, IsLeftOf, IsOfNameOff}
+use Rattle.station_scan.specs.Publishing.{IsOnDisk, KeepsStoreBut}
+use Rattle.station_scan.specs.Scanning.{AreSentOut, CommitsScan, IsTouched, PreparesScan, SendsOut}
+use Rattle.station_scan.specs.Sends.{AreSentOn, IsOfThese, SendsThese}
+use Rattle.station_scan.proofs.Published.{store_then, store_wider, used_keeps}
+
+-- one that is over, by what is seen
+is_ended : (cursor : ℕ) (d0 d1 : DiskState) (l : Left) → IsOver cursor d0 d1 l → IsEnded cursor d0.seen d1.seen l
+is_ended cursor d0 d1 l over = record {
+  committed = λ below. (over.committed below).seen;
+  untouched = over.untouched;
+  gone = ⊎_elim (λ below. (over.committed below).gone) (λ above. over.gone above) (cases_lt l.before cursor);
+}
+
+-- what is left is none of these
+left_off : (Own : List ℕ → Type 0) (is_true : Type 0) (outbound own : List ℕ) (found : List Left) → All (IsLeftOf is_true Own outbound own) found → (m : List ℕ) → Own m → IsOfLeft found m → ⊥
+left_off Own is_true outbound own found each m is (l, among, at) =
+    let (name, like, numbered) = All-contains (IsLeftOf is_true Own outbound own) found l each among in
+    ⊎_elim (λ e. like.off.beside_path (subst Own (e ∙ like.beside) is)) (λ e. like.off.path (subst Own (e ∙ like.path) is)) at
+
+module _ (Own : List ℕ → Type 0) (outbound own : List ℕ) (is_true : Type 0) (cursor : ℕ) (files : List PacketFile) (s0 s1 : StoreState) (inside : (m : List ℕ) → s0.is_own m → Own m)
+    (used : IsUsedAt (IsOfNameOff Own outbound own) s0 s1) (ready : s0.is_ready) (honest0 : s0.disk.is_honest) (first next : Base) (was : s0.committed first) where
+  abbrev Stays : Files → Type 0
+  Stays = s0.stands first
+
+  abbrev Comes : Files → Type 0
+  Comes = s0.stands next
+
+  module _ (result1 : Result (Unit {0}) PlacingError) (ends : EndsLeft is_true Own outbound own cursor s0.disk s1.disk result1) where
+    abbrev found : List Left
+    found = ends.found
+
+    abbrev May : Files → Type 0
+    May c = OneStepOn (PreparesScan outbound own Stays cursor found files) s0.disk c ⊎ CommitsScan Own outbound own (IsOnDisk s0.disk) Stays Comes cursor found files s0.disk.seen c
+
+    stands_ended : (a c : Files) → s0.disk.may_leave a → FinishesEach cursor found a c → Stays c
+    stands_ended a c left finishes =
+        used.settled first a c (λ m is. finishes.others m (left_off Own is_true outbound own found ends.each m (inside m is))) (s0.stays honest0 ready first was a left)
+
+    ended_moments : LeavesOnly s0.disk s1.disk May
+    ended_moments =
+        weaker_run s0.disk s1.disk (OneStepOn (FinishesEach cursor found) s0.disk) May ends.any_moment
+        (λ c step. inl (step.0, step.1, record { between = c; ends = step.2; writes = λ m other. refl; stands = stands_ended step.0 c step.1 step.2 }))
+
+    -- it stopped before
+    pub not_sent : {E : Type 0} (cause : E) → SendsOut is_true Own outbound own Stays Comes cursor files s0.disk s1.disk (Err cause)
+    not_sent cause = record { found = found; each = ends.each; sent = tt; crash = ended_moments }
+
+  -- they are at their end
+  module _ (ends : EndsLeft is_true Own outbound own cursor s0.disk s1.disk (Ok tt)) (s2 : StoreState) (honest2 : s2.disk.is_honest) (kept : KeepsStoreBut (IsOfThese s1.is_own outbound own files) s1 s2) (is : s0.keeps next) where
+    abbrev these : List Left
+    these = ends.found
+
+    abbrev All_may : Files → Type 0
+    All_may c = OneStepOn (PreparesScan outbound own Stays cursor these files) s0.disk c ⊎ CommitsScan Own outbound own (IsOnDisk s0.disk) Stays Comes cursor these files s0.disk.seen c
+
+    all_ended : All (IsEnded cursor s0.disk.seen s1.disk.seen) these
+    all_ended k z lt = is_ended cursor s0.disk s1.disk (get_or these k z) (ends.over k z lt)
+
+    of_these : (m : List ℕ) → IsOfThese s1.is_own outbound own files m → IsOfThese Own outbound own files m
+    of_these m of = ⊎_elim (λ o. inl (inside m ((used.same.own m).0 o))) (λ p. inr p) of
+
+    sent_moment : (c : Files) → SendsThese s1 outbound own files first next c → All_may c
+    sent_moment c (inl over) =
+        let b = over.writes.0 in
+        let at = left_now s0.disk s1.disk (OneStepOn (FinishesEach cursor these) s0.disk) ends.any_moment b over.writes.1 in
+        inl (at.0, at.1, record { between = b; ends = at.2; writes = over.writes.2; stands = (used.same.stands first c).0 over.stands })
+    sent_moment c (inr with) = inr (record {
+      between = s1.disk.seen;
+      ended = all_ended;
+      beside_them = ends.changes.seen;
+      others = λ m other at.
+          with.others m (λ of. other (of_these m of))
+          (⊎_elim (λ on. (ends.changes.named m on.1 on.0.0, ends.changes.flushed m on.1 on.0.1))
+          (λ ended. (ends.named m (ended.0, ended.1, ⊎_elim (λ e. inl e) (λ p. inr p.0) ended.2), ends.flushed m ended)) at);
+      either = ⊎_elim (λ none. inl ((used.same.stands first c).0 none.0, none.1)) (λ all. inr ((used.same.stands next c).0 all.0, all.1, all.2)) with.either;
+    })
+
+    sent_crash : LeavesOnly s1.disk s2.disk (SendsThese s1 outbound own files first next) → LeavesOnly s0.disk s2.disk All_may
+    sent_crash run = then_run s0.disk s1.disk s2.disk All_may (SendsThese s1 outbound own files first next) (ended_moments (Ok tt) ends) run sent_moment
+
+    sent_out : AreSentOn outbound files s1 s2 → AreSentOut is_true Own outbound own Comes cursor these files s0.disk.seen s2.disk
+    sent_out sent =
+        let now = sent.committed.committed honest2 next (used.holds.keeps next is) in
+        let back : (c : Files) → s2.stands next c → Comes c = λ c stands. (used.same.stands next c).0 ((kept.same.stands next c).0 stands) in
+        record {
+          all = ends.all;
+          between = s1.disk.seen;
+          ended = all_ended;
+          beside_them = ends.changes.seen;
+          packets = sent.packets honest2;
+          shown = back s2.disk.seen (s2.shown honest2 sent.committed.ready next now);
+          on_disk = λ c left. back c (s2.stays honest2 sent.committed.ready next now c left);
+          others = λ m other. kept.keeps.seen m (λ of. other (of_these m of));
+          bytes = sent.bytes;
+        }
+
+    sent_if : {E : Type 0} (result : Result (Unit {0}) E) → OnOk result (AreSentOn outbound files s1 s2) → OnOk result (AreSentOut is_true Own outbound own Comes cursor these files s0.disk.seen s2.disk)
+    sent_if (Ok done) sent = sent_out sent
+    sent_if (Err cause) sent = tt
+
+    pub sends_out : {E : Type 0} (result : Result (Unit {0}) E) → OnOk result (AreSentOn outbound files s1 s2) → LeavesOnly s1.disk s2.disk (SendsThese s1 outbound own files first next)
+        → SendsOut is_true Own outbound own Stays Comes cursor files s0.disk s2.disk result
+    sends_out result sent run = record { found = these; each = ends.each; sent = sent_if result sent; crash = sent_crash run }
+
+-- which paths are touched
+module _ (Own : List ℕ → Type 0) (outbound own : List ℕ) (s0 s1 : StoreState) (used : IsUsedAt (IsOfNameOff Own outbound own) s0 s1) where
+  pub ended_keeps : KeepsStoreBut (IsTouched s0.is_own outbound) s0 s1
+  ended_keeps = store_wider (IsOfNameOff Own outbound own) (IsTouched s0.is_own outbound) s0 s1 (λ m at. inr (own, at.0)) (used_keeps (IsOfNameOff Own outbound own) s0 s1 used)
+
+  pub sent_keeps : (files : List PacketFile) (s2 : StoreState) → KeepsStoreBut (IsOfThese s1.is_own outbound own files) s1 s2 → KeepsStoreBut (IsTouched s0.is_own outbound) s0 s2
+  sent_keeps files s2 kept =
+      store_then (IsTouched s0.is_own outbound) s0 s1 s2 ended_keeps
+      (store_wider (IsOfThese s1.is_own outbound own files) (IsTouched s0.is_own outbound) s1 s2
+      (λ m of. ⊎_elim (λ o. inl ((used.same.own m).0 o)) (λ p. inr (own, (p.0.name, p.2, p.3))) of) kept)

@@ -1,0 +1,210 @@
+-- Packets and the commit of a store.
+use Rattle.std.proofs.Common.{◌≡◌, inl, inr, ⊎_elim, ◌∙◌, ◌<◌, ℕ, List, get_or, length, refl, subst, sym}
+use Rattle.std.specs.Prelude.{All, Bool, Err, false, IfOk, Ok, OnOk, Result, true}
+use Rattle.std.proofs.lemmas.List.Elements.{All-contains}
+use Rattle.echo_base.specs.Base.{Base}
+use Rattle.echo_disk.specs.Disk.{DiskState, Files, Honestly}
+use Rattle.echo_disk.specs.declared.disk_error.DiskError.{DiskError}
+use Rattle.echo_disk.specs.declared.disk_error.DiskError.TheVariants as disk_error
+use Rattle.echo_disk.specs.Runs.{ChangesNothing, LeavesOnly, OneStepOn}
+use Rattle.echo_disk.proofs.Moments.{then_run, weaker_run}
+use Rattle.echo_placing.specs.Changes.{ChangesOnly, DifferAt}
+use Rattle.echo_placing.specs.Naming.{HasItsPath, NamesEach}
+use Rattle.echo_placing.specs.Outgoing.{ArePlaced, IsBesideOne, IsFree, IsOfOne, IsStaged, SendsBytes}
+use Rattle.echo_placing.specs.Publishing.{IsApartFrom, placing_cause}
+use Rattle.echo_placing.specs.declared.placing_error.PlacingError.TheVariants as placing
+use Rattle.echo_placing.specs.declared.outgoing.Outgoing.{Outgoing}
+use Rattle.echo_placing.proofs.Changes.{left_there}
+use Rattle.echo_placing.proofs.Packets.{path_not_beside}
+use Rattle.echo_store.specs.Store.{Commits, KeepsBeside, IsSameStore, MayCommit, StandsForEither, StoreState}
+use Rattle.echo_store.proofs.Runs.{same_twice}
+use Rattle.station.specs.Beneath.{HoldsAsBefore}
+use Rattle.station_scan.specs.Beneath.{IsUsedAt}
+use Rattle.station_scan.specs.Publishing.{ArePublished, AreStaged, CommitsWith, IsClear, IsNamedAs, IsOnDisk, IsPublishedAt, KeepsBut, KeepsStoreBut, PublishesOn, StagesOver}
+use Rattle.station_scan.specs.declared.unpublished.Unpublished.{Unpublished}
+
+-- none of the store's own paths is a packet's
+module _ (s : StoreState) (packets : List Outgoing) (apart : All (IsApartFrom s.is_own) packets) where
+  pub own_not_of : (m : List ℕ) → s.is_own m → IsOfOne packets m → ⊥
+  own_not_of m own (p, is, at) =
+      let away : IsApartFrom s.is_own p = All-contains (IsApartFrom s.is_own) packets p apart is in
+      ⊎_elim (λ e. away.beside (subst s.is_own e own)) (λ e. away.path (subst s.is_own e own)) at
+
+  pub own_not_beside : (m : List ℕ) → s.is_own m → IsBesideOne packets m → ⊥
+  own_not_beside m own (p, is, at) = own_not_of m own (p, is, inl at)
+
+  -- of a store with the same paths too
+  pub apart_again : (t : StoreState) → IsSameStore s t → All (IsApartFrom t.is_own) packets
+  apart_again t same k z lt =
+      let away = apart k z lt in
+      record { path = λ own. away.path ((same.own (get_or packets k z).path.now).0 own); beside = λ own. away.beside ((same.own (get_or packets k z).beside.now).0 own) }
+
+-- ---- what stands still
+
+-- but for these paths
+pub keeps_then : (paths : List ℕ → Type 0) (d0 d1 d2 : DiskState) → KeepsBut paths d0 d1 → KeepsBut paths d1 d2 → KeepsBut paths d0 d2
+keeps_then paths d0 d1 d2 one two = record {
+  seen = λ m other. two.seen m other ∙ one.seen m other;
+  named = λ m other is. two.named m other (one.named m other is);
+  flushed = λ m other is. two.flushed m other (one.flushed m other is);
+  alone = λ m other is. two.alone m other (one.alone m other is);
+  honest = λ is. one.honest (two.honest is);
+}
+
+pub keeps_wider : (few many : List ℕ → Type 0) (d0 d1 : DiskState) → ((m : List ℕ) → few m → many m) → KeepsBut few d0 d1 → KeepsBut many d0 d1
+keeps_wider few many d0 d1 more run =
+    let not : (m : List ℕ) → (many m → ⊥) → few m → ⊥ = λ m other is. other (more m is) in
+    record {
+      seen = λ m other. run.seen m (not m other);
+      named = λ m other. run.named m (not m other);
+      flushed = λ m other. run.flushed m (not m other);
+      alone = λ m other. run.alone m (not m other);
+      honest = run.honest;
+    }
+
+pub keeps_only : (paths : List ℕ → Type 0) (d0 d1 : DiskState) → ChangesOnly paths d0 d1 → KeepsBut paths d0 d1
+keeps_only paths d0 d1 run = record { seen = run.seen; named = run.named; flushed = run.flushed; alone = run.alone; honest = run.honest }
+
+pub keeps_beside : (s t : StoreState) → KeepsBeside s t → KeepsBut s.is_own s.disk t.disk
+keeps_beside s t kept = record { seen = kept.seen; named = kept.named; flushed = kept.flushed; alone = kept.alone; honest = kept.honest }
+
+pub keeps_nothing : (paths : List ℕ → Type 0) (d0 d1 : DiskState) → ChangesNothing d0 d1 → KeepsBut paths d0 d1
+keeps_nothing paths d0 d1 quiet = record {
+  seen = λ m other. quiet.seen m;
+  named = λ m other. quiet.named m (λ h. h);
+  flushed = λ m other. quiet.flushed m (λ h. h);
+  alone = λ m other. quiet.alone m (λ h. h);
+  honest = quiet.honest;
+}
+
+-- and of a store
+pub store_then : (paths : List ℕ → Type 0) (s0 s1 s2 : StoreState) → KeepsStoreBut paths s0 s1 → KeepsStoreBut paths s1 s2 → KeepsStoreBut paths s0 s2
+store_then paths s0 s1 s2 one two = record { same = same_twice s0 s1 s2 one.same two.same; keeps = keeps_then paths s0.disk s1.disk s2.disk one.keeps two.keeps }
+
+pub store_wider : (few many : List ℕ → Type 0) (s0 s1 : StoreState) → ((m : List ℕ) → few m → many m) → KeepsStoreBut few s0 s1 → KeepsStoreBut many s0 s1
+store_wider few many s0 s1 more kept = record { same = kept.same; keeps = keeps_wider few many s0.disk s1.disk more kept.keeps }
+
+pub used_keeps : (paths : List ℕ → Type 0) (s0 s1 : StoreState) → IsUsedAt paths s0 s1 → KeepsStoreBut paths s0 s1
+used_keeps paths s0 s1 used = record { same = used.same; keeps = keeps_only paths s0.disk s1.disk used.changes }
+
+pub commit_keeps : (s0 s1 : StoreState) → MayCommit s0 s1 → KeepsStoreBut s0.is_own s0 s1
+commit_keeps s0 s1 may = record { same = may.same; keeps = keeps_beside s0 s1 may.beside }
+
+-- ---- what is committed
+
+pub commits_still : (s0 s1 s2 : StoreState) → Commits s0 s1 → HoldsAsBefore s1 s2 → (s2.disk.is_honest → s1.disk.is_honest) → Commits s0 s2
+commits_still s0 s1 s2 commits holds honest = record {
+  ready = holds.ready;
+  keeps = λ is base h. holds.keeps base (commits.keeps (honest is) base h);
+  committed = λ is base h. holds.committed base (commits.committed (honest is) base h);
+  honest = λ is. commits.honest (honest is);
+}
+
+pub commits_since : (s0 s1 s2 : StoreState) → HoldsAsBefore s0 s1 → (s1.disk.is_honest → s0.disk.is_honest) → Commits s1 s2 → Commits s0 s2
+commits_since s0 s1 s2 holds honest commits = record {
+  ready = commits.ready;
+  keeps = λ is base h. commits.keeps is base (holds.keeps base h);
+  committed = λ is base h. commits.committed is base (holds.keeps base h);
+  honest = λ is. honest (commits.honest is);
+}
+
+-- ---- what a crash leaves
+
+module _ (outbound : List ℕ) (packets : List Outgoing) (placed : ArePlaced outbound packets) (s0 : StoreState) (apart : All (IsApartFrom s0.is_own) packets) (ready : s0.is_ready) where
+  -- packets are written beside their paths
+  pub staging : (s1 : StoreState) → IsUsedAt (IsBesideOne packets) s0 s1 → s0.disk.is_honest → (first : Base) → s0.committed first → LeavesOnly s0.disk s1.disk (StagesOver s0 packets first)
+  staging s1 used honest first is =
+      weaker_run s0.disk s1.disk (OneStepOn (DifferAt (IsBesideOne packets)) s0.disk) (StagesOver s0 packets first) used.changes.any_moment
+      (λ c step. record {
+        staged = step;
+        stands = used.settled first step.0 c (λ m own. step.2 m (own_not_beside s0 packets apart m own)) (s0.stays honest ready first is step.0 step.1);
+      })
+
+  -- once they stand there the store is committed
+  module _ (s1 : StoreState) (may : MayCommit s0 s1) (staged : AreStaged packets s0.disk) where
+    committing : s1.disk.is_honest → (first next : Base) → s0.committed first → s0.keeps next → LeavesOnly s0.disk s1.disk (CommitsWith s0 packets first next)
+    committing honest first next was is =
+        let clear : All (IsClear s0.disk) packets = staged.clear (may.beside.honest honest) in
+        weaker_run s0.disk s1.disk (StandsForEither s0 first next) (CommitsWith s0 packets first next) (may.any_moment honest first next was is)
+        (λ c either. record {
+          others = λ m out other on. either.beside m out on.0 on.1;
+          either =
+              ⊎_elim
+              (λ stands. inl (stands, λ k z lt. let none = clear k z lt in either.beside (get_or packets k z).path.now (apart k z lt).path none.named none.flushed ∙ none.none))
+              (λ stands. inr (
+                stands,
+                λ k z lt. let file = (staged.staged k z lt).file in inr (either.beside (get_or packets k z).beside.now (apart k z lt).beside file.named file.flushed ∙ file.seen),
+                staged.bytes,
+              ))
+              either.stands;
+        })
+
+    pub still_staged : All (IsStaged s1.disk) packets
+    still_staged k z lt =
+        let p = get_or packets k z in
+        let was = staged.staged k z lt in
+        record {
+          file = record {
+            seen = may.beside.seen p.beside.now (apart k z lt).beside ∙ was.file.seen;
+            named = may.beside.named p.beside.now (apart k z lt).beside was.file.named;
+            flushed = may.beside.flushed p.beside.now (apart k z lt).beside was.file.flushed;
+          };
+          named = may.beside.named p.path.now (apart k z lt).path was.named;
+        }
+
+    -- and then they get their paths
+    pub naming : (s2 : StoreState) → Commits s0 s1 → IsUsedAt (IsOfOne packets) s1 s2 → s1.disk.is_honest → LeavesOnly s1.disk s2.disk (OneStepOn (NamesEach packets) s1.disk) → (first next : Base) → s0.committed first
+        → s0.keeps next → LeavesOnly s0.disk s2.disk (CommitsWith s0 packets first next)
+    naming s2 commits used honest names first next was is =
+        let next_committed = commits.committed honest next is in
+        let own_not : (m : List ℕ) → s1.is_own m → IsOfOne packets m → ⊥ = λ m own. own_not_of s0 packets apart m ((may.same.own m).0 own) in
+        then_run s0.disk s1.disk s2.disk (CommitsWith s0 packets first next) (OneStepOn (NamesEach packets) s1.disk) (committing honest first next was is) names
+        (λ c step. record {
+          others = λ m out other on.
+              step.2.others m other ∙ s1.disk.on_disk m (may.beside.named m out on.0) (may.beside.flushed m out on.1) step.0 step.1 ∙ may.beside.seen m out;
+          either = inr (
+            (may.same.stands next c).0 (used.settled next step.0 c (λ m own. step.2.others m (own_not m own)) (s1.stays honest commits.ready next next_committed step.0 step.1)),
+            step.2.whole,
+            staged.bytes,
+          );
+        })
+
+    pub committed_only : s1.disk.is_honest → (first next : Base) → s0.committed first → s0.keeps next → LeavesOnly s0.disk s1.disk (CommitsWith s0 packets first next)
+    committed_only = committing
+
+  -- all of it
+  pub publishing : (s1 s2 : StoreState) → IsUsedAt (IsBesideOne packets) s0 s1 → s1.disk.is_honest → (first next : Base) → s0.committed first → s0.keeps next → LeavesOnly s1.disk s2.disk (CommitsWith s1 packets first next)
+      → LeavesOnly s0.disk s2.disk (PublishesOn s0 packets first next)
+  publishing s1 s2 used honest first next was is commits =
+      let run = used.changes in
+      let not : (m : List ℕ) → (IsOfOne packets m → ⊥) → IsBesideOne packets m → ⊥ = λ m other o. other (o.0, o.1, inl o.2) in
+      then_run s0.disk s1.disk s2.disk (PublishesOn s0 packets first next) (CommitsWith s1 packets first next)
+      (weaker_run s0.disk s1.disk (StagesOver s0 packets first) (PublishesOn s0 packets first next) (staging s1 used (run.honest honest) first was) (λ c over. inl over))
+      commits
+      (λ c with. inr (record {
+        others = λ m out other on.
+            with.others m (λ own. out ((used.same.own m).0 own)) other (run.named m (not m other) on.0, run.flushed m (not m other) on.1) ∙ run.seen m (not m other);
+        either = ⊎_elim (λ none. inl ((used.same.stands first c).0 none.0, none.1)) (λ all. inr ((used.same.stands next c).0 all.0, all.1, all.2)) with.either;
+      }))
+
+  -- it stopped before the commit
+  pub stopping : (s1 : StoreState) → IsUsedAt (IsBesideOne packets) s0 s1 → s1.disk.is_honest → (first next : Base) → s0.committed first → LeavesOnly s0.disk s1.disk (PublishesOn s0 packets first next)
+  stopping s1 used honest first next was =
+      weaker_run s0.disk s1.disk (StagesOver s0 packets first) (PublishesOn s0 packets first next) (staging s1 used (used.changes.honest honest) first was) (λ c over. inl over)
+
+  -- a path that was taken once they were written beside was taken before
+  pub was_free : (s1 : StoreState) → IsUsedAt (IsBesideOne packets) s0 s1 → All (IsFree s0.disk) packets → All (IsFree s1.disk) packets
+  was_free s1 used free k z lt = used.changes.seen (get_or packets k z).path.now (path_not_beside outbound packets placed k z lt) ∙ free k z lt
+
+-- whether all got their paths
+pub published_if : (packets : List Outgoing) (s0 s2 : StoreState) (named : Result Bool DiskError) (result : Result (Unit {0}) Unpublished) → IsNamedAs named result
+    → Honestly s2.disk (IfOk named (λ all. all ≡ true → All (HasItsPath s2.disk) packets)) → Commits s0 s2 → All SendsBytes packets → OnOk result (ArePublished packets s0 s2)
+published_if packets s0 s2 (Ok true) result is paths commits bytes =
+    subst (λ (r : Result (Unit {0}) Unpublished). OnOk r (ArePublished packets s0 s2)) (sym is) (record { committed = commits; named = λ honest. paths honest refl; bytes = bytes })
+published_if packets s0 s2 (Ok false) result is paths commits bytes = subst (λ (r : Result (Unit {0}) Unpublished). OnOk r (ArePublished packets s0 s2)) (sym is) tt
+published_if packets s0 s2 (Err cause) result is paths commits bytes = subst (λ (r : Result (Unit {0}) Unpublished). OnOk r (ArePublished packets s0 s2)) (sym is) tt
+
+-- a disk does not answer that a path is taken
+pub not_taken : (cause : DiskError) → placing_cause cause ≡ placing.Taken → ⊥
+not_taken disk_error.Memory is = absurd (cc is)
+not_taken disk_error.Device is = absurd (cc is)

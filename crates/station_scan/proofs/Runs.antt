@@ -1,0 +1,172 @@
+-- A scan of a store that was opened, as one of the station.
+use Rattle.std.proofs.Common.{◌≡◌, ◌⊎◌, inl, inr, ⊎_elim, ◌∙◌, ℕ, List, Result, Ok, Err, refl, subst, sym, ◌++◌}
+use Rattle.std.specs.Prelude.{All, IfErr, OnOk, get_or}
+use Rattle.echo_base.specs.Base.{Base}
+use Rattle.echo_disk.specs.Disk.{DiskState, Files}
+use Rattle.echo_disk.specs.Runs.{ChangesNothing, LeavesOnly, OneStepOn}
+use Rattle.echo_disk.proofs.Moments.{left_now, then_nothing, then_run, weaker_run}
+use Rattle.echo_links.specs.Links.{LinkFile}
+use Rattle.echo_placing.specs.declared.finishing.Left.{Left}
+use Rattle.echo_station_files.specs.Paths.{dotted}
+use Rattle.echo_status.specs.Devices.{Output}
+use Rattle.echo_steps.specs.PacketFiles.{PacketFile}
+use Rattle.echo_steps.specs.declared.stamp.Stamp.{Stamp}
+use Rattle.echo_store.specs.Store.{StoreState, all_scanned}
+use Rattle.echo_store_changing.specs.declared.stop.Stop.{Stop}
+use Rattle.station.specs.Opening.{IsOpenFor}
+use Rattle.station.specs.Place.{IsOfPlace, KeepsElsewhere, Place, StandsAlone, StandsOrWasLeft}
+use Rattle.station_scan.specs.Left.{AreAllLeft, IsLeftOf, IsToFind}
+use Rattle.station_scan.specs.Publishing.{IsOnDisk, KeepsBut, KeepsStoreBut}
+use Rattle.station_scan.specs.Scanning.{AreSentOut, CommitsScan, IsPutAs, IsPutIn, IsPutOn, IsScanOn, IsSentOn, IsTouched, MayLeave, PreparesScan, ScansOnStore, SendsOut}
+use Rattle.station_scan.specs.Sends.{IsOfThese}
+use Rattle.station_scan.specs.Stops.{IsOfPlacing}
+use Rattle.station_scan.specs.declared.scan_stop.ScanStop.{ScanStop}
+use Rattle.station_scan.proofs.Lefts.{finishes_none}
+use Rattle.station_scan.proofs.Looked.{same_seen}
+use Rattle.station_scan.proofs.Published.{keeps_nothing, keeps_then, keeps_wider}
+use Rattle.station_scan.proofs.Stops.{put_wider}
+
+-- what is of one set of own paths, as of another one of the same paths
+module _ (Own Own2 : List ℕ → Type 0) (out : (m : List ℕ) → Own2 m → Own m) (outbound own : List ℕ) where
+  left_as : (is_true : Type 0) (l : Left) → IsLeftOf is_true Own outbound own l → IsLeftOf is_true Own2 outbound own l
+  left_as is_true l (name, like, numbered) = (
+    name,
+    record {
+      path = like.path;
+      beside = like.beside;
+      plain = like.plain;
+      off = record { path = λ o. like.off.path (out _ o); beside_path = λ o. like.off.beside_path (out _ o) };
+    },
+    numbered,
+  )
+
+  all_left_as : (is_true : Type 0) (files : Files) (found : List Left) → ((m : List ℕ) → Own m → Own2 m) → AreAllLeft is_true Own outbound own files found → AreAllLeft is_true Own2 outbound own files found
+  all_left_as is_true files found into all truth name before numbered to =
+      all truth name before numbered (record {
+        plain = to.plain;
+        off = record { path = λ o. to.off.path (into _ o); beside_path = λ o. to.off.beside_path (into _ o) };
+        there = to.there;
+      })
+
+  these_as : (files : List PacketFile) → ((m : List ℕ) → Own m → Own2 m) → (m : List ℕ) → IsOfThese Own outbound own files m → IsOfThese Own2 outbound own files m
+  these_as files into m of = ⊎_elim (λ o. inl (into m o)) (λ p. inr p) of
+
+pub elsewhere_keeps : (place : Place) (outbound : List ℕ) (d0 d1 : DiskState) → KeepsElsewhere place d0 d1 → KeepsBut (IsTouched place.is_own outbound) d0 d1
+elsewhere_keeps place outbound d0 d1 kept = record {
+  seen = λ m other. kept.seen m (λ o. other (inl o));
+  named = λ m other. kept.named m (λ o. other (inl o));
+  flushed = λ m other. kept.flushed m (λ o. other (inl o));
+  alone = λ m other. kept.alone m (λ o. other (inl o));
+  honest = kept.honest;
+}
+
+module _ (place : Place) (d0 d2 : DiskState) (s1 s2 : StoreState) (begun : IsOpenFor place d0 s1) (of : IsOfPlace place d0 s1) (quiet : ChangesNothing s2.disk d2) (Own : List ℕ → Type 0)
+    (own_in : (m : List ℕ) → Own m → place.is_own m) (in_own : (m : List ℕ) → place.is_own m → Own m) (outbound : List ℕ) where
+  module _ (own : List ℕ) (base : Base) (stands : place.stands_for base d0.seen) where
+    abbrev Stays : Files → Type 0
+    Stays = place.stands_for base
+
+    abbrev Comes : Files → Type 0
+    Comes = place.stands_for (all_scanned base)
+
+    module _ (files : List PacketFile) (is_true : Type 0) (result : Result (Unit {0}) ScanStop) (sends : SendsOut is_true Own outbound own (s1.stands base) (s1.stands (all_scanned base)) base.cursor files s1.disk s2.disk result) where
+      abbrev found : List Left
+      found = sends.found
+
+      abbrev May : Files → Type 0
+      May = MayLeave place outbound own d0 base found files s1.disk.seen
+
+      opened_may : (c : Files) → StandsOrWasLeft place d0 base c → May c
+      opened_may c left =
+          ⊎_elim
+          (λ (alone : StandsAlone place d0 base c). inr (inl (c, inl alone, record { between = c; ends = finishes_none base.cursor found c; writes = λ m other. refl; stands = alone.stands })))
+          (λ was. inl was)
+          left
+
+      on_disk_still : (m : List ℕ) → (place.is_own m → ⊥) → IsOnDisk d0 m → IsOnDisk s1.disk m
+      on_disk_still m out on = (of.elsewhere.named m out on.0, of.elsewhere.flushed m out on.1)
+
+      sent_may : (c : Files) → OneStepOn (PreparesScan outbound own (s1.stands base) base.cursor found files) s1.disk c
+          ⊎ CommitsScan Own outbound own (IsOnDisk s1.disk) (s1.stands base) (s1.stands (all_scanned base)) base.cursor found files s1.disk.seen c → May c
+      sent_may c (inl step) =
+          let prep = step.2 in
+          inr (inl (
+            step.0,
+            left_now d0 s1.disk (StandsOrWasLeft place d0 base) (begun.run base stands) step.0 step.1,
+            record { between = prep.between; ends = prep.ends; writes = prep.writes; stands = (of.stands base c).0 prep.stands },
+          ))
+      sent_may c (inr with) = inr (inr (record {
+        between = with.between;
+        ended = with.ended;
+        beside_them = with.beside_them;
+        others = λ m other on.
+            with.others m (λ these. other (these_as Own place.is_own in_own outbound own files own_in m these))
+            (⊎_elim (λ is. inl (on_disk_still m (λ o. other (inl o)) is.0, is.1)) (λ ended. inr ended) on);
+        either = ⊎_elim (λ none. inl ((of.stands base c).0 none.0, none.1)) (λ all. inr ((of.stands (all_scanned base) c).0 all.0, all.1, all.2)) with.either;
+      }))
+
+      put_crash : LeavesOnly d0 d2 May
+      put_crash =
+          then_nothing d0 s2.disk d2 May
+          (then_run d0 s1.disk s2.disk May
+          (λ c. OneStepOn (PreparesScan outbound own (s1.stands base) base.cursor found files) s1.disk c
+          ⊎ CommitsScan Own outbound own (IsOnDisk s1.disk) (s1.stands base) (s1.stands (all_scanned base)) base.cursor found files s1.disk.seen c)
+          (weaker_run d0 s1.disk (StandsOrWasLeft place d0 base) May (begun.run base stands) opened_may) sends.crash sent_may)
+          quiet
+
+      put_sent : (r : Result (Unit {0}) ScanStop) → OnOk r (AreSentOut is_true Own outbound own (s1.stands (all_scanned base)) base.cursor found files s1.disk.seen s2.disk)
+          → OnOk r (AreSentOut is_true place.is_own outbound own Comes base.cursor found files s1.disk.seen d2)
+      put_sent (Ok done) sent = record {
+        all = all_left_as Own place.is_own in_own outbound own is_true s1.disk.seen found own_in sent.all;
+        between = sent.between;
+        ended = sent.ended;
+        beside_them = sent.beside_them;
+        packets = λ k z lt.
+            let at = sent.packets k z lt in
+            let path = outbound ++ (get_or files k z).name in
+            record { seen = quiet.seen path ∙ at.seen; named = quiet.named path (λ h. h) at.named; flushed = quiet.flushed path (λ h. h) at.flushed };
+        shown = subst Comes (sym (same_seen s2.disk d2 quiet)) ((of.stands (all_scanned base) s2.disk.seen).0 sent.shown);
+        on_disk = λ c left. (of.stands (all_scanned base) c).0 (sent.on_disk c (quiet.no_more c left));
+        others = λ m other. quiet.seen m ∙ sent.others m (λ these. other (these_as Own place.is_own in_own outbound own files own_in m these));
+        bytes = sent.bytes;
+      }
+      put_sent (Err why) sent = tt
+
+    put_in : (files : List PacketFile) (IsTrue : Files → Type 0) (some failed : Type 0) (result : Result (Unit {0}) ScanStop) → (some → failed)
+        → IsSentOn Own outbound own IsTrue some s1 s2 base files result → IsPutIn place outbound own IsTrue failed d0 d2 base files result
+    put_in files IsTrue some failed result wider sent =
+        let sends = sent.sends in
+        record {
+          opened = s1.disk.seen;
+          elsewhere = of.elsewhere.seen;
+          found = sends.found;
+          each = λ k z lt. left_as Own place.is_own in_own outbound own (IsTrue s1.disk.seen) (get_or sends.found k z) (sends.each k z lt);
+          sent = put_sent files (IsTrue s1.disk.seen) result sends result sends.sent;
+          crash = put_crash files (IsTrue s1.disk.seen) result sends;
+          why = put_wider some failed result wider sent.why;
+        }
+
+    put_as : (IsTrue : Files → Type 0) (some failed : Type 0) (made : Result (List PacketFile) Stop) (result : Result (Unit {0}) ScanStop) → (some → failed)
+        → IsPutOn Own outbound own IsTrue some s1 s2 base made result → IsPutAs place outbound own IsTrue failed d0 d2 base made result
+    put_as IsTrue some failed (Ok files) result wider sent = put_in files IsTrue some failed result wider sent
+    put_as IsTrue some failed (Err why) result wider sent =
+        (sent.0, then_nothing d0 s2.disk d2 (StandsOrWasLeft place d0 base) (then_nothing d0 s1.disk s2.disk (StandsOrWasLeft place d0 base) (begun.run base stands) sent.1) quiet)
+
+  -- what is so of the scan
+  pub scanned_on : (stamp : Stamp) (IsTrue : Files → Type 0) (some failed : Type 0) (out now : Output) (file : LinkFile) (base : Base) (result : Result (Unit {0}) ScanStop) → place.stands_for base d0.seen → (some → failed)
+      → ScansOnStore stamp Own outbound IsTrue some s1 s2 out now file base result → IsScanOn stamp place outbound IsTrue failed d0 d2 out now file base result
+  scanned_on stamp IsTrue some failed out now file base result stands wider scans = record {
+    made = scans.made;
+    answer = scans.answer;
+    put = put_as (dotted file.system) base stands IsTrue some failed scans.made result wider scans.put;
+    whole = scans.whole;
+  }
+
+  -- and which paths it touched
+  pub scan_keeps : KeepsStoreBut (IsTouched s1.is_own outbound) s1 s2 → KeepsBut (IsTouched place.is_own outbound) d0 d2
+  scan_keeps kept =
+      let at = IsTouched place.is_own outbound in
+      keeps_then at d0 s2.disk d2
+      (keeps_then at d0 s1.disk s2.disk (elsewhere_keeps place outbound d0 s1.disk of.elsewhere)
+      (keeps_wider (IsTouched s1.is_own outbound) at s1.disk s2.disk (λ m is. ⊎_elim (λ o. inl (of.own m o)) (λ name. inr name) is) kept.keeps))
+      (keeps_nothing at s2.disk d2 quiet)

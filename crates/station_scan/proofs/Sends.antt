@@ -1,0 +1,81 @@
+-- The packets of a scan and the commit of a store.
+use Rattle.std.proofs.Common.{◌≡◌, ◌≢◌, inl, inr, ⊎_elim, ◌<◌, ℕ, List, arith, length, refl}
+use Rattle.std.specs.Prelude.{All, Ok}
+use Rattle.echo_base.specs.Base.{Base}
+use Rattle.echo_disk.specs.Disk.{DiskState, Files}
+use Rattle.echo_disk.specs.Runs.{LeavesOnly, OneStepOn}
+use Rattle.echo_disk.proofs.Moments.{no_call, weaker_run}
+use Rattle.echo_placing.specs.Outgoing.{ArePlaced, IsOfOne}
+use Rattle.echo_placing.specs.Publishing.{IsApartFrom}
+use Rattle.echo_placing.specs.declared.outgoing.Outgoing.{Outgoing}
+use Rattle.echo_steps.specs.PacketFiles.{PacketFile}
+use Rattle.echo_store.specs.Store.{Commits, MayCommit, StandsForEither, StoreState}
+use Rattle.station_scan.specs.Fitting.{AreFitting}
+use Rattle.station_scan.specs.Publishing.{ArePublished, CommitsWith, IsPublishedAt, KeepsStoreBut, PublishesOn, StagesOver}
+use Rattle.station_scan.specs.Sending.{HasBytes, IsAtItsPath, IsFreeAt, StandsWhole}
+use Rattle.station_scan.specs.Sends.{AreSentOn, CommitsThese, IsOfThese, SendsThese, WritesBeside}
+use Rattle.station_scan.proofs.Published.{store_wider}
+use Rattle.station_scan.proofs.Sent.{are_apart_from, are_placed, at_its_path, files_bytes, have_none, is_beside_file, is_of_file, stand_whole}
+
+module _ (Own : List ℕ → Type 0) (outbound own : List ℕ) (files : List PacketFile) (packets : List Outgoing) (fit : AreFitting Own outbound own files packets) where
+  pub fit_placed : All (λ b. b ≢ 47) own → ArePlaced outbound packets
+  fit_placed plain = are_placed outbound own files fit.paths packets fit.are fit.sent fit.names plain fit.differ
+
+  pub fit_apart : (s : StoreState) → ((m : List ℕ) → s.is_own m → Own m) → All (IsApartFrom s.is_own) packets
+  fit_apart s inside k z lt =
+      let away = are_apart_from outbound own files fit.paths packets fit.are fit.sent Own fit.off k z lt in
+      record { path = λ o. away.path (inside _ o); beside = λ o. away.beside (inside _ o) }
+
+  pub fit_sent : (s t : StoreState) → ArePublished packets s t → AreSentOn outbound files s t
+  fit_sent s t are = record {
+    committed = are.committed;
+    packets = λ honest. at_its_path outbound own files fit.paths packets fit.are fit.sent t.disk (are.named honest);
+    bytes = files_bytes outbound own files fit.paths packets fit.are fit.sent are.bytes;
+  }
+
+  fit_of : (s : StoreState) (m : List ℕ) → IsPublishedAt s packets m → IsOfThese s.is_own outbound own files m
+  fit_of s m is = ⊎_elim (λ o. inl o) (λ of. inr (is_of_file outbound own files fit.paths packets fit.are fit.sent fit.names m of)) is
+
+  pub fit_keeps : (s t : StoreState) → KeepsStoreBut (IsPublishedAt s packets) s t → KeepsStoreBut (IsOfThese s.is_own outbound own files) s t
+  fit_keeps s t kept = store_wider (IsPublishedAt s packets) (IsOfThese s.is_own outbound own files) s t (fit_of s) kept
+
+  fit_moment : (s : StoreState) (first next : Base) (c : Files) → PublishesOn s packets first next c → SendsThese s outbound own files first next c
+  fit_moment s first next c (inl over) = inl (record {
+    writes = (
+      over.staged.0,
+      over.staged.1,
+      λ m other. over.staged.2 m (λ at. other (is_beside_file outbound own files fit.paths packets fit.are fit.sent fit.names m at)),
+    );
+    stands = over.stands;
+  })
+  fit_moment s first next c (inr with) = inr (record {
+    others = λ m other on. with.others m (λ o. other (inl o)) (λ of. other (fit_of s m (inr of))) on;
+    either =
+        ⊎_elim (λ none. inl (none.0, have_none outbound own files fit.paths packets fit.are fit.sent c none.1))
+        (λ all. inr (all.0, stand_whole outbound own files fit.paths packets fit.are fit.sent c all.1, files_bytes outbound own files fit.paths packets fit.are fit.sent all.2))
+        with.either;
+  })
+
+  pub fit_moments : (s : StoreState) (d : DiskState) (first next : Base) → LeavesOnly s.disk d (PublishesOn s packets first next) → LeavesOnly s.disk d (SendsThese s outbound own files first next)
+  fit_moments s d first next run = weaker_run s.disk d (PublishesOn s packets first next) (SendsThese s outbound own files first next) run (fit_moment s first next)
+
+-- nothing was done
+pub sends_none : (s : StoreState) (outbound own : List ℕ) (files : List PacketFile) (first next : Base) → s.disk.is_honest → s.is_ready → s.committed first → LeavesOnly s.disk s.disk (SendsThese s outbound own files first next)
+sends_none s outbound own files first next honest ready is =
+    no_call s.disk (SendsThese s outbound own files first next) (λ c left. inl (record { writes = (c, left, λ m other. refl); stands = s.stays honest ready first is c left }))
+
+-- the store alone is committed
+module _ (outbound own : List ℕ) (files : List PacketFile) (none : length files ≡ 0) where
+  pub all_none : (P : PacketFile → Type 0) → All P files
+  all_none P k z lt = absurd (omega (arith, lt, none))
+
+  pub alone_moments : (s t : StoreState) → MayCommit s t → t.disk.is_honest → (first next : Base) → s.committed first → s.keeps next → LeavesOnly s.disk t.disk (SendsThese s outbound own files first next)
+  alone_moments s t may honest first next was is =
+      weaker_run s.disk t.disk (StandsForEither s first next) (SendsThese s outbound own files first next) (may.any_moment honest first next was is)
+      (λ c either. inr (record {
+        others = λ m other on. either.beside m (λ o. other (inl o)) on.0 on.1;
+        either = ⊎_elim (λ stands. inl (stands, all_none (IsFreeAt outbound c))) (λ stands. inr (stands, all_none (StandsWhole outbound own c), all_none HasBytes)) either.stands;
+      }))
+
+  pub alone_sent : (s t : StoreState) → Commits s t → AreSentOn outbound files s t
+  alone_sent s t commits = record { committed = commits; packets = λ honest. all_none (IsAtItsPath outbound t.disk); bytes = all_none HasBytes }

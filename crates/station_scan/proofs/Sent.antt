@@ -1,0 +1,156 @@
+-- Packets that go out, as the files of a scan.
+use Rattle.std.proofs.Common.{◌≡◌, ◌≢◌, ◌⊎◌, inl, inr, ⊎_elim, ◌∙◌, ◌<◌, ℕ, List, [], ◌++◌, get_or, length, map, refl, sym, subst, ap, Some, arith}
+use Rattle.std.specs.Prelude.{All, AllPairs, Contains, Err, Ok, OnOk, Result}
+use Rattle.std.proofs.lemmas.List.{get_or-map, length-map}
+use Rattle.std.proofs.lemmas.List.Elements.{All-contains, Contains-get_or}
+use Rattle.echo_device.specs.Fixed.{AreBytes}
+use Rattle.echo_disk.specs.Disk.{DiskState, Files, IsIn}
+use Rattle.echo_steps.specs.PacketFiles.{PacketFile}
+use Rattle.echo_placing.specs.Naming.{HasItsPath, StandsWhole as outgoing_whole}
+use Rattle.echo_placing.specs.Outgoing.{AreApart, ArePlaced, IsBesideOne, IsOfOne}
+use Rattle.echo_placing.specs.Outgoing as outgoing
+use Rattle.echo_placing.specs.Publishing.{IsApartFrom}
+use Rattle.echo_placing.specs.declared.outgoing.Outgoing.{Outgoing}
+use Rattle.echo_placing.proofs.Packets.{nobody}
+use Rattle.echo_station_files.specs.Paths.{path_beside}
+use Rattle.echo_station_files.proofs.BesidePaths.{beside_other}
+use Rattle.station_scan.specs.declared.sending.TwoPaths.{TwoPaths}
+use Rattle.station_scan.specs.Publishing.{IsFreeIn}
+use Rattle.station_scan.specs.Sending.{AreSent, HasBytes, HaveOtherPaths, IsAtItsPath, IsBesidePacket, IsFreeAt, IsNameByte, IsOfPacket, IsOffOwn, StandsWhole, file_paths}
+use Rattle.station_scan.proofs.Names.{four_apart, name_beside_in, name_in}
+
+-- no file
+no_file : PacketFile
+no_file = record { name = []; bytes = [] }
+
+-- the packet has the paths and the bytes of the file
+pub record Goes (folder own : List ℕ) (sent : PacketFile) (packet : Outgoing) : Type 0 where
+  pub path : packet.path.now ≡ folder ++ sent.name
+  pub beside : packet.beside.now ≡ path_beside (folder ++ sent.name) own
+  pub bytes : packet.file.now.bytes ≡ sent.bytes
+
+module _ (folder own : List ℕ) (files : List PacketFile) (paths : List TwoPaths) (packets : List Outgoing) (are : paths ≡ map (file_paths folder own) files) (sent : AreSent files paths packets) where
+  -- the paths of one
+  at_paths : (k : ℕ) (f : PacketFile) → k < length files → get_or paths k (file_paths folder own f) ≡ file_paths folder own (get_or files k f)
+  at_paths k f lt = ap (λ (l : List TwoPaths). get_or l k (file_paths folder own f)) are ∙ get_or-map (file_paths folder own) files k f (file_paths folder own f) lt
+
+  pub goes : (k : ℕ) (f : PacketFile) (p : Outgoing) → k < length files → Goes folder own (get_or files k f) (get_or packets k p)
+  goes k f p lt =
+      let one = sent.each k f (file_paths folder own f) p lt in
+      let at = at_paths k f lt in
+      record {
+        path = one.path ∙ ap (λ (t : TwoPaths). t.path) at;
+        beside = one.beside ∙ ap (λ (t : TwoPaths). t.beside) at;
+        bytes = ap (λ (file : PacketFile). file.bytes) one.file;
+      }
+
+  within : (k : ℕ) → k < length packets → k < length files
+  within k lt = subst (λ (n : ℕ). k < n) sent.as_many lt
+
+  back : (k : ℕ) → k < length files → k < length packets
+  back k lt = subst (λ (n : ℕ). k < n) (sym sent.as_many) lt
+
+  has_paths : (k : ℕ) → k < length files → k < length paths
+  has_paths k lt = subst (λ (n : ℕ). k < n) (sym (ap length are ∙ length-map files (file_paths folder own))) lt
+
+  module _ (names : All (λ (file : PacketFile). All IsNameByte file.name) files) (own_plain : All (λ b. b ≢ 47) own) (differ : AllPairs HaveOtherPaths paths) where
+    two_apart : (k j : ℕ) (z : Outgoing) → k < j → j < length packets → k < length packets → AreApart (get_or packets k z) (get_or packets j z)
+    two_apart k j z lt hi low =
+        let one = goes k no_file z (within k low) in
+        let other = goes j no_file z (within j hi) in
+        let n = (get_or files k no_file).name in
+        let m = (get_or files j no_file).name in
+        let t = file_paths folder own no_file in
+        let apart = λ (e : folder ++ n ≡ folder ++ m).
+        differ k j t lt (has_paths j (within j hi)) (ap (λ (two : TwoPaths). two.path) (at_paths k no_file (within k low)) ∙ e ∙ sym (ap (λ (two : TwoPaths). two.path) (at_paths j no_file (within j hi)))) in
+        let four = four_apart folder own n m (names k no_file (within k low)) (names j no_file (within j hi)) apart in
+        record {
+          paths = λ e. four.paths (sym one.path ∙ e ∙ other.path);
+          besides = λ e. four.besides (sym one.beside ∙ e ∙ other.beside);
+          path_beside = λ e. four.path_beside_other (sym one.path ∙ e ∙ other.beside);
+          beside_path = λ e. four.beside_path (sym one.beside ∙ e ∙ other.path);
+        }
+
+    -- each goes to two paths of the folder
+    pub are_placed : ArePlaced folder packets
+    are_placed = record {
+      each = λ k z lt.
+          let is = goes k no_file z (within k lt) in
+          let name = (get_or files k no_file).name in
+          let fits = names k no_file (within k lt) in
+          record {
+            path_in = subst (IsIn folder) (sym is.path) (name_in folder name fits);
+            beside_in = subst (IsIn folder) (sym is.beside) (name_beside_in folder own name fits own_plain);
+            other = λ e. beside_other (folder ++ name) own (sym is.beside ∙ e ∙ is.path);
+          };
+      apart = λ k j z lt hi. two_apart k j z lt hi (omega arith);
+    }
+
+  -- none goes to a path of the station's own files
+  pub are_apart_from : (Own : List ℕ → Type 0) → All (IsOffOwn Own) paths → All (IsApartFrom Own) packets
+  are_apart_from Own off k z lt =
+      let high = within k lt in
+      let is = goes k no_file z high in
+      let t = file_paths folder own no_file in
+      let at : IsOffOwn Own (file_paths folder own (get_or files k no_file)) = subst (IsOffOwn Own) (at_paths k no_file high) (off k t (has_paths k high)) in
+      record {
+        path = λ o. at.path (subst Own is.path o);
+        beside = λ o. at.beside_path (subst Own is.beside o);
+      }
+
+  -- what has its path
+  pub at_its_path : (disk : DiskState) → All (HasItsPath disk) packets → All (IsAtItsPath folder disk) files
+  at_its_path disk all k f lt =
+      let is = goes k f nobody lt in
+      let there = (all k nobody (back k lt)).file in
+      record {
+        seen = ap disk.seen (sym is.path) ∙ there.seen ∙ ap (λ (b : List ℕ). Some b) is.bytes;
+        named = subst disk.is_named is.path there.named;
+        flushed = subst disk.is_flushed is.path there.flushed;
+      }
+
+  -- what it has are bytes
+  pub files_bytes : All outgoing.SendsBytes packets → All HasBytes files
+  files_bytes all k f lt = subst AreBytes (goes k f nobody lt).bytes (all k nobody (back k lt))
+
+  -- a path of a packet is one of a file
+  pub is_of_file : All (λ (file : PacketFile). All IsNameByte file.name) files → (m : List ℕ) → IsOfOne packets m → IsOfPacket folder own files m
+  is_of_file names m (p, is, at) =
+      let found : (f : PacketFile) × Contains files f × All IsNameByte f.name × (p.beside.now ≡ path_beside (folder ++ f.name) own) × (p.path.now ≡ folder ++ f.name) =
+      All-contains (λ (q : Outgoing). (f : PacketFile) × Contains files f × All IsNameByte f.name × (q.beside.now ≡ path_beside (folder ++ f.name) own) × (q.path.now ≡ folder ++ f.name)) packets p
+      (λ k z lt.
+      let low = within k lt in
+      let one = goes k no_file z low in
+      (get_or files k no_file, Contains-get_or files k no_file low, names k no_file low, one.beside, one.path)) is in
+      (found.0, found.1, found.2, ⊎_elim (λ e. inl (e ∙ found.3)) (λ e. inr (e ∙ found.4)) at)
+
+  -- and one beside is beside a file
+  pub is_beside_file : All (λ (file : PacketFile). All IsNameByte file.name) files → (m : List ℕ) → IsBesideOne packets m → IsBesidePacket folder own files m
+  is_beside_file names m (p, is, at) =
+      let found : (f : PacketFile) × Contains files f × All IsNameByte f.name × (p.beside.now ≡ path_beside (folder ++ f.name) own) =
+      All-contains (λ (q : Outgoing). (f : PacketFile) × Contains files f × All IsNameByte f.name × (q.beside.now ≡ path_beside (folder ++ f.name) own)) packets p
+      (λ k z lt.
+      let low = within k lt in
+      (get_or files k no_file, Contains-get_or files k no_file low, names k no_file low, (goes k no_file z low).beside)) is in
+      (found.0, found.1, found.2, at ∙ found.3)
+
+  -- what stands whole, and what has none at its path
+  pub stand_whole : (c : Files) → All (outgoing_whole c) packets → All (StandsWhole folder own c) files
+  stand_whole c all k f lt =
+      let is = goes k f nobody lt in
+      ⊎_elim
+      (λ (e : c (get_or packets k nobody).path.now ≡ Some (get_or packets k nobody).file.now.bytes). inl (ap c (sym is.path) ∙ e ∙ ap (λ (b : List ℕ). Some b) is.bytes))
+      (λ (e : c (get_or packets k nobody).beside.now ≡ Some (get_or packets k nobody).file.now.bytes). inr (ap c (sym is.beside) ∙ e ∙ ap (λ (b : List ℕ). Some b) is.bytes))
+      (all k nobody (back k lt))
+
+  pub have_none : (c : Files) → All (IsFreeIn c) packets → All (IsFreeAt folder c) files
+  have_none c all k f lt = ap c (sym (goes k f nobody lt).path) ∙ all k nobody (back k lt)
+
+-- the same lists
+pub sent_again : (files : List PacketFile) (paths read : List TwoPaths) (packets lent : List Outgoing) → read ≡ paths → lent ≡ packets → AreSent files read packets → AreSent files paths lent
+sent_again files paths read packets lent is_read is_lent sent = subst (λ (l : List Outgoing). AreSent files paths l) (sym is_lent) (subst (λ (l : List TwoPaths). AreSent files l packets) is_read sent)
+
+-- what follows from what holds at Ok
+pub on_ok_gives : {T E P Q : Type 0} (result : Result T E) → (P → Q) → OnOk result P → OnOk result Q
+on_ok_gives (Ok value) gives is = gives is
+on_ok_gives (Err error) gives is = tt

@@ -1,0 +1,74 @@
+use Rattle.std.proofs.Common.{◌≡◌, ◌∙◌, All, List, arith, subst, sym, vec_len}
+use Rattle.std.proofs.lemmas.Bool.{eqb-true}
+use Rattle.std.proofs.lemmas.Result.{err_from_is_err_and}
+use Rattle.echo_placing.proofs.Changes.{only_nothing, then_only, wider}
+use Rattle.station_scan.specs.declared.finding.LeftPaths.{LeftPaths}
+use Rattle.station_scan.specs.declared.listing.LeftPacket.{LeftPacket}
+use Rattle.station_scan.specs.Left.{AreFound, EndsThese, IsFoundWhere, IsOfNameOff, IsOfPaths}
+use Rattle.station_scan.proofs.Lefts.{are_left_in, left_of_name, none_left, nothing_left, quiet_start, these_left}
+use Rattle.station_scan.proofs.finishing.finish_left.Goals as goal
+
+pub returns-in_err-named-clause-ends : goal.returns-in_err-named-clause-ends
+returns-in_err-named-clause-ends g c = λ honest.
+    let d = g.D.Disk.state c.args.disk.now in
+    let p = err_from_is_err_and c.from_residual.result c.from_residual.ensures.1 in
+    rw p.1 (nothing_left (g.G.Listing.is_true c.left_beside.new.self d.seen) (g.O.OwnPaths.is_own c.args.paths.now) c.args.folder.now c.args.own.now c.args.cursor d d (quiet_start d) p.0)
+
+pub returns-in_err-found-clause-ends : goal.returns-in_err-found-clause-ends
+returns-in_err-found-clause-ends g c = λ honest.
+    let d = g.D.Disk.state c.args.disk.now in
+    let p = err_from_is_err_and c.from_residual-in_err-found.result c.from_residual-in_err-found.ensures.1 in
+    rw p.1 (nothing_left (g.G.Listing.is_true c.left_beside.new.self d.seen) (g.O.OwnPaths.is_own c.args.paths.now) c.args.folder.now c.args.own.now c.args.cursor d (g.D.Disk.state c.find_left.new.disk) c.find_left.ensures.quiet p.0)
+
+pub returns-then-is_empty-clause-ends : goal.returns-then-is_empty-clause-ends
+returns-then-is_empty-clause-ends g c = λ honest.
+    let Own = g.O.OwnPaths.is_own c.args.paths.now in
+    let folder = c.args.folder.now in
+    let own = c.args.own.now in
+    let d = g.D.Disk.state c.args.disk.now in
+    let d1 = g.D.Disk.state c.find_left.new.disk in
+    let named = c.in_ok-named.named.items in
+    let paths = c.in_ok-found.found.items in
+    let all = subst (λ (l : List LeftPacket). All (IsFoundWhere Own folder own d.seen paths) l) c.deref.ensures.value (c.in_ok-found.ensures.all honest) in
+    let empty : vec_len c.in_ok-found.found ≡ 0 = eqb-true (vec_len c.in_ok-found.found) 0 (sym c.is_empty.ensures ∙ c.if-is_empty.true) in
+    none_left (g.G.Listing.is_true c.left_beside.new.self d.seen) Own folder own c.args.cursor d d1 c.find_left.ensures.quiet named paths (λ truth. c.in_ok-named.ensures.listed d.seen truth) all
+    (omega arith)
+
+pub end_these-requires-clause-placed : goal.end_these-requires-clause-placed
+end_these-requires-clause-placed g c = λ found lent.
+    let Own = g.O.OwnPaths.is_own c.args.paths.now in
+    let folder = c.args.folder.now in
+    let own = c.args.own.now in
+    let paths = c.deref-2.result.now in
+    let are = subst (λ (l : List LeftPaths). AreFound Own folder own c.deref.result.now l) (sym c.deref-2.ensures.value) c.in_ok-found.ensures.found in
+    are_left_in paths found lent Own folder own c.deref.result.now c.requires are
+
+pub returns-clause-ends : goal.returns-clause-ends
+returns-clause-ends g c = λ honest.
+    let Own = g.O.OwnPaths.is_own c.args.paths.now in
+    let folder = c.args.folder.now in
+    let own = c.args.own.now in
+    let d = g.D.Disk.state c.args.disk.now in
+    let d1 = g.D.Disk.state c.find_left.new.disk in
+    let d3 = g.D.Disk.state c.end_these.new.disk in
+    let named = c.in_ok-named.named.items in
+    let paths = c.in_ok-found.found.items in
+    let h1 = c.end_these.ensures.changes.honest honest in
+    let are = subst (λ (l : List LeftPacket). AreFound Own folder own l paths) c.deref.ensures.value c.in_ok-found.ensures.found in
+    let all = subst (λ (l : List LeftPacket). All (IsFoundWhere Own folder own d.seen paths) l) c.deref.ensures.value (c.in_ok-found.ensures.all h1) in
+    let ends = subst (λ (l : List LeftPaths). EndsThese c.args.cursor l d1 d3 c.end_these.result) c.deref-2.ensures.value (c.end_these.ensures.ends honest) in
+    these_left (g.G.Listing.is_true c.left_beside.new.self d.seen) Own folder own c.args.cursor d d1 c.find_left.ensures.quiet named paths
+    (λ truth. c.in_ok-named.ensures.listed d.seen truth) all d3 c.end_these.result c.requires are ends
+
+pub returns-clause-changes : goal.returns-clause-changes
+returns-clause-changes g c =
+    let Own = g.O.OwnPaths.is_own c.args.paths.now in
+    let folder = c.args.folder.now in
+    let own = c.args.own.now in
+    let at = IsOfNameOff Own folder own in
+    let d = g.D.Disk.state c.args.disk.now in
+    let d1 = g.D.Disk.state c.find_left.new.disk in
+    let d3 = g.D.Disk.state c.end_these.new.disk in
+    let paths = c.deref-2.result.now in
+    let are = subst (λ (l : List LeftPaths). AreFound Own folder own c.deref.result.now l) (sym c.deref-2.ensures.value) c.in_ok-found.ensures.found in
+    then_only at d d1 d3 (only_nothing at d d1 c.find_left.ensures.quiet) (wider (IsOfPaths paths) at d1 d3 (left_of_name Own folder own c.deref.result.now paths are) c.end_these.ensures.changes)

@@ -1,0 +1,12 @@
+-- The disk of a store is used beneath it.
+use Rattle.std.specs.Prelude.{ℕ, List}
+use Rattle.echo_placing.specs.Changes.{ChangesOnly}
+use Rattle.echo_store.specs.Store.{IsSameStore, StoreState}
+use Rattle.station.specs.Beneath.{AreSettledByOwn, HoldsAsBefore}
+
+-- The disk was used at these paths, none of which is the store's own: the store holds what it held.
+pub record IsUsedAt (paths : List ℕ → Type 0) (old new : StoreState) : Type 0 where
+  pub settled : AreSettledByOwn old
+  pub same : IsSameStore old new
+  pub holds : HoldsAsBefore old new
+  pub changes : ChangesOnly paths old.disk new.disk

@@ -1,0 +1,128 @@
+-- What earlier scans left is brought to its end.
+use Rattle.std.specs.Prelude.{◌≡◌, ◌≢◌, ◌⊎◌, ◌<◌, ◌≤◌, ℕ, List, [], ◌∷◌, ◌++◌, length, get_or, All, AllPairs, Contains, IsSome, None, OnOk, Result}
+use Rattle.echo_disk.specs.Disk.{DiskState, Files}
+use Rattle.echo_disk.specs.Runs.{LeavesOnly, OneStepOn}
+use Rattle.echo_placing.specs.Changes.{ChangesOnly}
+use Rattle.echo_placing.specs.Finishing.{FinishesEach, IsOfLeft, IsOver}
+use Rattle.echo_placing.specs.declared.finishing.Left.{Left}
+use Rattle.echo_placing.specs.declared.placing_error.PlacingError.{PlacingError}
+use Rattle.echo_station_files.specs.Paths.{path_beside}
+use Rattle.station_scan.specs.declared.listing.LeftPacket.{LeftPacket}
+use Rattle.station_scan.specs.declared.finding.LeftPaths.{LeftPaths}
+use Rattle.station_scan.specs.Listing.{IsNumbered, StandsBeside}
+use Rattle.station_scan.specs.Sending.{IsNameByte, IsOffOwn, two_paths}
+
+-- It has the two paths of what was listed, and its number; neither path is the station's own.
+pub record IsFoundAs (Own : List ℕ → Type 0) (folder own : List ℕ) (packet : LeftPacket) (l : LeftPaths) : Type 0 where
+  pub two : l.two ≡ two_paths folder own packet.name
+  pub before : l.before ≡ packet.before
+  pub plain : All IsNameByte packet.name
+  pub off : IsOffOwn Own l.two
+
+-- some packet that was listed is found so
+abbrev pub IsFound : (List ℕ → Type 0) → List ℕ → List ℕ → List LeftPacket → LeftPaths → Type 0
+IsFound Own folder own named l = (packet : LeftPacket) × Contains named packet × IsFoundAs Own folder own packet l
+
+-- a file stands beside its path
+abbrev pub IsBesideThere : Files → LeftPaths → Type 0
+IsBesideThere files l = IsSome (files l.two.beside)
+
+-- two have two paths that are not the same
+abbrev pub HaveOtherLeft : LeftPaths → LeftPaths → Type 0
+HaveOtherLeft one other = one.two.path ≢ other.two.path
+
+-- one of this path is among them
+abbrev pub IsAmong : List ℕ → List LeftPaths → Type 0
+IsAmong path found = (l : LeftPaths) × Contains found l × (l.two.path ≡ path)
+
+-- it is a packet's name, neither of its paths is the station's own, and a file stands beside it
+pub record IsToFind (Own : List ℕ → Type 0) (folder own : List ℕ) (files : Files) (name : List ℕ) : Type 0 where
+  pub plain : All IsNameByte name
+  pub off : IsOffOwn Own (two_paths folder own name)
+  pub there : StandsBeside folder own files name
+
+-- what was to be found was
+abbrev pub IsFoundWhere : (List ℕ → Type 0) → List ℕ → List ℕ → Files → List LeftPaths → LeftPacket → Type 0
+IsFoundWhere Own folder own files found packet = IsToFind Own folder own files packet.name → IsAmong (folder ++ packet.name) found
+
+-- What was listed is found: which packets, each once, and whether they are all.
+pub record AreFound (Own : List ℕ → Type 0) (folder own : List ℕ) (named : List LeftPacket) (found : List LeftPaths) : Type 0 where
+  pub each : All (IsFound Own folder own named) found
+  pub differ : AllPairs HaveOtherLeft found
+
+-- None is added, or this one, of what was listed, whose path none has.
+abbrev pub Adds : (List ℕ → Type 0) → List ℕ → List ℕ → LeftPacket → List LeftPaths → List LeftPaths → Type 0
+Adds Own folder own packet before after =
+    (after ≡ before) ⊎ ((l : LeftPaths) × (after ≡ before ++ l ∷ []) × IsFoundAs Own folder own packet l × All (HaveOtherLeft l) before)
+
+-- the same packet, by what is lent of its paths
+pub record IsLent (two : LeftPaths) (l : Left) : Type 0 where
+  pub path : l.path.now ≡ two.two.path
+  pub beside : l.beside.now ≡ two.two.beside
+  pub before : l.before ≡ two.before
+
+-- so are these, one by one
+pub record AreLent (paths : List LeftPaths) (found : List Left) : Type 0 where
+  pub as_many : length found ≡ length paths
+  pub each : (k : ℕ) (w : LeftPaths) (l : Left) → k < length paths → IsLent (get_or paths k w) (get_or found k l)
+
+-- the path beside one of these, or that of one past which the cursor was moved, or one that leads to no file
+abbrev pub IsEndedAt : ℕ → List Left → Files → List ℕ → Type 0
+IsEndedAt cursor found c m = (l : Left) × Contains found l × ((m ≡ l.beside.now) ⊎ ((m ≡ l.path.now) × ((l.before < cursor) ⊎ (c m ≡ None))))
+
+-- These are brought to their end, and that is on the disk. A crash at any moment leaves each packet of a committed scan at one of its two paths at least, and
+-- none other at its path.
+pub record EndsThese (cursor : ℕ) (paths : List LeftPaths) (old new : DiskState) (result : Result (Unit {0}) PlacingError) : Type 0 where
+  pub found : List Left
+  pub lent : AreLent paths found
+  pub over : OnOk result (All (IsOver cursor old new) found)
+  pub named : OnOk result ((m : List ℕ) → IsOfLeft found m → new.is_named m)
+  pub flushed : OnOk result ((m : List ℕ) → IsEndedAt cursor found new.seen m → new.is_flushed m)
+  pub any_moment : LeavesOnly old new (OneStepOn (FinishesEach cursor found) old)
+  pub changes : ChangesOnly (IsOfLeft found) old new
+
+-- one of the two paths of one of these
+abbrev pub IsOfPaths : List LeftPaths → List ℕ → Type 0
+IsOfPaths paths m = (w : LeftPaths) × Contains paths w × ((m ≡ w.two.beside) ⊎ (m ≡ w.two.path))
+
+-- it is a packet of the own system of this name, of which neither path is the station's own
+pub record IsLeftAs (Own : List ℕ → Type 0) (folder own name : List ℕ) (l : Left) : Type 0 where
+  pub path : l.path.now ≡ folder ++ name
+  pub beside : l.beside.now ≡ path_beside (folder ++ name) own
+  pub plain : All IsNameByte name
+  pub off : IsOffOwn Own (two_paths folder own name)
+
+-- it is one of some name, which has its number where the list was true
+abbrev pub IsLeftOf : Type 0 → (List ℕ → Type 0) → List ℕ → List ℕ → Left → Type 0
+IsLeftOf is_true Own folder own l = (name : List ℕ) × IsLeftAs Own folder own name l × (is_true → IsNumbered l.before name)
+
+-- where the list was true, each packet's name beside which a file stands is among them
+abbrev pub AreAllLeft : Type 0 → (List ℕ → Type 0) → List ℕ → List ℕ → Files → List Left → Type 0
+AreAllLeft is_true Own folder own files found =
+    is_true → (name : List ℕ) (before : ℕ) → IsNumbered before name → IsToFind Own folder own files name → (l : Left) × Contains found l × (l.path.now ≡ folder ++ name)
+
+-- Where the cursor was moved past it, its path has what stood beside it, and that is there no more; else it is gone, and its path has
+-- what it had.
+pub record IsEnded (cursor : ℕ) (before after : Files) (l : Left) : Type 0 where
+  pub committed : l.before < cursor → after l.path.now ≡ before l.beside.now
+  pub untouched : cursor ≤ l.before → after l.path.now ≡ before l.path.now
+  pub gone : after l.beside.now ≡ None
+
+-- What earlier scans left is brought to its end, as far as it was listed.
+pub record EndsLeft (is_true : Type 0) (Own : List ℕ → Type 0) (folder own : List ℕ) (cursor : ℕ) (old new : DiskState) (result : Result (Unit {0}) PlacingError) : Type 0 where
+  pub found : List Left
+  pub each : All (IsLeftOf is_true Own folder own) found
+  pub all : OnOk result (AreAllLeft is_true Own folder own old.seen found)
+  pub over : OnOk result (All (IsOver cursor old new) found)
+  pub named : OnOk result ((m : List ℕ) → IsOfLeft found m → new.is_named m)
+  pub flushed : OnOk result ((m : List ℕ) → IsEndedAt cursor found new.seen m → new.is_flushed m)
+  pub any_moment : LeavesOnly old new (OneStepOn (FinishesEach cursor found) old)
+  pub changes : ChangesOnly (IsOfLeft found) old new
+
+-- the path of a packet's name in the folder, or the one beside it
+abbrev pub IsOfName : List ℕ → List ℕ → List ℕ → Type 0
+IsOfName folder own m = (name : List ℕ) × All IsNameByte name × ((m ≡ path_beside (folder ++ name) own) ⊎ (m ≡ folder ++ name))
+
+-- one that is not of the station's own files
+abbrev pub IsOfNameOff : (List ℕ → Type 0) → List ℕ → List ℕ → List ℕ → Type 0
+IsOfNameOff Own folder own m = IsOfName folder own m × (Own m → ⊥)

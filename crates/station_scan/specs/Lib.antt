@@ -1,0 +1,9 @@
+pub mod Sending
+pub mod Fitting
+pub mod Listing
+pub mod Left
+pub mod Beneath
+pub mod Publishing
+pub mod Sends
+pub mod Stops
+pub mod Scanning

@@ -1,0 +1,135 @@
+-- Packets and the commit of a store.
+use Rattle.std.specs.Prelude.{◌≡◌, ◌≤◌, ◌⊎◌, ℕ, List, Bool, true, false, All, None, Result, Ok, Err, IsErrOf}
+use Rattle.echo_base.specs.Base.{Base}
+use Rattle.echo_device.specs.Device.{Failed}
+use Rattle.echo_disk.specs.Disk.{DiskState, Files, Honestly}
+use Rattle.echo_disk.specs.declared.disk_error.DiskError.{DiskError}
+use Rattle.echo_disk.specs.Runs.{KeepsAlone, KeepsFlushed, KeepsNamed, LeavesOnly, OneStepOn}
+use Rattle.echo_placing.specs.Changes.{DifferAt}
+use Rattle.echo_placing.specs.Naming.{HasItsPath, StandsWhole}
+use Rattle.echo_placing.specs.Outgoing.{IsBesideOne, IsFree, IsGoneBeside, IsOfOne, IsStaged, SendsBytes}
+use Rattle.echo_placing.specs.Publishing.{placing_cause}
+use Rattle.echo_placing.specs.declared.outgoing.Outgoing.{Outgoing}
+use Rattle.echo_placing.specs.declared.placing_error.PlacingError.TheVariants as placing
+use Rattle.echo_store.specs.Store.{Commits, IsSameStore, StoreState}
+use Rattle.echo_store.specs.declared.store_error.StoreError.{StoreError}
+use Rattle.echo_store.specs.declared.store_error.StoreError.TheVariants as store
+use Rattle.station.specs.Beneath.{HoldsAsBefore}
+use Rattle.station_scan.specs.declared.unpublished.Unpublished.{Unpublished}
+use Rattle.station_scan.specs.declared.unpublished.Unpublished.TheVariants.{Base as OfBase, Beside, Packets}
+
+-- what the path leads to is on the disk
+abbrev pub IsOnDisk : DiskState → List ℕ → Type 0
+IsOnDisk disk m = disk.is_named m × disk.is_flushed m
+
+-- but for these paths, what was seen and on the disk is so still
+pub record KeepsBut (paths : List ℕ → Type 0) (old new : DiskState) : Type 0 where
+  pub seen : DifferAt paths old.seen new.seen
+  pub named : KeepsNamed paths old new
+  pub flushed : KeepsFlushed paths old new
+  pub alone : KeepsAlone paths old new
+  pub honest : new.is_honest → old.is_honest
+
+-- Before the commit packets are written beside their paths: the base that was committed stands.
+pub record StagesOver (old : StoreState) (packets : List Outgoing) (first : Base) (c : Files) : Type 0 where
+  pub staged : OneStepOn (DifferAt (IsBesideOne packets)) old.disk c
+  pub stands : old.stands first c
+
+-- nothing has the packet's path
+abbrev pub IsFreeIn : Files → Outgoing → Type 0
+IsFreeIn c p = c p.path.now ≡ None
+
+-- From the commit on: the base that was committed before, and nothing has the path of a packet of these; or the one that was held, and
+-- each packet, which is bytes, stands whole at its path or beside it. What else was on the disk is as it was seen.
+pub record CommitsWith (old : StoreState) (packets : List Outgoing) (first next : Base) (c : Files) : Type 0 where
+  pub others : (m : List ℕ) → (old.is_own m → ⊥) → (IsOfOne packets m → ⊥) → IsOnDisk old.disk m → c m ≡ old.disk.seen m
+  pub either : (old.stands first c × All (IsFreeIn c) packets) ⊎ (old.stands next c × All (StandsWhole c) packets × All SendsBytes packets)
+
+-- what a crash meanwhile may leave
+abbrev pub PublishesOn : StoreState → List Outgoing → Base → Base → Files → Type 0
+PublishesOn old packets first next c = StagesOver old packets first c ⊎ CommitsWith old packets first next c
+
+-- a crash at any moment leaves such files
+abbrev pub MayPublish : List Outgoing → StoreState → StoreState → Type 0
+MayPublish packets old new =
+    Honestly new.disk ((first next : Base) → old.committed first → old.keeps next → LeavesOnly old.disk new.disk (PublishesOn old packets first next))
+
+-- What stands where it failed. Where a packet stopped it the base is as it was, with none beside its path unless this one was taken, or is
+-- committed; where packets stay beside their paths that is said.
+abbrev pub StopsPublishing : List Outgoing → StoreState → StoreState → Unpublished → Type 0
+StopsPublishing packets old new (Packets placing.Taken) = HoldsAsBefore old new ⊎ Commits old new
+StopsPublishing packets old new (Packets cause) = (HoldsAsBefore old new × All (IsGoneBeside new.disk) packets) ⊎ Commits old new
+StopsPublishing packets old new (Beside cause) = HoldsAsBefore old new
+StopsPublishing packets old new (OfBase cause) = Unit {0}
+
+-- A failure of the device is answered only where its count of failures rose, and damage, on an honest disk, only of a store that holds no
+-- base.
+pub record HasPublishCause {T : Type 0} (old new : StoreState) (before now : ℕ) (result : Result T Unpublished) : Type 0 where
+  pub later : before ≤ now
+  pub packets : IsErrOf result (Packets placing.Device) → Failed before now
+  pub beside : IsErrOf result (Beside placing.Device) → Failed before now
+  pub base : IsErrOf result (OfBase store.Device) → Failed before now
+  pub damaged : Honestly new.disk (IsErrOf result (OfBase store.Damaged) → (base : Base) → old.keeps base → ⊥)
+
+-- nothing has the packet's path, and that is on the disk
+pub record IsClear (disk : DiskState) (p : Outgoing) : Type 0 where
+  pub none : disk.seen p.path.now ≡ None
+  pub named : disk.is_named p.path.now
+  pub flushed : disk.is_flushed p.path.now
+
+-- each packet, which is bytes, stands beside its path, and nothing has that
+pub record AreStaged (packets : List Outgoing) (disk : DiskState) : Type 0 where
+  pub bytes : All SendsBytes packets
+  pub staged : All (IsStaged disk) packets
+  pub clear : Honestly disk (All (IsClear disk) packets)
+
+-- where a packet was not staged none stays beside its path, unless that is said
+abbrev pub NoneStays : List Outgoing → DiskState → Unpublished → Type 0
+NoneStays packets new (Packets cause) = All (IsGoneBeside new) packets
+NoneStays packets new (Beside cause) = Unit {0}
+NoneStays packets new (OfBase cause) = ⊥
+
+-- A failure of the device is answered only where its count of failures rose; neither that a path is taken nor a failure of the base is.
+pub record HasStageCause {T : Type 0} (before now : ℕ) (result : Result T Unpublished) : Type 0 where
+  pub later : before ≤ now
+  pub packets : IsErrOf result (Packets placing.Device) → Failed before now
+  pub beside : IsErrOf result (Beside placing.Device) → Failed before now
+  pub free : IsErrOf result (Packets placing.Taken) → ⊥
+  pub staging : (cause : StoreError) → IsErrOf result (OfBase cause) → ⊥
+
+-- each packet has its path, on the disk, and what the store held is committed
+pub record ArePublished (packets : List Outgoing) (old new : StoreState) : Type 0 where
+  pub committed : Commits old new
+  pub named : Honestly new.disk (All (HasItsPath new.disk) packets)
+  pub bytes : All SendsBytes packets
+
+-- but for these paths, what was seen and on the disk is so still, and it is the same store
+pub record KeepsStoreBut (paths : List ℕ → Type 0) (old new : StoreState) : Type 0 where
+  pub same : IsSameStore old new
+  pub keeps : KeepsBut paths old.disk new.disk
+
+-- one of the store's own paths, or one of the two paths of a packet
+abbrev pub IsPublishedAt : StoreState → List Outgoing → List ℕ → Type 0
+IsPublishedAt s packets m = s.is_own m ⊎ IsOfOne packets m
+
+-- a crash at any moment from the commit on leaves such files
+abbrev pub MayCommitWith : List Outgoing → StoreState → StoreState → Type 0
+MayCommitWith packets old new =
+    Honestly new.disk ((first next : Base) → old.committed first → old.keeps next → LeavesOnly old.disk new.disk (CommitsWith old packets first next))
+
+-- where a packet stopped it the base is committed
+abbrev pub StopsCommitting : StoreState → StoreState → Unpublished → Type 0
+StopsCommitting old new (Packets cause) = Commits old new
+StopsCommitting old new (Beside cause) = ⊥
+StopsCommitting old new (OfBase cause) = Unit {0}
+
+-- whether all packets got their paths, as it is answered
+abbrev pub IsNamedAs : Result Bool DiskError → Result (Unit {0}) Unpublished → Type 0
+IsNamedAs (Ok true) result = result ≡ Ok tt
+IsNamedAs (Ok false) result = result ≡ Err (Packets placing.Taken)
+IsNamedAs (Err cause) result = result ≡ Err (Packets (placing_cause cause))
+
+-- Why it failed from the commit on: that a path is taken is answered only where one was.
+pub record HasCommitCause {T : Type 0} (packets : List Outgoing) (old new : StoreState) (before now : ℕ) (result : Result T Unpublished) : Type 0 where
+  pub causes : HasPublishCause old new before now result
+  pub taken : Honestly new.disk (IsErrOf result (Packets placing.Taken) → All (IsFree old.disk) packets → ⊥)

@@ -1,0 +1,144 @@
+-- A scan is run on a station.
+use Rattle.std.specs.Prelude.{◌≡◌, ◌⊎◌, ℕ, List, Result, Ok, Err, All, IfErr, IsErrOf, OnOk}
+use Rattle.echo_base.specs.Base.{Base}
+use Rattle.echo_disk.specs.Disk.{DiskState, Files}
+use Rattle.echo_disk.specs.Runs.{ChangesNothing, LeavesOnly, OneStepOn}
+use Rattle.echo_links.specs.Links.{LinkFile}
+use Rattle.echo_placing.specs.Changes.{DifferAt}
+use Rattle.echo_placing.specs.Finishing.{FinishesEach, IsOfLeft}
+use Rattle.echo_placing.specs.declared.finishing.Left.{Left}
+use Rattle.echo_station_files.specs.Paths.{dotted}
+use Rattle.echo_status.specs.declared.fault.Fault.{Fault}
+use Rattle.echo_status.specs.Devices.{Output}
+use Rattle.echo_steps.specs.PacketFiles.{PacketFile}
+use Rattle.echo_steps.specs.declared.stamp.Stamp.{Stamp}
+use Rattle.echo_store.specs.Store.{StoreState, all_scanned}
+use Rattle.echo_store.specs.declared.store_error.StoreError.TheVariants.{Damaged, Device}
+use Rattle.echo_store_changing.specs.Scanned.{ScansOn}
+use Rattle.echo_store_changing.specs.declared.stop.Stop.{Stop}
+use Rattle.echo_store_changing.specs.declared.stop.Stop.TheVariants.{Store}
+use Rattle.echo_toss.specs.PacketsIn.{state_in}
+use Rattle.station.specs.Place.{Place, StandsOrWasLeft}
+use Rattle.station.specs.Running.{IsNotRun}
+use Rattle.station_scan.specs.Left.{AreAllLeft, IsEnded, IsEndedAt, IsLeftOf, IsOfName}
+use Rattle.station_scan.specs.Publishing.{IsOnDisk, KeepsBut}
+use Rattle.station_scan.specs.Sending.{HasBytes, IsAtItsPath, IsBesidePacket, IsFreeAt, StandsWhole}
+use Rattle.station_scan.specs.Sends.{IsOfThese}
+use Rattle.station_scan.specs.Stops.{IsOfPlacing, as_scan}
+use Rattle.station_scan.specs.declared.scan_stop.ScanStop.{ScanStop}
+use Rattle.station_scan.specs.declared.scan_stop.ScanStop.TheVariants.{Command}
+
+-- one of the station's own paths, or that of a packet's name in the folder of packets, or the one beside it
+abbrev pub IsTouched : (List ℕ → Type 0) → List ℕ → List ℕ → Type 0
+IsTouched Own outbound m = Own m ⊎ ((own : List ℕ) × IsOfName outbound own m)
+
+-- Before the commit: what earlier scans left is on its way to its end, and then packets are written beside their paths. No packet of this
+-- scan gets its path, and the base stands that was committed before.
+pub record PreparesScan (outbound own : List ℕ) (Stays : Files → Type 0) (cursor : ℕ) (found : List Left) (files : List PacketFile) (before after : Files) : Type 0 where
+  pub between : Files
+  pub ends : FinishesEach cursor found before between
+  pub writes : DifferAt (IsBesidePacket outbound own files) between after
+  pub stands : Stays after
+
+-- From the commit on, where these files were seen before the scan: what earlier scans left is at its end. The base stands that was
+-- committed before, and nothing has the path of a packet of this scan; or the new one stands, and each packet, which is bytes, whole at one
+-- of its two paths. What else was on the disk is as it was seen.
+pub record CommitsScan (Own : List ℕ → Type 0) (outbound own : List ℕ) (OnDisk : List ℕ → Type 0) (Stays Comes : Files → Type 0) (cursor : ℕ) (found : List Left) (files : List PacketFile) (seen after : Files) : Type 0 where
+  -- what was seen once they were at their end
+  pub between : Files
+  pub ended : All (IsEnded cursor seen between) found
+  pub beside_them : DifferAt (IsOfLeft found) seen between
+  pub others : (m : List ℕ) → (IsOfThese Own outbound own files m → ⊥) → (OnDisk m × (IsOfLeft found m → ⊥)) ⊎ IsEndedAt cursor found between m → after m ≡ between m
+  pub either : (Stays after × All (IsFreeAt outbound after) files) ⊎ (Comes after × All (StandsWhole outbound own after) files × All HasBytes files)
+
+-- What earlier scans left was brought to its end, and then the packets of this one and the new base were put on the disk.
+pub record AreSentOut (is_true : Type 0) (Own : List ℕ → Type 0) (outbound own : List ℕ) (Comes : Files → Type 0) (cursor : ℕ) (found : List Left) (files : List PacketFile) (seen : Files) (new : DiskState) : Type 0 where
+  -- where the list was true, all that was left is among them
+  pub all : AreAllLeft is_true Own outbound own seen found
+  -- what was seen once they were at their end
+  pub between : Files
+  pub ended : All (IsEnded cursor seen between) found
+  pub beside_them : DifferAt (IsOfLeft found) seen between
+  -- each packet of this scan is on the disk, at its path
+  pub packets : All (IsAtItsPath outbound new) files
+  -- the new base stands, as it is seen and whatever a crash leaves
+  pub shown : Comes new.seen
+  pub on_disk : (c : Files) → new.may_leave c → Comes c
+  pub others : DifferAt (IsOfThese Own outbound own files) between new.seen
+  pub bytes : All HasBytes files
+
+-- These packets and the new base are sent out: found is what earlier scans left.
+pub record SendsOut {E : Type 0} (is_true : Type 0) (Own : List ℕ → Type 0) (outbound own : List ℕ) (Stays Comes : Files → Type 0) (cursor : ℕ) (files : List PacketFile) (old new : DiskState) (result : Result (Unit {0}) E) : Type 0 where
+  pub found : List Left
+  pub each : All (IsLeftOf is_true Own outbound own) found
+  pub sent : OnOk result (AreSentOut is_true Own outbound own Comes cursor found files old.seen new)
+  pub crash : LeavesOnly old new (λ c. OneStepOn (PreparesScan outbound own Stays cursor found files) old c ⊎ CommitsScan Own outbound own (IsOnDisk old) Stays Comes cursor found files old.seen c)
+
+-- the store was looked through, and then the packets were sent out with the commit of its base
+pub record IsSentOn (Own : List ℕ → Type 0) (outbound own : List ℕ) (IsTrue : Files → Type 0) (failed : Type 0) (old new : StoreState) (base : Base) (files : List PacketFile) (result : Result (Unit {0}) ScanStop) : Type 0 where
+  pub sends : SendsOut (IsTrue old.disk.seen) Own outbound own (old.stands base) (old.stands (all_scanned base)) base.cursor files old.disk new.disk result
+  pub why : IfErr result (IsOfPlacing failed)
+
+-- The packets that a scan of a store answered are sent out, once the store was looked through; where the scan stopped nothing has changed.
+abbrev pub IsPutOn : (List ℕ → Type 0) → List ℕ → List ℕ → (Files → Type 0) → Type 0 → StoreState → StoreState → Base → Result (List PacketFile) Stop → Result (Unit {0}) ScanStop → Type 0
+IsPutOn Own outbound own IsTrue failed old new base (Ok files) result = IsSentOn Own outbound own IsTrue failed old new base files result
+IsPutOn Own outbound own IsTrue failed old new base (Err why) result = (result ≡ Err (Command why)) × ChangesNothing old.disk new.disk
+
+-- What is so of a scan of a store that held this base, and had committed it.
+pub record ScansOnStore (stamp : Stamp) (Own : List ℕ → Type 0) (outbound : List ℕ) (IsTrue : Files → Type 0) (failed : Type 0) (old new : StoreState) (old_out new_out : Output) (file : LinkFile) (base : Base) (result : Result (Unit {0}) ScanStop) : Type 0 where
+  pub made : Result (List PacketFile) Stop
+  pub answer : ScansOn stamp (state_in file base) old_out new_out made
+  pub put : IsPutOn Own outbound (dotted file.system) IsTrue failed old new base made result
+  pub whole : IsErrOf result (Command (Store Damaged)) → ⊥
+  pub cause : IsErrOf result (Command (Store Device)) → failed
+
+-- What a crash at any moment of a scan of this base may leave: what one might have left before, or what a scan does before the commit, or
+-- from there on. These files were seen once the station was open.
+abbrev pub MayLeave : Place → List ℕ → List ℕ → DiskState → Base → List Left → List PacketFile → Files → Files → Type 0
+MayLeave place outbound own old base found files opened c =
+    old.may_leave c
+    ⊎ (((before : Files) × StandsOrWasLeft place old base before × PreparesScan outbound own (place.stands_for base) base.cursor found files before c)
+    ⊎ CommitsScan place.is_own outbound own (IsOnDisk old) (place.stands_for base) (place.stands_for (all_scanned base)) base.cursor found files opened c)
+
+-- The packets that were made of this base, and the base with its cursor at the end, are put in place, once what earlier scans left is at
+-- its end.
+pub record IsPutIn (place : Place) (outbound own : List ℕ) (IsTrue : Files → Type 0) (failed : Type 0) (old new : DiskState) (base : Base) (files : List PacketFile) (result : Result (Unit {0}) ScanStop) : Type 0 where
+  -- what was seen once the station was open
+  pub opened : Files
+  pub elsewhere : (m : List ℕ) → (place.is_own m → ⊥) → opened m ≡ old.seen m
+  pub found : List Left
+  pub each : All (IsLeftOf (IsTrue opened) place.is_own outbound own) found
+  pub sent : OnOk result (AreSentOut (IsTrue opened) place.is_own outbound own (place.stands_for (all_scanned base)) base.cursor found files opened new)
+  pub crash : LeavesOnly old new (MayLeave place outbound own old base found files opened)
+  pub why : IfErr result (IsOfPlacing failed)
+
+-- What the scan answered is put in place; where it stopped that is answered, and a crash meanwhile leaves the base from before.
+abbrev pub IsPutAs : Place → List ℕ → List ℕ → (Files → Type 0) → Type 0 → DiskState → DiskState → Base → Result (List PacketFile) Stop → Result (Unit {0}) ScanStop → Type 0
+IsPutAs place outbound own IsTrue failed old new base (Ok files) result = IsPutIn place outbound own IsTrue failed old new base files result
+IsPutAs place outbound own IsTrue failed old new base (Err why) result = (result ≡ Err (Command why)) × LeavesOnly old new (StandsOrWasLeft place old base)
+
+-- what is so of a scan of a station whose files stood for this base
+pub record IsScanOn (stamp : Stamp) (place : Place) (outbound : List ℕ) (IsTrue : Files → Type 0) (failed : Type 0) (old new : DiskState) (old_out new_out : Output) (file : LinkFile) (base : Base) (result : Result (Unit {0}) ScanStop) : Type 0 where
+  pub made : Result (List PacketFile) Stop
+  pub answer : ScansOn stamp (state_in file base) old_out new_out made
+  pub put : IsPutAs place outbound (dotted file.system) IsTrue failed old new base made result
+  pub whole : IsErrOf result (Command (Store Damaged)) → ⊥
+
+-- the scan was run with this link file, for whatever base the files stood
+pub record IsScanRun (stamp : Stamp) (place : Place) (outbound : List ℕ) (IsTrue : Files → Type 0) (Reads : LinkFile → Type 0) (failed : Type 0) (old new : DiskState) (old_out new_out : Output) (result : Result (Unit {0}) ScanStop) : Type 0 where
+  pub file : LinkFile
+  pub read : Reads file
+  pub runs : (base : Base) → place.stands_for base old.seen → IsScanOn stamp place outbound IsTrue failed old new old_out new_out file base result
+  pub cause : IsErrOf result (Command (Store Device)) → failed
+
+-- the scan was not run
+pub record IsScanNotRun (place : Place) (Shut : Fault → Type 0) (old new : DiskState) (old_out new_out : Output) (result : Result (Unit {0}) ScanStop) : Type 0 where
+  pub stopped : Result (Unit {0}) Stop
+  pub is : result ≡ as_scan stopped
+  pub not_run : IsNotRun place Shut old new old_out new_out stopped
+
+-- What comes of a scan of a station into this folder of packets, of which it was listed so what earlier scans left. It is not run where the
+-- station is shut, as is said of the fault.
+abbrev pub ScansIn : Stamp → Place → List ℕ → (Files → Type 0) → (LinkFile → Type 0) → (Fault → Type 0) → Type 0 → DiskState → DiskState → Output → Output → Result (Unit {0}) ScanStop → Type 0
+ScansIn stamp place outbound IsTrue Reads Shut failed old new old_out new_out result =
+    IsScanRun stamp place outbound IsTrue Reads failed old new old_out new_out result ⊎ IsScanNotRun place Shut old new old_out new_out result

@@ -1,0 +1,66 @@
+-- The packets of a scan, on their way to their paths.
+use Rattle.std.specs.Prelude.{◌≡◌, ◌≢◌, ◌⊎◌, ◌<◌, ℕ, List, ◌++◌, length, get_or, All, Contains, Some, None}
+use Rattle.echo_device.specs.Fixed.{AreBytes}
+use Rattle.echo_disk.specs.Disk.{DiskState, Files}
+use Rattle.echo_steps.specs.PacketFiles.{PacketFile}
+use Rattle.echo_placing.specs.Changes.{HasOnDisk}
+use Rattle.echo_placing.specs.declared.outgoing.Outgoing.{Outgoing}
+use Rattle.echo_station_files.specs.Paths.{path_beside}
+use Rattle.station_scan.specs.declared.sending.TwoPaths.{TwoPaths}
+
+-- a byte of a packet's name: no slash, and no tilde, which stands in what is beside a name
+pub record IsNameByte (b : ℕ) : Type 0 where
+  pub no_slash : b ≢ 47
+  pub no_tilde : b ≢ 126
+
+-- the path that a packet of this name is to have in the folder, and the one beside it, at which it stands before
+abbrev pub two_paths : List ℕ → List ℕ → List ℕ → TwoPaths
+two_paths folder own name = record { path = folder ++ name; beside = path_beside (folder ++ name) own }
+
+-- those of a packet's file
+abbrev pub file_paths : List ℕ → List ℕ → PacketFile → TwoPaths
+file_paths folder own sent = two_paths folder own sent.name
+
+-- they have two paths that are not the same
+abbrev pub HaveOtherPaths : TwoPaths → TwoPaths → Type 0
+HaveOtherPaths one other = one.path ≢ other.path
+
+-- neither path is one of these, which are of the station's own files
+pub record IsOffOwn (Own : List ℕ → Type 0) (two : TwoPaths) : Type 0 where
+  pub path : Own two.path → ⊥
+  pub beside_path : Own two.beside → ⊥
+
+-- the packet that goes to these paths is this file
+pub record IsSent (sent : PacketFile) (two : TwoPaths) (packet : Outgoing) : Type 0 where
+  pub path : packet.path.now ≡ two.path
+  pub beside : packet.beside.now ≡ two.beside
+  pub file : packet.file.now ≡ sent
+
+-- so are the packets these files, one by one
+pub record AreSent (files : List PacketFile) (paths : List TwoPaths) (packets : List Outgoing) : Type 0 where
+  pub as_many : length packets ≡ length files
+  pub each : (k : ℕ) (f : PacketFile) (t : TwoPaths) (p : Outgoing) → k < length files → IsSent (get_or files k f) (get_or paths k t) (get_or packets k p)
+
+-- the packet is on the disk, at its path, with just its bytes
+abbrev pub IsAtItsPath : List ℕ → DiskState → PacketFile → Type 0
+IsAtItsPath folder disk sent = HasOnDisk disk (folder ++ sent.name) sent.bytes
+
+-- what it has are bytes
+abbrev pub HasBytes : PacketFile → Type 0
+HasBytes sent = AreBytes sent.bytes
+
+-- it stands whole at one of its two paths
+abbrev pub StandsWhole : List ℕ → List ℕ → Files → PacketFile → Type 0
+StandsWhole folder own c sent = (c (folder ++ sent.name) ≡ Some sent.bytes) ⊎ (c (path_beside (folder ++ sent.name) own) ≡ Some sent.bytes)
+
+-- nothing has its path
+abbrev pub IsFreeAt : List ℕ → Files → PacketFile → Type 0
+IsFreeAt folder c sent = c (folder ++ sent.name) ≡ None
+
+-- one of the two paths of a packet
+abbrev pub IsOfPacket : List ℕ → List ℕ → List PacketFile → List ℕ → Type 0
+IsOfPacket folder own files m = (sent : PacketFile) × Contains files sent × All IsNameByte sent.name × ((m ≡ path_beside (folder ++ sent.name) own) ⊎ (m ≡ folder ++ sent.name))
+
+-- the path beside that of a packet
+abbrev pub IsBesidePacket : List ℕ → List ℕ → List PacketFile → List ℕ → Type 0
+IsBesidePacket folder own files m = (sent : PacketFile) × Contains files sent × All IsNameByte sent.name × (m ≡ path_beside (folder ++ sent.name) own)

@@ -1,0 +1,40 @@
+-- The packets of a scan and the commit of a store.
+use Rattle.std.specs.Prelude.{◌≡◌, ◌⊎◌, ℕ, List, All, Contains}
+use Rattle.echo_base.specs.Base.{Base}
+use Rattle.echo_disk.specs.Disk.{DiskState, Files, Honestly}
+use Rattle.echo_disk.specs.Runs.{LeavesOnly, OneStepOn}
+use Rattle.echo_placing.specs.Changes.{DifferAt}
+use Rattle.echo_steps.specs.PacketFiles.{PacketFile}
+use Rattle.echo_store.specs.Store.{Commits, StoreState}
+use Rattle.station_scan.specs.Publishing.{IsOnDisk}
+use Rattle.station_scan.specs.Sending.{HasBytes, IsAtItsPath, IsBesidePacket, IsFreeAt, IsOfPacket, StandsWhole}
+
+-- one of these paths, or one of the two paths of a packet
+abbrev pub IsOfThese : (List ℕ → Type 0) → List ℕ → List ℕ → List PacketFile → List ℕ → Type 0
+IsOfThese Own outbound own files m = Own m ⊎ IsOfPacket outbound own files m
+
+-- before the commit: packets are written beside their paths, and the base that was committed stands
+pub record WritesBeside (old : StoreState) (outbound own : List ℕ) (files : List PacketFile) (first : Base) (c : Files) : Type 0 where
+  pub writes : OneStepOn (DifferAt (IsBesidePacket outbound own files)) old.disk c
+  pub stands : old.stands first c
+
+-- From the commit on: the base that was committed before, and nothing has the path of a packet; or the one that was held, and each packet,
+-- which is bytes, whole at one of its two paths. What else was on the disk is as it was seen.
+pub record CommitsThese (old : StoreState) (outbound own : List ℕ) (files : List PacketFile) (first next : Base) (c : Files) : Type 0 where
+  pub others : (m : List ℕ) → (IsOfThese old.is_own outbound own files m → ⊥) → IsOnDisk old.disk m → c m ≡ old.disk.seen m
+  pub either : (old.stands first c × All (IsFreeAt outbound c) files) ⊎ (old.stands next c × All (StandsWhole outbound own c) files × All HasBytes files)
+
+-- what a crash meanwhile may leave
+abbrev pub SendsThese : StoreState → List ℕ → List ℕ → List PacketFile → Base → Base → Files → Type 0
+SendsThese old outbound own files first next c = WritesBeside old outbound own files first c ⊎ CommitsThese old outbound own files first next c
+
+-- a crash at any moment leaves such files
+abbrev pub MaySendThese : List ℕ → List ℕ → List PacketFile → StoreState → StoreState → Type 0
+MaySendThese outbound own files old new =
+    Honestly new.disk ((first next : Base) → old.committed first → old.keeps next → LeavesOnly old.disk new.disk (SendsThese old outbound own files first next))
+
+-- each packet is on the disk at its path, and what the store held is committed
+pub record AreSentOn (outbound : List ℕ) (files : List PacketFile) (old new : StoreState) : Type 0 where
+  pub committed : Commits old new
+  pub packets : Honestly new.disk (All (IsAtItsPath outbound new.disk) files)
+  pub bytes : All HasBytes files

@@ -1,0 +1,110 @@
+//! What is done on the disk of a store, beneath it.
+ghost use Rattle.std.specs.Prelude.{◌≡◌, ◌≢◌, ◌≤◌, ◌⊎◌, ℕ, List, true, false, All, IfErr, IfOk, IsErrOf};
+ghost use Rattle.echo_device.specs.Device.{Failed};
+ghost use Rattle.echo_disk.specs.Disk.{Honestly};
+ghost use Rattle.echo_disk.specs.Runs.{HasCause, LeavesOnly, OneStepOn};
+ghost use Rattle.echo_placing.specs.Naming.{HasItsPath, NamesEach};
+ghost use Rattle.echo_placing.specs.Outgoing.{ArePlaced, IsBesideOne, IsFree, IsOfOne, IsStaged};
+ghost use Rattle.echo_placing.specs.Publishing.{IsApartFrom};
+ghost use Rattle.station_scan.specs.Beneath.{IsUsedAt};
+ghost use Rattle.station_scan.specs.Left.{EndsLeft, IsOfNameOff};
+ghost use Rattle.station_scan.specs.Publishing.{AreStaged, HasStageCause, NoneStays};
+
+use crate::finishing::finish_left;
+use crate::listing::Listing;
+use crate::sending::Sending;
+use crate::staging::stage_or_drop;
+use crate::unpublished::Unpublished;
+use echo_disk::{Disk, DiskError};
+use echo_placing::{Outgoing, PlacingError, name_packets};
+use echo_store::Store;
+use station::{LendStation, OwnPaths};
+use std::alloc::Global;
+
+/// A store after a part of a scan, and what that part answered.
+#[derive(Drop)]
+pub struct Used<S, A> {
+    pub store: S,
+    pub done: A,
+}
+
+/// Writes each packet beside its path.
+pub(crate) fn stage_on<'a, D: Disk, P: LendStation<'a, D>>(
+    alloc: Global,
+    store: P::Kept,
+    outbound: &[u8],
+    packets: &[Outgoing<'_>],
+) -> Used<P::Kept, Result<bool, Unpublished>>
+    requires ready { (P.Kept.state store).is_ready }
+    requires placed { ArePlaced outbound.now packets.now }
+    requires apart { All (IsApartFrom (P.Kept.state store).is_own) packets.now }
+    ensures used { IsUsedAt (IsBesideOne packets.now) (P.Kept.state store) (P.Kept.state result.store) }
+    ensures staged { IfOk result.done (λ free. free ≡ true → AreStaged packets.now (P.Kept.state result.store).disk) }
+    ensures taken { Honestly (P.Kept.state result.store).disk (IfOk result.done (λ free. free ≡ false → All (IsFree (P.Kept.state store).disk) packets.now → ⊥)) }
+    ensures gone { Honestly (P.Kept.state result.store).disk (IfErr result.done (NoneStays packets.now (P.Kept.state result.store).disk)) }
+    ensures cause { HasStageCause (P.Kept.failures store) (P.Kept.failures result.store) result.done }
+{
+    let (disk, rest) = P::lend(store);
+    let mut disk = disk;
+    let done = stage_or_drop(alloc, &mut disk, outbound, packets);
+    let store = P::give_back(alloc, disk, rest);
+    Used { store, done }
+}
+
+/// Gives each packet its path, and answers whether all have theirs.
+pub(crate) fn name_on<'a, D: Disk, P: LendStation<'a, D>>(
+    alloc: Global,
+    store: P::Kept,
+    outbound: &[u8],
+    packets: &[Outgoing<'_>],
+) -> Used<P::Kept, Result<bool, DiskError>>
+    requires ready { (P.Kept.state store).is_ready }
+    requires placed { ArePlaced outbound.now packets.now }
+    requires apart { All (IsApartFrom (P.Kept.state store).is_own) packets.now }
+    requires staged { All (IsStaged (P.Kept.state store).disk) packets.now }
+    ensures used { IsUsedAt (IsOfOne packets.now) (P.Kept.state store) (P.Kept.state result.store) }
+    ensures named { Honestly (P.Kept.state result.store).disk (IfOk result.done (λ all. all ≡ true → All (HasItsPath (P.Kept.state result.store).disk) packets.now)) }
+    ensures taken { Honestly (P.Kept.state result.store).disk (IfOk result.done (λ all. all ≡ false → All (IsFree (P.Kept.state store).disk) packets.now → ⊥)) }
+    ensures any_moment { Honestly (P.Kept.state result.store).disk (LeavesOnly (P.Kept.state store).disk (P.Kept.state result.store).disk (OneStepOn (NamesEach packets.now) (P.Kept.state store).disk)) }
+    ensures cause { HasCause (P.Kept.failures store) (P.Kept.failures result.store) result.done }
+{
+    let (disk, rest) = P::lend(store);
+    let mut disk = disk;
+    let done = name_packets(alloc, &mut disk, outbound, packets);
+    let store = P::give_back(alloc, disk, rest);
+    Used { store, done }
+}
+
+/// Brings what earlier scans left to its end, by the cursor of the base that was committed.
+pub(crate) fn finish_on<'a, D: Disk, P: LendStation<'a, D>, G: Listing>(
+    alloc: Global,
+    store: P::Kept,
+    paths: &P::Paths,
+    listing: &mut G,
+    cursor: u32,
+    sending: Sending<'_>,
+) -> Used<P::Kept, Result<(), PlacingError>>
+    requires plain { All (λ b. b ≢ 47) sending.own.now }
+    requires ready { (P.Kept.state store).is_ready }
+    requires own { (m : List ℕ) → (P.Kept.state store).is_own m → P.Paths.is_own paths.now m }
+    ensures used { IsUsedAt (IsOfNameOff (P.Paths.is_own paths.now) sending.entry.outbound.now sending.entry.own.now) (P.Kept.state store) (P.Kept.state result.store) }
+    ensures ends { Honestly (P.Kept.state result.store).disk (EndsLeft (G.is_true listing.new (P.Kept.state store).disk.seen) (P.Paths.is_own paths.now) sending.entry.outbound.now sending.entry.own.now cursor
+        (P.Kept.state store).disk (P.Kept.state result.store).disk result.done) }
+    ensures later { P.Kept.failures store ≤ P.Kept.failures result.store }
+    ensures listing_later { G.failures listing.old ≤ G.failures listing.new }
+    ensures failed { IsErrOf result.done PlacingError.Device → Failed (P.Kept.failures store) (P.Kept.failures result.store) ⊎ Failed (G.failures listing.old) (G.failures listing.new) }
+{
+    let (disk, rest) = P::lend(store);
+    let mut disk = disk;
+    let done = finish_left(
+        alloc,
+        &mut disk,
+        listing,
+        paths,
+        sending.outbound,
+        sending.own,
+        cursor,
+    );
+    let store = P::give_back(alloc, disk, rest);
+    Used { store, done }
+}

@@ -1,0 +1,81 @@
+//! What earlier scans left is brought to its end.
+ghost use Rattle.std.specs.Prelude.{◌≡◌, ◌≢◌, ◌≤◌, ◌⊎◌, List, All, IfOk, IsErrOf};
+ghost use Rattle.echo_device.specs.Device.{Failed};
+ghost use Rattle.echo_disk.specs.Disk.{Honestly};
+ghost use Rattle.echo_placing.specs.Changes.{ChangesOnly};
+ghost use Rattle.echo_placing.specs.Finishing.{AreLeftIn};
+ghost use Rattle.echo_placing.specs.Publishing.{HasPlacingCause};
+ghost use Rattle.echo_placing.specs.declared.finishing.Left.{Left};
+ghost use Rattle.station_scan.specs.Left.{AreLent, EndsLeft, EndsThese, IsBesideThere, IsOfNameOff, IsOfPaths};
+
+use crate::finding::{LeftPaths, find_left};
+use crate::listing::Listing;
+use echo_disk::{Disk, sync_folder_of};
+use echo_placing::{Left, PlacingError, finish_stopped};
+use station::OwnPaths;
+use std::alloc::{AllocError, Global};
+
+// The packets with these paths.
+fn lend<'a>(alloc: Global, paths: &'a [LeftPaths]) -> Result<Vec<Left<'a>>, AllocError>
+    ensures { IfOk result (λ found. AreLent paths.now found.items) }
+{
+    let mut found = Vec::with_capacity(alloc, paths.len())?;
+    'paths: for i in 0..paths.len() {
+        let one = &paths[i];
+        found.push(Left {
+            path: one.two.path.as_slice(),
+            beside: one.two.beside.as_slice(),
+            before: one.before,
+        })?;
+    }
+    Ok(found)
+}
+
+// Brings the packets with these paths to their end.
+fn end_these<D: Disk>(
+    alloc: Global,
+    disk: &mut D,
+    folder: &[u8],
+    paths: &[LeftPaths],
+    cursor: u32,
+) -> Result<(), PlacingError>
+    requires placed { (found : List Left) → AreLent paths.now found → AreLeftIn folder.now found }
+    requires there { Honestly (D.state disk.old) (All (IsBesideThere (D.state disk.old).seen) paths.now) }
+    ensures ends { Honestly (D.state disk.new) (EndsThese cursor paths.now (D.state disk.old) (D.state disk.new) result) }
+    ensures changes { ChangesOnly (IsOfPaths paths.now) (D.state disk.old) (D.state disk.new) }
+    ensures cause { HasPlacingCause (D.failures disk.old) (D.failures disk.new) result }
+{
+    let found = lend(alloc, paths)?;
+    if !finish_stopped(alloc, disk, folder, &found, cursor)? {
+        return Err(PlacingError::Taken);
+    }
+    // What is gone is to be gone on the disk.
+    sync_folder_of(disk, folder)?;
+    Ok(())
+}
+
+/// Brings what earlier scans left beside names to its end, by the cursor of the base, which is on the disk. What is of the
+/// station's own files is no packet.
+pub(crate) fn finish_left<D: Disk, O: OwnPaths, G: Listing>(
+    alloc: Global,
+    disk: &mut D,
+    listing: &mut G,
+    paths: &O,
+    folder: &[u8],
+    own: &[u8],
+    cursor: u32,
+) -> Result<(), PlacingError>
+    requires { All (λ b. b ≢ 47) own.now }
+    ensures ends { Honestly (D.state disk.new) (EndsLeft (G.is_true listing.new (D.state disk.old).seen) (O.is_own paths.now) folder.now own.now cursor (D.state disk.old) (D.state disk.new) result) }
+    ensures changes { ChangesOnly (IsOfNameOff (O.is_own paths.now) folder.now own.now) (D.state disk.old) (D.state disk.new) }
+    ensures later { D.failures disk.old ≤ D.failures disk.new }
+    ensures listing_later { G.failures listing.old ≤ G.failures listing.new }
+    ensures failed { IsErrOf result PlacingError.Device → Failed (D.failures disk.old) (D.failures disk.new) ⊎ Failed (G.failures listing.old) (G.failures listing.new) }
+{
+    let named = listing.left_beside(alloc, folder, own)?;
+    let found = find_left(alloc, disk, paths, folder, own, &named)?;
+    if found.is_empty() {
+        return Ok(());
+    }
+    end_these(alloc, disk, folder, &found, cursor)
+}

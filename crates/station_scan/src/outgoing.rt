@@ -1,0 +1,168 @@
+//! The packets of a scan go out with the commit of its store, once what earlier scans left is at its end.
+ghost use Rattle.std.specs.Prelude.{◌≡◌, ◌≢◌, ◌≤◌, ◌⊎◌, ℕ, List, All, IfErr, IfOk, OnOk, map};
+ghost use Rattle.echo_base.specs.Base.{Base};
+ghost use Rattle.echo_device.specs.Device.{Failed};
+ghost use Rattle.echo_disk.specs.Disk.{Honestly};
+ghost use Rattle.echo_store.specs.Store.{Commits, MayCommit};
+ghost use Rattle.station_scan.specs.Fitting.{AreFitting, IsUnfit};
+ghost use Rattle.station_scan.specs.Publishing.{HasPublishCause, KeepsStoreBut};
+ghost use Rattle.station_scan.specs.Scanning.{IsTouched, SendsOut};
+ghost use Rattle.station_scan.specs.Sending.{file_paths};
+ghost use Rattle.station_scan.specs.Sends.{AreSentOn, IsOfThese, MaySendThese};
+ghost use Rattle.station_scan.specs.Stops.{IsOfPlacing, scan_done};
+
+use crate::beneath::{Used, finish_on};
+use crate::fitting::{all_differ, are_names, are_off_own};
+use crate::listing::Listing;
+use crate::publishing::publish;
+use crate::scan_stop::ScanStop;
+use crate::sending::{Sending, TwoPaths, outgoing_of, paths_of};
+use crate::unpublished::Unpublished;
+use echo_disk::Disk;
+use echo_placing::{Outgoing, PlacingError};
+use echo_store::Store;
+use station::{LendStation, OwnPaths};
+use std::alloc::Global;
+
+// Commits the store, where there is no packet.
+fn commit_alone<'a, D: Disk, P: LendStation<'a, D>>(
+    store: P::Kept,
+) -> Used<P::Kept, Result<(), Unpublished>>
+    requires { (P.Kept.state store).is_ready }
+    ensures committed { OnOk result.done (Commits (P.Kept.state store) (P.Kept.state result.store)) }
+    ensures either { MayCommit (P.Kept.state store) (P.Kept.state result.store) }
+    ensures cause { HasPublishCause (P.Kept.state store) (P.Kept.state result.store) (P.Kept.failures store) (P.Kept.failures result.store) result.done }
+{
+    let mut store = store;
+    match store.commit() {
+        Ok(()) => Used {
+            store,
+            done: Ok(()),
+        },
+        Err(cause) => Used {
+            store,
+            done: Err(Unpublished::Base(cause)),
+        },
+    }
+}
+
+// The packets of these files at these paths, where each has paths of its own that are not the station's.
+fn fitting_packets<'p, O: OwnPaths>(
+    alloc: Global,
+    paths: &O,
+    sending: Sending<'p>,
+    two: &'p [TwoPaths],
+) -> Result<Vec<Outgoing<'p>>, Unpublished>
+    requires { two.now ≡ map (file_paths sending.outbound.now sending.own.now) sending.files.now }
+    ensures fit { IfOk result (λ packets. AreFitting (O.is_own paths.now) sending.entry.outbound.now sending.entry.own.now sending.entry.files.now packets.items) }
+    ensures err { IfErr result IsUnfit }
+{
+    if !are_names(sending.files) || !all_differ(two) || !are_off_own(paths, two) {
+        return Err(Unpublished::Packets(PlacingError::Taken));
+    }
+    Ok(outgoing_of(alloc, sending.files, two)?)
+}
+
+// Puts these packets, and the commit of the store, on the disk.
+fn publish_packets<'a, D: Disk, P: LendStation<'a, D>>(
+    alloc: Global,
+    store: P::Kept,
+    paths: &P::Paths,
+    sending: Sending<'_>,
+) -> Used<P::Kept, Result<(), Unpublished>>
+    requires plain { All (λ b. b ≢ 47) sending.own.now }
+    requires ready { (P.Kept.state store).is_ready }
+    requires own { (m : List ℕ) → (P.Kept.state store).is_own m → P.Paths.is_own paths.now m }
+    ensures sent { OnOk result.done (AreSentOn sending.entry.outbound.now sending.entry.files.now (P.Kept.state store) (P.Kept.state result.store)) }
+    ensures any_moment { MaySendThese sending.entry.outbound.now sending.entry.own.now sending.entry.files.now (P.Kept.state store) (P.Kept.state result.store) }
+    ensures keeps { KeepsStoreBut (IsOfThese (P.Kept.state store).is_own sending.entry.outbound.now sending.entry.own.now sending.entry.files.now) (P.Kept.state store) (P.Kept.state result.store) }
+    ensures cause { HasPublishCause (P.Kept.state store) (P.Kept.state result.store) (P.Kept.failures store) (P.Kept.failures result.store) result.done }
+{
+    let two = match paths_of(alloc, sending.outbound, sending.own, sending.files) {
+        Ok(two) => two,
+        Err(refused) => {
+            return Used {
+                store,
+                done: Err(Unpublished::from(refused)),
+            };
+        }
+    };
+    let packets = match fitting_packets(alloc, paths, sending, &two) {
+        Ok(packets) => packets,
+        Err(why) => {
+            return Used {
+                store,
+                done: Err(why),
+            };
+        }
+    };
+    publish::<D, P>(alloc, store, sending.outbound, &packets)
+}
+
+// Puts the packets of a scan, and the commit of its store, on the disk. Where there is no packet the folder need not be
+// there.
+fn publish_files<'a, D: Disk, P: LendStation<'a, D>>(
+    alloc: Global,
+    store: P::Kept,
+    paths: &P::Paths,
+    sending: Sending<'_>,
+) -> Used<P::Kept, Result<(), Unpublished>>
+    requires plain { All (λ b. b ≢ 47) sending.own.now }
+    requires ready { (P.Kept.state store).is_ready }
+    requires own { (m : List ℕ) → (P.Kept.state store).is_own m → P.Paths.is_own paths.now m }
+    ensures sent { OnOk result.done (AreSentOn sending.entry.outbound.now sending.entry.files.now (P.Kept.state store) (P.Kept.state result.store)) }
+    ensures any_moment { MaySendThese sending.entry.outbound.now sending.entry.own.now sending.entry.files.now (P.Kept.state store) (P.Kept.state result.store) }
+    ensures keeps { KeepsStoreBut (IsOfThese (P.Kept.state store).is_own sending.entry.outbound.now sending.entry.own.now sending.entry.files.now) (P.Kept.state store) (P.Kept.state result.store) }
+    ensures cause { HasPublishCause (P.Kept.state store) (P.Kept.state result.store) (P.Kept.failures store) (P.Kept.failures result.store) result.done }
+{
+    if sending.files.is_empty() {
+        commit_alone::<D, P>(store)
+    } else {
+        publish_packets::<D, P>(alloc, store, paths, sending)
+    }
+}
+
+/// Brings what earlier scans left to its end, by the cursor of the base that was committed, and puts these packets and the
+/// commit of the store on the disk.
+pub(crate) fn send_out<'a, D: Disk, P: LendStation<'a, D>, G: Listing>(
+    alloc: Global,
+    store: P::Kept,
+    paths: &P::Paths,
+    listing: &mut G,
+    cursor: u32,
+    sending: Sending<'_>,
+) -> Used<P::Kept, Result<(), ScanStop<'a>>>
+    requires plain { All (λ b. b ≢ 47) sending.own.now }
+    requires ready { (P.Kept.state store).is_ready }
+    requires own { (m : List ℕ) → (P.Kept.state store).is_own m → P.Paths.is_own paths.now m }
+    ensures sends { Honestly (P.Kept.state result.store).disk ((first next : Base) → (P.Kept.state store).committed first → (P.Kept.state store).keeps next
+        → SendsOut (G.is_true listing.new (P.Kept.state store).disk.seen) (P.Paths.is_own paths.now) sending.entry.outbound.now sending.entry.own.now
+        ((P.Kept.state store).stands first) ((P.Kept.state store).stands next) cursor sending.entry.files.now (P.Kept.state store).disk (P.Kept.state result.store).disk result.done) }
+    ensures keeps { KeepsStoreBut (IsTouched (P.Kept.state store).is_own sending.entry.outbound.now) (P.Kept.state store) (P.Kept.state result.store) }
+    ensures later { P.Kept.failures store ≤ P.Kept.failures result.store }
+    ensures listing_later { G.failures listing.old ≤ G.failures listing.new }
+    ensures why { Honestly (P.Kept.state result.store).disk ((next : Base) → (P.Kept.state store).keeps next → IfErr result.done (IsOfPlacing (Failed (P.Kept.failures store) (P.Kept.failures result.store) ⊎ Failed (G.failures listing.old) (G.failures listing.new)))) }
+{
+    let Used { store, done } = finish_on::<D, P, G>(alloc, store, paths, listing, cursor, sending);
+    match done {
+        Ok(()) => {
+            let Used { store, done } = publish_files::<D, P>(alloc, store, paths, sending);
+            let done = stop_done(done);
+            Used { store, done }
+        }
+        Err(cause) => Used {
+            store,
+            done: Err(ScanStop::Placing(cause)),
+        },
+    }
+}
+
+// How the scan ended, where it was published so.
+fn stop_done<'a>(done: Result<(), Unpublished>) -> Result<(), ScanStop<'a>>
+    ensures { result ≡ scan_done done }
+{
+    match done {
+        Ok(()) => Ok(()),
+        Err(why) => Err(ScanStop::from(why)),
+    }
+}

@@ -1,0 +1,78 @@
+//! The packets that were taken of a store are put in place.
+ghost use Rattle.std.specs.Prelude.{◌≡◌, ◌≤◌, ◌⊎◌, ℕ, List, IfErr};
+ghost use Rattle.echo_base.specs.Base.{Base};
+ghost use Rattle.echo_device.specs.Device.{Failed};
+ghost use Rattle.echo_disk.specs.Disk.{Honestly};
+ghost use Rattle.echo_station_files.specs.Paths.{dotted};
+ghost use Rattle.station_scan.specs.Publishing.{KeepsStoreBut};
+ghost use Rattle.station_scan.specs.Scanning.{IsTouched, SendsOut};
+ghost use Rattle.station_scan.specs.Stops.{IsOfPlacing};
+
+use crate::beneath::Used;
+use crate::listing::Listing;
+use crate::outgoing::send_out;
+use crate::scan_stop::ScanStop;
+use crate::scanning::Scan;
+use crate::sending::Sending;
+use echo_disk::Disk;
+use echo_links::LinkFile;
+use echo_station_files::system_name;
+use echo_steps::PacketFile;
+use echo_store::{Store, StoreError};
+use echo_store_changing::Stop;
+use station::{LendStation, OwnPaths};
+use std::alloc::Global;
+
+/// How many scanned messages the number in a packet's name can have, as it is read again: it has four bytes.
+const MOST: usize = 4_294_967_295;
+
+/// Puts these packets, and the commit of the store, in place. The cursor is that from before the scan.
+pub(crate) fn put_taken<'a, 's, D: Disk, P: LendStation<'a, D>, G: Listing, T>(
+    alloc: Global,
+    links: &LinkFile,
+    store: P::Kept,
+    paths: &P::Paths,
+    scan: &mut Scan<'s, G, T>,
+    cursor: usize,
+    files: &[PacketFile],
+) -> Used<P::Kept, Result<(), ScanStop<'a>>>
+    requires ready { (P.Kept.state store).is_ready }
+    requires own { (m : List ℕ) → (P.Kept.state store).is_own m → P.Paths.is_own paths.now m }
+    ensures sends { Honestly (P.Kept.state result.store).disk ((first next : Base) → (P.Kept.state store).committed first → (P.Kept.state store).keeps next
+        → SendsOut (G.is_true scan.new.listing (P.Kept.state store).disk.seen) (P.Paths.is_own paths.now) scan.old.outbound.now (dotted links.now.system)
+        ((P.Kept.state store).stands first) ((P.Kept.state store).stands next) cursor files.now (P.Kept.state store).disk (P.Kept.state result.store).disk result.done) }
+    ensures keeps { KeepsStoreBut (IsTouched (P.Kept.state store).is_own scan.old.outbound.now) (P.Kept.state store) (P.Kept.state result.store) }
+    ensures later { P.Kept.failures store ≤ P.Kept.failures result.store }
+    ensures listing_later { G.failures scan.old.listing ≤ G.failures scan.new.listing }
+    ensures why { Honestly (P.Kept.state result.store).disk ((next : Base) → (P.Kept.state store).keeps next
+        → IfErr result.done (IsOfPlacing (Failed (P.Kept.failures store) (P.Kept.failures result.store) ⊎ Failed (G.failures scan.old.listing) (G.failures scan.new.listing)))) }
+{
+    if cursor > MOST {
+        return Used {
+            store,
+            done: Err(ScanStop::Command(Stop::Store(StoreError::TooMany))),
+        };
+    }
+    let own = match system_name(alloc, links) {
+        Ok(own) => own,
+        Err(refused) => {
+            return Used {
+                store,
+                done: Err(ScanStop::from(refused)),
+            };
+        }
+    };
+    let sending = Sending {
+        outbound: scan.outbound,
+        own: &own,
+        files,
+    };
+    send_out::<D, P, G>(
+        alloc,
+        store,
+        paths,
+        &mut scan.listing,
+        cursor as u32,
+        sending,
+    )
+}

@@ -1,0 +1,144 @@
+//! The command `scan` on a station.
+ghost use Rattle.std.specs.Prelude.{◌≡◌, ◌≢◌, ◌≤◌, ◌⊎◌, ◌↔◌, ℕ, List, All, IfErr, OnOk};
+ghost use Rattle.echo_base.specs.Base.{Base};
+ghost use Rattle.echo_device.specs.Device.{Failed};
+ghost use Rattle.echo_disk.specs.Disk.{Honestly};
+ghost use Rattle.echo_disk.specs.Runs.{ChangesNothing};
+ghost use Rattle.echo_status.specs.Devices.{output_of};
+ghost use Rattle.station.specs.Opening.{AreFree, HaveFailed};
+ghost use Rattle.station_scan.specs.Publishing.{KeepsBut, KeepsStoreBut};
+ghost use Rattle.station_scan.specs.Scanning.{IsTouched, ScansIn, ScansOnStore};
+
+use crate::beneath::Used;
+use crate::listing::Listing;
+use crate::putting::put_taken;
+use crate::scan_stop::ScanStop;
+use crate::taking::{Taken, take_waiting};
+use crate::watching::Watching;
+use echo_device::Sink;
+use echo_disk::Disk;
+use echo_links::LinkFile;
+use echo_station_files::FileLock;
+use echo_steps::Stamp;
+use echo_store::Store;
+use echo_store_changing::Stop;
+use station::{BeforeCommand, LendStation, Locks, OpenStation, Opened};
+use std::alloc::Global;
+
+/// A scan: its stamp, the folder of packets, whose path ends in a slash or is empty, one who lists what earlier scans left
+/// there, and one who is told how far it is.
+#[derive(Drop)]
+pub struct Scan<'s, G, T> {
+    pub stamp: Stamp,
+    pub outbound: &'s [u8],
+    pub listing: G,
+    pub watch: T,
+}
+
+/// The disk after a scan, and how that ended.
+#[derive(Drop)]
+pub struct Scanned<'a, D> {
+    pub disk: D,
+    pub done: Result<(), ScanStop<'a>>,
+}
+
+/// `scan --at STAMP LINKS BASE DIR`: the lines of the packets of the messages that wait are printed, what earlier scans left
+/// in the folder of packets is brought to its end, the packets go into it, and in the base none waits. No path of a packet may
+/// be one of the station's own.
+pub fn run_scan<
+    'a,
+    's,
+    D: Disk,
+    P: LendStation<'a, D>,
+    Q: BeforeCommand<'a, P::Kept>,
+    G: Listing,
+    T: Watching,
+    L: FileLock,
+    K: FileLock,
+    W: Sink,
+>(
+    alloc: Global,
+    disk: D,
+    locks: &mut Locks<L, K>,
+    station: P,
+    before: &mut Q,
+    scan: &mut Scan<'s, G, T>,
+    out: &mut W,
+) -> Scanned<'a, D>
+    requires free { AreFree (L.held locks.old.links) (K.held locks.old.base) }
+    requires can { Honestly (D.state disk) (P.can_open station (D.state disk)) }
+    ensures locked { P.is_locked station (L.held locks.new.links) (K.held locks.new.base) ⊎ ChangesNothing (D.state disk) (D.state result.disk) }
+    ensures runs { let failed = HaveFailed (D.failures disk) (D.failures result.disk) (L.failures locks.old.links) (L.failures locks.new.links) (K.failures locks.old.base) (K.failures locks.new.base) in
+        Honestly (D.state result.disk) (ScansIn scan.old.stamp (P.place station) scan.old.outbound.now (G.is_true scan.new.listing) (P.reads station (D.state disk))
+        (λ fault. P.is_shut station failed (D.state disk) (D.state result.disk) fault ⊎ Q.stops before.new fault)
+        (failed ⊎ Failed (G.failures scan.old.listing) (G.failures scan.new.listing)) (D.state disk) (D.state result.disk)
+        (output_of W.contents W.failures W.holds out.old) (output_of W.contents W.failures W.holds out.new) result.done) }
+    ensures keeps { KeepsBut (IsTouched (P.place station).is_own scan.old.outbound.now) (D.state disk) (D.state result.disk) }
+    ensures passed { OnOk result.done (Q.lets before.new) }
+{
+    let paths = station.paths();
+    match station.open(alloc, disk, locks) {
+        Ok(opened) => {
+            let Opened { links, kept } = opened;
+            let mut kept = kept;
+            match before.prepare(&mut kept) {
+                Ok(()) => {
+                    let Used { store, done } = scan_kept::<D, P, G, T, W>(
+                        alloc, &links, kept, &paths, scan, out,
+                    );
+                    let disk = P::into_disk(store);
+                    Scanned { disk, done }
+                }
+                Err(fault) => {
+                    let disk = P::into_disk(kept);
+                    Scanned {
+                        disk,
+                        done: Err(ScanStop::Command(Stop::Met(fault))),
+                    }
+                }
+            }
+        }
+        Err(stopped) => Scanned {
+            disk: stopped.disk,
+            done: Err(ScanStop::Command(Stop::Met(stopped.fault))),
+        },
+    }
+}
+
+// Makes the packets of a store that is open, and puts them in place.
+fn scan_kept<'a, 's, D: Disk, P: LendStation<'a, D>, G: Listing, T: Watching, W: Sink>(
+    alloc: Global,
+    links: &LinkFile,
+    store: P::Kept,
+    paths: &P::Paths,
+    scan: &mut Scan<'s, G, T>,
+    out: &mut W,
+) -> Used<P::Kept, Result<(), ScanStop<'a>>>
+    requires ready { (P.Kept.state store).is_ready }
+    requires own { (m : List ℕ) → (P.Kept.state store).is_own m → P.Paths.is_own paths.now m }
+    ensures scans { Honestly (P.Kept.state result.store).disk ((base : Base) → (P.Kept.state store).keeps base → (P.Kept.state store).committed base
+        → ScansOnStore scan.old.stamp (P.Paths.is_own paths.now) scan.old.outbound.now (G.is_true scan.new.listing)
+        (Failed (P.Kept.failures store) (P.Kept.failures result.store) ⊎ Failed (G.failures scan.old.listing) (G.failures scan.new.listing)) (P.Kept.state store) (P.Kept.state result.store)
+        (output_of W.contents W.failures W.holds out.old) (output_of W.contents W.failures W.holds out.new) links.now base result.done) }
+    ensures keeps { KeepsStoreBut (IsTouched (P.Kept.state store).is_own scan.old.outbound.now) (P.Kept.state store) (P.Kept.state result.store) }
+    ensures later { P.Kept.failures store ≤ P.Kept.failures result.store }
+    ensures listing_later { G.failures scan.old.listing ≤ G.failures scan.new.listing }
+{
+    let cursor = store.cursor();
+    let Taken { store, files } = take_waiting(alloc, scan.stamp, links, store, &scan.watch, out);
+    match files {
+        Ok(files) => put_taken::<D, P, G, T>(
+            alloc,
+            links,
+            store,
+            paths,
+            scan,
+            cursor,
+            files.as_slice(),
+        ),
+        Err(stop) => Used {
+            store,
+            done: Err(ScanStop::Command(stop)),
+        },
+    }
+}

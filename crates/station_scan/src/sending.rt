@@ -1,0 +1,82 @@
+//! The packets of a scan, each with its two paths.
+ghost use Rattle.std.specs.Prelude.{◌≡◌, map, length, IfOk};
+ghost use Rattle.station_scan.specs.Sending.{AreSent, file_paths, two_paths};
+
+use echo_addr::Items;
+use echo_placing::Outgoing;
+use echo_station_files::path_beside;
+use echo_steps::PacketFile;
+use std::alloc::{AllocError, Global};
+
+/// The path that a packet is to have, and the one beside it at which it stands before.
+#[derive(Drop)]
+pub struct TwoPaths {
+    pub path: Items<u8>,
+    pub beside: Items<u8>,
+}
+
+/// Where the packets of a scan go, and which: the folder, whose path ends in a slash or is empty, and the own name, which
+/// the paths beside have.
+#[derive(Clone, Copy)]
+pub(crate) struct Sending<'p> {
+    pub outbound: &'p [u8],
+    pub own: &'p [u8],
+    pub files: &'p [PacketFile],
+}
+
+/// The two paths of a packet of this name in this folder.
+pub(crate) fn two_paths(
+    alloc: Global,
+    folder: &[u8],
+    own: &[u8],
+    name: &[u8],
+) -> Result<TwoPaths, AllocError>
+    ensures { IfOk result (λ two. two ≡ two_paths folder.now own.now name.now) }
+{
+    let mut path = Vec::from_slice(alloc, folder)?;
+    path.extend_from_slice(name)?;
+    let beside = path_beside(alloc, &path, own)?;
+    Ok(TwoPaths {
+        path: Items::new(path),
+        beside: Items::new(beside),
+    })
+}
+
+/// Those of each file.
+pub(crate) fn paths_of(
+    alloc: Global,
+    folder: &[u8],
+    own: &[u8],
+    files: &[PacketFile],
+) -> Result<Vec<TwoPaths>, AllocError>
+    ensures { IfOk result (λ all. all.items ≡ map (file_paths folder.now own.now) files.now) }
+{
+    let mut all = Vec::with_capacity(alloc, files.len())?;
+    'files: for file in files {
+        let two = two_paths(alloc, folder, own, file.name.as_slice())?;
+        all.push(two)?;
+    }
+    Ok(all)
+}
+
+/// The packets of these files, which go to these paths.
+pub(crate) fn outgoing_of<'a>(
+    alloc: Global,
+    files: &'a [PacketFile],
+    paths: &'a [TwoPaths],
+) -> Result<Vec<Outgoing<'a>>, AllocError>
+    requires { length paths.now ≡ length files.now }
+    ensures { IfOk result (λ all. AreSent files.now paths.now all.items) }
+{
+    let mut all = Vec::with_capacity(alloc, files.len())?;
+    'files: for i in 0..files.len() {
+        let file = &files[i];
+        let two = &paths[i];
+        all.push(Outgoing {
+            path: two.path.as_slice(),
+            beside: two.beside.as_slice(),
+            file,
+        })?;
+    }
+    Ok(all)
+}

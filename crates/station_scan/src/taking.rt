@@ -1,0 +1,51 @@
+//! The packets of what waits in a store.
+ghost use Rattle.std.specs.Prelude.{◌≡◌, OnOk};
+ghost use Rattle.echo_base.specs.Base.{Base};
+ghost use Rattle.echo_disk.specs.Disk.{Honestly};
+ghost use Rattle.echo_disk.specs.Runs.{ChangesNothing};
+ghost use Rattle.echo_status.specs.Devices.{output_of};
+ghost use Rattle.echo_store.specs.Store.{GoesOn, HasStoreCause, IsSameStore, all_scanned};
+ghost use Rattle.echo_store_changing.specs.Scanned.{ScansOn};
+ghost use Rattle.echo_store_changing.specs.Stops.{store_answer};
+ghost use Rattle.echo_toss.specs.PacketsIn.{state_in};
+
+use crate::watching::{Watched, Watching};
+use echo_addr::Items;
+use echo_device::Sink;
+use echo_links::LinkFile;
+use echo_steps::{PacketFile, Stamp};
+use echo_store::Store;
+use echo_store_changing::{Stop, scan_on};
+use std::alloc::Global;
+
+/// A store after a scan of it, and its packets.
+#[derive(Drop)]
+pub(crate) struct Taken<'a, S> {
+    pub store: S,
+    pub files: Result<Items<PacketFile>, Stop<'a>>,
+}
+
+/// Makes the packets of the messages that wait, prints a line for each, and moves the cursor in the store. Nothing is
+/// committed. It is told which message is taken at hand.
+pub(crate) fn take_waiting<'a, S: Store, T: Watching, W: Sink>(
+    alloc: Global,
+    stamp: Stamp,
+    links: &LinkFile,
+    store: S,
+    watch: &T,
+    out: &mut W,
+) -> Taken<'a, S>
+    requires { (S.state store).is_ready }
+    ensures answers { Honestly (S.state result.store).disk ((base : Base) → (S.state store).keeps base
+        → ScansOn stamp (state_in links.now base) (output_of W.contents W.failures W.holds out.old) (output_of W.contents W.failures W.holds out.new) result.files) }
+    ensures moved { Honestly (S.state result.store).disk ((base : Base) → (S.state store).keeps base → OnOk result.files ((S.state result.store).keeps (all_scanned base))) }
+    ensures goes_on { OnOk result.files (GoesOn (S.state store) (S.state result.store)) }
+    ensures same { IsSameStore (S.state store) (S.state result.store) }
+    ensures quiet { ChangesNothing (S.state store).disk (S.state result.store).disk }
+    ensures cause { HasStoreCause (S.state store) (S.state result.store) (S.failures store) (S.failures result.store) (store_answer result.files) }
+{
+    let mut watched = Watched { store, watch };
+    let files = scan_on(alloc, stamp, links, &mut watched, out);
+    let Watched { store, .. } = watched;
+    Taken { store, files }
+}
