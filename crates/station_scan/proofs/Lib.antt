@@ -9,4 +9,5 @@ mod Outs
 mod Looked
 mod Through
 mod Stops
+mod Scans
 mod Runs

@@ -17,6 +17,9 @@ use Rattle.station_scan.specs.Left.{EndsLeft, IsEnded, IsLeftOf, IsOfNameOff}
 use Rattle.station_scan.specs.Publishing.{IsOnDisk, KeepsStoreBut}
 use Rattle.station_scan.specs.Scanning.{AreSentOut, CommitsScan, IsTouched, PreparesScan, SendsOut}
 use Rattle.station_scan.specs.Sends.{AreSentOn, IsOfThese, SendsThese}
+use Rattle.station_scan.specs.Stops.{scan_done}
+use Rattle.station_scan.specs.declared.scan_stop.ScanStop.{ScanStop}
+use Rattle.station_scan.specs.declared.unpublished.Unpublished.{Unpublished}
 use Rattle.station_scan.proofs.Published.{store_then, store_wider, used_keeps}
 
 -- one that is over, by what is seen
@@ -128,3 +131,8 @@ module _ (Own : List ℕ → Type 0) (outbound own : List ℕ) (s0 s1 : StoreSta
       store_then (IsTouched s0.is_own outbound) s0 s1 s2 ended_keeps
       (store_wider (IsOfThese s1.is_own outbound own files) (IsTouched s0.is_own outbound) s1 s2
       (λ m of. ⊎_elim (λ o. inl ((used.same.own m).0 o)) (λ p. inr (own, (p.0.name, p.2, p.3))) of) kept)
+
+-- what was sent where the publishing ended well was where the scan did
+pub scan_sent : (P : Type 0) (done : Result (Unit {0}) Unpublished) (result : Result (Unit {0}) ScanStop) → result ≡ scan_done done → OnOk done P → OnOk result P
+scan_sent P (Ok value) result is sent = subst (λ (r : Result (Unit {0}) ScanStop). OnOk r P) (sym is) sent
+scan_sent P (Err why) result is sent = subst (λ (r : Result (Unit {0}) ScanStop). OnOk r P) (sym is) tt

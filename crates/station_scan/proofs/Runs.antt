@@ -162,11 +162,12 @@ module _ (place : Place) (d0 d2 : DiskState) (s1 s2 : StoreState) (begun : IsOpe
     whole = scans.whole;
   }
 
-  -- and which paths it touched
-  pub scan_keeps : KeepsStoreBut (IsTouched s1.is_own outbound) s1 s2 → KeepsBut (IsTouched place.is_own outbound) d0 d2
-  scan_keeps kept =
-      let at = IsTouched place.is_own outbound in
-      keeps_then at d0 s2.disk d2
-      (keeps_then at d0 s1.disk s2.disk (elsewhere_keeps place outbound d0 s1.disk of.elsewhere)
-      (keeps_wider (IsTouched s1.is_own outbound) at s1.disk s2.disk (λ m is. ⊎_elim (λ o. inl (of.own m o)) (λ name. inr name) is) kept.keeps))
-      (keeps_nothing at s2.disk d2 quiet)
+-- which paths a scan touched
+pub scan_keeps : (place : Place) (outbound : List ℕ) (d0 d2 : DiskState) (s1 s2 : StoreState) → IsOfPlace place d0 s1 → ChangesNothing s2.disk d2 → KeepsStoreBut (IsTouched s1.is_own outbound) s1 s2
+    → KeepsBut (IsTouched place.is_own outbound) d0 d2
+scan_keeps place outbound d0 d2 s1 s2 of quiet kept =
+    let at = IsTouched place.is_own outbound in
+    keeps_then at d0 s2.disk d2
+    (keeps_then at d0 s1.disk s2.disk (elsewhere_keeps place outbound d0 s1.disk of.elsewhere)
+    (keeps_wider (IsTouched s1.is_own outbound) at s1.disk s2.disk (λ m is. ⊎_elim (λ o. inl (of.own m o)) (λ name. inr name) is) kept.keeps))
+    (keeps_nothing at s2.disk d2 quiet)

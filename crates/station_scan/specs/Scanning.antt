@@ -90,7 +90,6 @@ pub record ScansOnStore (stamp : Stamp) (Own : List ℕ → Type 0) (outbound : 
   pub answer : ScansOn stamp (state_in file base) old_out new_out made
   pub put : IsPutOn Own outbound (dotted file.system) IsTrue failed old new base made result
   pub whole : IsErrOf result (Command (Store Damaged)) → ⊥
-  pub cause : IsErrOf result (Command (Store Device)) → failed
 
 -- What a crash at any moment of a scan of this base may leave: what one might have left before, or what a scan does before the commit, or
 -- from there on. These files were seen once the station was open.
