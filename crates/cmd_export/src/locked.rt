@@ -28,9 +28,12 @@ pub(crate) fn locked_headers<'a>(
 ) -> Result<File, Fault<'a>> {
     let headers = with_end(rt, path, ".jhr")?;
     let beside = with_end(rt, headers.as_str(), ".~jam~.new")?;
-    if !is_there(rt, path, headers.as_str())? || is_there(rt, path, beside.as_str())? {
+    if !is_there(rt, path, headers.as_str())? {
         base_bytes(rt, base)?;
         begin_alone(rt, path, headers.as_str(), beside.as_str())?;
+    } else if is_there(rt, path, beside.as_str())? {
+        // What cannot be tidied up is no fault of the base.
+        let _ = begin_alone(rt, path, headers.as_str(), beside.as_str());
     }
     let headers = open_file(rt, path, ".jhr").map_err(|error| jam_fault(&error, path))?;
     lock_file(rt, &headers, path).map_err(|_| Fault::CannotUse(path))?;
