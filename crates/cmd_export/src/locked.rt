@@ -131,8 +131,14 @@ pub(crate) fn begun_again<'a>(
         write_at(headers, bytes.as_slice(), 0).map_err(|error| jam_fault(&error, path))?;
         return Ok(bytes);
     }
-    if found.len() == FIXED && found.starts_with(b"JAM\0") {
+    if found.len() == FIXED && found.starts_with(b"JAM\0") && !has_others(rt, path)? {
         make_others(rt, path, false)?;
     }
     Ok(found)
+}
+
+// Whether the index and the texts are there.
+fn has_others<'a>(rt: &HostRuntime, path: &'a str) -> Result<bool, Fault<'a>> {
+    let (index, texts) = (with_end(rt, path, ".jdx")?, with_end(rt, path, ".jdt")?);
+    Ok(is_there(rt, path, index.as_str())? && is_there(rt, path, texts.as_str())?)
 }
