@@ -117,7 +117,8 @@ pub fn mail_as_may<
     run_command(alloc, disk, locks, station, before, command, out)
 }
 
-/// The same of `toss` of packet files of the net, with notes or without, whatever reads them.
+/// The same of `toss` of packet files of the net, with notes or without, whatever reads them. Where it ended well just those
+/// were tossed whole that stood before what it answers.
 pub fn toss_as_may<
     'a,
     D: Disk,
@@ -138,7 +139,7 @@ pub fn toss_as_may<
 ) -> Ended<'a, D, Option<Fault<'a>>>
     requires free { AreFree (L.held locks.old.links) (K.held locks.old.base) }
     requires can { Honestly (D.state disk) (P.can_open station (D.state disk)) }
-    ensures { Honestly (D.state result.disk) (TossesAsMay (F.coming command.old.packets) (P.place station) (P.reads station (D.state disk)) (D.state disk) (D.state result.disk) result.done) }
+    ensures { Honestly (D.state result.disk) (TossesAsMay (F.coming command.old.packets) (F.coming command.new.packets) (P.place station) (P.reads station (D.state disk)) (D.state disk) (D.state result.disk) result.done) }
 {
     tosses_are_what_is_known::<F::Reader>();
     run_command(alloc, disk, locks, station, before, command, out)
