@@ -24,14 +24,13 @@ use Rattle.echo_store_changing.specs.declared.stop.Stop.TheVariants.{Met}
 use Rattle.echo_toss.specs.PacketsIn.{state_in}
 use Rattle.station.specs.Place.{KeepsElsewhere, Place, StandsOrWasLeft}
 use Rattle.station_scan.specs.Left.{IsLeftOf}
-use Rattle.station_scan.specs.Publishing.{IsOnDisk, KeepsBut}
-use Rattle.station_scan.specs.Scanning.{AreSentOut, CommitsScan, IsPutAs, IsPutIn, IsTouched, MayLeave, PreparesScan, ScansIn}
+use Rattle.station_scan.specs.Publishing.{KeepsBut}
+use Rattle.station_scan.specs.Scanning.{AreSentOut, IsPutAs, IsPutIn, IsTouched, MayLeave, ScansIn}
 use Rattle.station_scan.specs.Sending.{HasBytes, IsBesidePacket, IsOfPacket, StandsWhole}
 use Rattle.station_scan.specs.Sends.{IsOfThese}
 use Rattle.station_scan.specs.Stops.{IsOfPlacing, as_scan}
 use Rattle.station_scan.specs.declared.scan_stop.ScanStop.{ScanStop}
 use Rattle.station_scan.specs.declared.scan_stop.ScanStop.TheVariants.{Command}
-use Rattle.law_stations.specs.Commands.{Scans}
 use Rattle.law_stations.specs.Nets.{Station, bytes_of, with_base, with_left}
 use Rattle.law_stations.proofs.Pairs.{changed-there}
 use Rattle.law_crashes.specs.Disks.{Disks, HasCursor, cursor_of}
@@ -40,7 +39,7 @@ use Rattle.law_crashes.proofs.Elsewhere.{some-stations}
 use Rattle.law_crashes.proofs.Moving.{some-waits}
 use Rattle.law_crashes.proofs.Parted.{Parted, all-named, parted}
 use Rattle.law_crashes.proofs.Whole.{disks_with, with_packets}
-use Rattle.law_disks.specs.OnDisks.{IsLinkedOn, IsStationAt, LeavesElsewhere, ReadsLinks, ShowsStation}
+use Rattle.law_disks.specs.OnDisks.{IsLinkedOn, IsStationAt, ReadsLinks, ShowsStation}
 use Rattle.law_disks.specs.Scans.{AreAfterScan, IsAfterScan, IsAtPath, IsBesidePath, ScansAsEvent, ScansAsMay, with_packets_in}
 
 -- what earlier scans left has none of the paths that are away from all that a scan touches
