@@ -50,23 +50,23 @@ pub record AreAsMay (IsCommand : Command → Type 0) (place : Place) (links : Li
   pub leads : MayLeadBy IsCommand i d after
   pub shows : ShowsStation place links i c after
 
--- the disk shows the link file and the base of the station after a command of this kind, each crash leaves them so, and
--- the next command finds it so
+-- The disk shows the link file and the base of the station after a command of this kind. Each crash leaves them so, and the
+-- next command finds them so.
 pub record IsAfter (IsCommand : Command → Type 0) (place : Place) (links : List ℕ) (i : ℕ) (d : Disks) (new : DiskState) : Type 0 where
   pub after : Disks
   pub leads : LeadsFarBy IsCommand i d after
   pub at : IsStationAt place links i new after
   pub on_disk : (c : Files) → new.may_leave c → ShowsStation place links i c after
 
--- What stands elsewhere stays: a crash at any moment leaves what one before it might have left, or each file that was on the
--- disk elsewhere as it was.
+-- What stands elsewhere stays. A crash at any moment leaves what one before it might have left, or each file elsewhere that
+-- was on the disk.
 pub record LeavesElsewhere (place : Place) (old new : DiskState) : Type 0 where
   pub crash : (c : Files) → new.left_since old.moment c → old.may_leave c ⊎ SameElsewhere place old c
   pub keeps : KeepsElsewhere place old new
 
 -- A command does on the disk what the command event may do.
 pub record DoesAsMay {A : Type 0} (IsCommand : Command → Type 0) (place : Place) (links : List ℕ) (i : ℕ) (d : Disks) (old new : DiskState) (result : Result A Stop) : Type 0 where
-  -- a crash at any moment leaves what one before it might have left, or the link file and the base as before the event or after it
+  -- a crash at any moment leaves what one before it might have left, or the station as before the event or after it
   pub crash : (c : Files) → new.left_since old.moment c → old.may_leave c ⊎ AreAsMay IsCommand place links i d c
   -- where it ends well they are as after the event
   pub done : (value : A) → result ≡ Ok value → IsAfter IsCommand place links i d new

@@ -28,8 +28,8 @@ IsAtPath outbound c packet = c (outbound ++ packet.name) ≡ Some packet.bytes
 abbrev pub IsBesidePath : List ℕ → List ℕ → Files → PacketFile → Type 0
 IsBesidePath outbound own c packet = c (path_beside (outbound ++ packet.name) own) ≡ Some packet.bytes
 
--- The link file and the base are those of the station after a scan of this base that came so far, and so are its packets: some stand whole
--- at their paths, and these got their names; the others stand whole beside theirs, and wait.
+-- The link file and the base are those of the station after a scan of this base that came so far. Some of its packets stand whole
+-- at their paths: these got their names. The others stand whole beside theirs, and wait.
 pub record AreAfterScan (stamp : Stamp) (place : Place) (links outbound : List ℕ) (i : ℕ) (d ended : Disks) (base : Base) (c : Files) : Type 0 where
   pub after : Disks
   pub leads : LeadsFar (Scan stamp) d i after
@@ -55,8 +55,8 @@ with_packets_in outbound place = record { stands_for = place.stands_for; is_own 
 
 -- A scan does on the disk what its command event may do.
 pub record ScansAsEvent (stamp : Stamp) (place : Place) (links outbound : List ℕ) (i : ℕ) (d ended : Disks) (base : Base) (old new : DiskState) (result : Result (Unit {0}) ScanStop) : Type 0 where
-  -- a crash at any moment leaves what one before it might have left, or the link file and the base as they were, or as after the event,
-  -- and the packets so too
+  -- a crash at any moment leaves what one before it might have left, or the station as it was, or the station and the packets as
+  -- after the event
   pub crash : (c : Files) → new.left_since old.moment c → old.may_leave c ⊎ (ShowsStation place links i c d ⊎ AreAfterScan stamp place links outbound i d ended base c)
   -- where it ends well they are as after the event, and no packet waits
   pub done : result ≡ Ok tt → IsAfterScan stamp place links outbound i d ended base new
@@ -70,7 +70,7 @@ pub record ScansAsEvent (stamp : Stamp) (place : Place) (links outbound : List �
   -- and so is what stands elsewhere, but for packets
   pub elsewhere : LeavesElsewhere (with_packets_in outbound place) old new
 
--- So it is at each station of a net that the disk shows in this place, of which what stopped scans left is brought to its end so. The link
+-- So it is at each station of a net that the disk shows in this place. What stopped scans left of it is brought to its end so, and its link
 -- file has no path of a packet.
 abbrev pub ScansAsMay : Stamp → Place → List ℕ → (LinkFile → Type 0) → DiskState → DiskState → Result (Unit {0}) ScanStop → Type 0
 ScansAsMay stamp place outbound Reads old new result = (links : List ℕ) (i : ℕ) (d : Disks) (n : ℕ) (ended : Disks) → ReadsLinks Reads links old → (IsTouched place.is_own outbound links → ⊥)

@@ -16,8 +16,8 @@ use law_stations::tosses_are_what_is_known;
 use station::{BeforeCommand, Ended, Locks, OpenStation, run_command};
 use std::alloc::Global;
 
-/// `purge` on a station: a crash at any moment leaves what one before it might have left, or the link file and the base as
-/// before the command, or as the law over crashes allows; where it ended well each crash leaves them as after it.
+/// `purge` on a station: a crash at any moment leaves what one before it might have left, or the station as before the
+/// command or after it. Where it ended well, each crash leaves the station as after it, and the next command finds it so.
 pub fn purge_as_may<
     'a,
     D: Disk,

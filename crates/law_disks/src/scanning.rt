@@ -10,9 +10,9 @@ use station::{BeforeCommand, LendStation, Locks};
 use station_scan::{Listing, Scan, Scanned, Watching, run_scan};
 use std::alloc::Global;
 
-/// `scan` on a station: a crash at any moment leaves what one before it might have left, or the link file and the base as
-/// before the command, or as the law over crashes allows, with each of its packets at its path or waiting beside it. Where it
-/// ended well each has its path, and the next command finds the station so.
+/// `scan` on a station: a crash at any moment leaves what one before it might have left, or the station as before the scan
+/// or after it. Once it is as after it, each packet stands whole at its path, or waits beside it. Where the scan ended well
+/// each has its path, and the next command finds the station so.
 pub fn scan_as_may<
     'a,
     's,
