@@ -12,7 +12,7 @@ use echo_mailing::PostMail;
 use echo_station_files::FileLock;
 use echo_status::Fault;
 use echo_store_changing::{Post, Purge, Reply, Toss};
-use law_stations::tosses_are_what_is_known;
+use law_stations::{tosses_answer_what_stopped_them, tosses_are_what_is_known};
 use station::{BeforeCommand, Ended, Locks, OpenStation, run_command};
 use std::alloc::Global;
 
@@ -142,5 +142,6 @@ pub fn toss_as_may<
     ensures { Honestly (D.state result.disk) (TossesAsMay (F.coming command.old.packets) (F.coming command.new.packets) (P.place station) (P.reads station (D.state disk)) (D.state disk) (D.state result.disk) result.done) }
 {
     tosses_are_what_is_known::<F::Reader>();
+    tosses_answer_what_stopped_them::<F::Reader>();
     run_command(alloc, disk, locks, station, before, command, out)
 }
