@@ -31,13 +31,13 @@ module _ {D Kept : Type 0} (state : D → DiskState) (place : Kept → Place) (s
 
   module _ (begun : D) (left : (state whole).left_since (state old).moment (state begun).seen) (all : IsAllOnDisk (state begun)) where
     led : (next : Disks) → MayLeadBy (IsAsked asked base) i d next → ShowsStation (place seat.kept) seat.links i (state begun).seen next
-        → GoesOnCut place seat i asked base d (state old) (state whole) (state begun)
+        → GoesOnCut (IsAsked asked base) place seat i d (state old) (state whole) (state begun)
     led next (inl same) shows =
         record { command = None; is = tt; next = next; cut = record { left = left; begins = all; may = same; shows = shows; elsewhere = elsewhere } }
     led next (inr by) shows =
         record { command = Some by.command; is = by.is; next = next; cut = record { left = left; begins = all; may = by.leads; shows = shows; elsewhere = elsewhere } }
 
-    cut : GoesOnCut place seat i asked base d (state old) (state whole) (state begun)
+    cut : GoesOnCut (IsAsked asked base) place seat i d (state old) (state whole) (state begun)
     cut = elim (does.crash (state begun).seen left) [
       | inl was ↦ led d (inl refl) (on_disk (state begun).seen was)
       | inr may ↦ led may.after may.leads may.shows
