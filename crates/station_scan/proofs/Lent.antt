@@ -1,5 +1,5 @@
 -- A store whose disk was lent, used and given back.
-use Rattle.std.proofs.Common.{◌≡◌, ℕ, List}
+use Rattle.std.proofs.Common.{ℕ, List}
 use Rattle.echo_disk.specs.Disk.{DiskState}
 use Rattle.echo_disk.specs.Runs.{ChangesNothing}
 use Rattle.echo_placing.specs.Changes.{ChangesOnly}

@@ -1,6 +1,6 @@
 -- What earlier scans left comes to its end, and then the packets of a scan and the commit of its store are put on the disk.
-use Rattle.std.proofs.Common.{◌≡◌, ◌⊎◌, ◌≤◌, inl, inr, ⊎_elim, ◌∙◌, ℕ, List, All, get_or, refl, subst, sym}
-use Rattle.std.specs.Prelude.{Err, IfErr, Ok, OnOk, Result}
+use Rattle.std.proofs.Common.{◌≡◌, ◌⊎◌, inl, inr, ⊎_elim, ◌∙◌, ℕ, List, All, get_or, refl, subst, sym}
+use Rattle.std.specs.Prelude.{Err, Ok, OnOk, Result}
 use Rattle.std.proofs.lemmas.Bool.{cases_lt}
 use Rattle.std.proofs.lemmas.List.Elements.{All-contains}
 use Rattle.echo_base.specs.Base.{Base}

@@ -1,9 +1,9 @@
 -- Packets and the commit of a store.
-use Rattle.std.proofs.Common.{◌≡◌, inl, inr, ⊎_elim, ◌∙◌, ◌<◌, ℕ, List, get_or, length, refl, subst, sym}
+use Rattle.std.proofs.Common.{◌≡◌, inl, inr, ⊎_elim, ◌∙◌, ℕ, List, get_or, refl, subst, sym}
 use Rattle.std.specs.Prelude.{All, Bool, Err, false, IfOk, Ok, OnOk, Result, true}
 use Rattle.std.proofs.lemmas.List.Elements.{All-contains}
 use Rattle.echo_base.specs.Base.{Base}
-use Rattle.echo_disk.specs.Disk.{DiskState, Files, Honestly}
+use Rattle.echo_disk.specs.Disk.{DiskState, Honestly}
 use Rattle.echo_disk.specs.declared.disk_error.DiskError.{DiskError}
 use Rattle.echo_disk.specs.declared.disk_error.DiskError.TheVariants as disk_error
 use Rattle.echo_disk.specs.Runs.{ChangesNothing, LeavesOnly, OneStepOn}
@@ -14,13 +14,12 @@ use Rattle.echo_placing.specs.Outgoing.{ArePlaced, IsBesideOne, IsFree, IsOfOne,
 use Rattle.echo_placing.specs.Publishing.{IsApartFrom, placing_cause}
 use Rattle.echo_placing.specs.declared.placing_error.PlacingError.TheVariants as placing
 use Rattle.echo_placing.specs.declared.outgoing.Outgoing.{Outgoing}
-use Rattle.echo_placing.proofs.Changes.{left_there}
 use Rattle.echo_placing.proofs.Packets.{path_not_beside}
 use Rattle.echo_store.specs.Store.{Commits, KeepsBeside, IsSameStore, MayCommit, StandsForEither, StoreState}
 use Rattle.echo_store.proofs.Runs.{same_twice}
 use Rattle.station.specs.Beneath.{HoldsAsBefore}
 use Rattle.station_scan.specs.Beneath.{IsUsedAt}
-use Rattle.station_scan.specs.Publishing.{ArePublished, AreStaged, CommitsWith, IsClear, IsNamedAs, IsOnDisk, IsPublishedAt, KeepsBut, KeepsStoreBut, PublishesOn, StagesOver}
+use Rattle.station_scan.specs.Publishing.{ArePublished, AreStaged, CommitsWith, IsClear, IsNamedAs, KeepsBut, KeepsStoreBut, PublishesOn, StagesOver}
 use Rattle.station_scan.specs.declared.unpublished.Unpublished.{Unpublished}
 
 -- none of the store's own paths is a packet's

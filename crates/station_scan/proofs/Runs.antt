@@ -1,6 +1,6 @@
 -- A scan of a store that was opened, as one of the station.
-use Rattle.std.proofs.Common.{◌≡◌, ◌⊎◌, inl, inr, ⊎_elim, ◌∙◌, ℕ, List, Result, Ok, Err, refl, subst, sym, ◌++◌}
-use Rattle.std.specs.Prelude.{All, IfErr, OnOk, get_or}
+use Rattle.std.proofs.Common.{◌⊎◌, inl, inr, ⊎_elim, ◌∙◌, ℕ, List, Result, Ok, Err, refl, subst, sym, ◌++◌}
+use Rattle.std.specs.Prelude.{OnOk, get_or}
 use Rattle.echo_base.specs.Base.{Base}
 use Rattle.echo_disk.specs.Disk.{DiskState, Files}
 use Rattle.echo_disk.specs.Runs.{ChangesNothing, LeavesOnly, OneStepOn}
@@ -15,11 +15,10 @@ use Rattle.echo_store.specs.Store.{StoreState, all_scanned}
 use Rattle.echo_store_changing.specs.declared.stop.Stop.{Stop}
 use Rattle.station.specs.Opening.{IsOpenFor}
 use Rattle.station.specs.Place.{IsOfPlace, KeepsElsewhere, Place, StandsAlone, StandsOrWasLeft}
-use Rattle.station_scan.specs.Left.{AreAllLeft, IsLeftOf, IsToFind}
+use Rattle.station_scan.specs.Left.{AreAllLeft, IsLeftOf}
 use Rattle.station_scan.specs.Publishing.{IsOnDisk, KeepsBut, KeepsStoreBut}
 use Rattle.station_scan.specs.Scanning.{AreSentOut, CommitsScan, IsPutAs, IsPutIn, IsPutOn, IsScanOn, IsSentOn, IsTouched, MayLeave, PreparesScan, ScansOnStore, SendsOut}
 use Rattle.station_scan.specs.Sends.{IsOfThese}
-use Rattle.station_scan.specs.Stops.{IsOfPlacing}
 use Rattle.station_scan.specs.declared.scan_stop.ScanStop.{ScanStop}
 use Rattle.station_scan.proofs.Lefts.{finishes_none}
 use Rattle.station_scan.proofs.Looked.{same_seen}

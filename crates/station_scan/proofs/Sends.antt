@@ -1,19 +1,19 @@
 -- The packets of a scan and the commit of a store.
-use Rattle.std.proofs.Common.{◌≡◌, ◌≢◌, inl, inr, ⊎_elim, ◌<◌, ℕ, List, arith, length, refl}
-use Rattle.std.specs.Prelude.{All, Ok}
+use Rattle.std.proofs.Common.{◌≡◌, ◌≢◌, inl, inr, ⊎_elim, ℕ, List, arith, length, refl}
+use Rattle.std.specs.Prelude.{All}
 use Rattle.echo_base.specs.Base.{Base}
 use Rattle.echo_disk.specs.Disk.{DiskState, Files}
-use Rattle.echo_disk.specs.Runs.{LeavesOnly, OneStepOn}
+use Rattle.echo_disk.specs.Runs.{LeavesOnly}
 use Rattle.echo_disk.proofs.Moments.{no_call, weaker_run}
-use Rattle.echo_placing.specs.Outgoing.{ArePlaced, IsOfOne}
+use Rattle.echo_placing.specs.Outgoing.{ArePlaced}
 use Rattle.echo_placing.specs.Publishing.{IsApartFrom}
 use Rattle.echo_placing.specs.declared.outgoing.Outgoing.{Outgoing}
 use Rattle.echo_steps.specs.PacketFiles.{PacketFile}
 use Rattle.echo_store.specs.Store.{Commits, MayCommit, StandsForEither, StoreState}
 use Rattle.station_scan.specs.Fitting.{AreFitting}
-use Rattle.station_scan.specs.Publishing.{ArePublished, CommitsWith, IsPublishedAt, KeepsStoreBut, PublishesOn, StagesOver}
+use Rattle.station_scan.specs.Publishing.{ArePublished, IsPublishedAt, KeepsStoreBut, PublishesOn}
 use Rattle.station_scan.specs.Sending.{HasBytes, IsAtItsPath, IsFreeAt, StandsWhole}
-use Rattle.station_scan.specs.Sends.{AreSentOn, CommitsThese, IsOfThese, SendsThese, WritesBeside}
+use Rattle.station_scan.specs.Sends.{AreSentOn, IsOfThese, SendsThese}
 use Rattle.station_scan.proofs.Published.{store_wider}
 use Rattle.station_scan.proofs.Sent.{are_apart_from, are_placed, at_its_path, files_bytes, have_none, is_beside_file, is_of_file, stand_whole}
 

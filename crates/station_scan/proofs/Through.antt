@@ -1,5 +1,5 @@
 -- What is so of a disk once nothing more has changed, and before.
-use Rattle.std.proofs.Common.{◌≡◌, inl, inr, ⊎_elim, ◌∙◌, ℕ, List, get_or, refl, subst, sym}
+use Rattle.std.proofs.Common.{inl, inr, ⊎_elim, ◌∙◌, ℕ, List, get_or, refl, subst, sym}
 use Rattle.std.specs.Prelude.{All, Err, IfOk, Ok, OnOk, Result}
 use Rattle.echo_disk.specs.Disk.{DiskState, Files}
 use Rattle.echo_disk.specs.Runs.{ChangesNothing, LeavesOnly, OneStepOn}

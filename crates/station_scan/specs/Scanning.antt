@@ -21,7 +21,7 @@ use Rattle.echo_toss.specs.PacketsIn.{state_in}
 use Rattle.station.specs.Place.{Place, StandsOrWasLeft}
 use Rattle.station.specs.Running.{IsNotRun}
 use Rattle.station_scan.specs.Left.{AreAllLeft, IsEnded, IsEndedAt, IsLeftOf, IsOfName}
-use Rattle.station_scan.specs.Publishing.{IsOnDisk, KeepsBut}
+use Rattle.station_scan.specs.Publishing.{IsOnDisk}
 use Rattle.station_scan.specs.Sending.{HasBytes, IsAtItsPath, IsBesidePacket, IsFreeAt, StandsWhole}
 use Rattle.station_scan.specs.Sends.{IsOfThese}
 use Rattle.station_scan.specs.Stops.{IsOfPlacing, as_scan}

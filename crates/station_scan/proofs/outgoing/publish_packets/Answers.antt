@@ -10,8 +10,7 @@ publish-requires g c κs =
     let Own = g.P.Paths.OwnPaths.is_own c.args.paths.now in
     let to = c.args.sending in
     let packets = c.deref-2.result.now in
-    let fit = subst (λ (l : List Outgoing). AreFitting Own to.outbound.now to.own.now to.files.now l) (sym c.deref-2.ensures.value) c.in-Ok-fitting_packets.ensures.fit in
-    (
+    let fit = subst (λ (l : List Outgoing). AreFitting Own to.outbound.now to.own.now to.files.now l) (sym c.deref-2.ensures.value) c.in-Ok-fitting_packets.ensures.fit in (
       (refl, tt),
       (
         c.requires.ready,

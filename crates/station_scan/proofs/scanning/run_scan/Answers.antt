@@ -1,10 +1,11 @@
-use Rattle.std.proofs.Common.{◌≡◌, ◌≤◌, Err, ⊎_elim, arith, inl, inr, refl}
+use Rattle.std.proofs.Common.{◌≡◌, ◌≤◌, Err, arith, inl, inr, refl}
 use Rattle.echo_disk.proofs.Moments.{then_nothing}
 use Rattle.echo_station_files.proofs.Failures.{failed_wider}
 use Rattle.echo_store_changing.specs.declared.stop.Stop.TheVariants.{Met}
 use Rattle.station.specs.Place.{StandsOrWasLeft}
 use Rattle.station.proofs.Ran.{looks_of, looks_open}
 use Rattle.station_scan.proofs.Runs.{scan_keeps, scanned_on}
+use Rattle.station_scan.proofs.Stops.{failed_too}
 use Rattle.station_scan.proofs.scanning.run_scan.Goals as goal
 
 pub returns-in-Ok-prepare-clause-runs : goal.returns-in-Ok-prepare-clause-runs
@@ -39,7 +40,7 @@ returns-in-Ok-prepare-clause-runs g c = λ honest.
       read = opened.read honest0;
       runs = λ base stands.
           scanned_on place d0 d2 s1 s2 begun of quiet (g.P.Paths.OwnPaths.is_own c.paths-paths.result) (λ m o. (own m).0 o) (λ m o. (own m).1 o) c.args.scan.now.outbound.now c.args.scan.now.stamp
-          (g.G.Listing.is_true c.scan_kept-store.new.scan.listing) _ _ _ _ c.in-Ok.opened.links base c.scan_kept-store.result.done stands (λ failed. ⊎_elim (λ disk. inl (inl (wider disk))) (λ listing. inr listing) failed)
+          (g.G.Listing.is_true c.scan_kept-store.new.scan.listing) _ _ _ _ c.in-Ok.opened.links base c.scan_kept-store.result.done stands (failed_too _ _ _ _ wider)
           (did.scans honest2 base (begun.keeps base stands) (begun.committed base stands));
       cause = λ is. inl (inl (wider (did.device is)));
     })
