@@ -1,10 +1,10 @@
 -- A net goes on by a scan, and by a toss that ended well.
-use Rattle.std.proofs.Common.{◌∙◌, inl, inr, ⊎_elim, refl, append_assoc, ℕ, List, ◌++◌, Option, Some, None, Result, Ok}
+use Rattle.std.proofs.Common.{◌∙◌, inl, inr, ⊎_elim, refl, append_assoc, ℕ, List, ◌++◌, Some, None, Result}
 use Rattle.std.specs.Prelude.{codes}
 use Rattle.echo_base.specs.Base.{Base}
 use Rattle.echo_disk.specs.Disk.{DiskState, Files}
 use Rattle.echo_steps.specs.declared.stamp.Stamp.{Stamp}
-use Rattle.station.specs.Place.{Place, SameElsewhere}
+use Rattle.station.specs.Place.{Place}
 use Rattle.station_scan.specs.Scanning.{IsTouched}
 use Rattle.station_scan.specs.declared.scan_stop.ScanStop.{ScanStop}
 use Rattle.law_stations.specs.Commands.{Scan}
@@ -13,18 +13,18 @@ use Rattle.law_disks.specs.OnDisks.{LeavesElsewhere, ShowsStation}
 use Rattle.law_disks.specs.Scans.{AreAfterScan, ScansAsEvent, with_packets_in}
 use Rattle.law_sequences.specs.Asked.{GoesOnCut}
 use Rattle.law_sequences.specs.Scanned.{IsScan, ScanGoesOn, ScansGoOn, TossesGoOn}
-use Rattle.law_sequences.specs.Seats.{IsBelow, Seat, reach}
+use Rattle.law_sequences.specs.Seats.{Seat, reach}
 use Rattle.law_sequences.specs.Steps.{IsAllOnDisk}
 use Rattle.law_sequences.proofs.GoingOn.{reaches-by}
 
 -- what a scan touches is the base or in the folder of packets
 touched : {Kept : Type 0} (place : Kept → Place) (seat : Seat Kept) (m : List ℕ) → IsTouched (place seat.kept).is_own seat.outbound m → (reach place seat).is_own m
 touched place seat m (inl own) = inl own
-touched place seat m (inr (own, name, plain, inl beside)) = inr (record {
+touched place seat m (inr (own, (name, plain, inl beside))) = inr (record {
   rest = name ++ (codes ".~" ++ (own ++ codes "~.new"));
   parts = beside ∙ append_assoc seat.outbound name (codes ".~" ++ (own ++ codes "~.new"));
 })
-touched place seat m (inr (own, name, plain, inr path)) = inr (record { rest = name; parts = path })
+touched place seat m (inr (own, (name, plain, inr path))) = inr (record { rest = name; parts = path })
 
 module _ {D Kept : Type 0} (state : D → DiskState) (place : Kept → Place) (seats : List (Seat Kept)) (seat : Seat Kept) (i : ℕ) (stamp : Stamp) (d ended : Disks) (base : Base) (old whole : D)
     (result : Result (Unit {0}) ScanStop) (does : ScansAsEvent stamp (place seat.kept) seat.links seat.outbound i d ended base (state old) (state whole) result)
