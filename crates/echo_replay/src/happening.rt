@@ -157,23 +157,30 @@ fn export(
     ensures bytes { OnOk result (exported.new.items ≡ exported.old.items ++ map made packets.items) }
     ensures fit { OnOk result (All Fits packets.items) }
 {
+    let alone = packets.len() == 1;
     'packets: for packet in packets {
-        export_one(alloc, exported, packet)?;
+        export_one(alloc, exported, packet, alone)?;
     }
     Ok(())
 }
 
-// The packet is put last. Its bytes are made again when it comes: kept, they would take the room of a text for each
-// link, which the copies of a message share.
-fn export_one(alloc: Global, exported: &mut Vec<Exported>, packet: Packet) -> Result<(), AllocError>
+// The packet is put last: as its bytes where its scan made no other one. Else they are made again when it comes, since
+// kept they would take the room of a text for each link.
+fn export_one(
+    alloc: Global,
+    exported: &mut Vec<Exported>,
+    packet: Packet,
+    alone: bool,
+) -> Result<(), AllocError>
     ensures bytes { OnOk result (exported.new.items ≡ exported.old.items ++ made packet ∷ []) }
     ensures fit { OnOk result (Fits packet) }
 {
-    packet.encode(alloc)?;
-    exported.push(Exported {
-        packet,
-        came: false,
-    })?;
+    let bytes = packet.encode(alloc)?;
+    if alone {
+        exported.push(Exported::alone(&packet, bytes))?;
+        return Ok(());
+    }
+    exported.push(Exported::shared(alloc, packet)?)?;
     Ok(())
 }
 
