@@ -12,6 +12,7 @@ ghost use Rattle.echo_replay.specs.Taken.{AreTaken};
 ghost use Rattle.echo_replay.specs.Worlds as model;
 ghost use Rattle.echo_replay.specs.Worlds.{Fits, IsWorldOf, LeadsToFirst, ScanFits, own_addresses, after_posting, after_purge, after_scan, after_toss, arrived, encoded, made, made_by, scanned_world, with_change, world_after};
 
+use crate::fitting::fit;
 use crate::receivers::Receivers;
 use crate::world::{Exported, World};
 use echo_packet::Limits;
@@ -164,8 +165,8 @@ fn export(
     Ok(())
 }
 
-// The packet is put last: as its bytes where its scan made no other one. Else they are made again when it comes, since
-// kept they would take the room of a text for each link.
+// The packet is put last: as its bytes where its scan made no other one. Else they are made when it comes, since kept
+// they would take the room of a text for each link.
 fn export_one(
     alloc: Global,
     exported: &mut Vec<Exported>,
@@ -175,11 +176,12 @@ fn export_one(
     ensures bytes { OnOk result (exported.new.items ≡ exported.old.items ++ made packet ∷ []) }
     ensures fit { OnOk result (Fits packet) }
 {
-    let bytes = packet.encode(alloc)?;
     if alone {
+        let bytes = packet.encode(alloc)?;
         exported.push(Exported::alone(&packet, bytes))?;
         return Ok(());
     }
+    fit(&packet)?;
     exported.push(Exported::shared(alloc, packet)?)?;
     Ok(())
 }
