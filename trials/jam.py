@@ -23,7 +23,7 @@ import making
 
 PROGRAM = export.PROGRAM
 ENDS = (".jhr", ".jdt", ".jdx", ".jlr")
-GONE, DELETED, ECHOMAIL, LOCAL = 0xffffffff, 1 << 31, 1 << 24, 1
+GONE, DELETED, ECHOMAIL, LOCAL, SENT = 0xffffffff, 1 << 31, 1 << 24, 1, 16
 MONTHS = "JanFebMarAprMayJunJulAugSepOctNovDec"
 BLANKS = b" \t\n"
 LONGEST = {4: 100, 5: 100, 7: 40, 2000: 255}
@@ -129,7 +129,8 @@ def check(message, got):
     fields, _, body = wanted_fields(message)
     ids = {kind: crc(content) for kind, content in reversed(fields) if kind in (4, 5)}
     numbers = (got.written, got.attribute, got.msgid, got.reply)
-    expected = (seconds_of(message.date), ECHOMAIL | (0 if message.sender else LOCAL), ids.get(4, GONE), ids.get(5, GONE))
+    kind = 0 if message.sender else LOCAL | SENT if message.scanned else LOCAL
+    expected = (seconds_of(message.date), ECHOMAIL | kind, ids.get(4, GONE), ids.get(5, GONE))
     if got.fields != fields or got.text != body or numbers != expected:
         sys.exit("message %d: %r, and not %r" % (message.number, (got.fields, got.text, numbers), (fields, body, expected)))
     if any((got.times_read, got.reply_to, got.first_reply, got.next_reply, got.received, got.processed, got.attribute2,
@@ -140,6 +141,7 @@ def check(message, got):
 def made(chance, number, ids):
     """A message by chance, with what is wanted of it."""
     message = export.Message(chance, number, ids)
+    message.scanned = False
     message.sender = chance.choice([None, (1, 10, 2), (65535, 1, 65534)])
     message.origin = chance.choice([None, (2, 5020, 1042)])
     long_line = b"\x01Via " + b"x" * chance.choice([250, 251, 252, 400])
@@ -157,9 +159,9 @@ def made(chance, number, ids):
 
 
 def write_base(path, messages):
-    """Makes the base of these messages."""
+    """Makes the base of these messages, of which the first were scanned."""
     with open(path, "wb") as file:
-        file.write(making.base(0, [message.content for message in messages]))
+        file.write(making.base(sum(message.scanned for message in messages), [message.content for message in messages]))
 
 
 def run(path, base, first=0):
@@ -310,7 +312,7 @@ def try_kills(chance, place, count):
 
 
 def try_crashmail(place, messages):
-    """CrashMail's SCAN sends the message that was posted here, and no other one.
+    """CrashMail's SCAN sends the message that was posted here and not scanned, and no other one.
 
     Of the others it fails to read some, as it does of JAM bases that it made itself.
     """
@@ -330,15 +332,16 @@ def try_crashmail(place, messages):
                           stderr=subprocess.STDOUT, check=False)
     sent = b"".join(read(os.path.join(folder, "packets", name)) for name in os.listdir(os.path.join(folder, "packets")))
     came = [message.number for message in messages if b"\x01MSGID: " + message.id + b"\r" in sent]
-    if came != [0]:
+    if came != [1]:
         sys.exit("CrashMail: %r\n%s" % (came, done.stdout.decode("latin-1")))
 
 
 def plain(number):
-    """A message as people write them; the first one was posted here."""
+    """A message as people write them; the first two were posted here, and the first one was scanned."""
     message = export.Message(random.Random(number), number, [])
     message.to, message.by, message.subject, message.date = b"All", b"Ann", b"Number %d" % number, making.DATE
-    message.sender, message.origin = (1, 10, 2) if number else None, None
+    message.sender, message.origin = (1, 10, 2) if number > 1 else None, None
+    message.scanned = number == 0
     message.kept = [b"\x01MSGID: " + message.id, b"Line %d" % number, b"--- trials", b" * Origin: Two (1:10/2)"]
     message.written = making.text(b"TEST", message.kept, [(10, 1), (10, 2)], [(10, 2)])
     message.content = making.stored(
@@ -352,13 +355,15 @@ def try_base(chance, place, count):
     messages = []
     for number in range(count):
         messages.append(made(chance, number, [message.id for message in messages]))
+    cut = chance.randrange(1, count)
+    for message in messages[:chance.randrange(cut + 1)]:
+        message.scanned = True
     base, once = os.path.join(place, "base"), os.path.join(place, "once")
     write_base(base, messages)
     add(once, base, 0, messages, count)
     if check_all(once, messages).changes != 1:
         sys.exit("the counter of changes")
     files = contents(once)
-    cut = chance.randrange(1, count)
     pieces = os.path.join(place, "pieces")
     write_base(base, messages[:cut])
     add(pieces, base, 0, messages[:cut], cut)

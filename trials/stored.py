@@ -44,7 +44,7 @@ def check(message, content):
         sys.exit("message %d: %r, and not %r" % (message.number, (read.by, read.to, read.subject, read.date), named))
     address = message.origin or message.sender or (0, 0, 0)
     numbers = (read.zone, read.net, read.node, read.attribute)
-    if numbers != (*address, 0 if message.sender else 256):
+    if numbers != (*address, 0 if message.sender else 264 if message.scanned else 256):
         sys.exit("message %d: numbers %r" % (message.number, numbers))
     if any((read.read, read.to_node, read.cost, read.to_net, read.to_zone, read.to_point, read.point, read.reply_to,
             read.next_reply)) or read.rest:
@@ -56,6 +56,7 @@ def check(message, content):
 def made(chance, number, ids):
     """A message by chance, with what is wanted of it."""
     message = export.Message(chance, number, ids)
+    message.scanned = False
     message.sender = chance.choice([None, (1, 10, 2), (65535, 1, 65534)])
     message.origin = chance.choice([None, (2, 5020, 1042)])
     if message.origin:
@@ -65,6 +66,12 @@ def made(chance, number, ids):
         1 if message.sender else 0, message.sender or (0, 0, 0), making.whole_body(message.written), message.to,
         message.by, message.subject, message.date)
     return message
+
+
+def write_base(path, messages):
+    """Makes the base of these messages, of which the first were scanned."""
+    with open(path, "wb") as file:
+        file.write(making.base(sum(message.scanned for message in messages), [message.content for message in messages]))
 
 
 def files_of(folder):
@@ -92,20 +99,19 @@ def try_base(chance, place, count):
     messages = []
     for number in range(count):
         messages.append(made(chance, number, [message.id for message in messages]))
+    cut = chance.randrange(count)
+    for message in messages[:chance.randrange(cut + 1)]:
+        message.scanned = True
     base = os.path.join(place, "base")
-    with open(base, "wb") as file:
-        file.write(making.base(0, [message.content for message in messages]))
+    write_base(base, messages)
     once, pieces, again = (os.path.join(place, name) for name in ("once", "pieces", "again"))
     add(once, base, 0, count, count)
     contents = files_of(once)
     for message, content in zip(messages, contents, strict=True):
         check(message, content)
-    cut = chance.randrange(count)
-    with open(base, "wb") as file:
-        file.write(making.base(0, [message.content for message in messages[:cut]]))
+    write_base(base, messages[:cut])
     add(pieces, base, 0, cut, cut)
-    with open(base, "wb") as file:
-        file.write(making.base(0, [message.content for message in messages]))
+    write_base(base, messages)
     add(pieces, base, cut, count - cut, count)
     if files_of(pieces) != contents:
         sys.exit("in pieces other files come")

@@ -58,9 +58,9 @@ fn put_bases(rt: &HostRuntime, folder: Option<&String>, world: &World) -> Result
 fn put_packets(rt: &HostRuntime, folder: Option<&String>, world: &World) -> Result<u64> {
     let mut all = 0u64;
     for packet in 0..world.packets() {
-        if let Some(bytes) = world.packet(packet) {
+        if let Some(bytes) = world.packet(rt.alloc(), packet)? {
             let name = format!(in rt.alloc(); "{packet}.pkt")?;
-            all = all.wrapping_add(put(rt, folder, &name, bytes)?);
+            all = all.wrapping_add(put(rt, folder, &name, &bytes)?);
         }
     }
     Ok(all)

@@ -1,33 +1,23 @@
-//! `export --jam`: messages of a base added to the four files of a JAM base. The file of headers is locked from before it
-//! is read until the last write.
+//! `export --jam`: messages of a base added to the four files of a JAM base. The file of headers is locked from before
+//! anything is read until the last write, so that two runs at once add each message once.
 //!
 //! What is added is written in this order, each flushed before the next: texts, headers, index, counts. A reader sees just
 //! what the index names. So wherever a run is stopped, there stands a base with the first of its messages, and what is
 //! left behind the last of them is seen by nobody; only the number of active messages may be too small, until the next run.
 
+use crate::locked::{begun_again, locked_headers, unlock};
+use crate::named::{bytes_of, jam_fault, open_file, open_or_make, write_at};
 use cmd_base::base_bytes;
-use cmd_input::{created_now, input_fault, lock_file, output_fault};
 use echo_base::BaseFault;
-use echo_device::{Sink, Watched};
-use echo_files::{NewFile, create_file, flush_folder, read_whole};
-use echo_jam::{Last, Standing, counts_after, new_fixed, standing_in};
+use echo_device::Sink;
+use echo_jam::{Last, Standing, counts_after, standing_in};
 use echo_numbered::{JamBase, JamEnd, JamExport, export_jam, tell_added, tell_cuts};
 use echo_status::{Fault, Status, ended, number_of};
 use echo_words::ExportWords;
-use std::alloc::AllocError;
 use std::collections::hash_map::RandomState;
-use std::fs::{File, OpenOptions};
-use std::os::unix::fs::{FileExt, OpenOptionsExt};
-use std::{fs, io};
-
-/// How many bytes show that a file is one of headers: `JAM` and 00.
-const HEADERS_KNOWN_BY: usize = 4;
-
-/// What stands in the name of the file beside one, where else the address of a system does.
-const OWN: &str = "jam";
-
-/// Who may read and write new files: their owner, as those of `export --msg`.
-const MODE: u32 = 0o600;
+use std::fs::File;
+use std::io;
+use std::os::unix::fs::FileExt;
 
 /// Where the counts stand among the headers.
 const COUNTS_AT: u64 = 8;
@@ -40,13 +30,14 @@ struct JamFiles {
     index: File,
     found: Vec<u8>,
     index_end: u64,
+    index_len: u64,
     standing: Standing,
     end: JamEnd,
     text: Vec<u8>,
 }
 
 /// `export --jam PATH --area TAG [--from I] BASE`: the number is judged first, then that the base can be read, then the
-/// JAM base, and what the base holds last.
+/// JAM base, which is locked before the base is read, and what the base holds last.
 pub fn run_export_jam<W: Sink, E: Sink>(
     rt: &HostRuntime,
     words: &ExportWords<'_>,
@@ -66,7 +57,7 @@ pub fn run_export_jam<W: Sink, E: Sink>(
         Ok(()) => Ok(Status::Good),
         Err(fault) => Err(fault),
     };
-    let _ = files.headers.unlock();
+    unlock(&files.headers);
     match stopped {
         Some(error) => jam_fault(&error, path).report(errors),
         None => {
@@ -87,8 +78,9 @@ fn jam_given<'a>(
         None => 0,
     };
     let hasher = RandomState::new(rt).map_err(|_| Fault::Base(BaseFault::Read))?;
+    let headers = locked_headers(rt, path, words.base);
     let base = base_bytes(rt, words.base)?;
-    let files = jam_files(rt, path)?;
+    let files = jam_files(rt, path, headers?)?;
     let jam = JamBase {
         headers: files.found.as_slice(),
         last: files.standing.last.map(|last| last.place),
@@ -100,86 +92,14 @@ fn jam_given<'a>(
     Ok((files, exported))
 }
 
-fn jam_fault<'a>(error: &io::Error, path: &'a str) -> Fault<'a> {
-    match error.kind() {
-        io::ErrorKind::OutOfMemory => Fault::OutOfMemory,
-        _ => Fault::CannotUse(path),
-    }
-}
-
-// The path with this at its end.
-fn with_end(rt: &HostRuntime, path: &str, end: &str) -> Result<String, AllocError> {
-    let mut whole = String::from_str(rt.alloc(), path)?;
-    whole.push_str(end)?;
-    Ok(whole)
-}
-
-// Opens one of the files to read and to write, which has to be there.
-fn open_file(rt: &HostRuntime, path: &str, end: &str) -> io::Result<File> {
-    let path = with_end(rt, path, end)?;
-    OpenOptions::new()
-        .read(true)
-        .write(true)
-        .open(rt, path.as_str())
-}
-
-// Makes one of the files, without bytes, where it is not there.
-fn make_empty(rt: &HostRuntime, path: &str, end: &str) -> io::Result<File> {
-    let path = with_end(rt, path, end)?;
-    OpenOptions::new()
-        .write(true)
-        .create(true)
-        .mode(MODE)
-        .open(rt, path.as_str())
-}
-
-// The files of the JAM base, which is made where there is none.
-fn jam_files<'a>(rt: &HostRuntime, path: &'a str) -> Result<JamFiles, Fault<'a>> {
-    let headers = with_end(rt, path, ".jhr")?;
-    match fs::exists(rt, headers.as_str()) {
-        Ok(true) => {}
-        Ok(false) => begin_jam(rt, path)?,
-        Err(error) => return Err(jam_fault(&error, path)),
-    }
-    let headers = open_file(rt, path, ".jhr").map_err(|error| jam_fault(&error, path))?;
-    lock_file(rt, &headers, path).map_err(|_| Fault::CannotUse(path))?;
+// The files of the JAM base, and what stands in them.
+fn jam_files<'a>(rt: &HostRuntime, path: &'a str, headers: File) -> Result<JamFiles, Fault<'a>> {
+    let found = bytes_of(rt, path, &headers)?;
+    let found = begun_again(rt, path, &headers, found)?;
     let texts = open_file(rt, path, ".jdt").map_err(|error| jam_fault(&error, path))?;
     let index = open_file(rt, path, ".jdx").map_err(|error| jam_fault(&error, path))?;
-    make_empty(rt, path, ".jlr").map_err(|error| jam_fault(&error, path))?;
-    files_read(rt, path, headers, texts, index)
-}
-
-// Begins a JAM base: the file of headers comes last and at once, since by it readers know that a base is there.
-fn begin_jam<'a>(rt: &HostRuntime, path: &'a str) -> Result<(), Fault<'a>> {
-    let index = make_empty(rt, path, ".jdx").map_err(|error| jam_fault(&error, path))?;
-    match index.metadata() {
-        Ok(found) if found.len() == 0 => {}
-        _ => return Err(Fault::CannotUse(path)),
-    }
-    make_empty(rt, path, ".jdt").map_err(|error| jam_fault(&error, path))?;
-    make_empty(rt, path, ".jlr").map_err(|error| jam_fault(&error, path))?;
-    let headers = with_end(rt, path, ".jhr")?;
-    let bytes = new_fixed(rt.alloc(), created_now(rt)?)?;
-    let new = NewFile {
-        path: headers.as_str(),
-        own: OWN,
-        bytes: bytes.as_slice(),
-        known_by: HEADERS_KNOWN_BY,
-    };
-    create_file(rt.alloc(), rt, new).map_err(|fault| output_fault(fault, path))?;
-    let folder = match path.rsplit_once('/') {
-        Some(("", _)) => "/",
-        Some((folder, _)) => folder,
-        None => ".",
-    };
-    flush_folder(rt, folder).map_err(|fault| output_fault(fault, path))
-}
-
-// The bytes of one of the files.
-fn bytes_of<'a>(rt: &HostRuntime, path: &'a str, file: &File) -> Result<Vec<u8>, Fault<'a>> {
-    read_whole(rt.alloc(), &mut Watched::new(file), usize::MAX).map_err(|fault| input_fault(
-        fault, path,
-    ))
+    open_or_make(rt, path, ".jlr").map_err(|error| jam_fault(&error, path))?;
+    files_read(rt, path, headers, found, texts, index)
 }
 
 // What stands in the files.
@@ -187,10 +107,10 @@ fn files_read<'a>(
     rt: &HostRuntime,
     path: &'a str,
     headers: File,
+    found: Vec<u8>,
     texts: File,
     index: File,
 ) -> Result<JamFiles, Fault<'a>> {
-    let found = bytes_of(rt, path, &headers)?;
     let entries = bytes_of(rt, path, &index)?;
     let texts_end = match texts.metadata() {
         Ok(found) => found.len(),
@@ -208,13 +128,14 @@ fn files_read<'a>(
         headers: u32::try_from(found.len()).map_err(|_| Fault::CannotUse(path))?,
         texts: u32::try_from(texts_end).map_err(|_| Fault::CannotUse(path))?,
     };
-    let index_end = (entries.len() / 8) as u64 * 8;
+    let index_end = u64::from(standing.entries) * 8;
     Ok(JamFiles {
         headers,
         texts,
         index,
         found,
         index_end,
+        index_len: entries.len() as u64,
         standing,
         end,
         text,
@@ -238,11 +159,13 @@ fn last_text(
     Ok(text)
 }
 
-// Writes what is added. Where nothing is, and the count of active messages is right, no byte changes.
+// Writes what is added. Where nothing is, the count of active messages is right and the index ends with no entry of
+// zeros, no byte changes.
 fn write_jam(rt: &HostRuntime, files: &JamFiles, exported: &JamExport) -> io::Result<()> {
     let standing = files.standing;
     let added = exported.adding.messages.len();
-    if added == 0 && standing.active == standing.counted {
+    let has_zeros = files.index_len >= files.index_end + 8;
+    if added == 0 && standing.active == standing.counted && !has_zeros {
         return Ok(());
     }
     let jam = &exported.adding.jam;
@@ -257,17 +180,12 @@ fn write_jam(rt: &HostRuntime, files: &JamFiles, exported: &JamExport) -> io::Re
         jam.headers.as_slice(),
         u64::from(files.end.headers),
     )?;
+    if has_zeros {
+        files.index.set_len(files.index_end)?;
+        files.index.sync_all()?;
+    }
     write_at(&files.index, jam.index.as_slice(), files.index_end)?;
     write_at(&files.headers, counts.as_slice(), COUNTS_AT)
-}
-
-// Writes bytes at a place, and flushes them.
-fn write_at(file: &File, bytes: &[u8], at: u64) -> io::Result<()> {
-    if bytes.is_empty() {
-        return Ok(());
-    }
-    file.write_all_at(bytes, at)?;
-    file.sync_all()
 }
 
 // How many of the messages stand in the base, where a write failed: as many as the index has whole entries of.

@@ -1,13 +1,14 @@
-//! `export --msg`: messages of a base as files of a folder. The lock of the folder is held from before its names are
-//! read until the last file stands, so that two runs never take the same numbers.
+//! `export --msg`: messages of a base as files of a folder. The lock of the folder is held from before the base is read
+//! until the last file stands, so that two runs at once add each message once.
 
+use crate::making::{Making, make_file, remove_left};
 use cmd_base::base_bytes;
 use cmd_input::{folder_fault, locked_folder, output_fault, read_file};
 use echo_addr::Items;
 use echo_base::BaseFault;
 use echo_device::Sink;
-use echo_files::{NewFile, OutputFault, create_file, flush_folder};
-use echo_numbered::{Exported, MessageFile, export_files, number_in, tell_exported};
+use echo_files::{OutputFault, flush_folder};
+use echo_numbered::{Exported, MessageFile, export_files, is_left, number_in, tell_exported};
 use echo_status::{Fault, Status, ended, number_of};
 use echo_words::ExportWords;
 use std::alloc::AllocError;
@@ -17,9 +18,6 @@ use std::{fs, io, str};
 
 /// How many bytes show that a file is the message that is to be written: its sender's name.
 const MESSAGE_KNOWN_BY: usize = 36;
-
-/// What stands in the name of the file beside one, where else the address of a system does.
-const OWN: &str = "msg";
 
 // The stored message of the greatest number in a folder, and its path.
 #[derive(Drop)]
@@ -35,7 +33,8 @@ struct Export {
     exported: Exported,
 }
 
-/// `export --msg DIR --area TAG [--from I] BASE`: the number is judged first, then the base, then the folder.
+/// `export --msg DIR --area TAG [--from I] BASE`: the number is judged first. The folder is locked before the base is
+/// read, and a fault of the base counts before one of the folder.
 pub fn run_export_stored<W: Sink, E: Sink>(
     rt: &HostRuntime,
     words: &ExportWords<'_>,
@@ -71,8 +70,9 @@ fn files_given<'a>(
         None => 0,
     };
     let hasher = RandomState::new(rt).map_err(|_| Fault::Base(BaseFault::Read))?;
+    let locked = locked_folder(rt, folder);
     let base = base_bytes(rt, words.base)?;
-    let locked = locked_folder(rt, folder)?;
+    let locked = locked?;
     let (greatest, last) = last_stored(rt, folder)?;
     let exported = export_files(
         rt.alloc(),
@@ -98,7 +98,8 @@ fn last_stored<'a>(rt: &HostRuntime, folder: &'a str) -> Result<(u32, Option<Vec
     }
 }
 
-// The stored message of the greatest number in the folder. A name that is no UTF-8 is none of one.
+// The stored message of the greatest number in the folder. A name that is no UTF-8 is none of one. What stopped runs left
+// beside stored messages is removed.
 fn last_name<'a>(rt: &HostRuntime, folder: &'a str) -> Result<Option<Last>, Fault<'a>> {
     let names = fs::read_dir(rt, folder).map_err(|error| folder_fault(&error, folder))?;
     let mut last: Option<Last> = None;
@@ -109,6 +110,9 @@ fn last_name<'a>(rt: &HostRuntime, folder: &'a str) -> Result<Option<Last>, Faul
             Err(error) => return Err(folder_fault(&error, folder)),
         };
         let name = entry.file_name();
+        if is_left(name.as_bytes()) {
+            remove_left(rt, file_path(rt, folder, name)?.as_str());
+        }
         if let Some(number) = number_in(name.as_bytes()) {
             let greatest = last.as_ref().map_or(0, |last| last.number);
             if number >= greatest {
@@ -148,20 +152,27 @@ fn write_file<E: Sink>(
     errors: &mut E,
 ) -> Status {
     let name = str::from_utf8(file.name.as_slice()).unwrap_or("");
-    let path = match file_path(rt, folder, name) {
-        Ok(path) => path,
+    let (path, beside) = match paths(rt, folder, name) {
+        Ok(paths) => paths,
         Err(_) => return output_fault(OutputFault::Memory, "").report(errors),
     };
-    let new = NewFile {
+    let making = Making {
         path: path.as_str(),
-        own: OWN,
+        beside: beside.as_str(),
         bytes: file.bytes.as_slice(),
         known_by: MESSAGE_KNOWN_BY,
     };
-    match create_file(rt.alloc(), rt, new) {
+    match make_file(rt, making) {
         Ok(()) => Status::Good,
         Err(fault) => output_fault(fault, path.as_str()).report(errors),
     }
+}
+
+// The path of a file of the folder, and that of the file beside it.
+fn paths(rt: &HostRuntime, folder: &str, name: &str) -> Result<(String, String), AllocError> {
+    let path = file_path(rt, folder, name)?;
+    let beside = format!(in rt.alloc(); "{path}.~msg~.new")?;
+    Ok((path, beside))
 }
 
 // The folder, a `/` where it ends in none, and the name.

@@ -10,7 +10,11 @@ use echo_status::{Fault, print_rest};
 use std::alloc::AllocError;
 use std::fs::{File, TryLockError};
 use std::io::{ErrorKind, IsTerminal};
+use std::os::unix::fs::MetadataExt;
 use std::{fs, io, str};
+
+/// How often a file is locked that has lost its name meanwhile, before that is a fault.
+const MOST_TRIES: u32 = 1_000;
 
 /// The lock of a link file, which is held until this value goes.
 #[derive(Drop)]
@@ -57,18 +61,32 @@ impl FileLock for LinkLock<'_> {
     }
 }
 
-// The file with this path, open and locked.
+// The file with this path, open and locked. Where another file got that name while this run waited, that one is locked.
 fn locked_at(rt: &HostRuntime, path: &[u8]) -> Result<File, DiskError> {
     let Ok(path) = str::from_utf8(path) else {
         return Err(DiskError::Device);
     };
-    match fs::open(rt, path) {
-        Ok(file) => match lock_file(rt, &file, path) {
-            Ok(()) => Ok(file),
-            Err(_) => Err(DiskError::Device),
-        },
-        Err(error) if error.kind() == ErrorKind::OutOfMemory => Err(DiskError::Memory),
-        Err(_) => Err(DiskError::Device),
+    'tries: for _ in 0..MOST_TRIES {
+        let file = fs::open(rt, path).map_err(|error| cause_of(&error))?;
+        lock_file(rt, &file, path).map_err(|_| DiskError::Device)?;
+        if has_path(rt, &file, path).map_err(|error| cause_of(&error))? {
+            return Ok(file);
+        }
+    }
+    Err(DiskError::Device)
+}
+
+// Whether the path leads to this open file.
+fn has_path(rt: &HostRuntime, file: &File, path: &str) -> io::Result<bool> {
+    let locked = file.metadata()?;
+    let named = fs::metadata(rt, path)?;
+    Ok((locked.dev(), locked.ino()) == (named.dev(), named.ino()))
+}
+
+fn cause_of(error: &io::Error) -> DiskError {
+    match error.kind() {
+        ErrorKind::OutOfMemory => DiskError::Memory,
+        _ => DiskError::Device,
     }
 }
 

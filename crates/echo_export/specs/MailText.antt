@@ -1,6 +1,6 @@
 -- A message as one of a mailbox (RFC 4155).
 use Rattle.std.specs.Prelude.{ℕ, ◌+◌, ◌-◌, ◌*◌, ◌==◌, ◌&&◌, ◌||◌, nat_eq, nat_le, Bool, true, List, [], ◌∷◌, ◌++◌, bytes_eq, codes, decimal, length, slice_index, slice_range, take, if◌then◌else◌, Option, None}
-use Rattle.std.specs.List.{flat_map, starts_with}
+use Rattle.std.specs.List.{flat_map, list_any, starts_with}
 use Rattle.std.specs.Int.{is_in_range}
 use Rattle.echo_addr.specs.declared.address.NetNode.{NetNode}
 use Rattle.echo_addr.specs.Address.{net_node_text}
@@ -104,9 +104,20 @@ written_path path = flat_map (λ entry. codes " " ++ net_node_text entry) path
 abbrev pub seen_line : ℕ → List ℕ
 seen_line seen = codes "\nX-FTN-SEEN-BY: " ++ (decimal seen ++ codes "\nX-FTN-PATH:")
 
+-- a byte of a tag in a newsgroup: a comma, which would end that, by its digits
+abbrev pub group_byte : ℕ → List ℕ
+group_byte b = if b == 44 then codes "%2C" else b ∷ []
+
+-- the newsgroup of an area, and where that is not its tag the tag as it stands
+abbrev pub tag_line : List ℕ → List ℕ
+tag_line tag = if list_any (λ b. b == 44) tag then codes "\nX-FTN-Area: " ++ tag else []
+
+abbrev pub area_text : List ℕ → List ℕ
+area_text tag = flat_map group_byte tag ++ tag_line tag
+
 -- the lines of the area, of SEEN-BY and of PATH
 abbrev pub way_lines : EchoText → List ℕ
-way_lines e = codes "Newsgroups: " ++ (e.tag ++ (seen_line (length e.seen) ++ (written_path e.path ++ codes "\n")))
+way_lines e = codes "Newsgroups: " ++ (area_text e.tag ++ (seen_line (length e.seen) ++ (written_path e.path ++ codes "\n")))
 
 -- the lines that say what the body is, and the empty line behind them
 abbrev pub form_lines : Option Charset → List ℕ

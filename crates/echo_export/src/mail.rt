@@ -1,7 +1,8 @@
 //! A message as one of a mailbox.
-ghost use Rattle.std.specs.Prelude.{◌≡◌, ◌++◌, ◌<◌, IfOk, OnOk, length, option_copied, slice_index};
+ghost use Rattle.std.specs.Prelude.{◌≡◌, ◌==◌, ◌++◌, ◌<◌, IfOk, OnOk, codes, length, option_copied, slice_index};
+ghost use Rattle.std.specs.List.{flat_map, list_any};
 ghost use Rattle.echo_charset.specs.Losses as losses;
-ghost use Rattle.echo_export.specs.MailText.{are_digits_at, body_text, century, customary_line, date_line, echo_head, form_lines, found_lines, has_day, has_time, head_text, id_lines, is_byte_at, is_customary, has_early_month, has_late_month, is_month, is_pair_at, pair_at, is_digit_at, all_bytes, name_bytes, mail_lost, mail_text, name_lines, seen_line, way_lines, written_path};
+ghost use Rattle.echo_export.specs.MailText.{are_digits_at, area_text, body_text, century, customary_line, date_line, echo_head, form_lines, found_lines, group_byte, has_day, has_time, head_text, id_lines, is_byte_at, is_customary, has_early_month, has_late_month, is_month, is_pair_at, pair_at, is_digit_at, all_bytes, name_bytes, mail_lost, mail_text, name_lines, seen_line, tag_line, way_lines, written_path};
 
 use crate::body::push_body;
 use crate::header::{
@@ -251,10 +252,63 @@ fn push_way(mail: &mut Vec<u8>, echo: &Echo) -> Result<(), AllocError>
     ensures { OnOk result (mail.new.items ≡ mail.old.items ++ way_lines echo.now) }
 {
     push_bytes(mail, b"Newsgroups: ")?;
-    push_bytes(mail, echo.tag.as_slice())?;
+    push_area(mail, echo.tag.as_slice())?;
     push_seen(mail, echo.seen.len())?;
     push_path(mail, echo.path.as_slice())?;
     push_bytes(mail, b"\n")
+}
+
+// Adds the newsgroup of an area, and where that is not its tag the tag as it stands.
+fn push_area(mail: &mut Vec<u8>, tag: &[u8]) -> Result<(), AllocError>
+    ensures { OnOk result (mail.new.items ≡ mail.old.items ++ area_text tag.now) }
+{
+    push_group(mail, tag)?;
+    push_tag(mail, tag)
+}
+
+// Adds the newsgroup.
+fn push_group(mail: &mut Vec<u8>, tag: &[u8]) -> Result<(), AllocError>
+    ensures { OnOk result (mail.new.items ≡ mail.old.items ++ flat_map group_byte tag.now) }
+{
+    'bytes: for byte in tag {
+        push_group_byte(mail, *byte)?;
+    }
+    Ok(())
+}
+
+// Adds a byte of it: a comma, which would end a newsgroup, by its digits.
+fn push_group_byte(mail: &mut Vec<u8>, byte: u8) -> Result<(), AllocError>
+    ensures { OnOk result (mail.new.items ≡ mail.old.items ++ group_byte byte) }
+{
+    if byte == b',' {
+        push_bytes(mail, b"%2C")
+    } else {
+        push_bytes(mail, &[byte])
+    }
+}
+
+// Adds the line of a tag that is no newsgroup.
+fn push_tag(mail: &mut Vec<u8>, tag: &[u8]) -> Result<(), AllocError>
+    ensures { OnOk result (mail.new.items ≡ mail.old.items ++ tag_line tag.now) }
+{
+    if has_comma(tag) {
+        push_whole_tag(mail, tag)
+    } else {
+        Ok(())
+    }
+}
+
+fn push_whole_tag(mail: &mut Vec<u8>, tag: &[u8]) -> Result<(), AllocError>
+    ensures { OnOk result (mail.new.items ≡ mail.old.items ++ (codes "\nX-FTN-Area: " ++ tag.now)) }
+{
+    push_bytes(mail, b"\nX-FTN-Area: ")?;
+    push_bytes(mail, tag)
+}
+
+fn has_comma(tag: &[u8]) -> bool
+    ensures { result ≡ list_any (λ b. b == 44) tag.now }
+{
+    tag.iter().any(|b| *b == b',')
 }
 
 // Adds how many entries SEEN-BY has, and how the line of the PATH begins.

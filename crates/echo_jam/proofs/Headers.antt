@@ -1,5 +1,5 @@
 -- A header from its parts.
-use Rattle.std.proofs.Common.{◌≡◌, ℕ, List, ◌++◌, length, Result, Ok, Err, OnOk, ap, ◌∙◌}
+use Rattle.std.proofs.Common.{◌≡◌, Bool, ℕ, List, ◌++◌, length, Result, Ok, Err, OnOk, ap, ◌∙◌}
 use Rattle.echo_filed.specs.Filed.{Filed}
 use Rattle.echo_jam.specs.Fields.{body_of, fields_of}
 use Rattle.echo_jam.specs.JamMessage.{header_back, header_front, header_ids, header_of}
@@ -10,9 +10,9 @@ anyhow (Ok x) p = p
 anyhow (Err e) p = tt
 
 -- a header with its subfields, the place and the length of its text
-pub header_is : (m : Filed) (number place there size : ℕ) (fields : List ℕ) → place ≡ there → size ≡ length (body_of m) → fields ≡ fields_of m
-    → header_front (length fields) ++ (header_ids m ++ (header_back m number place size ++ fields)) ≡ header_of m number there
-header_is m number place there size fields place_is size_is fields_are =
-    ap (λ (n : ℕ). header_front (length fields) ++ (header_ids m ++ (header_back m number n size ++ fields))) place_is
-    ∙ ap (λ (n : ℕ). header_front (length fields) ++ (header_ids m ++ (header_back m number there n ++ fields))) size_is
-    ∙ ap (λ (f : List ℕ). header_front (length f) ++ (header_ids m ++ (header_back m number there (length (body_of m)) ++ f))) fields_are
+pub header_is : (scanned : Bool) (m : Filed) (number place there size : ℕ) (fields : List ℕ) → place ≡ there → size ≡ length (body_of m) → fields ≡ fields_of m
+    → header_front (length fields) ++ (header_ids m ++ (header_back scanned m number place size ++ fields)) ≡ header_of scanned m number there
+header_is scanned m number place there size fields place_is size_is fields_are =
+    ap (λ (n : ℕ). header_front (length fields) ++ (header_ids m ++ (header_back scanned m number n size ++ fields))) place_is
+    ∙ ap (λ (n : ℕ). header_front (length fields) ++ (header_ids m ++ (header_back scanned m number there n ++ fields))) size_is
+    ∙ ap (λ (f : List ℕ). header_front (length f) ++ (header_ids m ++ (header_back scanned m number there (length (body_of m)) ++ f))) fields_are

@@ -1,5 +1,5 @@
 -- A message of a base in the files of a JAM base (JAM-001): its header, its text and its index entry.
-use Rattle.std.specs.Prelude.{ℕ, List, ◌++◌, length, take, Option, Some, None}
+use Rattle.std.specs.Prelude.{ℕ, Bool, List, ◌++◌, length, take, if◌then◌else◌, Option, Some, None}
 use Rattle.echo_addr.specs.declared.address.Address.{Address}
 use Rattle.echo_filed.specs.Filed.{Filed}
 use Rattle.echo_filed.specs.Stored.{long}
@@ -15,10 +15,10 @@ abbrev pub id_crc : Option (List ℕ) → ℕ
 id_crc None = 4294967295
 id_crc (Some id) = jam_crc (take most_of_id id)
 
--- the attribute: echomail, and Local where it was posted here
-abbrev pub jam_attribute : Option Address → ℕ
-jam_attribute None = 16777217
-jam_attribute (Some sender) = 16777216
+-- the attribute: echomail, Local where it was posted here, and then Sent where it was scanned
+abbrev pub jam_attribute : Bool → Option Address → ℕ
+jam_attribute scanned None = if scanned then 16777233 else 16777217
+jam_attribute scanned (Some sender) = 16777216
 
 -- how the header of a message begins: `JAM`, revision 1, how long its subfields are, and no times read
 abbrev pub header_front : ℕ → List ℕ
@@ -30,15 +30,15 @@ header_ids m = long (id_crc (msgid_of m.echo.kept)) ++ (long (id_crc (reply_of m
 
 -- when it was written, not received nor processed; its number and attributes; where its text stands and how long it is;
 -- no password, no cost
-abbrev pub header_back : Filed → ℕ → ℕ → ℕ → List ℕ
-header_back m number place size =
+abbrev pub header_back : Bool → Filed → ℕ → ℕ → ℕ → List ℕ
+header_back scanned m number place size =
     (long (seconds_of m.date) ++ (long 0 ++ long 0))
-    ++ ((long number ++ (long (jam_attribute m.sender) ++ long 0)) ++ (long place ++ (long size ++ (long 4294967295 ++ long 0))))
+    ++ ((long number ++ (long (jam_attribute scanned m.sender) ++ long 0)) ++ (long place ++ (long size ++ (long 4294967295 ++ long 0))))
 
--- the header of the message of this number, whose text stands at this place of the texts
-abbrev pub header_of : Filed → ℕ → ℕ → List ℕ
-header_of m number place =
-    header_front (length (fields_of m)) ++ (header_ids m ++ (header_back m number place (length (body_of m)) ++ fields_of m))
+-- the header of the message of this number, scanned or not, whose text stands at this place of the texts
+abbrev pub header_of : Bool → Filed → ℕ → ℕ → List ℕ
+header_of scanned m number place =
+    header_front (length (fields_of m)) ++ (header_ids m ++ (header_back scanned m number place (length (body_of m)) ++ fields_of m))
 
 -- the index entry: the CRC of the addressee's name, and where the header stands
 abbrev pub entry_of : Filed → ℕ → List ℕ

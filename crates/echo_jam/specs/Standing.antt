@@ -34,12 +34,25 @@ is_header headers texts at =
     nat_le 1024 at && (nat_le (at + 76) (length headers)
     && (has_mark headers at && (nat_le (fields_end headers at) (length headers) && has_text headers texts at)))
 
--- how many whole entries an index has, and where the header of one stands
-abbrev pub entries_in : List ℕ → ℕ
-entries_in index = length index / 8
-
+-- where the header of an entry of the index stands
 abbrev pub place_in : List ℕ → ℕ → ℕ
 place_in index i = long_at (8 * i + 4) index
+
+-- whether an entry is zeros: a power cut came before its bytes
+abbrev pub is_unwritten : List ℕ → ℕ → Bool
+is_unwritten index i = long_at (8 * i) index == 0 && place_in index i == 0
+
+-- how many of the first so many whole entries there are, without those of zeros at their end
+abbrev pub written_behind : List ℕ → ℕ → ℕ → ℕ
+written_behind index before i = if is_unwritten index i then before else i + 1
+
+abbrev pub written_in : List ℕ → ℕ → ℕ
+written_in index zero = 0
+written_in index (suc n) = written_behind index (written_in index n) n
+
+-- how many the index has
+abbrev pub entries_in : List ℕ → ℕ
+entries_in index = written_in index (length index / 8)
 
 -- whether the message is gone: its entry has all bits set
 abbrev pub is_gone : ℕ → Bool
@@ -71,11 +84,21 @@ first_number headers = long_at 20 headers
 abbrev pub next_number : List ℕ → List ℕ → ℕ
 next_number headers index = first_number headers + entries_in index
 
+-- how many messages the base says are active
+abbrev pub told_active : List ℕ → ℕ
+told_active headers = long_at 12 headers
+
+-- whether that count knows none of the entries of zeros at the end of the index
+abbrev pub is_counted : List ℕ → List ℕ → Bool
+is_counted headers index =
+    entries_in index == length index / 8 || nat_le (told_active headers) (active_in headers index (entries_in index))
+
 -- whether these are the headers and the index of a base: the mark, numbers that four bytes count, and whole entries
 abbrev pub is_base : List ℕ → List ℕ → ℕ → Bool
 is_base headers index texts =
     (nat_le 1024 (length headers) && has_mark headers 0)
-    && (nat_lt (next_number headers index) (2 ^ 32) && are_entries headers index texts (entries_in index))
+    && (nat_lt (next_number headers index) (2 ^ 32)
+    && (are_entries headers index texts (entries_in index) && is_counted headers index))
 
 -- the last message, where there is one and it is not gone
 abbrev pub last_at : List ℕ → ℕ → ℕ → Option Last
@@ -91,9 +114,10 @@ last_in headers index texts =
 abbrev pub standing_in : List ℕ → List ℕ → ℕ → Option Standing
 standing_in headers index texts =
     if is_base headers index texts then Some (record {
+      entries = entries_in index;
       next = next_number headers index;
       changes = long_at 8 headers;
-      active = long_at 12 headers;
+      active = told_active headers;
       counted = active_in headers index (entries_in index);
       last = last_in headers index texts;
     }) else None

@@ -35,17 +35,18 @@ pub(crate) struct Parts {
     pub(crate) cuts: u64,
 }
 
-/// Adds a message of this number. What is added to headers and texts begins at these places of their files. What four
-/// bytes do not count is refused as out of memory.
+/// Adds a message of this number, which was scanned or waits. What is added to headers and texts begins at these places
+/// of their files. What four bytes do not count is refused as out of memory.
 pub fn push_jam(
     alloc: Global,
     jam: &mut Jam,
     message: &Filed,
+    scanned: bool,
     number: u32,
     headers_at: u32,
     texts_at: u32,
 ) -> Result<(), AllocError>
-    ensures headers { OnOk result (jam.new.headers.items ≡ jam.old.headers.items ++ header_of message.now number (texts_at + length jam.old.texts.items)) }
+    ensures headers { OnOk result (jam.new.headers.items ≡ jam.old.headers.items ++ header_of scanned message.now number (texts_at + length jam.old.texts.items)) }
     ensures texts { OnOk result (jam.new.texts.items ≡ jam.old.texts.items ++ body_of message.now) }
     ensures index { OnOk result (jam.new.index.items ≡ jam.old.index.items ++ entry_of message.now (headers_at + length jam.old.headers.items)) }
     ensures cuts { OnOk result (jam.new.cuts ≡ jam.old.cuts + cuts_of message.now) }
@@ -58,6 +59,7 @@ pub fn push_jam(
     push_header(
         &mut jam.headers,
         message,
+        scanned,
         number,
         place,
         size,
@@ -85,16 +87,17 @@ pub(crate) fn parts_of(alloc: Global, message: &Filed) -> Result<Parts, AllocErr
 pub(crate) fn push_header(
     header: &mut Vec<u8>,
     message: &Filed,
+    scanned: bool,
     number: u32,
     place: u32,
     size: u32,
     fields: &[u8],
 ) -> Result<(), AllocError>
-    ensures { OnOk result (header.new.items ≡ header.old.items ++ (header_front (length fields.now) ++ (header_ids message.now ++ (header_back message.now number place size ++ fields.now)))) }
+    ensures { OnOk result (header.new.items ≡ header.old.items ++ (header_front (length fields.now) ++ (header_ids message.now ++ (header_back scanned message.now number place size ++ fields.now)))) }
 {
     push_front(header, count_of(fields)?)?;
     push_ids(header, message)?;
-    push_back(header, message, number, place, size)?;
+    push_back(header, message, scanned, number, place, size)?;
     push_bytes(header, fields)
 }
 
@@ -131,11 +134,12 @@ fn id_crc(id: Option<&[u8]>) -> u32
 }
 
 // The attribute.
-fn jam_attribute(sender: Option<Address>) -> u32
-    ensures { result ≡ jam_attribute sender }
+fn jam_attribute(scanned: bool, sender: Option<Address>) -> u32
+    ensures { result ≡ jam_attribute scanned sender }
 {
     match sender {
         Some(_) => 0x0100_0000,
+        None if scanned => 0x0100_0011,
         None => 0x0100_0001,
     }
 }
@@ -144,14 +148,15 @@ fn jam_attribute(sender: Option<Address>) -> u32
 fn push_back(
     header: &mut Vec<u8>,
     message: &Filed,
+    scanned: bool,
     number: u32,
     place: u32,
     size: u32,
 ) -> Result<(), AllocError>
-    ensures { OnOk result (header.new.items ≡ header.old.items ++ header_back message.now number place size) }
+    ensures { OnOk result (header.new.items ≡ header.old.items ++ header_back scanned message.now number place size) }
 {
     push_moments(header, seconds_of(&message.date))?;
-    push_number(header, number, jam_attribute(message.sender))?;
+    push_number(header, number, jam_attribute(scanned, message.sender))?;
     push_place(header, place, size)
 }
 

@@ -1,8 +1,8 @@
 //! What stands in the files of a JAM base.
-ghost use Rattle.std.specs.Prelude.{◌≡◌, ◌+◌, ◌*◌, ◌≤◌, ◌<◌, ◌^◌, IsTrue, length};
+ghost use Rattle.std.specs.Prelude.{◌≡◌, ◌+◌, ◌*◌, ◌/◌, ◌≤◌, ◌<◌, ◌^◌, IsTrue, length};
 ghost use Rattle.echo_filed.specs.Stored as numbers;
 ghost use Rattle.echo_packet.specs.Header as words;
-ghost use Rattle.echo_jam.specs.Standing.{active_at, active_in, are_entries, entries_in, fields_end, has_mark, has_text, is_base, is_deleted_at, is_entry, is_gone, is_header, last_at, last_in, next_number, place_in, standing_in};
+ghost use Rattle.echo_jam.specs.Standing.{active_at, active_in, are_entries, entries_in, fields_end, has_mark, has_text, is_base, is_counted, is_deleted_at, is_entry, is_gone, is_header, is_unwritten, last_at, last_in, next_number, place_in, standing_in, written_behind};
 
 /// The last message of a base: the place of its header, that of its text, and how long that is.
 #[derive(Clone, Copy, Debug, PartialEq, Eq)]
@@ -12,10 +12,12 @@ pub struct Last {
     pub size: u32,
 }
 
-/// What stands in a base: the number of the next message, how often the base was changed, how many messages it says
-/// are active, how many are, and the last one, unless that is gone.
+/// What stands in a base: how many entries its index has, without those of zeros at the end, the number of the next
+/// message, how often the base was changed, how many messages it says are active, how many are, and the last one, unless
+/// that is gone.
 #[derive(Clone, Copy, Debug, PartialEq, Eq)]
 pub struct Standing {
+    pub entries: u32,
     pub next: u32,
     pub changes: u32,
     pub active: u32,
@@ -31,8 +33,10 @@ pub fn standing_in(headers: &[u8], index: &[u8], texts: u64) -> Option<Standing>
     if !is_base(headers, index, texts) {
         return None;
     }
+    let entries = entries_in(index) as u32;
     Some(Standing {
-        next: long_at(headers, 20) + (index.len() / 8) as u32,
+        entries,
+        next: long_at(headers, 20) + entries,
         changes: long_at(headers, 8),
         active: long_at(headers, 12),
         counted: active_in(headers, index),
@@ -49,8 +53,51 @@ fn is_base(headers: &[u8], index: &[u8], texts: u64) -> bool
     if headers.len() < 1024 || !has_mark(headers, 0) {
         return false;
     }
-    let next = long_at(headers, 20) as usize + index.len() / 8;
-    next < 1 << 32 && are_entries(headers, index, texts)
+    let next = long_at(headers, 20) as usize + entries_in(index);
+    next < 1 << 32 && are_entries(headers, index, texts) && is_counted(headers, index)
+}
+
+// Whether the count of active messages knows none of the entries of zeros at the end of the index.
+fn is_counted(headers: &[u8], index: &[u8]) -> bool
+    requires room { 1024 ≤ length headers.now }
+    requires small { entries_in index.now < 2 ^ 32 }
+    ensures { result ≡ is_counted headers.now index.now }
+{
+    entries_in(index) == index.len() / 8 || long_at(headers, 12) <= active_in(headers, index)
+}
+
+// How many entries the index has, without those of zeros at its end.
+fn entries_in(index: &[u8]) -> usize
+    ensures value { result ≡ entries_in index.now }
+    ensures within { result ≤ length index.now / 8 }
+{
+    let mut entries = 0;
+    'entries: for i in 0..index.len() / 8 {
+        entries = written_behind(index, entries, i);
+    }
+    entries
+}
+
+// How many there are with the one of this number.
+fn written_behind(index: &[u8], before: usize, i: usize) -> usize
+    requires room { 8 * i + 8 ≤ length index.now }
+    requires few { before ≤ i }
+    ensures value { result ≡ written_behind index.now before i }
+    ensures within { result ≤ i + 1 }
+{
+    if is_unwritten(index, i) {
+        before
+    } else {
+        i + 1
+    }
+}
+
+// Whether an entry is zeros.
+fn is_unwritten(index: &[u8], i: usize) -> bool
+    requires { 8 * i + 8 ≤ length index.now }
+    ensures { result ≡ is_unwritten index.now i }
+{
+    long_at(index, 8 * i) == 0 && place_in(index, i) == 0
 }
 
 // The number of two bytes at a place.
@@ -135,7 +182,7 @@ fn are_entries(headers: &[u8], index: &[u8], texts: u64) -> bool
     ensures { result ≡ are_entries headers.now index.now texts (entries_in index.now) }
 {
     let mut whole = true;
-    'entries: for i in 0..index.len() / 8 {
+    'entries: for i in 0..entries_in(index) {
         whole = whole && is_entry(headers, texts, place_in(index, i));
     }
     whole
@@ -154,7 +201,7 @@ fn active_in(headers: &[u8], index: &[u8]) -> u32
     ensures { result ≡ active_in headers.now index.now (entries_in index.now) }
 {
     let mut count = 0;
-    'entries: for i in 0..index.len() / 8 {
+    'entries: for i in 0..entries_in(index) {
         count += active_at(headers, place_in(index, i));
     }
     count
@@ -176,7 +223,7 @@ fn active_at(headers: &[u8], place: u32) -> u32
 fn last_in(headers: &[u8], index: &[u8], texts: u64) -> Option<Last>
     ensures { result ≡ last_in headers.now index.now texts }
 {
-    let entries = index.len() / 8;
+    let entries = entries_in(index);
     if entries == 0 {
         return None;
     }

@@ -9,11 +9,12 @@ use Rattle.echo_mail.specs.Body.{value_in}
 abbrev pub first_group : List ℕ → List ℕ
 first_group groups = trimmed (before_first (λ b. b == 44) groups)
 
--- the first newsgroup, or else a value
-abbrev pub group_or : Option (List ℕ) → Option (List ℕ) → Option (List ℕ)
-group_or None other = other
-group_or (Some groups) other = Some (first_group groups)
+-- an area, or else the first newsgroup
+abbrev pub area_or : Option (List ℕ) → Option (List ℕ) → Option (List ℕ)
+area_or (Some area) groups = Some area
+area_or None (Some groups) = Some (first_group groups)
+area_or None None = None
 
 -- the area that the fields name
 abbrev pub area_in : List Field → Option (List ℕ)
-area_in fields = group_or (value_in fields (codes "Newsgroups")) (value_in fields (codes "X-FTN-Area"))
+area_in fields = area_or (value_in fields (codes "X-FTN-Area")) (value_in fields (codes "Newsgroups"))

@@ -6,14 +6,17 @@ use crate::body::value_in;
 use crate::head::Field;
 use echo_text::trimmed;
 
-/// The area that the header of a mail names: the first newsgroup, or where there is no such field the value of
-/// X-FTN-Area.
+/// The area that the header of a mail names: the value of X-FTN-Area, or where there is no such field the first
+/// newsgroup.
 pub fn area_in(fields: &[Field]) -> Option<&[u8]>
     ensures { option_copied result ≡ area_in fields.now }
 {
+    if let Some(area) = value_in(fields, b"X-FTN-Area") {
+        return Some(area);
+    }
     match value_in(fields, b"Newsgroups") {
         Some(groups) => Some(first_group(groups)),
-        None => value_in(fields, b"X-FTN-Area"),
+        None => None,
     }
 }
 

@@ -1,5 +1,5 @@
 -- What is added to a JAM base: which messages of a base, under which numbers, and their bytes in its files.
-use Rattle.std.specs.Prelude.{◌≡◌, ℕ, zero, suc, ◌+◌, ◌⊎◌, ◌&&◌, max, Bool, false, List, [], ◌∷◌, ◌++◌, length, if◌then◌else◌, slice_get, Option, Some, None, Result, Ok, Err}
+use Rattle.std.specs.Prelude.{◌≡◌, ℕ, zero, suc, ◌+◌, ◌⊎◌, ◌&&◌, nat_lt, max, Bool, false, List, [], ◌∷◌, ◌++◌, length, if◌then◌else◌, slice_get, Option, Some, None, Result, Ok, Err}
 use Rattle.echo_filed.specs.Filed.{Filed}
 use Rattle.echo_links.specs.Links.{upper}
 use Rattle.echo_jam.specs.Fields.{body_of, cuts_of}
@@ -33,20 +33,20 @@ added_in a = record {
 abbrev pub nothing_added : Added
 nothing_added = record { headers = []; texts = []; index = []; messages = []; cuts = 0 }
 
--- one message more, behind where the base ends and what was added before
-abbrev pub with_message : JamEnd → ℕ → Filed → Added → Added
-with_message end i m a = record {
-  headers = a.headers ++ header_of m (end.number + length a.messages) (end.texts + length a.texts);
+-- one message more, scanned or not, behind where the base ends and what was added before
+abbrev pub with_message : Bool → JamEnd → ℕ → Filed → Added → Added
+with_message scanned end i m a = record {
+  headers = a.headers ++ header_of scanned m (end.number + length a.messages) (end.texts + length a.texts);
   texts = a.texts ++ body_of m;
   index = a.index ++ entry_of m (end.headers + length a.headers);
   messages = a.messages ++ i ∷ [];
   cuts = a.cuts + cuts_of m;
 }
 
--- the message of this number more, if it is exported
+-- the message of this number more, if it is exported; those before the cursor were scanned
 abbrev pub added_at : List ℕ → ℕ → ℕ → JamEnd → ℕ → Option Filed → Added → Added
 added_at area first cursor end i None a = a
-added_at area first cursor end i (Some m) a = if is_exported area first cursor i m then with_message end i m a else a
+added_at area first cursor end i (Some m) a = if is_exported area first cursor i m then with_message (nat_lt i cursor) end i m a else a
 
 -- the first so many messages
 abbrev pub added_of : List ℕ → ℕ → ℕ → JamEnd → List Filed → ℕ → Added

@@ -1,5 +1,5 @@
 -- The names of stored messages in a folder: a number, and `.msg` in letters of either case.
-use Rattle.std.specs.Prelude.{ℕ, ◌-◌, List, ◌++◌, length, take, drop, codes, decimal, if◌then◌else◌, bytes_eq, Bool, Option, None}
+use Rattle.std.specs.Prelude.{ℕ, ◌-◌, ◌&&◌, List, ◌++◌, length, take, drop, codes, decimal, if◌then◌else◌, bytes_eq, Bool, Option, None, is_some}
 use Rattle.echo_addr.specs.Digits.{number_within}
 use Rattle.echo_links.specs.Links.{upper}
 
@@ -18,3 +18,8 @@ number_of_name name = if ends_in_msg name then number_within 99999999 (front_of_
 -- the name of the message of this number
 abbrev pub name_of : ℕ → List ℕ
 name_of number = decimal number ++ codes ".msg"
+
+-- whether a file with this name stands beside a stored message, which a stopped run left there
+abbrev pub is_left : List ℕ → Bool
+is_left name =
+    bytes_eq (drop (length name - 10) name) (codes ".~msg~.new") && is_some (number_of_name (take (length name - 10) name))

@@ -1,5 +1,5 @@
 -- Messages of a base as numbered files of a folder: which of them, their bytes, and under which numbers.
-use Rattle.std.specs.Prelude.{◌≡◌, ℕ, zero, suc, ◌+◌, ◌⊎◌, ◌&&◌, ◌||◌, not, nat_le, max, Bool, false, List, [], ◌∷◌, ◌++◌, length, take, drop, if◌then◌else◌, slice_get, bytes_eq, Option, Some, None, is_some, Result, Ok, Err}
+use Rattle.std.specs.Prelude.{◌≡◌, ℕ, zero, suc, ◌+◌, ◌⊎◌, ◌&&◌, ◌||◌, not, nat_le, nat_lt, max, Bool, false, List, [], ◌∷◌, ◌++◌, length, take, drop, if◌then◌else◌, slice_get, bytes_eq, Option, Some, None, is_some, Result, Ok, Err}
 use Rattle.echo_filed.specs.Filed.{Filed}
 use Rattle.echo_filed.specs.Stubs.{is_stub}
 use Rattle.echo_links.specs.Links.{upper}
@@ -35,21 +35,21 @@ is_same_stored one other = bytes_eq (before_numbers one) (before_numbers other) 
 abbrev pub is_last : List ℕ → ℕ → ℕ → Option (List ℕ) → ℕ → Option Filed → Bool
 is_last area first cursor None i m = false
 is_last area first cursor (Some last) i None = false
-is_last area first cursor (Some last) i (Some m) = is_exported area first cursor i m && is_same_stored last (stored_bytes m)
+is_last area first cursor (Some last) i (Some m) = is_exported area first cursor i m && is_same_stored last (stored_bytes (nat_lt i cursor) m)
 
 -- the number behind that of the last message among the first so many that the last file is; `first` where it is none of them
 abbrev pub resumed : List ℕ → ℕ → ℕ → Option (List ℕ) → List Filed → ℕ → ℕ
 resumed area first cursor last base zero = first
 resumed area first cursor last base (suc n) = if is_last area first cursor last n (slice_get base n) then n + 1 else resumed area first cursor last base n
 
--- the file with this number, of the message of this number
-abbrev pub file_of : ℕ → ℕ → Filed → MessageFile
-file_of number i m = record { name = name_of number; message = i; bytes = stored_bytes m }
+-- the file with this number, of the message of this number; those before the cursor were scanned
+abbrev pub file_of : ℕ → ℕ → ℕ → Filed → MessageFile
+file_of cursor number i m = record { name = name_of number; message = i; bytes = stored_bytes (nat_lt i cursor) m }
 
 -- the file of the message of this number, if it is exported
 abbrev pub file_at : List ℕ → ℕ → ℕ → ℕ → ℕ → Option Filed → List MessageFile
 file_at area first cursor number i None = []
-file_at area first cursor number i (Some m) = if is_exported area first cursor i m then file_of number i m ∷ [] else []
+file_at area first cursor number i (Some m) = if is_exported area first cursor i m then file_of cursor number i m ∷ [] else []
 
 -- the files of the first so many messages, numbered from `number` on
 abbrev pub files_of : List ℕ → ℕ → ℕ → ℕ → List Filed → ℕ → List MessageFile

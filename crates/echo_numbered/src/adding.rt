@@ -181,24 +181,26 @@ fn add_if_exported(
     if !is_exported(area, first, cursor, i, message) {
         return Ok(());
     }
-    add_message(alloc, adding, end, i, message)
+    add_message(alloc, adding, end, i, message, i < cursor)
 }
 
-// Adds a message.
+// Adds a message, which was scanned or waits.
 fn add_message(
     alloc: Global,
     adding: &mut Adding,
     end: JamEnd,
     i: usize,
     message: &Filed,
+    scanned: bool,
 ) -> Result<(), AllocError>
-    ensures { OnOk result (added_in adding.new ≡ with_message end i message.now (added_in adding.old)) }
+    ensures { OnOk result (added_in adding.new ≡ with_message scanned end i message.now (added_in adding.old)) }
 {
     let number = number_behind(end.number, adding.messages.len())?;
     push_jam(
         alloc,
         &mut adding.jam,
         message,
+        scanned,
         number,
         end.headers,
         end.texts,

@@ -15,6 +15,6 @@ mod numbering;
 mod telling;
 
 pub use adding::{Adding, JamBase, JamEnd, JamExport, export_jam};
-pub use names::number_in;
+pub use names::{is_left, number_in};
 pub use numbering::{Exported, MessageFile, export_files};
 pub use telling::{refuse_message, tell_added, tell_cuts, tell_exported};

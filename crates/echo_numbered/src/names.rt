@@ -1,7 +1,7 @@
 //! The names of stored messages in a folder.
 ghost use Rattle.std.specs.Prelude.{◌≡◌, ◌-◌, ◌++◌, IfOk, drop, length, min, take};
 ghost use Rattle.echo_addr.specs.Digits.{number_within};
-ghost use Rattle.echo_numbered.specs.Names.{ends_in_msg, front_of_name, name_of, number_of_name};
+ghost use Rattle.echo_numbered.specs.Names.{ends_in_msg, front_of_name, is_left, name_of, number_of_name};
 
 use echo_addr::number;
 use echo_escape::written;
@@ -10,6 +10,9 @@ use std::io::Write;
 
 /// The greatest number that a name has: eight digits, as the file systems of the field take.
 const MOST: u32 = 99_999_999;
+
+/// What stands behind the name of a stored message in the name of the file beside it.
+const BESIDE: &[u8] = b".~msg~.new";
 
 /// The number of the stored message with this name, none where it is no name of one.
 pub fn number_in(name: &[u8]) -> Option<u32>
@@ -44,6 +47,14 @@ fn front_of_name(name: &[u8]) -> &[u8]
     ensures { result.now ≡ front_of_name name.now }
 {
     &name[..name.len().saturating_sub(4)]
+}
+
+/// Whether a file with this name stands beside a stored message, which a stopped run left there.
+pub fn is_left(name: &[u8]) -> bool
+    ensures { result ≡ is_left name.now }
+{
+    let front = name.len().saturating_sub(BESIDE.len());
+    &name[front..] == BESIDE && number_in(&name[..front]).is_some()
 }
 
 /// The name of the stored message of this number.

@@ -130,7 +130,7 @@ fn is_last(
     if !is_exported(area, first, cursor, i, message) {
         return Ok(false);
     }
-    let stored = stored_file(alloc, message)?;
+    let stored = stored_file(alloc, message, i < cursor)?;
     Ok(is_same_stored(last, &stored))
 }
 
@@ -149,12 +149,12 @@ fn is_purged(message: &Filed) -> bool
     message.echo.msgid().is_some() && is_stub(message)
 }
 
-// The bytes of the message as a stored one.
-fn stored_file(alloc: Global, message: &Filed) -> Result<Vec<u8>, AllocError>
-    ensures { IfOk result (λ bytes. bytes.items ≡ stored_bytes message.now) }
+// The bytes of the message, which was scanned or waits, as a stored one.
+fn stored_file(alloc: Global, message: &Filed, scanned: bool) -> Result<Vec<u8>, AllocError>
+    ensures { IfOk result (λ bytes. bytes.items ≡ stored_bytes scanned message.now) }
 {
     let mut stored = Vec::new(alloc);
-    push_stored(alloc, &mut stored, message)?;
+    push_stored(alloc, &mut stored, message, scanned)?;
     Ok(stored)
 }
 
@@ -232,7 +232,7 @@ fn push_file(
     if !is_exported(area, first, cursor, i, message) {
         return Ok(());
     }
-    let file = file_of(alloc, number, i, message)?;
+    let file = file_of(alloc, cursor, number, i, message)?;
     files.push(file)?;
     Ok(())
 }
@@ -240,14 +240,15 @@ fn push_file(
 // The file with this number.
 fn file_of(
     alloc: Global,
+    cursor: usize,
     number: u128,
     i: usize,
     message: &Filed,
 ) -> Result<MessageFile, AllocError>
-    ensures { IfOk result (λ file. file ≡ file_of number i message.now) }
+    ensures { IfOk result (λ file. file ≡ file_of cursor number i message.now) }
 {
     let name = Items::new(file_name(alloc, number)?);
-    let bytes = Items::new(stored_file(alloc, message)?);
+    let bytes = Items::new(stored_file(alloc, message, i < cursor)?);
     Ok(MessageFile {
         name,
         message: i,

@@ -152,18 +152,3 @@ pub within-nth : {X : Type 0} (i : ℕ) (xs : List X) (x : X) → nth i xs ≡ S
 within-nth i [] x h = absurd (cc)
 within-nth zero (y ∷ xs) x h = omega arith
 within-nth (suc i) (y ∷ xs) x h = let less = within-nth i xs x h in omega arith
-
--- one packet more was made
-pub made-more : (before now : List Exported) (old : List Exported) (ps : List Packet) (i : ℕ) (p : Packet) → i < length ps → p ≡ get_or ps i p
-    → before ≡ old ++ map made (take i ps) → now ≡ before ++ made p ∷ [] → now ≡ old ++ map made (take (i + 1) ps)
-made-more before now old ps i p within there so_far one =
-    let more : take (i + 1) ps ≡ take i ps ++ p ∷ [] = take_more ps i p within ∙ ap (λ (q : Packet). take i ps ++ q ∷ []) (sym there) in
-    one ∙ ap (λ (es : List Exported). es ++ made p ∷ []) so_far ∙ append_assoc old (map made (take i ps)) (made p ∷ [])
-    ∙ ap (λ (es : List Exported). old ++ es) (sym (map-append made (take i ps) (p ∷ [])) ∙ ap (map made) (sym more))
-
-pub fits-more : (ps : List Packet) (i : ℕ) (p : Packet) → i < length ps → p ≡ get_or ps i p
-    → ((k : ℕ) (d : Packet) → k < i → Fits (get_or ps k d)) → Fits p → (k : ℕ) (d : Packet) → k < i + 1 → Fits (get_or ps k d)
-fits-more ps i p within there before fits k d less =
-    let here : get_or ps i d ≡ p = get_or_from_slice_get ps i p d (slice_get_read ps (length ps) i p refl within there) in
-    let P : ℕ → Type 0 = λ j. Fits (get_or ps j d) in
-    below_more P i (λ j h. before j d h) (subst Fits (sym here) fits) k less

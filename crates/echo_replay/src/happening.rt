@@ -14,8 +14,7 @@ ghost use Rattle.echo_replay.specs.Worlds.{Fits, IsWorldOf, LeadsToFirst, ScanFi
 
 use crate::receivers::Receivers;
 use crate::world::{Exported, World};
-use echo_addr::{Address, Items};
-use echo_packet::{Header, Limits};
+use echo_packet::Limits;
 use echo_run::Event;
 use echo_steps::{Draft, Packet, PostFault, ScanFault, Stamp};
 use echo_toss::Tosser;
@@ -42,7 +41,7 @@ pub(crate) fn happen(
             stamp,
         } => post(world, *system, tag.as_slice(), draft, *serial, *stamp),
         Event::Scan { system, stamp } => scan(alloc, world, *system, *stamp),
-        Event::Deliver { packet } => deliver(receivers, world, *packet),
+        Event::Deliver { packet } => deliver(alloc, receivers, world, *packet),
         Event::Purge { system } => purge(world, *system),
     }
 }
@@ -129,7 +128,7 @@ fn scan(alloc: Global, world: &mut World, system: usize, stamp: Stamp) -> Result
     }
     let tosser = &mut world.systems[system];
     let packets = scan_at(alloc, tosser, stamp)?;
-    export(alloc, &mut world.packets, &packets)
+    export(alloc, &mut world.packets, packets)
 }
 
 // The packets of the scan, none where its stamp is out of range.
@@ -149,49 +148,43 @@ fn scan_at(
     }
 }
 
-// The packets are put last, as their bytes.
-fn export(alloc: Global, exported: &mut Vec<Exported>, packets: &[Packet]) -> Result<(), AllocError>
-    ensures bytes { OnOk result (exported.new.items ≡ exported.old.items ++ map made packets.now) }
-    ensures fit { OnOk result (All Fits packets.now) }
+// The packets are put last.
+fn export(
+    alloc: Global,
+    exported: &mut Vec<Exported>,
+    packets: Vec<Packet>,
+) -> Result<(), AllocError>
+    ensures bytes { OnOk result (exported.new.items ≡ exported.old.items ++ map made packets.items) }
+    ensures fit { OnOk result (All Fits packets.items) }
 {
-    for packet in packets {
+    'packets: for packet in packets {
         export_one(alloc, exported, packet)?;
     }
     Ok(())
 }
 
-// The packet is put last, as its bytes.
-fn export_one(
-    alloc: Global,
-    exported: &mut Vec<Exported>,
-    packet: &Packet,
-) -> Result<(), AllocError>
-    ensures bytes { OnOk result (exported.new.items ≡ exported.old.items ++ made packet.now ∷ []) }
-    ensures fit { OnOk result (Fits packet.now) }
+// The packet is put last. Its bytes are made again when it comes: kept, they would take the room of a text for each
+// link, which the copies of a message share.
+fn export_one(alloc: Global, exported: &mut Vec<Exported>, packet: Packet) -> Result<(), AllocError>
+    ensures bytes { OnOk result (exported.new.items ≡ exported.old.items ++ made packet ∷ []) }
+    ensures fit { OnOk result (Fits packet) }
 {
-    let bytes = packet.encode(alloc)?;
+    packet.encode(alloc)?;
     exported.push(Exported {
-        bytes: Items::new(bytes),
-        to: destination_in(&packet.header),
+        packet,
         came: false,
     })?;
     Ok(())
 }
 
-// Whom the packet is for.
-fn destination_in(header: &Header) -> Address
-    ensures { result ≡ record { zone = header.now.dest_zone; net = header.now.dest_net; node = header.now.dest_node } }
-{
-    Address {
-        zone: header.dest_zone,
-        net: header.dest_net,
-        node: header.dest_node,
-    }
-}
-
 // A packet comes to the first system of its destination, where there is one. What came before is
 // refused there or known, and changes nothing.
-fn deliver(receivers: &Receivers, world: &mut World, packet: usize) -> Result<(), AllocError>
+fn deliver(
+    alloc: Global,
+    receivers: &Receivers,
+    world: &mut World,
+    packet: usize,
+) -> Result<(), AllocError>
     requires { LeadsToFirst receivers.now.first.entries (own_addresses world.old.systems) }
     ensures addresses { own_addresses world.new.systems ≡ own_addresses world.old.systems }
     ensures none { OnOk result (nth packet world.old.packets ≡ None → world.new ≡ world.old) }
@@ -202,18 +195,18 @@ fn deliver(receivers: &Receivers, world: &mut World, packet: usize) -> Result<()
     if packet >= world.packets.len() {
         return Ok(());
     }
-    let to = world.packets[packet].to;
+    let to = world.packets[packet].to();
     if world.packets[packet].came {
         return Ok(());
     }
     match receivers.of(to) {
-        Some(system) => arrive(world, packet, system),
+        Some(system) => arrive(alloc, world, packet, system),
         None => Ok(()),
     }
 }
 
 // The packet comes to the system, which has its destination.
-fn arrive(world: &mut World, packet: usize, system: usize) -> Result<(), AllocError>
+fn arrive(alloc: Global, world: &mut World, packet: usize, system: usize) -> Result<(), AllocError>
     requires packet { packet < length world.old.packets }
     requires system { system < length world.old.systems }
     ensures addresses { own_addresses world.new.systems ≡ own_addresses world.old.systems }
@@ -221,8 +214,9 @@ fn arrive(world: &mut World, packet: usize, system: usize) -> Result<(), AllocEr
         (s : SystemState) → nth system world.old.systems ≡ Some s → destination p ≡ s.file.system →
         world.new ≡ record { systems = change system (after_toss p) world.old.systems; packets = change packet arrived world.old.packets }) }
 {
+    let bytes = world.packets[packet].bytes(alloc)?;
     let tosser = &mut world.systems[system];
-    toss_at(tosser, world.packets[packet].bytes.as_slice())?;
+    toss_at(tosser, &bytes)?;
     mark(&mut world.packets[packet]);
     Ok(())
 }

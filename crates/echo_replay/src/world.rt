@@ -1,6 +1,6 @@
 //! The systems and packets of a net, and what one reads off them.
 
-ghost use Rattle.std.specs.Prelude.{◌≡◌, None, IfSome, length, drop, count_by, nat_le, not, false, bytes_eq, unwrap_or, slice_get, option_copied, option_map};
+ghost use Rattle.std.specs.Prelude.{◌≡◌, None, IfOk, IfSome, length, drop, count_by, nat_le, not, false, bytes_eq, unwrap_or, slice_get, option_copied, option_map};
 ghost use Rattle.std.specs.Io.KnownBytes.{Keeps};
 ghost use Rattle.std.specs.List.{list_all};
 ghost use Rattle.echo_base.specs.BaseFile.{is_countable, saved_bytes};
@@ -9,20 +9,21 @@ ghost use Rattle.echo_run.specs.Run.{Run, destination, nth};
 ghost use Rattle.echo_run.specs.World.{area_count, filed_at, waiting_at, is_settled, undelivered};
 ghost use Rattle.echo_replay.specs.Worlds.{IsWorldOf, OfSystem, encoded, message_at};
 
-use echo_addr::{Address, Items};
+use echo_addr::Address;
 use echo_base::BaseFault;
 use echo_device::Sink;
 use echo_filed::Filed;
 use echo_links::LinkFile;
+use echo_steps::Packet;
 use echo_toss::Tosser;
+use std::alloc::{AllocError, Global};
 use std::hash::{BuildHasher, RandomState};
 use std::marker::Model;
 
-/// A packet that was made: its bytes, whom it is for, and whether it came.
+/// A packet that was made, and whether it came. Packets of one scan share what their copies of a message do.
 #[derive(Drop)]
 pub struct Exported {
-    pub bytes: Items<u8>,
-    pub to: Address,
+    pub packet: Packet,
     pub came: bool,
 }
 
@@ -31,7 +32,30 @@ impl Model for Exported {
 
     ghost Value = { model.Exported };
 
-    ghost view = { λ e. record { bytes = e.bytes; to = e.to; came = e.came } };
+    ghost use Rattle.echo_run.specs.Run.{destination};
+
+    ghost view = { λ e. record { bytes = model.encoded e.packet; to = destination e.packet; came = e.came } };
+}
+
+impl Exported {
+    /// Whom it is for.
+    pub(crate) fn to(&self) -> Address
+        ensures { result ≡ self.now.to }
+    {
+        let header = &self.packet.header;
+        Address {
+            zone: header.dest_zone,
+            net: header.dest_net,
+            node: header.dest_node,
+        }
+    }
+
+    /// Its bytes.
+    pub(crate) fn bytes(&self, alloc: Global) -> Result<Vec<u8>, AllocError>
+        ensures { IfOk result (λ bytes. bytes.items ≡ self.now.bytes) }
+    {
+        self.packet.encode(alloc)
+    }
 }
 
 /// A net after some events. Systems go by their index in the list of link files, packets by their order
@@ -123,11 +147,11 @@ impl World {
         destination_at(&self.packets, k)
     }
 
-    /// The bytes of the packet.
-    pub fn packet(&self, k: usize) -> Option<&[u8]>
-        ensures { (run : Run) → IsWorldOf self.now run → option_copied result ≡ option_map encoded (nth k run.packets) }
+    /// The bytes of the packet, which are made when they are asked for.
+    pub fn packet(&self, alloc: Global, k: usize) -> Result<Option<Vec<u8>>, AllocError>
+        ensures { IfOk result (λ found. (run : Run) → IsWorldOf self.now run → option_map (λ bytes. bytes.items) found ≡ option_map encoded (nth k run.packets)) }
     {
-        bytes_at(&self.packets, k)
+        bytes_at(alloc, &self.packets, k)
     }
 
     /// Writes the base of the system as a base file of version 2, none where there is no such system.
@@ -189,13 +213,15 @@ fn destination_at(packets: &[Exported], k: usize) -> Option<Address>
     ensures { result ≡ option_map (λ e. e.to) (slice_get packets.now k) }
 {
     let packet = packets.get(k)?;
-    Some(packet.to)
+    Some(packet.to())
 }
 
 // The bytes of the packet of this index.
-fn bytes_at(packets: &[Exported], k: usize) -> Option<&[u8]>
-    ensures { option_copied result ≡ option_map (λ e. e.bytes) (slice_get packets.now k) }
+fn bytes_at(alloc: Global, packets: &[Exported], k: usize) -> Result<Option<Vec<u8>>, AllocError>
+    ensures { IfOk result (λ found. option_map (λ bytes. bytes.items) found ≡ option_map (λ e. e.bytes) (slice_get packets.now k)) }
 {
-    let packet = packets.get(k)?;
-    Some(packet.bytes.as_slice())
+    match packets.get(k) {
+        Some(packet) => Ok(Some(packet.bytes(alloc)?)),
+        None => Ok(None),
+    }
 }

@@ -1,5 +1,5 @@
 -- A stored message that was written is read back.
-use Rattle.std.proofs.Common.{◌≡◌, ◌≢◌, ℕ, suc, ◌+◌, ◌-◌, ◌<◌, ◌==◌, not, List, [], ◌∷◌, ◌++◌, length, take, refl, sym, ap, subst, ◌∙◌, arith, append_assoc, length-append}
+use Rattle.std.proofs.Common.{◌≡◌, ◌≢◌, Bool, ℕ, suc, ◌+◌, ◌-◌, ◌<◌, ◌==◌, not, List, [], ◌∷◌, ◌++◌, length, take, refl, sym, ap, subst, ◌∙◌, arith, append_assoc, length-append}
 use Rattle.std.specs.List.{AllByRecursion, prefix_len}
 use Rattle.std.specs.Prelude.{replicate}
 use Rattle.std.proofs.lemmas.Bool.{cond-true, ne_eqb}
@@ -52,7 +52,7 @@ from_second a b c d r = append_assoc a (b ++ (c ++ d)) r ∙ ap (λ t. a ++ t) (
 from_third : (a b c d r : List ℕ) → (a ++ (b ++ (c ++ d))) ++ r ≡ (a ++ b) ++ (c ++ (d ++ r))
 from_third a b c d r = from_second a b c d r ∙ ap (λ t. a ++ (b ++ t)) (append_assoc c d r) ∙ sym (append_assoc a b (c ++ (d ++ r)))
 
-module _ (m : Filed) (filed : IsFiled m) where
+module _ (scanned : Bool) (m : Filed) (filed : IsFiled m) where
   from_len : length (padded 36 m.from_name) ≡ 36
   from_len = padded_len 36 m.from_name (omega (arith, filed.from_room))
 
@@ -72,12 +72,12 @@ module _ (m : Filed) (filed : IsFiled m) where
         filed.date_len,
       )
 
-  pub read_back : ReadsBack m
+  pub read_back : ReadsBack scanned m
   read_back =
       let from = padded 36 m.from_name in
       let to = padded 36 m.to_name in
       let subject = padded 72 m.subject in
-      let numbers = stored_numbers (stored_address m) (attribute_of m.sender) in
+      let numbers = stored_numbers (stored_address m) (attribute_of scanned m.sender) in
       let text = text_behind m.echo ++ 0 ∷ [] in
       record {
         from_back =

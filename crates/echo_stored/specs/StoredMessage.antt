@@ -1,5 +1,5 @@
 -- The stored message of FTS-0001: one message, as editors and tossers keep it in a file of its own.
-use Rattle.std.specs.Prelude.{ℕ, ◌-◌, List, [], ◌∷◌, ◌++◌, length, replicate, Option, Some, None}
+use Rattle.std.specs.Prelude.{ℕ, ◌-◌, Bool, List, [], ◌∷◌, ◌++◌, length, replicate, if◌then◌else◌, Option, Some, None}
 use Rattle.std.specs.List.{flat_map}
 use Rattle.echo_addr.specs.declared.address.Address.{Address}
 use Rattle.echo_addr.specs.ShortLines.{path_prefix, seen_prefix}
@@ -27,10 +27,10 @@ known_address None None = record { zone = 0; net = 0; node = 0 }
 abbrev pub stored_address : Filed → Address
 stored_address m = known_address (address_in_origin m.echo) m.sender
 
--- the attribute: Local where it was posted here
-abbrev pub attribute_of : Option Address → ℕ
-attribute_of None = 256
-attribute_of (Some sender) = 0
+-- the attribute: Local where it was posted here, and then Sent where it was scanned
+abbrev pub attribute_of : Bool → Option Address → ℕ
+attribute_of scanned None = if scanned then 264 else 256
+attribute_of scanned (Some sender) = 0
 
 -- timesRead, destNode, origNode, cost, origNet, destNet, destZone, origZone, destPoint, origPoint, replyTo,
 -- Attribute and nextReply; echomail is for no single system
@@ -43,7 +43,7 @@ stored_numbers from attribute =
 abbrev pub text_behind : EchoText → List ℕ
 text_behind e = flat_map ended e.kept ++ (short_lines seen_prefix e.seen ++ short_lines path_prefix e.path)
 
--- the bytes of the stored message
-abbrev pub stored_bytes : Filed → List ℕ
-stored_bytes m =
-    stored_front m ++ (stored_numbers (stored_address m) (attribute_of m.sender) ++ (text_behind m.echo ++ 0 ∷ []))
+-- the bytes of the stored message, of one that was scanned or of one that waits
+abbrev pub stored_bytes : Bool → Filed → List ℕ
+stored_bytes scanned m =
+    stored_front m ++ (stored_numbers (stored_address m) (attribute_of scanned m.sender) ++ (text_behind m.echo ++ 0 ∷ []))

@@ -63,8 +63,8 @@ ReadAnswers bytes (Err BadMessage) = is_to_post bytes ≡ false
 ReadAnswers bytes (Err Memory) = is_to_post bytes ≡ true
 
 -- what was written for a message has its names, its subject and its text
-pub record ReadsBack (m : Filed) : Type 0 where
-  pub from_back : field_at 0 36 (stored_bytes m) ≡ m.from_name
-  pub to_back : field_at 36 36 (stored_bytes m) ≡ m.to_name
-  pub subject_back : field_at 72 72 (stored_bytes m) ≡ m.subject
-  pub text_back : text_in (stored_bytes m) ≡ text_behind m.echo
+pub record ReadsBack (scanned : Bool) (m : Filed) : Type 0 where
+  pub from_back : field_at 0 36 (stored_bytes scanned m) ≡ m.from_name
+  pub to_back : field_at 36 36 (stored_bytes scanned m) ≡ m.to_name
+  pub subject_back : field_at 72 72 (stored_bytes scanned m) ≡ m.subject
+  pub text_back : text_in (stored_bytes scanned m) ≡ text_behind m.echo

@@ -10,20 +10,30 @@ use echo_filed::Filed;
 use echo_text::{Echo, write_text};
 use std::alloc::{AllocError, Global};
 
-/// The attribute of a message that was written here.
+/// The attribute of a message that was written here, and of one that was sent since.
 const LOCAL: u16 = 256;
+
+const LOCAL_SENT: u16 = 264;
 
 /// What fills a field.
 const ZEROS: [u8; 72] = [0; 72];
 
 /// Adds the message as a stored one (FTS-0001): the names and the subject, each filled with 00, the DateTime, the
-/// numbers, and its text without the AREA line, ended by 00.
-pub fn push_stored(alloc: Global, stored: &mut Vec<u8>, message: &Filed) -> Result<(), AllocError>
-    ensures { OnOk result (stored.new.items ≡ stored.old.items ++ stored_bytes message.now) }
+/// numbers, and its text without the AREA line, ended by 00. A message was scanned or it waits.
+pub fn push_stored(
+    alloc: Global,
+    stored: &mut Vec<u8>,
+    message: &Filed,
+    scanned: bool,
+) -> Result<(), AllocError>
+    ensures { OnOk result (stored.new.items ≡ stored.old.items ++ stored_bytes scanned message.now) }
 {
     push_front(stored, message)?;
     let from = stored_address(message);
-    push_bytes(stored, &numbers(from, attribute_of(message.sender)))?;
+    push_bytes(
+        stored,
+        &numbers(from, attribute_of(scanned, message.sender)),
+    )?;
     push_text(alloc, stored, message)?;
     push_bytes(stored, &[0])
 }
@@ -89,12 +99,13 @@ fn known_address(origin: Option<Address>, sender: Option<Address>) -> Address
     }
 }
 
-// The attribute of a message by who sent it.
-fn attribute_of(sender: Option<Address>) -> u16
-    ensures { result ≡ attribute_of sender }
+// The attribute of a message by whether it was scanned, and by who sent it.
+fn attribute_of(scanned: bool, sender: Option<Address>) -> u16
+    ensures { result ≡ attribute_of scanned sender }
 {
     match sender {
         Some(_) => 0,
+        None if scanned => LOCAL_SENT,
         None => LOCAL,
     }
 }

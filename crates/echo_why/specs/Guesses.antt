@@ -55,3 +55,8 @@ abbrev pub IsWrongAtOnce : List LinkFile → List ℕ → ℕ → Guess → Type
 IsWrongAtOnce files tag poster guess =
     (file : LinkFile) → nth poster files ≡ Some file → IsTrue (has_area file tag) →
     ¬ IsRight (run_of files (post_and_scan poster tag)) poster tag (id_of file.system 1) guess
+
+-- whom a packet of the first scan goes to, where the guess is that a system is sent its own or that one goes to nobody
+abbrev pub guessed_link : Address → Guess → Address
+guessed_link own (Nobody to) = to
+guessed_link own _ = own

@@ -124,8 +124,8 @@ fn sender_at(
     ensures { IfOk result (λ found. (run : Run) → IsWorldOf world.now run → (p : Packet) → nth k run.packets ≡ Some p →
         found ≡ (if nat_lt 0 (count (ById tag.now id.now) (copies p)) then Some (origin p) else None)) }
 {
-    match world.packet(k) {
-        Some(bytes) => sender_in(alloc, bytes, tag, id),
+    match world.packet(alloc, k)? {
+        Some(bytes) => sender_in(alloc, &bytes, tag, id),
         None => Ok(None),
     }
 }

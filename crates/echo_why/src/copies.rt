@@ -56,8 +56,8 @@ fn copies_to(
     if !is_for(world, k, to) {
         return Ok(0);
     }
-    match world.packet(k) {
-        Some(bytes) => copies_in(alloc, bytes, tag, id),
+    match world.packet(alloc, k)? {
+        Some(bytes) => copies_in(alloc, &bytes, tag, id),
         None => Ok(0),
     }
 }

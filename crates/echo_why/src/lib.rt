@@ -6,7 +6,7 @@
 //!
 //! Modules in reading order: `shown` (what is answered), `copies` (one message in the packets of a net),
 //! `guess`, `judging` (whether a guess is right of a net), `events` and `confirming` (a plan is tried);
-//! `sketch` (how a message would spread), `needed` (which moves a guess needs), `circle` (a short loop),
+//! `sets` and `sketch` (how a message would spread), `needed` (which moves a guess needs), `circle` (a short loop),
 //! `planning` (whose posting is tried) and `finding` (the plan, tried); `sources` (link files from bytes),
 //! `first_scans`, `rounds` and `trying` (systems post in turn) and `explaining` (the whole); `carrying` (which
 //! packets bring the message where it does harm); `laws` (what holds of what is shown).
@@ -26,6 +26,7 @@ mod laws;
 mod needed;
 mod planning;
 mod rounds;
+mod sets;
 mod shown;
 mod sketch;
 mod sources;

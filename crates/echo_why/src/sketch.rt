@@ -2,8 +2,9 @@
 //! which events are tried on real packets.
 
 use crate::guess::Guess;
+use crate::sets::{NOTHING, Sets};
 use crate::shown::Move;
-use echo_addr::{Address, NetNode};
+use echo_addr::Address;
 use echo_links::LinkFile;
 use echo_replay::Receivers;
 use std::alloc::{AllocError, Global};
@@ -26,7 +27,7 @@ pub(crate) struct Place {
     /// The first packet that is for the system.
     first: Option<usize>,
     /// The SEEN-BY of what it sends.
-    seen: Vec<NetNode>,
+    seen: usize,
 }
 
 /// A message on its way through the net.
@@ -40,6 +41,7 @@ pub(crate) struct Sketch<'a> {
     pub(crate) moves: Vec<Move>,
     pub(crate) packets: Vec<Sent>,
     pub(crate) places: Vec<Place>,
+    sets: Sets,
     /// The packets by which a guess shows.
     pub(crate) showing: Vec<usize>,
     lost: Option<(usize, Address)>,
@@ -60,7 +62,7 @@ impl<'a> Sketch<'a> {
                 filed: i == poster,
                 came: None,
                 first: None,
-                seen: Vec::new(alloc),
+                seen: NOTHING,
             })?;
         }
         Ok(Sketch {
@@ -72,6 +74,7 @@ impl<'a> Sketch<'a> {
             moves: Vec::new(alloc),
             packets: Vec::new(alloc),
             places,
+            sets: Sets::new(alloc)?,
             showing: Vec::new(alloc),
             lost: None,
         })
@@ -80,7 +83,6 @@ impl<'a> Sketch<'a> {
     /// Follows the message until something shows that goes wrong: in each round those systems scan that have
     /// just filed it, and then the packets come to those systems that are marked, or to all.
     pub(crate) fn follow(&mut self, marked: Option<&[bool]>) -> Result<Option<Guess>, AllocError> {
-        let mut givers = Vec::new(self.alloc);
         let mut front = Vec::new(self.alloc);
         front.push(self.poster)?;
         'rounds: for _ in 0..self.files.len() {
@@ -88,24 +90,12 @@ impl<'a> Sketch<'a> {
             if let Some(guess) = self.scan_all(&front)? {
                 return Ok(Some(guess));
             }
-            self.forget(&givers);
-            givers = front;
             front = self.deliver_all(first, marked)?;
             if front.is_empty() {
                 break;
             }
         }
         self.guess_at_rest(marked.is_none())
-    }
-
-    // Nobody asks for the SEEN-BY of these any more.
-    fn forget(&mut self, givers: &[usize]) {
-        for system in givers {
-            if *system < self.places.len() {
-                let place = &mut self.places[*system];
-                place.seen = Vec::new(self.alloc);
-            }
-        }
     }
 
     // The systems scan.
@@ -121,10 +111,9 @@ impl<'a> Sketch<'a> {
     // The system scans.
     fn scan(&mut self, system: usize) -> Result<Option<Guess>, AllocError> {
         let targets = self.targets(system)?;
-        if system < self.places.len() && !targets.is_empty() {
+        if !targets.is_empty() {
             let seen = self.seen_after(system)?;
-            let place = &mut self.places[system];
-            place.seen = seen;
+            self.put_seen(system, seen);
         }
         let scan = self.moves.len();
         self.moves.push(Move::Scan(system))?;
@@ -241,24 +230,13 @@ impl<'a> Sketch<'a> {
     }
 
     // The SEEN-BY of the message as it came to this system.
-    fn seen_before(&self, system: usize) -> &[NetNode] {
+    fn seen_before(&self, system: usize) -> usize {
         match self.giver(system) {
             Some(giver) => match self.places.get(giver) {
-                Some(place) => place.seen.as_slice(),
-                None => &[],
+                Some(place) => place.seen,
+                None => NOTHING,
             },
-            None => &[],
-        }
-    }
-
-    // The links of the area.
-    fn links(&self, system: usize) -> &[Address] {
-        match self.files.get(system) {
-            Some(file) => match file.links(self.tag) {
-                Some(links) => links,
-                None => &[],
-            },
-            None => &[],
+            None => NOTHING,
         }
     }
 
@@ -270,8 +248,8 @@ impl<'a> Sketch<'a> {
             None => None,
         };
         let mut targets = Vec::new(self.alloc);
-        for link in self.links(system) {
-            if Some(*link) != sender && seen.binary_search(&link.net_node()).is_err() {
+        for link in links_of(self.files, self.tag, system) {
+            if Some(*link) != sender && !self.sets.has(seen, link.net_node()) {
                 targets.push(*link)?;
             }
         }
@@ -279,18 +257,23 @@ impl<'a> Sketch<'a> {
         Ok(targets)
     }
 
-    // The SEEN-BY of what the system sends, ascending.
-    fn seen_after(&self, system: usize) -> Result<Vec<NetNode>, AllocError> {
-        let mut seen = Vec::from_slice(self.alloc, self.seen_before(system))?;
+    // The SEEN-BY of what the system sends.
+    fn seen_after(&mut self, system: usize) -> Result<usize, AllocError> {
+        let mut seen = self.seen_before(system);
         if let Some(own) = self.address(system) {
-            seen.push(own.net_node())?;
+            seen = self.sets.with(seen, own.net_node())?;
         }
-        for link in self.links(system) {
-            seen.push(link.net_node())?;
+        for link in links_of(self.files, self.tag, system) {
+            seen = self.sets.with(seen, link.net_node())?;
         }
-        seen.sort_unstable();
-        seen.dedup();
         Ok(seen)
+    }
+
+    fn put_seen(&mut self, system: usize, seen: usize) {
+        if system < self.places.len() {
+            let place = &mut self.places[system];
+            place.seen = seen;
+        }
     }
 
     fn address(&self, system: usize) -> Option<Address> {
@@ -322,6 +305,17 @@ impl<'a> Sketch<'a> {
         }
         let (_, system) = found?;
         Some(system)
+    }
+}
+
+// The links of the area at the system of this index.
+fn links_of<'a>(files: &'a [LinkFile], tag: &[u8], system: usize) -> &'a [Address] {
+    match files.get(system) {
+        Some(file) => match file.links(tag) {
+            Some(links) => links,
+            None => &[],
+        },
+        None => &[],
     }
 }
 

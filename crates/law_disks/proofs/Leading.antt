@@ -1,5 +1,5 @@
 -- A command that was run on a station leads to a net in which the station has the base that it made.
-use Rattle.std.proofs.Common.{◌≡◌, ◌⊎◌, inl, inr, ⊎_elim, ◌∙◌, ℕ, List, Some, Result, Ok, Err, refl, sym, subst, ap}
+use Rattle.std.proofs.Common.{◌≡◌, ◌⊎◌, inl, inr, ⊎_elim, ◌∙◌, ℕ, List, Result, Ok, Err, refl, sym, subst, ap}
 use Rattle.std.specs.Prelude.{IfErr, OnOk}
 use Rattle.echo_base.specs.Base.{Base}
 use Rattle.echo_disk.specs.Disk.{DiskState, Files}
@@ -14,11 +14,11 @@ use Rattle.echo_store_changing.specs.declared.stop.Stop.TheVariants.{Met}
 use Rattle.station.specs.Place.{KeepsElsewhere, Place, SameElsewhere, StandsOrWasLeft}
 use Rattle.station.specs.Running.{IsKept, IsNotRun, IsRun, IsRunOn, LeavesWhereMet, MadeOrWasLeft, RunsIn}
 use Rattle.law_stations.specs.Commands.{Command}
-use Rattle.law_stations.specs.Nets.{Station, with_base}
+use Rattle.law_stations.specs.Nets.{with_base}
 use Rattle.law_stations.proofs.Pairs.{changed-there}
 use Rattle.law_crashes.specs.Disks.{Disks}
 use Rattle.law_crashes.specs.Stopping.{LeadsFar}
-use Rattle.law_disks.specs.OnDisks.{AreAsMay, DoesAsMay, IsAfter, IsLinkedOn, IsStationAt, LeadsFarBy, LeavesElsewhere, ReadsLinks, ShowsStation}
+use Rattle.law_disks.specs.OnDisks.{AreAsMay, DoesAsMay, IsAfter, IsLinkedOn, IsStationAt, LeadsFarBy, ReadsLinks, ShowsStation}
 
 -- disks to which a command of this kind leads, on which the station has this base
 pub record LeadsTo (IsCommand : Command → Type 0) (i : ℕ) (d : Disks) (next : Base) : Type 0 where

@@ -1,4 +1,4 @@
 mod Leading
-pub mod Commands
+pub mod Events
 pub mod Runs
 pub mod Neighbours

@@ -1,5 +1,5 @@
 -- What a command leaves elsewhere leaves other stations as they were.
-use Rattle.std.proofs.Common.{◌≡◌, ◌≢◌, ◌⊎◌, inl, inr, ◌∙◌, ℕ, List, sym}
+use Rattle.std.proofs.Common.{◌≡◌, ◌≢◌, ◌⊎◌, inl, inr, ◌∙◌, ℕ, List}
 use Rattle.echo_disk.specs.Disk.{DiskState, Files}
 use Rattle.station.specs.Place.{Place, SameElsewhere}
 use Rattle.law_stations.specs.Commands.{CommandEvent}
@@ -12,7 +12,7 @@ use Rattle.law_disks.specs.OnDisks.{LeavesElsewhere, ShowsStation}
 module _ (place other : Place) (old new : DiskState) (links : List ℕ) (i : ℕ) (event : CommandEvent) (d after : Disks) (left : LeavesElsewhere place old new) (apart : IsApart other links place)
     (was : StandsOnDisk other links i old d) (off : i ≢ event.station) (happens : MayHappen event d after) where
   -- files in which what was on the disk elsewhere is as it was show the station
-  shows : (c : Files) → c links ≡ old.seen links → SameOnDisk other old c → ShowsStation other links i c after
+  abbrev shows : (c : Files) → c links ≡ old.seen links → SameOnDisk other old c → ShowsStation other links i c after
   shows c linked same = record {
     station = was.at.shows.station;
     there = elsewhere event i d after off happens ∙ was.at.shows.there;

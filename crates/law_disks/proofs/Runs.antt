@@ -1,11 +1,12 @@
 -- Each command that was run on a station does what its command event may do.
-use Rattle.std.proofs.Common.{inr, ℕ, Bool, List, Option, Result, slice_get}
+use Rattle.std.proofs.Common.{inr, ℕ, Bool, List, Option, Result, Ok, slice_get}
 use Rattle.echo_base.specs.Base.{Base}
 use Rattle.echo_changing.specs.declared.posting.NewMessage.{NewMessage}
 use Rattle.echo_changing.specs.declared.replying.Answer.{Answer}
 use Rattle.echo_changing.specs.Coming.{Coming}
 use Rattle.echo_disk.specs.Disk.{DiskState}
 use Rattle.echo_links.specs.Links.{LinkFile}
+use Rattle.echo_links.specs.LinkLines.{LinksOf}
 use Rattle.echo_mailing.specs.declared.letter.Letter.{Letter}
 use Rattle.echo_mailing.specs.declared.mailed.MailWords.{MailWords}
 use Rattle.echo_mailing.specs.Posted.{Mails, MailsOn}
@@ -24,7 +25,7 @@ use Rattle.law_stations.specs.Commands.{TossesAll}
 use Rattle.law_stations.specs.Kinds.{IsPurge, IsToss}
 use Rattle.law_disks.specs.Kinds.{IsMail, IsPostAs, IsReplyAs}
 use Rattle.law_disks.specs.OnDisks.{AsMay, TossesAsMay}
-use Rattle.law_disks.proofs.Commands.{holding-or-purging, mailing, posting-as, purging, replying, tossing}
+use Rattle.law_disks.proofs.Events.{holding-or-purging, mailing, posting-as, purging, replying, tossing}
 use Rattle.law_disks.proofs.Leading.{does}
 
 module _ (place : Place) (Reads : LinkFile → Type 0) (Shut : Fault → Type 0) (failed : Type 0) (old new : DiskState) (kept : KeepsElsewhere place old new) (out out_now : Output) where
@@ -40,7 +41,7 @@ module _ (place : Place) (Reads : LinkFile → Type 0) (Shut : Fault → Type 0)
       → RunsIn (λ file base. PostsAsOn free words (state_in file base) body out out_now result) (λ file. PostsAs free file words body) (λ file. PostsAs free file words body) place Reads Shut failed old new out out_now result
       → AsMay (λ base. IsPostAs free words body) place Reads old new result
   post-does free words body result runs i d links read at =
-      let leads = λ (file : LinkFile) (next : Base) says (posts : PostsAs free file words body at.shows.station.base next).
+      let leads = λ (file : LinkFile) (next : Base) (says : LinksOf at.shows.station.links (Ok file)) (posts : PostsAs free file words body at.shows.station.base next).
       posting-as at.shows.station file i d at.shows.there says (IsPostAs free words body) free words body next (λ command is. is) posts in
       does (IsPostAs free words body) place links i d old new at kept
       (λ file base. PostsAsOn free words (state_in file base) body out out_now result) (λ file. PostsAs free file words body) (λ file. PostsAs free file words body) Reads read Shut failed result
@@ -50,7 +51,7 @@ module _ (place : Place) (Reads : LinkFile → Type 0) (Shut : Fault → Type 0)
       → RunsIn (λ file base. RepliesOn (slice_get base.messages index) answer (state_in file base) body out out_now result) (λ file. Replies file index answer body) (λ file. Replies file index answer body)
       place Reads Shut failed old new out out_now result → AsMay (IsReplyAs index answer body) place Reads old new result
   reply-does index answer body result runs i d links read at =
-      let leads = λ (file : LinkFile) (next : Base) says (replies : Replies file index answer body at.shows.station.base next).
+      let leads = λ (file : LinkFile) (next : Base) (says : LinksOf at.shows.station.links (Ok file)) (replies : Replies file index answer body at.shows.station.base next).
       replying at.shows.station file i d at.shows.there says index answer body next replies in
       does (IsReplyAs index answer body at.shows.station.base) place links i d old new at kept
       (λ file base. RepliesOn (slice_get base.messages index) answer (state_in file base) body out out_now result) (λ file. Replies file index answer body) (λ file. Replies file index answer body)
@@ -60,7 +61,7 @@ module _ (place : Place) (Reads : LinkFile → Type 0) (Shut : Fault → Type 0)
       → RunsIn (λ file base. MailsOn letter asked (state_in file base) out out_now result) (λ file. Mails file letter asked) (λ file. Mails file letter asked) place Reads Shut failed old new out out_now result
       → AsMay (λ base. IsMail letter asked) place Reads old new result
   mail-does letter asked result runs i d links read at =
-      let leads = λ (file : LinkFile) (next : Base) says (mails : Mails file letter asked at.shows.station.base next).
+      let leads = λ (file : LinkFile) (next : Base) (says : LinksOf at.shows.station.links (Ok file)) (mails : Mails file letter asked at.shows.station.base next).
       mailing at.shows.station file i d at.shows.there says letter asked next mails in
       does (IsMail letter asked) place links i d old new at kept
       (λ file base. MailsOn letter asked (state_in file base) out out_now result) (λ file. Mails file letter asked) (λ file. Mails file letter asked)
@@ -72,7 +73,7 @@ module _ (place : Place) (Reads : LinkFile → Type 0) (Shut : Fault → Type 0)
         → RunsIn (λ file base. TossesIn noting limits device file base files left out out_now result) (λ file base. TossesTo noting limits device file base files left out out_now result) (λ file. Tosses noting limits device file files)
         place Reads Shut failed old new out out_now result → TossesAsMay files place Reads old new result
     toss-does files left result runs indexes i d are links read at =
-        let leads = λ (file : LinkFile) (next : Base) says (tosses : Tosses noting limits device file files at.shows.station.base next).
+        let leads = λ (file : LinkFile) (next : Base) (says : LinksOf at.shows.station.links (Ok file)) (tosses : Tosses noting limits device file files at.shows.station.base next).
         tossing at.shows.station file i d at.shows.there says files indexes next are (known file files at.shows.station.base next tosses) in
         does (IsToss indexes) place links i d old new at kept
         (λ file base. TossesIn noting limits device file base files left out out_now result) (λ file base. TossesTo noting limits device file base files left out out_now result) (λ file. Tosses noting limits device file files)

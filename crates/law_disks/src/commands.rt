@@ -123,7 +123,7 @@ pub fn toss_as_may<
     D: Disk,
     P: OpenStation<'a, D>,
     Q: BeforeCommand<'a, P::Kept>,
-    F: PacketFiles<'a>,
+    F: PacketFiles<'a> + 'a,
     L: FileLock,
     K: FileLock,
     W: Sink,

@@ -1,5 +1,5 @@
 -- The toss of any files is the toss of messages that stand in them.
-use Rattle.std.proofs.Common.{◌≡◌, ◌⊎◌, inl, inr, refl, sym, subst, ap, ◌∙◌, ℕ, zero, suc, arith, List, [], ◌∷◌, ◌++◌, length, take, Option, Some, None}
+use Rattle.std.proofs.Common.{◌≡◌, inl, inr, refl, sym, subst, ap, ◌∙◌, ℕ, zero, suc, arith, List, [], ◌∷◌, ◌++◌, length, take, Option, Some, None}
 use Rattle.std.specs.List.{AllByRecursion}
 use Rattle.std.proofs.lemmas.List.{take_all}
 use Rattle.echo_addr.specs.declared.address.Address.{Address}
@@ -22,7 +22,7 @@ use Rattle.law_stations.proofs.Readings.{TossesFront}
 use Rattle.law_stations.proofs.Tossed.{Takes, takes-both, takes-front, takes-none}
 use Rattle.echo_strangers.specs.Lone.{LoneEvent, LoneSystem, PostHere, PurgeHere, ScanHere, TossHere, after_all_lone, with_system}
 use Rattle.echo_strangers.proofs.Growing.{events-append}
-use Rattle.law_lone_station.specs.AloneInOrder.{FaultlessTossIsWhole, HoldsPacket}
+use Rattle.law_lone_station.specs.AloneInOrder.{FaultlessTossIsWhole}
 use Rattle.law_lone_station.specs.LoneStations.{AreAnyFiles, LoneStation, held_in, tossed_whole}
 
 -- no text in front of bytes holds 00

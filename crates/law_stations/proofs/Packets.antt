@@ -1,5 +1,5 @@
 -- The packet files of a scan are packets.
-use Rattle.std.proofs.Common.{◌≡◌, ◌≢◌, inl, inr, refl, sym, subst, ℕ, zero, suc, arith, length-append, Bool, List, [], ◌∷◌, ◌++◌, length, map, drop, take}
+use Rattle.std.proofs.Common.{◌≡◌, ◌≢◌, inl, inr, refl, sym, subst, ℕ, zero, suc, arith, length-append, Bool, List, [], ◌∷◌, ◌++◌, length, map, drop}
 use Rattle.std.specs.Prelude.{filter}
 use Rattle.std.specs.List.{AllByRecursion, flat_map}
 use Rattle.std.proofs.Math.Seq.{take-append_seam}
@@ -31,14 +31,14 @@ use Rattle.law_stations.specs.Agreement.{IsPacketFile}
 use Rattle.law_stations.specs.Nets.{Paired, bytes_of}
 
 -- parts of bytes are bytes
-pub bytes-front : (xs ys : List ℕ) → AreBytes (xs ++ ys) → AreBytes xs
+bytes-front : (xs ys : List ℕ) → AreBytes (xs ++ ys) → AreBytes xs
 bytes-front xs ys h = subst AreBytes (take-append_seam xs ys) (AreBytes-take (length xs) (xs ++ ys) h)
 
-pub bytes-behind : (xs ys : List ℕ) → AreBytes (xs ++ ys) → AreBytes ys
+bytes-behind : (xs ys : List ℕ) → AreBytes (xs ++ ys) → AreBytes ys
 bytes-behind xs ys h = subst AreBytes (drop_at xs ys (length xs) refl) (AreBytes-drop (length xs) (xs ++ ys) h)
 
 -- what holds of each of a list holds of those that pass a test, and of the last and the first ones
-pub all-filter : {X : Type 0} (P : X → Type 0) (p : X → Bool) (xs : List X) → AllByRecursion P xs → AllByRecursion P (filter p xs)
+all-filter : {X : Type 0} (P : X → Type 0) (p : X → Bool) (xs : List X) → AllByRecursion P xs → AllByRecursion P (filter p xs)
 all-filter P p [] all = tt
 all-filter {X} P p (x ∷ xs) all =
     let Q : List X → Type 0 = λ l. AllByRecursion P l in
@@ -47,15 +47,10 @@ all-filter {X} P p (x ∷ xs) all =
       | inr f ↦ subst Q (sym (cond-false (p x) (x ∷ filter p xs) (filter p xs) f)) (all-filter P p xs all.1)
     ]
 
-pub all-drop : {X : Type 0} (P : X → Type 0) (n : ℕ) (xs : List X) → AllByRecursion P xs → AllByRecursion P (drop n xs)
+all-drop : {X : Type 0} (P : X → Type 0) (n : ℕ) (xs : List X) → AllByRecursion P xs → AllByRecursion P (drop n xs)
 all-drop P zero xs all = all
 all-drop P (suc n) [] all = tt
 all-drop P (suc n) (x ∷ xs) all = all-drop P n xs all.1
-
-pub all-take : {X : Type 0} (P : X → Type 0) (n : ℕ) (xs : List X) → AllByRecursion P xs → AllByRecursion P (take n xs)
-all-take P zero xs all = tt
-all-take P (suc n) [] all = tt
-all-take P (suc n) (x ∷ xs) all = (all.0, all-take P n xs all.1)
 
 -- a header of bytes
 header-long : (h : Header) → length h.password ≡ 8 → length h.fill ≡ 20 → length (header_bytes h) ≡ 58

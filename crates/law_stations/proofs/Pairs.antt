@@ -2,16 +2,8 @@
 use Rattle.std.proofs.Common.{◌≡◌, inl, inr, refl, sym, subst, ap, ◌∙◌, ℕ, zero, suc, List, [], ◌∷◌, ◌++◌, map, Some}
 use Rattle.echo_graph.specs.Walk.{Among}
 use Rattle.echo_run.specs.Run.{change, nth}
-use Rattle.echo_run.proofs.Lists.{none_some, some_same}
+use Rattle.echo_run.proofs.Lists.{none_some, nth-changed, some_same}
 use Rattle.law_stations.specs.Nets.{Paired}
-
-pub paired-change : {X Y : Type 0} (R : X → Y → Type 0) (i : ℕ) (f : X → X) (g : Y → Y) (xs : List X) (ys : List Y) → Paired R xs ys
-    → ((x : X) (y : Y) → nth i xs ≡ Some x → nth i ys ≡ Some y → R x y → R (f x) (g y)) → Paired R (change i f xs) (change i g ys)
-paired-change R i f g [] [] p h = tt
-paired-change R i f g [] (y ∷ ys) p h = absurd p
-paired-change R i f g (x ∷ xs) [] p h = absurd p
-paired-change R zero f g (x ∷ xs) (y ∷ ys) p h = (h x y refl refl p.0, p.1)
-paired-change R (suc i) f g (x ∷ xs) (y ∷ ys) p h = (p.0, paired-change R i f g xs ys p.1 h)
 
 -- the other of a pair
 pub paired-nth : {X Y : Type 0} (R : X → Y → Type 0) (i : ℕ) (x : X) (xs : List X) (ys : List Y) → Paired R xs ys → nth i xs ≡ Some x
@@ -42,49 +34,40 @@ paired-append R [] us (y ∷ ys) vs p q = absurd p
 paired-append R (x ∷ xs) us [] vs p q = absurd p
 paired-append R (x ∷ xs) us (y ∷ ys) vs p q = (p.0, paired-append R xs us ys vs p.1 q)
 
--- an item of an index is changed to what it becomes
-pub change-here : {X : Type 0} (i : ℕ) (f : X → X) (x : X) (xs : List X) → nth i xs ≡ Some x → change i f xs ≡ change i (λ _. f x) xs
-change-here i f x [] h = refl
-change-here {X} zero f x (z ∷ xs) h = ap (λ (y : X). f y ∷ xs) (some_same h)
-change-here {X} (suc i) f x (z ∷ xs) h = ap (λ (ys : List X). z ∷ ys) (change-here i f x xs h)
-
 -- the last change stands
-pub change-again : {X : Type 0} (i : ℕ) (x y : X) (xs : List X) → change i (λ _. y) (change i (λ _. x) xs) ≡ change i (λ _. y) xs
-change-again i x y [] = refl
-change-again zero x y (z ∷ xs) = refl
-change-again {X} (suc i) x y (z ∷ xs) = ap (λ (ys : List X). z ∷ ys) (change-again i x y xs)
+pub change-twice : {X : Type 0} (i : ℕ) (f g : X → X) → ((x : X) → g (f x) ≡ g x) → (xs : List X) → change i g (change i f xs) ≡ change i g xs
+change-twice i f g last [] = refl
+change-twice {X} zero f g last (z ∷ xs) = ap (λ (y : X). y ∷ xs) (last z)
+change-twice {X} (suc i) f g last (z ∷ xs) = ap (λ (ys : List X). z ∷ ys) (change-twice i f g last xs)
 
--- an item that is put where it is
-pub change-same : {X : Type 0} (i : ℕ) (x : X) (xs : List X) → nth i xs ≡ Some x → change i (λ _. x) xs ≡ xs
-change-same i x [] h = refl
-change-same {X} zero x (z ∷ xs) h = ap (λ (y : X). y ∷ xs) (sym (some_same h))
-change-same {X} (suc i) x (z ∷ xs) h = ap (λ (ys : List X). z ∷ ys) (change-same i x xs h)
+-- an item that stays what it is
+pub change-same : {X : Type 0} (i : ℕ) (f : X → X) (x : X) (xs : List X) → nth i xs ≡ Some x → f x ≡ x → change i f xs ≡ xs
+change-same i f x [] h same = refl
+change-same {X} zero f x (z ∷ xs) h same =
+    let is : x ≡ z = sym (some_same h) in
+    ap (λ (y : X). y ∷ xs) (ap f (sym is) ∙ same ∙ is)
+change-same {X} (suc i) f x (z ∷ xs) h same = ap (λ (ys : List X). z ∷ ys) (change-same i f x xs h same)
 
--- what is found where it was put
-pub change-found : {X : Type 0} (i : ℕ) (x y : X) (xs : List X) → nth i xs ≡ Some x → nth i (change i (λ _. y) xs) ≡ Some y
-change-found i x y [] h = absurd (none_some h)
-change-found zero x y (z ∷ xs) h = refl
-change-found (suc i) x y (z ∷ xs) h = change-found i x y xs h
-
+-- what becomes of an item stands in its place
 pub changed-there : {X : Type 0} (i : ℕ) (f : X → X) (x : X) (xs : List X) → nth i xs ≡ Some x → nth i (change i f xs) ≡ Some (f x)
-changed-there i f x xs h = ap (λ (ys : List _). nth i ys) (change-here i f x xs h) ∙ change-found i x (f x) xs h
+changed-there i f x xs h = elim (nth-changed i i f x xs h) [ inl other ↦ absurd (other.0 refl) | inr here ↦ here.1 ]
 
 -- a change of one item keeps what is the same of its old and its new value
-pub change-map : {X Y : Type 0} (g : X → Y) (i : ℕ) (x y : X) (xs : List X) → nth i xs ≡ Some x → g y ≡ g x → map g (change i (λ _. y) xs) ≡ map g xs
-change-map g i x y [] h e = refl
-change-map {X} {Y} g zero x y (z ∷ xs) h e = ap (λ (w : Y). w ∷ map g xs) (e ∙ ap g (sym (some_same h)))
-change-map {X} {Y} g (suc i) x y (z ∷ xs) h e = ap (λ (ws : List Y). g z ∷ ws) (change-map g i x y xs h e)
+pub change-map : {X Y : Type 0} (g : X → Y) (i : ℕ) (f : X → X) (x : X) (xs : List X) → nth i xs ≡ Some x → g (f x) ≡ g x → map g (change i f xs) ≡ map g xs
+change-map g i f x [] h e = refl
+change-map {X} {Y} g zero f x (z ∷ xs) h e =
+    let is : x ≡ z = sym (some_same h) in
+    ap (λ (w : Y). w ∷ map g xs) (ap (λ (y : X). g (f y)) (sym is) ∙ e ∙ ap g is)
+change-map {X} {Y} g (suc i) f x (z ∷ xs) h e = ap (λ (ws : List Y). g z ∷ ws) (change-map g i f x xs h e)
 
 -- one pair is changed
 pub paired-put : {X Y : Type 0} (R : X → Y → Type 0) (i : ℕ) (f : X → X) (g : Y → Y) (x : X) (y : Y) (xs : List X) (ys : List Y) → Paired R xs ys
     → nth i xs ≡ Some x → nth i ys ≡ Some y → R (f x) (g y) → Paired R (change i f xs) (change i g ys)
-paired-put {X} {Y} R i f g x y xs ys p at there r =
-    paired-change R i f g xs ys p (λ a b k l same.
+paired-put R i f g x y [] [] p at there r = tt
+paired-put R i f g x y [] (b ∷ ys) p at there r = absurd p
+paired-put R i f g x y (a ∷ xs) [] p at there r = absurd p
+paired-put {X} {Y} R zero f g x y (a ∷ xs) (b ∷ ys) p at there r =
     let P : X → Type 0 = λ z. R (f z) (g b) in
     let Q : Y → Type 0 = λ z. R (f x) (g z) in
-    subst P (some_same (sym at ∙ k)) (subst Q (some_same (sym there ∙ l)) r))
-
-pub changed-among : {X : Type 0} (i : ℕ) (f : X → X) (x : X) (xs : List X) → nth i xs ≡ Some x → Among (f x) (change i f xs)
-changed-among i f x [] there = absurd (none_some there)
-changed-among zero f x (z ∷ xs) there = inl (ap f (sym (some_same there)))
-changed-among (suc i) f x (z ∷ xs) there = inr (changed-among i f x xs there)
+    (subst P (sym (some_same at)) (subst Q (sym (some_same there)) r), p.1)
+paired-put R (suc i) f g x y (a ∷ xs) (b ∷ ys) p at there r = (p.0, paired-put R i f g x y xs ys p.1 at there r)

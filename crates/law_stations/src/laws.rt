@@ -1,24 +1,32 @@
 //! What holds of the definitions. Each law is the contract of a function that does nothing.
 
-ghost use Rattle.std.specs.Prelude.{◌≡◌, Bool, List};
+ghost use Rattle.std.specs.Prelude.{◌≡◌, Bool, List, Ok, Option};
 ghost use Rattle.echo_base.specs.Base.{Base};
 ghost use Rattle.echo_links.specs.Links.{LinkFile};
 ghost use Rattle.echo_packet.specs.declared.limits.Limits.{Limits};
-ghost use Rattle.echo_status.specs.Devices.{device_of};
+ghost use Rattle.echo_status.specs.Devices.{Output, device_of};
+ghost use Rattle.echo_status.specs.declared.fault.Fault.{Fault};
 ghost use Rattle.echo_changing.specs.Coming.{Coming};
-ghost use Rattle.echo_store_changing.specs.Tossed.{Tosses};
+ghost use Rattle.echo_store_changing.specs.Tossed.{Tosses, TossesTo};
 ghost use Rattle.law_stations.specs.Agreement.{EventIsEvents, EventsAreARun};
 ghost use Rattle.law_stations.specs.Commands.{TossesAll};
 ghost use Rattle.law_stations.specs.InOrder.{HeadlineOnNets, NetsAreSound};
 
 use echo_device::Source;
 
-/// What `toss` does over readers of any type, with notes or without, it does over what is known of them: the same
-/// stops it, and the same files are left.
+/// What `toss` does over readers of any type it does over what is known of them: the same stops it, and the same files
+/// are left.
 pub fn tosses_are_what_is_known<R: Source>()
     ensures { (noting : Bool) (limits : Limits) (file : LinkFile) (files : List Coming) (base next : Base) →
         (toss : Tosses noting limits (device_of R.remaining R.failures) file files base next) →
         (known : TossesAll files file base next) × (known.stopped ≡ toss.stopped) × (known.left ≡ toss.left) }
+{}
+
+/// What `toss` answers, where its store did not fail, is what stopped it.
+pub fn tosses_answer_what_stopped_them<R: Source>()
+    ensures { (noting : Bool) (limits : Limits) (file : LinkFile) (files left : List Coming) (base next : Base) (old new : Output) (answer : Option Fault) →
+        TossesTo noting limits (device_of R.remaining R.failures) file base files left old new (Ok answer) next →
+        (known : TossesAll files file base next) × (known.stopped ≡ answer) × (known.left ≡ left) }
 {}
 
 /// A command at one station of a net is some events of the run that the net agrees with: none, a posting, a scan, a

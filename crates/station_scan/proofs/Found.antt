@@ -1,5 +1,5 @@
 -- What is found of what was listed, one by one.
-use Rattle.std.proofs.Common.{◌≡◌, ◌⊎◌, ⊎_elim, ◌∙◌, ◌<◌, ◌≤◌, ℕ, List, [], ◌∷◌, ◌++◌, ap, arith, get_or, length, length-append, subst, sym}
+use Rattle.std.proofs.Common.{◌≡◌, ⊎_elim, ◌∙◌, ◌<◌, ◌≤◌, ℕ, List, [], ◌∷◌, ◌++◌, ap, arith, get_or, length, length-append, subst, sym}
 use Rattle.std.specs.Prelude.{All, AllPairs, Contains, IsSome, Option}
 use Rattle.echo_station_files.specs.Paths.{path_beside}
 use Rattle.std.proofs.lemmas.Bool.{cases_lt}

@@ -1,5 +1,5 @@
 -- What earlier scans left, as it is brought to its end.
-use Rattle.std.proofs.Common.{◌≡◌, ◌≢◌, ◌⊎◌, inl, inr, ⊎_elim, ◌∙◌, ◌<◌, ℕ, List, [], ◌++◌, ap, arith, get_or, length, map, refl, subst, sym}
+use Rattle.std.proofs.Common.{◌≡◌, ◌≢◌, inl, inr, ⊎_elim, ◌∙◌, ◌<◌, ℕ, List, [], ◌++◌, ap, arith, get_or, length, map, refl, subst, sym}
 use Rattle.std.specs.Prelude.{All, Contains, Err, IsSome, None, Ok, OnOk, Result}
 use Rattle.std.proofs.lemmas.Bool.{cases_lt}
 use Rattle.std.proofs.lemmas.List.{get_or-map, length-map}
@@ -7,6 +7,7 @@ use Rattle.std.proofs.lemmas.List.Elements.{All-contains, Contains-get_or}
 use Rattle.echo_disk.specs.Disk.{DiskState, Files, IsIn}
 use Rattle.echo_disk.specs.Runs.{ChangesNothing, LeavesOnly, OneStepOn}
 use Rattle.echo_disk.proofs.Moments.{no_call, then_nothing, weaker_run}
+use Rattle.echo_placing.specs.Changes.{ChangesOnly}
 use Rattle.echo_placing.specs.Finishing.{AreAway, AreLeftIn, FinishesEach, IsLeftIn, IsOfLeft, IsOver, IsThere}
 use Rattle.echo_placing.specs.declared.finishing.Left.{Left}
 use Rattle.echo_placing.specs.declared.placing_error.PlacingError.{PlacingError}
@@ -66,9 +67,9 @@ of_left_in folder found are m (l, is, at) =
     let one : IsLeftIn folder l = All-contains (IsLeftIn folder) found l are.each is in
     ⊎_elim (λ e. subst (IsIn folder) (sym e) one.beside_in) (λ e. subst (IsIn folder) (sym e) one.path_in) at
 
--- they are at their end, and then it is on the disk that what is gone is gone
-module _ (cursor : ℕ) (folder : List ℕ) (found : List Left) (placed : AreLeftIn folder found) (d0 d1 d2 : DiskState) (quiet : ChangesNothing d1 d2) where
-  over_still : (l : Left) → IsOver cursor d0 d1 l → IsOver cursor d0 d2 l
+-- one that is over is so while nothing changes
+module _ (cursor : ℕ) (d0 d1 d2 : DiskState) (quiet : ChangesNothing d1 d2) where
+  pub over_still : (l : Left) → IsOver cursor d0 d1 l → IsOver cursor d0 d2 l
   over_still l is = record {
     committed = λ below.
         let moved = is.committed below in
@@ -82,6 +83,8 @@ module _ (cursor : ℕ) (folder : List ℕ) (found : List Left) (placed : AreLef
     untouched = λ above. quiet.seen l.path.now ∙ is.untouched above;
   }
 
+-- they are at their end, and then it is on the disk that what is gone is gone
+module _ (cursor : ℕ) (folder : List ℕ) (found : List Left) (placed : AreLeftIn folder found) (d0 d1 d2 : DiskState) (quiet : ChangesNothing d1 d2) where
   is_flushed : ((m : List ℕ) → IsIn folder m → d2.seen m ≡ None → d2.is_flushed m) → All (IsOver cursor d0 d2) found → (m : List ℕ) → IsEndedAt cursor found d2.seen m → d2.is_flushed m
   is_flushed gone over m (l, is, at) =
       let one : IsOver cursor d0 d2 l = All-contains (IsOver cursor d0 d2) found l over is in
@@ -96,7 +99,7 @@ module _ (cursor : ℕ) (folder : List ℕ) (found : List Left) (placed : AreLef
   pub settled_these : (paths : List LeftPaths) → AreLent paths found → ((m : List ℕ) → IsIn folder m → d2.seen m ≡ None → d2.is_flushed m) → All (IsOver cursor d0 d1) found → ((m : List ℕ) → IsIn folder m → d1.is_named m)
       → LeavesOnly d0 d1 (OneStepOn (FinishesEach cursor found) d0) → ChangesOnly (IsOfLeft found) d0 d1 → EndsThese cursor paths d0 d2 (Ok tt)
   settled_these paths lent gone over named run changes =
-      let still : All (IsOver cursor d0 d2) found = λ k z lt. over_still (get_or found k z) (over k z lt) in
+      let still : All (IsOver cursor d0 d2) found = λ k z lt. over_still cursor d0 d1 d2 quiet (get_or found k z) (over k z lt) in
       record {
         found = found;
         lent = lent;

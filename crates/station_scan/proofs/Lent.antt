@@ -1,5 +1,5 @@
 -- A store whose disk was lent, used and given back.
-use Rattle.std.proofs.Common.{◌≡◌, ℕ, List}
+use Rattle.std.proofs.Common.{ℕ, List}
 use Rattle.echo_disk.specs.Disk.{DiskState}
 use Rattle.echo_disk.specs.Runs.{ChangesNothing}
 use Rattle.echo_placing.specs.Changes.{ChangesOnly}
@@ -9,13 +9,13 @@ use Rattle.echo_store.proofs.Runs.{same_twice}
 use Rattle.station.specs.Beneath.{HoldsAsBefore, IsGivenBack}
 use Rattle.station_scan.specs.Beneath.{IsUsedAt}
 
-module _ (paths : List ℕ → Type 0) (s0 a b s1 : StoreState) (d0 d1 : DiskState) (looks : LooksOn s0 a) (out : ChangesNothing s0.disk d0) (back : IsGivenBack a d0 d1 b) (off : (m : List ℕ) → s0.is_own m → paths m → ⊥)
+module _ (paths : List ℕ → Type 0) (s0 a b : StoreState) (d0 d1 : DiskState) (looks : LooksOn s0 a) (out : ChangesNothing s0.disk d0) (back : IsGivenBack a d0 d1 b) (off : (m : List ℕ) → s0.is_own m → paths m → ⊥)
     (run : ChangesOnly paths d0 d1) where
   pub held : HoldsAsBefore a b
   held = back.holds looks.ready (wider paths (λ m. a.is_own m → ⊥) d0 d1 (λ m at own. off m ((looks.same.own m).0 own) at) run)
 
-  pub used : LooksOn b s1 → ChangesNothing d1 s1.disk → IsUsedAt paths s0 s1
-  used last into = record {
+  pub used : (s1 : StoreState) → LooksOn b s1 → ChangesNothing d1 s1.disk → IsUsedAt paths s0 s1
+  used s1 last into = record {
     settled = λ base before after same stands.
         (looks.same.stands base after).0 (back.settled base before after (λ m own. same m ((looks.same.own m).0 own)) ((looks.same.stands base before).1 stands));
     same = same_twice s0 b s1 (same_twice s0 a b looks.same back.same) last.same;

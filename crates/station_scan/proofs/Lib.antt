@@ -7,5 +7,7 @@ mod Published
 mod Sends
 mod Outs
 mod Looked
+mod Through
 mod Stops
+mod Scans
 mod Runs

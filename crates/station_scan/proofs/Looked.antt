@@ -34,7 +34,7 @@ module _ (Own : List ℕ → Type 0) (outbound own : List ℕ) (Stays Comes Stay
         ended = at.ended;
         beside_them = at.beside_them;
         others = λ m other on. at.others m other (⊎_elim (λ is. inl ((quiet.named m (λ h. h) is.0.0, quiet.flushed m (λ h. h) is.0.1), is.1)) (λ ended. inr ended) on);
-        either = ⊎_elim (λ none. inl (stays c none.0, none.1)) (λ all. inr (comes c all.0, all.1)) at.either;
+        either = ⊎_elim (λ none. inl (stays c none.0, none.1)) (λ all. inr (comes c all.0, all.1, all.2)) at.either;
       }
 
   looked_step : (c : Files) → After c → Before c

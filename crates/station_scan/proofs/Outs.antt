@@ -1,6 +1,6 @@
 -- What earlier scans left comes to its end, and then the packets of a scan and the commit of its store are put on the disk.
-use Rattle.std.proofs.Common.{◌≡◌, ◌⊎◌, ◌≤◌, inl, inr, ⊎_elim, ◌∙◌, ℕ, List, All, get_or, refl, subst, sym}
-use Rattle.std.specs.Prelude.{Err, IfErr, Ok, OnOk, Result}
+use Rattle.std.proofs.Common.{◌≡◌, ◌⊎◌, inl, inr, ⊎_elim, ◌∙◌, ℕ, List, All, get_or, refl, subst, sym}
+use Rattle.std.specs.Prelude.{Err, Ok, OnOk, Result}
 use Rattle.std.proofs.lemmas.Bool.{cases_lt}
 use Rattle.std.proofs.lemmas.List.Elements.{All-contains}
 use Rattle.echo_base.specs.Base.{Base}
@@ -17,6 +17,9 @@ use Rattle.station_scan.specs.Left.{EndsLeft, IsEnded, IsLeftOf, IsOfNameOff}
 use Rattle.station_scan.specs.Publishing.{IsOnDisk, KeepsStoreBut}
 use Rattle.station_scan.specs.Scanning.{AreSentOut, CommitsScan, IsTouched, PreparesScan, SendsOut}
 use Rattle.station_scan.specs.Sends.{AreSentOn, IsOfThese, SendsThese}
+use Rattle.station_scan.specs.Stops.{scan_done}
+use Rattle.station_scan.specs.declared.scan_stop.ScanStop.{ScanStop}
+use Rattle.station_scan.specs.declared.unpublished.Unpublished.{Unpublished}
 use Rattle.station_scan.proofs.Published.{store_then, store_wider, used_keeps}
 
 -- one that is over, by what is seen
@@ -88,7 +91,7 @@ module _ (Own : List ℕ → Type 0) (outbound own : List ℕ) (is_true : Type 0
           with.others m (λ of. other (of_these m of))
           (⊎_elim (λ on. (ends.changes.named m on.1 on.0.0, ends.changes.flushed m on.1 on.0.1))
           (λ ended. (ends.named m (ended.0, ended.1, ⊎_elim (λ e. inl e) (λ p. inr p.0) ended.2), ends.flushed m ended)) at);
-      either = ⊎_elim (λ none. inl ((used.same.stands first c).0 none.0, none.1)) (λ all. inr ((used.same.stands next c).0 all.0, all.1)) with.either;
+      either = ⊎_elim (λ none. inl ((used.same.stands first c).0 none.0, none.1)) (λ all. inr ((used.same.stands next c).0 all.0, all.1, all.2)) with.either;
     })
 
     sent_crash : LeavesOnly s1.disk s2.disk (SendsThese s1 outbound own files first next) → LeavesOnly s0.disk s2.disk All_may
@@ -127,4 +130,9 @@ module _ (Own : List ℕ → Type 0) (outbound own : List ℕ) (s0 s1 : StoreSta
   sent_keeps files s2 kept =
       store_then (IsTouched s0.is_own outbound) s0 s1 s2 ended_keeps
       (store_wider (IsOfThese s1.is_own outbound own files) (IsTouched s0.is_own outbound) s1 s2
-      (λ m of. ⊎_elim (λ o. inl ((used.same.own m).0 o)) (λ p. inr (own, p.0.name, p.2, p.3)) of) kept)
+      (λ m of. ⊎_elim (λ o. inl ((used.same.own m).0 o)) (λ p. inr (own, (p.0.name, p.2, p.3))) of) kept)
+
+-- what was sent where the publishing ended well was where the scan did
+pub scan_sent : (P : Type 0) (done : Result (Unit {0}) Unpublished) (result : Result (Unit {0}) ScanStop) → result ≡ scan_done done → OnOk done P → OnOk result P
+scan_sent P (Ok value) result is sent = subst (λ (r : Result (Unit {0}) ScanStop). OnOk r P) (sym is) sent
+scan_sent P (Err why) result is sent = subst (λ (r : Result (Unit {0}) ScanStop). OnOk r P) (sym is) tt

@@ -1,23 +1,26 @@
 -- Packets and the commit of a store.
-use Rattle.std.proofs.Common.{◌≡◌, inl, inr, ⊎_elim, ◌∙◌, ◌<◌, ℕ, List, get_or, length, subst}
-use Rattle.std.specs.Prelude.{All}
+use Rattle.std.proofs.Common.{◌≡◌, inl, inr, ⊎_elim, ◌∙◌, ℕ, List, get_or, refl, subst, sym}
+use Rattle.std.specs.Prelude.{All, Bool, Err, false, IfOk, Ok, OnOk, Result, true}
 use Rattle.std.proofs.lemmas.List.Elements.{All-contains}
 use Rattle.echo_base.specs.Base.{Base}
-use Rattle.echo_disk.specs.Disk.{DiskState, Files}
+use Rattle.echo_disk.specs.Disk.{DiskState, Honestly}
+use Rattle.echo_disk.specs.declared.disk_error.DiskError.{DiskError}
+use Rattle.echo_disk.specs.declared.disk_error.DiskError.TheVariants as disk_error
 use Rattle.echo_disk.specs.Runs.{ChangesNothing, LeavesOnly, OneStepOn}
 use Rattle.echo_disk.proofs.Moments.{then_run, weaker_run}
 use Rattle.echo_placing.specs.Changes.{ChangesOnly, DifferAt}
-use Rattle.echo_placing.specs.Naming.{NamesEach}
-use Rattle.echo_placing.specs.Outgoing.{ArePlaced, IsBesideOne, IsFree, IsOfOne, IsStaged}
-use Rattle.echo_placing.specs.Publishing.{IsApartFrom}
+use Rattle.echo_placing.specs.Naming.{HasItsPath, NamesEach}
+use Rattle.echo_placing.specs.Outgoing.{ArePlaced, IsBesideOne, IsFree, IsOfOne, IsStaged, SendsBytes}
+use Rattle.echo_placing.specs.Publishing.{IsApartFrom, placing_cause}
+use Rattle.echo_placing.specs.declared.placing_error.PlacingError.TheVariants as placing
 use Rattle.echo_placing.specs.declared.outgoing.Outgoing.{Outgoing}
-use Rattle.echo_placing.proofs.Changes.{left_there}
 use Rattle.echo_placing.proofs.Packets.{path_not_beside}
 use Rattle.echo_store.specs.Store.{Commits, KeepsBeside, IsSameStore, MayCommit, StandsForEither, StoreState}
 use Rattle.echo_store.proofs.Runs.{same_twice}
 use Rattle.station.specs.Beneath.{HoldsAsBefore}
 use Rattle.station_scan.specs.Beneath.{IsUsedAt}
-use Rattle.station_scan.specs.Publishing.{AreStaged, CommitsWith, IsClear, IsOnDisk, IsPublishedAt, KeepsBut, KeepsStoreBut, PublishesOn, StagesOver}
+use Rattle.station_scan.specs.Publishing.{ArePublished, AreStaged, CommitsWith, IsClear, IsNamedAs, KeepsBut, KeepsStoreBut, PublishesOn, StagesOver}
+use Rattle.station_scan.specs.declared.unpublished.Unpublished.{Unpublished}
 
 -- none of the store's own paths is a packet's
 module _ (s : StoreState) (packets : List Outgoing) (apart : All (IsApartFrom s.is_own) packets) where
@@ -180,9 +183,27 @@ module _ (outbound : List ℕ) (packets : List Outgoing) (placed : ArePlaced out
       (λ c with. inr (record {
         others = λ m out other on.
             with.others m (λ own. out ((used.same.own m).0 own)) other (run.named m (not m other) on.0, run.flushed m (not m other) on.1) ∙ run.seen m (not m other);
-        either = ⊎_elim (λ none. inl ((used.same.stands first c).0 none.0, none.1)) (λ all. inr ((used.same.stands next c).0 all.0, all.1)) with.either;
+        either = ⊎_elim (λ none. inl ((used.same.stands first c).0 none.0, none.1)) (λ all. inr ((used.same.stands next c).0 all.0, all.1, all.2)) with.either;
       }))
+
+  -- it stopped before the commit
+  pub stopping : (s1 : StoreState) → IsUsedAt (IsBesideOne packets) s0 s1 → s1.disk.is_honest → (first next : Base) → s0.committed first → LeavesOnly s0.disk s1.disk (PublishesOn s0 packets first next)
+  stopping s1 used honest first next was =
+      weaker_run s0.disk s1.disk (StagesOver s0 packets first) (PublishesOn s0 packets first next) (staging s1 used (used.changes.honest honest) first was) (λ c over. inl over)
 
   -- a path that was taken once they were written beside was taken before
   pub was_free : (s1 : StoreState) → IsUsedAt (IsBesideOne packets) s0 s1 → All (IsFree s0.disk) packets → All (IsFree s1.disk) packets
   was_free s1 used free k z lt = used.changes.seen (get_or packets k z).path.now (path_not_beside outbound packets placed k z lt) ∙ free k z lt
+
+-- whether all got their paths
+pub published_if : (packets : List Outgoing) (s0 s2 : StoreState) (named : Result Bool DiskError) (result : Result (Unit {0}) Unpublished) → IsNamedAs named result
+    → Honestly s2.disk (IfOk named (λ all. all ≡ true → All (HasItsPath s2.disk) packets)) → Commits s0 s2 → All SendsBytes packets → OnOk result (ArePublished packets s0 s2)
+published_if packets s0 s2 (Ok true) result is paths commits bytes =
+    subst (λ (r : Result (Unit {0}) Unpublished). OnOk r (ArePublished packets s0 s2)) (sym is) (record { committed = commits; named = λ honest. paths honest refl; bytes = bytes })
+published_if packets s0 s2 (Ok false) result is paths commits bytes = subst (λ (r : Result (Unit {0}) Unpublished). OnOk r (ArePublished packets s0 s2)) (sym is) tt
+published_if packets s0 s2 (Err cause) result is paths commits bytes = subst (λ (r : Result (Unit {0}) Unpublished). OnOk r (ArePublished packets s0 s2)) (sym is) tt
+
+-- a disk does not answer that a path is taken
+pub not_taken : (cause : DiskError) → placing_cause cause ≡ placing.Taken → ⊥
+not_taken disk_error.Memory is = absurd (cc is)
+not_taken disk_error.Device is = absurd (cc is)

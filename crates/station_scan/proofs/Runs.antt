@@ -1,6 +1,6 @@
 -- A scan of a store that was opened, as one of the station.
-use Rattle.std.proofs.Common.{◌≡◌, ◌⊎◌, inl, inr, ⊎_elim, ◌∙◌, ℕ, List, Result, Ok, Err, refl, subst, sym, ◌++◌}
-use Rattle.std.specs.Prelude.{All, IfErr, OnOk, get_or}
+use Rattle.std.proofs.Common.{◌⊎◌, inl, inr, ⊎_elim, ◌∙◌, ℕ, List, Result, Ok, Err, refl, subst, sym, ◌++◌}
+use Rattle.std.specs.Prelude.{OnOk, get_or}
 use Rattle.echo_base.specs.Base.{Base}
 use Rattle.echo_disk.specs.Disk.{DiskState, Files}
 use Rattle.echo_disk.specs.Runs.{ChangesNothing, LeavesOnly, OneStepOn}
@@ -15,11 +15,10 @@ use Rattle.echo_store.specs.Store.{StoreState, all_scanned}
 use Rattle.echo_store_changing.specs.declared.stop.Stop.{Stop}
 use Rattle.station.specs.Opening.{IsOpenFor}
 use Rattle.station.specs.Place.{IsOfPlace, KeepsElsewhere, Place, StandsAlone, StandsOrWasLeft}
-use Rattle.station_scan.specs.Left.{AreAllLeft, IsLeftOf, IsToFind}
+use Rattle.station_scan.specs.Left.{AreAllLeft, IsLeftOf}
 use Rattle.station_scan.specs.Publishing.{IsOnDisk, KeepsBut, KeepsStoreBut}
 use Rattle.station_scan.specs.Scanning.{AreSentOut, CommitsScan, IsPutAs, IsPutIn, IsPutOn, IsScanOn, IsSentOn, IsTouched, MayLeave, PreparesScan, ScansOnStore, SendsOut}
 use Rattle.station_scan.specs.Sends.{IsOfThese}
-use Rattle.station_scan.specs.Stops.{IsOfPlacing}
 use Rattle.station_scan.specs.declared.scan_stop.ScanStop.{ScanStop}
 use Rattle.station_scan.proofs.Lefts.{finishes_none}
 use Rattle.station_scan.proofs.Looked.{same_seen}
@@ -102,7 +101,7 @@ module _ (place : Place) (d0 d2 : DiskState) (s1 s2 : StoreState) (begun : IsOpe
         others = λ m other on.
             with.others m (λ these. other (these_as Own place.is_own in_own outbound own files own_in m these))
             (⊎_elim (λ is. inl (on_disk_still m (λ o. other (inl o)) is.0, is.1)) (λ ended. inr ended) on);
-        either = ⊎_elim (λ none. inl ((of.stands base c).0 none.0, none.1)) (λ all. inr ((of.stands (all_scanned base) c).0 all.0, all.1)) with.either;
+        either = ⊎_elim (λ none. inl ((of.stands base c).0 none.0, none.1)) (λ all. inr ((of.stands (all_scanned base) c).0 all.0, all.1, all.2)) with.either;
       }))
 
       put_crash : LeavesOnly d0 d2 May
@@ -162,11 +161,12 @@ module _ (place : Place) (d0 d2 : DiskState) (s1 s2 : StoreState) (begun : IsOpe
     whole = scans.whole;
   }
 
-  -- and which paths it touched
-  pub scan_keeps : KeepsStoreBut (IsTouched s1.is_own outbound) s1 s2 → KeepsBut (IsTouched place.is_own outbound) d0 d2
-  scan_keeps kept =
-      let at = IsTouched place.is_own outbound in
-      keeps_then at d0 s2.disk d2
-      (keeps_then at d0 s1.disk s2.disk (elsewhere_keeps place outbound d0 s1.disk of.elsewhere)
-      (keeps_wider (IsTouched s1.is_own outbound) at s1.disk s2.disk (λ m is. ⊎_elim (λ o. inl (of.own m o)) (λ name. inr name) is) kept.keeps))
-      (keeps_nothing at s2.disk d2 quiet)
+-- which paths a scan touched
+pub scan_keeps : (place : Place) (outbound : List ℕ) (d0 d2 : DiskState) (s1 s2 : StoreState) → IsOfPlace place d0 s1 → ChangesNothing s2.disk d2 → KeepsStoreBut (IsTouched s1.is_own outbound) s1 s2
+    → KeepsBut (IsTouched place.is_own outbound) d0 d2
+scan_keeps place outbound d0 d2 s1 s2 of quiet kept =
+    let at = IsTouched place.is_own outbound in
+    keeps_then at d0 s2.disk d2
+    (keeps_then at d0 s1.disk s2.disk (elsewhere_keeps place outbound d0 s1.disk of.elsewhere)
+    (keeps_wider (IsTouched s1.is_own outbound) at s1.disk s2.disk (λ m is. ⊎_elim (λ o. inl (of.own m o)) (λ name. inr name) is) kept.keeps))
+    (keeps_nothing at s2.disk d2 quiet)

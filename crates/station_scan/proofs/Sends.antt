@@ -1,18 +1,19 @@
 -- The packets of a scan and the commit of a store.
-use Rattle.std.proofs.Common.{◌≡◌, ◌≢◌, inl, inr, ⊎_elim, ◌<◌, ℕ, List, arith, length, refl}
-use Rattle.std.specs.Prelude.{All, Ok}
+use Rattle.std.proofs.Common.{◌≡◌, ◌≢◌, inl, inr, ⊎_elim, ℕ, List, arith, length, refl}
+use Rattle.std.specs.Prelude.{All}
 use Rattle.echo_base.specs.Base.{Base}
 use Rattle.echo_disk.specs.Disk.{DiskState, Files}
-use Rattle.echo_disk.specs.Runs.{LeavesOnly, OneStepOn}
+use Rattle.echo_disk.specs.Runs.{LeavesOnly}
 use Rattle.echo_disk.proofs.Moments.{no_call, weaker_run}
-use Rattle.echo_placing.specs.Outgoing.{ArePlaced, IsOfOne}
+use Rattle.echo_placing.specs.Outgoing.{ArePlaced}
 use Rattle.echo_placing.specs.Publishing.{IsApartFrom}
 use Rattle.echo_placing.specs.declared.outgoing.Outgoing.{Outgoing}
 use Rattle.echo_steps.specs.PacketFiles.{PacketFile}
 use Rattle.echo_store.specs.Store.{Commits, MayCommit, StandsForEither, StoreState}
 use Rattle.station_scan.specs.Fitting.{AreFitting}
-use Rattle.station_scan.specs.Publishing.{ArePublished, CommitsWith, IsPublishedAt, KeepsStoreBut, PublishesOn, StagesOver}
-use Rattle.station_scan.specs.Sends.{AreSentOn, CommitsThese, IsOfThese, SendsThese, WritesBeside}
+use Rattle.station_scan.specs.Publishing.{ArePublished, IsPublishedAt, KeepsStoreBut, PublishesOn}
+use Rattle.station_scan.specs.Sending.{HasBytes, IsAtItsPath, IsFreeAt, StandsWhole}
+use Rattle.station_scan.specs.Sends.{AreSentOn, IsOfThese, SendsThese}
 use Rattle.station_scan.proofs.Published.{store_wider}
 use Rattle.station_scan.proofs.Sent.{are_apart_from, are_placed, at_its_path, files_bytes, have_none, is_beside_file, is_of_file, stand_whole}
 
@@ -28,7 +29,7 @@ module _ (Own : List ℕ → Type 0) (outbound own : List ℕ) (files : List Pac
   pub fit_sent : (s t : StoreState) → ArePublished packets s t → AreSentOn outbound files s t
   fit_sent s t are = record {
     committed = are.committed;
-    packets = λ honest. at_its_path outbound own files fit.paths packets fit.are fit.sent t.disk (are.packets honest);
+    packets = λ honest. at_its_path outbound own files fit.paths packets fit.are fit.sent t.disk (are.named honest);
     bytes = files_bytes outbound own files fit.paths packets fit.are fit.sent are.bytes;
   }
 
@@ -73,8 +74,8 @@ module _ (outbound own : List ℕ) (files : List PacketFile) (none : length file
       weaker_run s.disk t.disk (StandsForEither s first next) (SendsThese s outbound own files first next) (may.any_moment honest first next was is)
       (λ c either. inr (record {
         others = λ m other on. either.beside m (λ o. other (inl o)) on.0 on.1;
-        either = ⊎_elim (λ stands. inl (stands, all_none _)) (λ stands. inr (stands, all_none _, all_none _)) either.stands;
+        either = ⊎_elim (λ stands. inl (stands, all_none (IsFreeAt outbound c))) (λ stands. inr (stands, all_none (StandsWhole outbound own c), all_none HasBytes)) either.stands;
       }))
 
   pub alone_sent : (s t : StoreState) → Commits s t → AreSentOn outbound files s t
-  alone_sent s t commits = record { committed = commits; packets = λ honest. all_none _; bytes = all_none _ }
+  alone_sent s t commits = record { committed = commits; packets = λ honest. all_none (IsAtItsPath outbound t.disk); bytes = all_none HasBytes }

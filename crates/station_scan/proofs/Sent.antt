@@ -1,5 +1,5 @@
 -- Packets that go out, as the files of a scan.
-use Rattle.std.proofs.Common.{◌≡◌, ◌≢◌, ◌⊎◌, inl, inr, ⊎_elim, ◌∙◌, ◌<◌, ℕ, List, [], ◌++◌, get_or, length, map, refl, sym, subst, ap, Some, arith}
+use Rattle.std.proofs.Common.{◌≡◌, ◌≢◌, inl, inr, ⊎_elim, ◌∙◌, ◌<◌, ℕ, List, [], ◌++◌, get_or, length, map, sym, subst, ap, Some, arith}
 use Rattle.std.specs.Prelude.{All, AllPairs, Contains, Err, Ok, OnOk, Result}
 use Rattle.std.proofs.lemmas.List.{get_or-map, length-map}
 use Rattle.std.proofs.lemmas.List.Elements.{All-contains, Contains-get_or}

@@ -1,7 +1,6 @@
 -- Why a scan stopped.
-use Rattle.std.proofs.Common.{◌≡◌, ◌⊎◌, inl, inr, ap, refl, subst}
+use Rattle.std.proofs.Common.{◌≡◌, ◌⊎◌, inl, inr, ⊎_elim, ap, refl, subst}
 use Rattle.std.specs.Prelude.{Err, IfErr, IsErrOf, Ok, Result}
-use Rattle.echo_base.specs.Base.{Base}
 use Rattle.echo_placing.specs.declared.placing_error.PlacingError.{PlacingError}
 use Rattle.echo_placing.specs.declared.placing_error.PlacingError.TheVariants as placing
 use Rattle.echo_store.specs.declared.store_error.StoreError.{StoreError}
@@ -46,6 +45,10 @@ why_wider some more (Placing placing.Taken) gives is = tt
 why_wider some more (Staying placing.Device) gives is = gives is
 why_wider some more (Staying placing.Memory) gives is = tt
 why_wider some more (Staying placing.Taken) gives is = tt
+
+-- what failed of a disk, or what else did
+pub failed_too : (some disk locks listing : Type 0) → (some → disk) → some ⊎ listing → (disk ⊎ locks) ⊎ listing
+failed_too some disk locks listing gives failed = ⊎_elim (λ of. inl (inl (gives of))) (λ of. inr of) failed
 
 pub put_wider : (some more : Type 0) (result : Result (Unit {0}) ScanStop) → (some → more) → IfErr result (IsOfPlacing some) → IfErr result (IsOfPlacing more)
 put_wider some more (Ok done) gives is = tt

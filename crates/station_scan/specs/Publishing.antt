@@ -12,6 +12,7 @@ use Rattle.echo_placing.specs.Publishing.{placing_cause}
 use Rattle.echo_placing.specs.declared.outgoing.Outgoing.{Outgoing}
 use Rattle.echo_placing.specs.declared.placing_error.PlacingError.TheVariants as placing
 use Rattle.echo_store.specs.Store.{Commits, IsSameStore, StoreState}
+use Rattle.echo_store.specs.declared.store_error.StoreError.{StoreError}
 use Rattle.echo_store.specs.declared.store_error.StoreError.TheVariants as store
 use Rattle.station.specs.Beneath.{HoldsAsBefore}
 use Rattle.station_scan.specs.declared.unpublished.Unpublished.{Unpublished}
@@ -88,16 +89,18 @@ NoneStays packets new (Packets cause) = All (IsGoneBeside new) packets
 NoneStays packets new (Beside cause) = Unit {0}
 NoneStays packets new (OfBase cause) = ⊥
 
--- A failure of the device is answered only where its count of failures rose.
+-- A failure of the device is answered only where its count of failures rose; neither that a path is taken nor a failure of the base is.
 pub record HasStageCause {T : Type 0} (before now : ℕ) (result : Result T Unpublished) : Type 0 where
   pub later : before ≤ now
   pub packets : IsErrOf result (Packets placing.Device) → Failed before now
   pub beside : IsErrOf result (Beside placing.Device) → Failed before now
+  pub free : IsErrOf result (Packets placing.Taken) → ⊥
+  pub staging : (cause : StoreError) → IsErrOf result (OfBase cause) → ⊥
 
 -- each packet has its path, on the disk, and what the store held is committed
 pub record ArePublished (packets : List Outgoing) (old new : StoreState) : Type 0 where
   pub committed : Commits old new
-  pub packets : Honestly new.disk (All (HasItsPath new.disk) packets)
+  pub named : Honestly new.disk (All (HasItsPath new.disk) packets)
   pub bytes : All SendsBytes packets
 
 -- but for these paths, what was seen and on the disk is so still, and it is the same store

@@ -21,7 +21,7 @@ use Rattle.echo_toss.specs.PacketsIn.{state_in}
 use Rattle.station.specs.Place.{Place, StandsOrWasLeft}
 use Rattle.station.specs.Running.{IsNotRun}
 use Rattle.station_scan.specs.Left.{AreAllLeft, IsEnded, IsEndedAt, IsLeftOf, IsOfName}
-use Rattle.station_scan.specs.Publishing.{IsOnDisk, KeepsBut}
+use Rattle.station_scan.specs.Publishing.{IsOnDisk}
 use Rattle.station_scan.specs.Sending.{HasBytes, IsAtItsPath, IsBesidePacket, IsFreeAt, StandsWhole}
 use Rattle.station_scan.specs.Sends.{IsOfThese}
 use Rattle.station_scan.specs.Stops.{IsOfPlacing, as_scan}
@@ -90,7 +90,6 @@ pub record ScansOnStore (stamp : Stamp) (Own : List ℕ → Type 0) (outbound : 
   pub answer : ScansOn stamp (state_in file base) old_out new_out made
   pub put : IsPutOn Own outbound (dotted file.system) IsTrue failed old new base made result
   pub whole : IsErrOf result (Command (Store Damaged)) → ⊥
-  pub cause : IsErrOf result (Command (Store Device)) → failed
 
 -- What a crash at any moment of a scan of this base may leave: what one might have left before, or what a scan does before the commit, or
 -- from there on. These files were seen once the station was open.

@@ -1,7 +1,7 @@
 -- The packets of a scan and the commit of a store.
-use Rattle.std.specs.Prelude.{◌≡◌, ◌⊎◌, ℕ, List, All, Contains}
+use Rattle.std.specs.Prelude.{◌≡◌, ◌⊎◌, ℕ, List, All}
 use Rattle.echo_base.specs.Base.{Base}
-use Rattle.echo_disk.specs.Disk.{DiskState, Files, Honestly}
+use Rattle.echo_disk.specs.Disk.{Files, Honestly}
 use Rattle.echo_disk.specs.Runs.{LeavesOnly, OneStepOn}
 use Rattle.echo_placing.specs.Changes.{DifferAt}
 use Rattle.echo_steps.specs.PacketFiles.{PacketFile}

@@ -1,5 +1,5 @@
 //! The packets of a scan go out with the commit of its store, once what earlier scans left is at its end.
-ghost use Rattle.std.specs.Prelude.{◌≡◌, ◌≢◌, ◌≤◌, ◌⊎◌, ℕ, List, All, IfErr, IfOk, OnOk, map};
+ghost use Rattle.std.specs.Prelude.{◌≡◌, ◌≢◌, ◌≤◌, ◌⊎◌, ℕ, List, All, IfErr, IfOk, IsErrOf, OnOk, map};
 ghost use Rattle.echo_base.specs.Base.{Base};
 ghost use Rattle.echo_device.specs.Device.{Failed};
 ghost use Rattle.echo_disk.specs.Disk.{Honestly};
@@ -20,7 +20,8 @@ use crate::sending::{Sending, TwoPaths, outgoing_of, paths_of};
 use crate::unpublished::Unpublished;
 use echo_disk::Disk;
 use echo_placing::{Outgoing, PlacingError};
-use echo_store::Store;
+use echo_store::{Store, StoreError};
+use echo_store_changing::Stop;
 use station::{LendStation, OwnPaths};
 use std::alloc::Global;
 
@@ -53,7 +54,7 @@ fn fitting_packets<'p, O: OwnPaths>(
     sending: Sending<'p>,
     two: &'p [TwoPaths],
 ) -> Result<Vec<Outgoing<'p>>, Unpublished>
-    requires { two.now ≡ map (file_paths sending.entry.outbound.now sending.entry.own.now) sending.entry.files.now }
+    requires { two.now ≡ map (file_paths sending.outbound.now sending.own.now) sending.files.now }
     ensures fit { IfOk result (λ packets. AreFitting (O.is_own paths.now) sending.entry.outbound.now sending.entry.own.now sending.entry.files.now packets.items) }
     ensures err { IfErr result IsUnfit }
 {
@@ -142,6 +143,7 @@ pub(crate) fn send_out<'a, D: Disk, P: LendStation<'a, D>, G: Listing>(
     ensures later { P.Kept.failures store ≤ P.Kept.failures result.store }
     ensures listing_later { G.failures listing.old ≤ G.failures listing.new }
     ensures why { Honestly (P.Kept.state result.store).disk ((next : Base) → (P.Kept.state store).keeps next → IfErr result.done (IsOfPlacing (Failed (P.Kept.failures store) (P.Kept.failures result.store) ⊎ Failed (G.failures listing.old) (G.failures listing.new)))) }
+    ensures device { IsErrOf result.done (ScanStop.Command (Stop.Store StoreError.Device)) → Failed (P.Kept.failures store) (P.Kept.failures result.store) }
 {
     let Used { store, done } = finish_on::<D, P, G>(alloc, store, paths, listing, cursor, sending);
     match done {

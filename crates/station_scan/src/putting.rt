@@ -1,5 +1,5 @@
 //! The packets that were taken of a store are put in place.
-ghost use Rattle.std.specs.Prelude.{◌≡◌, ◌≤◌, ◌⊎◌, ℕ, List, IfErr};
+ghost use Rattle.std.specs.Prelude.{◌≡◌, ◌≤◌, ◌⊎◌, ℕ, List, IfErr, IsErrOf};
 ghost use Rattle.echo_base.specs.Base.{Base};
 ghost use Rattle.echo_device.specs.Device.{Failed};
 ghost use Rattle.echo_disk.specs.Disk.{Honestly};
@@ -46,6 +46,7 @@ pub(crate) fn put_taken<'a, 's, D: Disk, P: LendStation<'a, D>, G: Listing, T>(
     ensures listing_later { G.failures scan.old.listing ≤ G.failures scan.new.listing }
     ensures why { Honestly (P.Kept.state result.store).disk ((next : Base) → (P.Kept.state store).keeps next
         → IfErr result.done (IsOfPlacing (Failed (P.Kept.failures store) (P.Kept.failures result.store) ⊎ Failed (G.failures scan.old.listing) (G.failures scan.new.listing)))) }
+    ensures device { IsErrOf result.done (ScanStop.Command (Stop.Store StoreError.Device)) → Failed (P.Kept.failures store) (P.Kept.failures result.store) }
 {
     if cursor > MOST {
         return Used {

@@ -1,5 +1,5 @@
 //! The command `scan` on a station.
-ghost use Rattle.std.specs.Prelude.{◌≡◌, ◌≢◌, ◌≤◌, ◌⊎◌, ◌↔◌, ℕ, List, All, IfErr, OnOk};
+ghost use Rattle.std.specs.Prelude.{◌≡◌, ◌≢◌, ◌≤◌, ◌⊎◌, ◌↔◌, ℕ, List, IsErrOf, OnOk};
 ghost use Rattle.echo_base.specs.Base.{Base};
 ghost use Rattle.echo_device.specs.Device.{Failed};
 ghost use Rattle.echo_disk.specs.Disk.{Honestly};
@@ -20,7 +20,7 @@ use echo_disk::Disk;
 use echo_links::LinkFile;
 use echo_station_files::FileLock;
 use echo_steps::Stamp;
-use echo_store::Store;
+use echo_store::{Store, StoreError};
 use echo_store_changing::Stop;
 use station::{BeforeCommand, LendStation, Locks, OpenStation, Opened};
 use std::alloc::Global;
@@ -123,6 +123,7 @@ fn scan_kept<'a, 's, D: Disk, P: LendStation<'a, D>, G: Listing, T: Watching, W:
     ensures keeps { KeepsStoreBut (IsTouched (P.Kept.state store).is_own scan.old.outbound.now) (P.Kept.state store) (P.Kept.state result.store) }
     ensures later { P.Kept.failures store ≤ P.Kept.failures result.store }
     ensures listing_later { G.failures scan.old.listing ≤ G.failures scan.new.listing }
+    ensures device { IsErrOf result.done (ScanStop.Command (Stop.Store StoreError.Device)) → Failed (P.Kept.failures store) (P.Kept.failures result.store) }
 {
     let cursor = store.cursor();
     let Taken { store, files } = take_waiting(alloc, scan.stamp, links, store, &scan.watch, out);

@@ -36,7 +36,7 @@ const REPLAYED: &[u8] =
 fn answers_nothing(world: &World) -> bool {
     world.links(3).is_none()
         && world.message(0, 1).is_none()
-        && world.packet(2).is_none()
+        && world.packet_to(2).is_none()
         && world.filed(3, b"TEST") == 0
         && world.filed(0, b"test") == 0
 }
@@ -45,8 +45,10 @@ fn answers_nothing(world: &World) -> bool {
 fn bytes_of_packets(rt: HostRuntime) -> Result<(), Fail> {
     let world = scripted(&rt, REPLAYED).ok_or(AllocError)?;
     assert!(rt; answers_nothing(&world));
+    assert!(rt; world.packet(rt.alloc(), 2)?.is_none());
     // The packet of 212 bytes of the first posting, with 2 bytes more in the sender's name, 6 in the
     // subject and 2 in the system's name.
-    assert_eq!(rt; world.packet(0).map(|packet| packet.len()), Some(222));
+    let packet = world.packet(rt.alloc(), 0)?;
+    assert_eq!(rt; packet.map(|packet| packet.len()), Some(222));
     Ok(())
 }

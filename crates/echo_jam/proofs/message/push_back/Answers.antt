@@ -10,10 +10,10 @@ pub returns : goal.returns
 returns c =
     let m = c.args.message.now in
     let written = c.seconds_of.ensures ∙ ap (λ (f : Filed). seconds_of f.date) c.message.view_is in
-    let kind = c.jam_attribute.ensures ∙ ap (λ (f : Filed). jam_attribute f.sender) c.message.view_is in
+    let kind = c.jam_attribute.ensures ∙ ap (λ (f : Filed). jam_attribute c.args.scanned f.sender) c.message.view_is in
     on_ok c.push_place.result
     (λ last.
     joined _ (long (seconds_of m.date) ++ (long 0 ++ long 0)) _ _ _ (c.in_ok-push_moments.ensures ∙ ap (λ (n : ℕ). c.args.header.now.items ++ (long n ++ (long 0 ++ long 0))) written)
-    (joined _ (long c.args.number ++ (long (jam_attribute m.sender) ++ long 0)) _ _ _ (c.in_ok-push_number.ensures ∙ ap (λ (n : ℕ). c.push_moments.new.header.items ++ (long c.args.number ++ (long n ++ long 0))) kind)
+    (joined _ (long c.args.number ++ (long (jam_attribute c.args.scanned m.sender) ++ long 0)) _ _ _ (c.in_ok-push_number.ensures ∙ ap (λ (n : ℕ). c.push_moments.new.header.items ++ (long c.args.number ++ (long n ++ long 0))) kind)
     last))
     c.push_place.ensures

@@ -10,5 +10,5 @@ returns c =
     (λ last.
     joined _ (header_front (length c.args.fields.now)) _ _ _ (c.in_ok-push_front.ensures ∙ ap (λ (n : ℕ). c.args.header.now.items ++ header_front n) c.in_ok-count_of.ensures)
     (joined _ (header_ids m) _ _ _ c.in_ok-push_ids.ensures
-    (joined _ (header_back m c.args.number c.args.place c.args.size) _ _ _ c.in_ok-push_back.ensures last)))
+    (joined _ (header_back c.args.scanned m c.args.number c.args.place c.args.size) _ _ _ c.in_ok-push_back.ensures last)))
     c.push_bytes.ensures

@@ -11,4 +11,4 @@ returns-clause-headers c =
     let size = c.in_ok-size.ensures ∙ ap length (c.deref.ensures.value ∙ parts.body) in
     let fields = c.deref-4.ensures.value ∙ parts.fields in
     anyhow c.push_entry.result
-    (c.in_ok-push_header.ensures ∙ ap (λ (h : List ℕ). jam.headers.items ++ h) (header_is c.args.message.now c.args.number _ there _ c.deref-4.result.now place size fields))
+    (c.in_ok-push_header.ensures ∙ ap (λ (h : List ℕ). jam.headers.items ++ h) (header_is c.args.scanned c.args.message.now c.args.number _ there _ c.deref-4.result.now place size fields))

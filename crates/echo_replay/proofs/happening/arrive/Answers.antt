@@ -24,7 +24,7 @@ returns-clause-came c = λ p fits came there s at to.
     let M : WorldState → Type 0 = λ w. nth c.args.system w.systems ≡ Some s in
     let packet_is : c.index.result.now ≡ e =
     c.index.ensures ∙ read-nth c.world.inside.packets.items c.args.packet e c.index.result.now (subst N (sym c.world.view_is) there) in
-    let bytes : c.as_slice.result.now ≡ encoded p = c.as_slice.ensures ∙ ap (λ (x : Exported). x.bytes) (c.behind-world.view_is ∙ packet_is) in
+    let bytes : c.deref.result.now ≡ encoded p = c.deref.ensures.value ∙ c.in_ok-bytes.ensures ∙ ap (λ (x : Exported). x.bytes) packet_is in
     let system_is : c.index_mut-tosser.result.now ≡ s =
     c.index_mut-tosser.ensures.value ∙ read-nth c.world.inside.systems.items c.args.system s c.index_mut-tosser.result.now (subst M (sym c.world.view_is) at) in
     let own : destination p ≡ c.index_mut-tosser.result.now.file.system = to ∙ ap (λ (x : SystemState). x.file.system) (sym system_is) in

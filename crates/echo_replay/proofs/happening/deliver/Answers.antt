@@ -14,9 +14,9 @@ returns-in-Some-clause-first c =
     let N : WorldState → Type 0 = λ w. nth c.args.packet w.packets ≡ Some e in
     let packet_is : c.index.result.now ≡ e =
     c.index.ensures ∙ read-nth c.world.inside.packets.items c.args.packet e c.index.result.now (subst N (sym c.world.view_is) there) in
-    let whom = ap (λ (x : Exported). x.to) (c.behind-world.view_is ∙ packet_is) in
+    let whom = c.to-to.ensures ∙ ap (λ (x : Exported). x.to) packet_is in
     let found = c.in-Some.ensures (own_addresses c.args.world.now.systems) c.requires in
-    let led = led-to c.args.world.now c.args.packet p c.in-Some.system c.behind-world.inside.to whom found.0 found.1 in
+    let led = led-to c.args.world.now c.args.packet p c.in-Some.system c.to-to.result whom found.0 found.1 in
     arrives p fits false there led.system led.there led.has ∙ led.comes)
     c.arrive.ensures.came
 
@@ -26,5 +26,5 @@ returns-in-None-clause-first c = λ p fits there.
     let N : WorldState → Type 0 = λ w. nth c.args.packet w.packets ≡ Some e in
     let packet_is : c.index.result.now ≡ e =
     c.index.ensures ∙ read-nth c.world.inside.packets.items c.args.packet e c.index.result.now (subst N (sym c.world.view_is) there) in
-    let whom = ap (λ (x : Exported). x.to) (c.behind-world.view_is ∙ packet_is) in
-    led-nowhere c.args.world.now c.args.packet p c.behind-world.inside.to whom (c.in-None.ensures (own_addresses c.args.world.now.systems) c.requires)
+    let whom = c.to-to.ensures ∙ ap (λ (x : Exported). x.to) packet_is in
+    led-nowhere c.args.world.now c.args.packet p c.to-to.result whom (c.in-None.ensures (own_addresses c.args.world.now.systems) c.requires)

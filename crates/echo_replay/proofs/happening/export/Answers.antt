@@ -1,12 +1,18 @@
-use Rattle.echo_replay.proofs.Exports.{fits-more, made-more}
+use Rattle.std.proofs.Common.{◌≡◌, ◌++◌, ◌∷◌, [], ◌∙◌, List, map, append_assoc, ap, sym}
+use Rattle.std.proofs.lemmas.List.{map-append}
+use Rattle.std.proofs.lemmas.List.Elements.{All-push}
+use Rattle.echo_replay.specs.Worlds.{Exported, Fits, made}
 use Rattle.echo_replay.proofs.happening.export.Goals as goal
 
-pub loop-packet-preserved : goal.loop-packet-preserved
-loop-packet-preserved c =
-    let before = c.loop-packet.invariant in
+pub packets-preserved : goal.packets-preserved
+packets-preserved c =
+    let old = c.args.exported.now.items in
+    let packet = c.in-Some.packet in
+    let before = c.packets.invariant in
     let one = c.in_ok-export_one.ensures in
     record {
-      bytes = made-more c.loop-packet.exported.items c.export_one.new.exported.items c.args.exported.now.items c.args.packets.now c.loop-packet.packet-index c.packet-item.result
-          c.loop-packet-test.true c.packet-item.is before.bytes one.bytes;
-      fit = fits-more c.args.packets.now c.loop-packet.packet-index c.packet-item.result c.loop-packet-test.true c.packet-item.is before.fit one.fit;
+      bytes = one.bytes ∙ ap (λ (es : List Exported). es ++ made packet ∷ []) before.bytes
+          ∙ append_assoc old (map made c.packets.yielded) (made packet ∷ [])
+          ∙ ap (λ (es : List Exported). old ++ es) (sym (map-append made c.packets.yielded (packet ∷ [])));
+      fit = All-push Fits c.packets.yielded packet before.fit one.fit;
     }

@@ -17,15 +17,15 @@ pub returns-clause-scanned : goal.returns-clause-scanned
 returns-clause-scanned c =
     let within : c.args.system < length c.world.inside.systems.items = omega (arith, c.len.ensures, c.if-system-len.false) in
     on_ok_weaker c.export.result
-    (λ put. scanned-set c.world.inside.systems.items c.world.inside.packets.items c.export.new.exported.items c.args.world.now c.args.system c.args.stamp c.deref.result.now
+    (λ put. scanned-set c.world.inside.systems.items c.world.inside.packets.items c.export.new.exported.items c.args.world.now c.args.system c.args.stamp _
     c.scan_at.new.tosser c.index_mut-tosser.result.now
-    c.world.view_is within c.index_mut-tosser.ensures.value c.in_ok-packets.ensures.scanned (c.deref.ensures.value ∙ c.in_ok-packets.ensures.packets) put)
+    c.world.view_is within c.index_mut-tosser.ensures.value c.in_ok-packets.ensures.scanned c.in_ok-packets.ensures.packets put)
     c.export.ensures.bytes
 
 pub returns-clause-fit : goal.returns-clause-fit
 returns-clause-fit c =
     let within : c.args.system < length c.world.inside.systems.items = omega (arith, c.len.ensures, c.if-system-len.false) in
     on_ok_weaker c.export.result
-    (λ fits. fits-set c.world.inside.systems.items c.world.inside.packets.items c.args.world.now c.args.system c.args.stamp c.deref.result.now c.index_mut-tosser.result.now
-    c.world.view_is within c.index_mut-tosser.ensures.value (c.deref.ensures.value ∙ c.in_ok-packets.ensures.packets) fits)
+    (λ fits. fits-set c.world.inside.systems.items c.world.inside.packets.items c.args.world.now c.args.system c.args.stamp _ c.index_mut-tosser.result.now
+    c.world.view_is within c.index_mut-tosser.ensures.value c.in_ok-packets.ensures.packets fits)
     c.export.ensures.fit

@@ -4,6 +4,6 @@ use Rattle.law_disks.proofs.commands.toss_as_may.Goals as goal
 pub returns : goal.returns
 returns g c = λ honest.
     let ran = c.run_command.ensures in
-    let toss = c.args.command in
-    let known = c.tosses_are_what_is_known.ensures in
+    let toss = c.args.command.now in
+    let known = c.tosses_are_what_is_known.ensures.made in
     toss-does (g.P.OpenStation.place c.args.station) _ _ _ _ _ ran.elsewhere _ _ toss.noting toss.limits _ (λ file files base next tosses. (known toss.noting toss.limits file files base next tosses).0) _ _ c.run_command.result.done (ran.runs honest)

@@ -29,7 +29,7 @@ returns-then-is_empty-clause-ends g c = λ honest.
     let d1 = g.D.Disk.state c.find_left.new.disk in
     let named = c.in_ok-named.named.items in
     let paths = c.in_ok-found.found.items in
-    let all = subst (λ (l : List LeftPacket). All (IsFoundWhere Own folder own d.seen paths) l) c.deref-2.ensures.value (c.in_ok-found.ensures.all honest) in
+    let all = subst (λ (l : List LeftPacket). All (IsFoundWhere Own folder own d.seen paths) l) c.deref.ensures.value (c.in_ok-found.ensures.all honest) in
     let empty : vec_len c.in_ok-found.found ≡ 0 = eqb-true (vec_len c.in_ok-found.found) 0 (sym c.is_empty.ensures ∙ c.if-is_empty.true) in
     none_left (g.G.Listing.is_true c.left_beside.new.self d.seen) Own folder own c.args.cursor d d1 c.find_left.ensures.quiet named paths (λ truth. c.in_ok-named.ensures.listed d.seen truth) all
     (omega arith)
@@ -39,9 +39,9 @@ end_these-requires-clause-placed g c = λ found lent.
     let Own = g.O.OwnPaths.is_own c.args.paths.now in
     let folder = c.args.folder.now in
     let own = c.args.own.now in
-    let paths = c.deref-3.result.now in
-    let are = subst (λ (l : List LeftPaths). AreFound Own folder own c.deref-2.result.now l) (sym c.deref-3.ensures.value) c.in_ok-found.ensures.found in
-    are_left_in paths found lent Own folder own c.deref-2.result.now c.requires are
+    let paths = c.deref-2.result.now in
+    let are = subst (λ (l : List LeftPaths). AreFound Own folder own c.deref.result.now l) (sym c.deref-2.ensures.value) c.in_ok-found.ensures.found in
+    are_left_in paths found lent Own folder own c.deref.result.now c.requires are
 
 pub returns-clause-ends : goal.returns-clause-ends
 returns-clause-ends g c = λ honest.
@@ -54,9 +54,9 @@ returns-clause-ends g c = λ honest.
     let named = c.in_ok-named.named.items in
     let paths = c.in_ok-found.found.items in
     let h1 = c.end_these.ensures.changes.honest honest in
-    let are = subst (λ (l : List LeftPacket). AreFound Own folder own l paths) c.deref-2.ensures.value c.in_ok-found.ensures.found in
-    let all = subst (λ (l : List LeftPacket). All (IsFoundWhere Own folder own d.seen paths) l) c.deref-2.ensures.value (c.in_ok-found.ensures.all h1) in
-    let ends = subst (λ (l : List LeftPaths). EndsThese c.args.cursor l d1 d3 c.end_these.result) c.deref-3.ensures.value (c.end_these.ensures.ends honest) in
+    let are = subst (λ (l : List LeftPacket). AreFound Own folder own l paths) c.deref.ensures.value c.in_ok-found.ensures.found in
+    let all = subst (λ (l : List LeftPacket). All (IsFoundWhere Own folder own d.seen paths) l) c.deref.ensures.value (c.in_ok-found.ensures.all h1) in
+    let ends = subst (λ (l : List LeftPaths). EndsThese c.args.cursor l d1 d3 c.end_these.result) c.deref-2.ensures.value (c.end_these.ensures.ends honest) in
     these_left (g.G.Listing.is_true c.left_beside.new.self d.seen) Own folder own c.args.cursor d d1 c.find_left.ensures.quiet named paths
     (λ truth. c.in_ok-named.ensures.listed d.seen truth) all d3 c.end_these.result c.requires are ends
 
@@ -69,6 +69,6 @@ returns-clause-changes g c =
     let d = g.D.Disk.state c.args.disk.now in
     let d1 = g.D.Disk.state c.find_left.new.disk in
     let d3 = g.D.Disk.state c.end_these.new.disk in
-    let paths = c.deref-3.result.now in
-    let are = subst (λ (l : List LeftPaths). AreFound Own folder own c.deref-2.result.now l) (sym c.deref-3.ensures.value) c.in_ok-found.ensures.found in
-    then_only at d d1 d3 (only_nothing at d d1 c.find_left.ensures.quiet) (wider (IsOfPaths paths) at d1 d3 (left_of_name Own folder own c.deref-2.result.now paths are) c.end_these.ensures.changes)
+    let paths = c.deref-2.result.now in
+    let are = subst (λ (l : List LeftPaths). AreFound Own folder own c.deref.result.now l) (sym c.deref-2.ensures.value) c.in_ok-found.ensures.found in
+    then_only at d d1 d3 (only_nothing at d d1 c.find_left.ensures.quiet) (wider (IsOfPaths paths) at d1 d3 (left_of_name Own folder own c.deref.result.now paths are) c.end_these.ensures.changes)

@@ -1,5 +1,5 @@
 -- The bases that each command makes are those of command events of a net.
-use Rattle.std.proofs.Common.{◌≡◌, ◌⊎◌, inl, inr, ⊎_elim, refl, sym, ap, subst, ◌∙◌, arith, Bool, true, false, ℕ, List, [], Ok, Some, length, take}
+use Rattle.std.proofs.Common.{◌≡◌, ◌⊎◌, inl, inr, ⊎_elim, refl, sym, ap, subst, arith, Bool, true, false, ℕ, List, [], Ok, Some, length, take}
 use Rattle.std.proofs.lemmas.List.{take_all}
 use Rattle.echo_base.specs.Base.{Base}
 use Rattle.echo_changing.specs.declared.posting.NewMessage.{NewMessage}
@@ -15,7 +15,7 @@ use Rattle.echo_mailing.specs.Posted.{Mails}
 use Rattle.echo_run.specs.Run.{change, nth}
 use Rattle.echo_steps.specs.Posting.{posted}
 use Rattle.echo_store.specs.Store.{purged}
-use Rattle.echo_store_changing.specs.FreeSerial.{PostsAs, PostsFree}
+use Rattle.echo_store_changing.specs.FreeSerial.{PostsAs}
 use Rattle.echo_store_changing.specs.Posted.{Posts}
 use Rattle.echo_store_changing.specs.Purged.{HoldsOrPurges, Purges}
 use Rattle.echo_store_changing.specs.Replied.{Replies}

@@ -1,0 +1,9 @@
+use Rattle.std.proofs.Common.{codes}
+use Rattle.echo_export.proofs.Joins.{joined, on_ok}
+use Rattle.echo_export.proofs.mail.push_whole_tag.Goals as goal
+
+pub returns : goal.returns
+returns c =
+    on_ok c.push_bytes-2.result
+    (λ last. joined _ (codes "\nX-FTN-Area: ") _ _ _ c.in_ok-push_bytes.ensures last)
+    c.push_bytes-2.ensures

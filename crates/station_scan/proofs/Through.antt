@@ -1,0 +1,91 @@
+-- What is so of a disk once nothing more has changed, and before.
+use Rattle.std.proofs.Common.{inl, inr, ⊎_elim, ◌∙◌, ℕ, List, get_or, refl, subst, sym}
+use Rattle.std.specs.Prelude.{All, Err, IfOk, Ok, OnOk, Result}
+use Rattle.echo_disk.specs.Disk.{DiskState, Files}
+use Rattle.echo_disk.specs.Runs.{ChangesNothing, LeavesOnly, OneStepOn}
+use Rattle.echo_disk.proofs.Moments.{then_nothing, then_run, weaker_run}
+use Rattle.echo_placing.specs.Changes.{HasOnDisk}
+use Rattle.echo_placing.specs.Finishing.{FinishesEach, IsOfLeft, IsOver}
+use Rattle.echo_placing.specs.Naming.{HasItsPath, NamesEach}
+use Rattle.echo_placing.specs.Outgoing.{IsFree, IsStaged}
+use Rattle.echo_placing.specs.declared.finishing.Left.{Left}
+use Rattle.echo_placing.specs.declared.outgoing.Outgoing.{Outgoing}
+use Rattle.echo_placing.specs.declared.placing_error.PlacingError.{PlacingError}
+use Rattle.echo_placing.proofs.Changes.{left_there, only_nothing, then_only}
+use Rattle.echo_placing.proofs.Ended.{quiet_then}
+use Rattle.station_scan.specs.Left.{AreAllLeft, EndsLeft, IsEndedAt, IsLeftOf}
+use Rattle.station_scan.specs.Publishing.{AreStaged}
+use Rattle.station_scan.proofs.Lefts.{finishes_none, on_ok_over, over_still}
+use Rattle.station_scan.proofs.Looked.{same_seen}
+
+pub ok_gives : {T E : Type 0} (r : Result T E) (P Q : T → Type 0) → ((value : T) → P value → Q value) → IfOk r P → IfOk r Q
+ok_gives (Ok value) P Q gives is = gives value is
+ok_gives (Err cause) P Q gives is = tt
+
+pub on_ok_gives : {T E P Q : Type 0} (r : Result T E) → (P → Q) → OnOk r P → OnOk r Q
+on_ok_gives (Ok value) gives is = gives is
+on_ok_gives (Err cause) gives is = tt
+
+module _ (d e : DiskState) (quiet : ChangesNothing d e) where
+  file_through : (path bytes : List ℕ) → HasOnDisk d path bytes → HasOnDisk e path bytes
+  file_through path bytes on = record { seen = quiet.seen path ∙ on.seen; named = quiet.named path (λ h. h) on.named; flushed = quiet.flushed path (λ h. h) on.flushed }
+
+  pub are_staged : (packets : List Outgoing) → All (IsStaged d) packets → All (IsStaged e) packets
+  are_staged packets all k z lt =
+      let p = get_or packets k z in
+      record { file = file_through p.beside.now p.file.now.bytes (all k z lt).file; named = quiet.named p.path.now (λ h. h) (all k z lt).named }
+
+  pub staged_through : (packets : List Outgoing) → AreStaged packets d → AreStaged packets e
+  staged_through packets was = record {
+    bytes = was.bytes;
+    staged = are_staged packets was.staged;
+    clear = λ honest k z lt.
+        let p = get_or packets k z in
+        let none = was.clear (quiet.honest honest) k z lt in
+        record { none = quiet.seen p.path.now ∙ none.none; named = quiet.named p.path.now (λ h. h) none.named; flushed = quiet.flushed p.path.now (λ h. h) none.flushed };
+  }
+
+  pub have_their_paths : (packets : List Outgoing) → All (HasItsPath d) packets → All (HasItsPath e) packets
+  have_their_paths packets all k z lt =
+      let p = get_or packets k z in
+      record { file = file_through p.path.now p.file.now.bytes (all k z lt).file; gone = quiet.seen p.beside.now ∙ (all k z lt).gone }
+
+  pub were_free : (packets : List Outgoing) → All (IsFree d) packets → All (IsFree e) packets
+  were_free packets all k z lt = quiet.seen (get_or packets k z).path.now ∙ all k z lt
+
+-- a run between two that change nothing
+module _ (a d e b : DiskState) (before : ChangesNothing a d) (after : ChangesNothing e b) where
+  pub names_through : (packets : List Outgoing) → All (IsStaged a) packets → LeavesOnly d e (OneStepOn (NamesEach packets) d) → LeavesOnly a b (OneStepOn (NamesEach packets) a)
+  names_through packets staged run =
+      then_nothing a e b (OneStepOn (NamesEach packets) a)
+      (then_run a d e (OneStepOn (NamesEach packets) a) (OneStepOn (NamesEach packets) d)
+      (weaker_run a d a.may_leave (OneStepOn (NamesEach packets) a) before.run
+      (λ c left. (
+        c,
+        left,
+        record { others = λ m other. refl; whole = λ k z lt. inr (left_there a (get_or packets k z).beside.now (get_or packets k z).file.now.bytes (staged k z lt).file c left) },
+      )))
+      run (λ c step. (step.0, before.no_more step.0 step.1, step.2)))
+      after
+
+  ended_back : (cursor : ℕ) (found : List Left) (m : List ℕ) → IsEndedAt cursor found b.seen m → IsEndedAt cursor found e.seen m
+  ended_back cursor found m (l, is, at) = (l, is, ⊎_elim (λ o. inl o) (λ p. inr (p.0, ⊎_elim (λ below. inl below) (λ none. inr (sym (after.seen m) ∙ none)) p.1)) at)
+
+  over_after : (cursor : ℕ) (found : List Left) (folder : List ℕ) (r : Result (Unit {0}) PlacingError) → OnOk r (All (IsOver cursor a e) found) → OnOk r (All (IsOver cursor a b) found)
+  over_after cursor found folder r over = on_ok_gives r (λ all k z lt. over_still cursor a e b after (get_or found k z) (all k z lt)) over
+
+  pub ends_through : (IsTrue : Files → Type 0) (Own : List ℕ → Type 0) (folder own : List ℕ) (cursor : ℕ) (r : Result (Unit {0}) PlacingError) → EndsLeft (IsTrue d.seen) Own folder own cursor d e r
+      → EndsLeft (IsTrue a.seen) Own folder own cursor a b r
+  ends_through IsTrue Own folder own cursor r ends =
+      let found = ends.found in
+      let seen = same_seen a d before in
+      record {
+        found = found;
+        each = subst (λ (f : Files). All (IsLeftOf (IsTrue f) Own folder own) found) seen ends.each;
+        all = subst (λ (f : Files). OnOk r (AreAllLeft (IsTrue f) Own folder own f found)) seen ends.all;
+        over = over_after cursor found folder r (on_ok_over cursor found a d e r before.seen ends.over);
+        named = on_ok_gives r (λ named m is. after.named m (λ h. h) (named m is)) ends.named;
+        flushed = on_ok_gives r (λ flushed m is. after.flushed m (λ h. h) (flushed m (ended_back cursor found m is))) ends.flushed;
+        any_moment = then_nothing a e b (OneStepOn (FinishesEach cursor found) a) (quiet_then a d e (FinishesEach cursor found) (FinishesEach cursor found) before (finishes_none cursor found) ends.any_moment (λ x c f. f)) after;
+        changes = then_only (IsOfLeft found) a e b (then_only (IsOfLeft found) a d e (only_nothing (IsOfLeft found) a d before) ends.changes) (only_nothing (IsOfLeft found) e b after);
+      }

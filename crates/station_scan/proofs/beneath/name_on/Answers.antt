@@ -1,0 +1,56 @@
+use Rattle.std.proofs.Common.{◌≡◌, refl, true, All}
+use Rattle.echo_placing.specs.Naming.{HasItsPath}
+use Rattle.echo_placing.specs.Outgoing.{IsOfOne}
+use Rattle.station_scan.proofs.Published.{own_not_of}
+use Rattle.station_scan.proofs.Through.{are_staged, have_their_paths, names_through, ok_gives}
+use Rattle.station_scan.proofs.Lent.{held, used}
+use Rattle.station_scan.proofs.beneath.name_on.Goals as goal
+
+pub give_back-store-requires : goal.give_back-store-requires
+give_back-store-requires g c κs =
+    let s0 = g.P.Kept.Store.state c.args.store in
+    let disk = c.lend-disk.result.0 in
+    let rest = c.lend-disk.result.1 in
+    let back = c.name_packets-done.new.disk in
+    let a = g.P.LendStation.store_on rest disk in
+    let b = g.P.LendStation.store_on rest back in
+    let d0 = g.D.Disk.state disk in
+    let d1 = g.D.Disk.state back in
+    let lent = c.lend-disk.ensures in
+    ((refl, tt), (held (IsOfOne c.args.packets.now) s0 a b d0 d1 lent.looks lent.quiet (lent.back back) (own_not_of s0 c.args.packets.now c.requires.apart) c.name_packets-done.ensures.changes).ready)
+
+pub returns-clause-used : goal.returns-clause-used
+returns-clause-used g c =
+    let s0 = g.P.Kept.Store.state c.args.store in
+    let disk = c.lend-disk.result.0 in
+    let rest = c.lend-disk.result.1 in
+    let back = c.name_packets-done.new.disk in
+    let a = g.P.LendStation.store_on rest disk in
+    let b = g.P.LendStation.store_on rest back in
+    let d0 = g.D.Disk.state disk in
+    let d1 = g.D.Disk.state back in
+    let lent = c.lend-disk.ensures in
+    let s1 = g.P.Kept.Store.state c.give_back-store.result in
+    used (IsOfOne c.args.packets.now) s0 a b d0 d1 lent.looks lent.quiet (lent.back back) (own_not_of s0 c.args.packets.now c.requires.apart) c.name_packets-done.ensures.changes s1 c.give_back-store.ensures.looks c.give_back-store.ensures.quiet
+
+pub name_packets-done-requires-clause-staged : goal.name_packets-done-requires-clause-staged
+name_packets-done-requires-clause-staged g c =
+    are_staged (g.P.Kept.Store.state c.args.store).disk (g.D.Disk.state c.lend-disk.result.0) c.lend-disk.ensures.quiet c.args.packets.now c.requires.staged
+
+pub returns-clause-named : goal.returns-clause-named
+returns-clause-named g c = λ honest.
+    let packets = c.args.packets.now in
+    let d1 = g.D.Disk.state c.name_packets-done.new.disk in
+    let e = (g.P.Kept.Store.state c.give_back-store.result).disk in
+    let quiet = c.give_back-store.ensures.quiet in
+    ok_gives c.name_packets-done.result (λ all. all ≡ true → All (HasItsPath d1) packets) (λ all. all ≡ true → All (HasItsPath e) packets) (λ all gives is. have_their_paths d1 e quiet packets (gives is))
+    (c.name_packets-done.ensures.named (quiet.honest honest))
+
+pub returns-clause-any_moment : goal.returns-clause-any_moment
+returns-clause-any_moment g c = λ honest.
+    let s0 = g.P.Kept.Store.state c.args.store in
+    let d0 = g.D.Disk.state c.lend-disk.result.0 in
+    let d1 = g.D.Disk.state c.name_packets-done.new.disk in
+    let e = (g.P.Kept.Store.state c.give_back-store.result).disk in
+    let quiet = c.give_back-store.ensures.quiet in
+    names_through s0.disk d0 d1 e c.lend-disk.ensures.quiet quiet c.args.packets.now c.requires.staged (c.name_packets-done.ensures.any_moment (quiet.honest honest))

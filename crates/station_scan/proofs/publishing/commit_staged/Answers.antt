@@ -1,0 +1,20 @@
+use Rattle.station_scan.proofs.Published.{commits_still, naming, published_if}
+use Rattle.station_scan.proofs.publishing.commit_staged.Goals as goal
+
+pub returns-in-Ok-clause-published : goal.returns-in-Ok-clause-published
+returns-in-Ok-clause-published g c =
+    let s0 = g.P.Kept.Store.state c.args.store in
+    let s1 = g.P.Kept.Store.state c.commit.new.self in
+    let s2 = g.P.Kept.Store.state c.name_on-store.result.store in
+    let used = c.name_on-store.ensures.used in
+    published_if c.args.packets.now s0 s2 c.name_on-store.result.done c.named_done-done.result c.named_done-done.ensures c.name_on-store.ensures.named
+    (commits_still s0 s1 s2 c.in-Ok.ensures.committed used.holds used.changes.honest) c.requires.staged.bytes
+
+pub returns-in-Ok-clause-any_moment : goal.returns-in-Ok-clause-any_moment
+returns-in-Ok-clause-any_moment g c = λ honest first next was is.
+    let s0 = g.P.Kept.Store.state c.args.store in
+    let s1 = g.P.Kept.Store.state c.commit.new.self in
+    let s2 = g.P.Kept.Store.state c.name_on-store.result.store in
+    let used = c.name_on-store.ensures.used in
+    naming c.args.outbound.now c.args.packets.now c.requires.placed s0 c.requires.apart c.requires.ready s1 c.commit.ensures.either c.requires.staged s2 c.in-Ok.ensures.committed used (used.changes.honest honest)
+    (c.name_on-store.ensures.any_moment honest) first next was is

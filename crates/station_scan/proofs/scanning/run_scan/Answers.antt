@@ -1,0 +1,88 @@
+use Rattle.std.proofs.Common.{◌≡◌, ◌≤◌, Err, arith, inl, inr, refl}
+use Rattle.echo_disk.proofs.Moments.{then_nothing}
+use Rattle.echo_station_files.proofs.Failures.{failed_wider}
+use Rattle.echo_store_changing.specs.declared.stop.Stop.TheVariants.{Met}
+use Rattle.station.specs.Place.{StandsOrWasLeft}
+use Rattle.station.proofs.Ran.{looks_of, looks_open}
+use Rattle.station_scan.proofs.Runs.{scan_keeps, scanned_on}
+use Rattle.station_scan.proofs.Stops.{failed_too}
+use Rattle.station_scan.proofs.scanning.run_scan.Goals as goal
+
+pub returns-in-Ok-prepare-clause-runs : goal.returns-in-Ok-prepare-clause-runs
+returns-in-Ok-prepare-clause-runs g c = λ honest.
+    let d0 = g.D.Disk.state c.args.disk in
+    let d2 = g.D.Disk.state c.into_disk-disk.result in
+    let s0 = g.P.Kept.Store.state c.in-Ok.opened.kept in
+    let s1 = g.P.Kept.Store.state c.prepare.new.store in
+    let s2 = g.P.Kept.Store.state c.scan_kept-store.result.store in
+    let place = g.P.OpenStation.place c.args.station in
+    let opened = c.in-Ok.ensures.opened in
+    let looked = c.prepare.ensures in
+    let did = c.scan_kept-store.ensures in
+    let quiet = c.into_disk-disk.ensures.quiet in
+    let honest2 = quiet.honest honest in
+    let honest1 = did.keeps.keeps.honest honest2 in
+    let honest0 = looked.looks.quiet.honest honest1 in
+    let begun = looks_open place d0 s0 s1 looked.looks (opened.begun honest0) in
+    let of = looks_of place d0 s0 s1 looked.looks opened.of_place in
+    let own = c.paths-paths.ensures in
+    let f0 = g.D.Disk.failures c.args.disk in
+    let f1 = g.P.Kept.Store.failures c.in-Ok.opened.kept in
+    let f2 = g.P.Kept.Store.failures c.prepare.new.store in
+    let f3 = g.P.Kept.Store.failures c.scan_kept-store.result.store in
+    let f4 = g.D.Disk.failures c.into_disk-disk.result in
+    let first : f0 ≤ f1 = opened.later in
+    let second : f1 ≤ f2 = looked.later in
+    let same : f4 ≡ f3 = c.into_disk-disk.ensures.failures in
+    let wider = failed_wider f0 f2 f3 f4 (omega arith) (omega (arith, same)) in
+    inl (record {
+      file = c.in-Ok.opened.links;
+      read = opened.read honest0;
+      runs = λ base stands.
+          scanned_on place d0 d2 s1 s2 begun of quiet (g.P.Paths.OwnPaths.is_own c.paths-paths.result) (λ m o. (own m).0 o) (λ m o. (own m).1 o) c.args.scan.now.outbound.now c.args.scan.now.stamp
+          (g.G.Listing.is_true c.scan_kept-store.new.scan.listing) _ _ _ _ c.in-Ok.opened.links base c.scan_kept-store.result.done stands (failed_too _ _ _ _ wider)
+          (did.scans honest2 base (begun.keeps base stands) (begun.committed base stands));
+      cause = λ is. inl (inl (wider (did.device is)));
+    })
+
+pub returns-in-Ok-prepare-clause-keeps : goal.returns-in-Ok-prepare-clause-keeps
+returns-in-Ok-prepare-clause-keeps g c =
+    let d0 = g.D.Disk.state c.args.disk in
+    let d2 = g.D.Disk.state c.into_disk-disk.result in
+    let s0 = g.P.Kept.Store.state c.in-Ok.opened.kept in
+    let s1 = g.P.Kept.Store.state c.prepare.new.store in
+    let place = g.P.OpenStation.place c.args.station in
+    scan_keeps place c.args.scan.now.outbound.now d0 d2 s1 (g.P.Kept.Store.state c.scan_kept-store.result.store) (looks_of place d0 s0 s1 c.prepare.ensures.looks c.in-Ok.ensures.opened.of_place)
+    c.into_disk-disk.ensures.quiet c.scan_kept-store.ensures.keeps
+
+pub returns-in-Ok-clause-runs : goal.returns-in-Ok-clause-runs
+returns-in-Ok-clause-runs g c = λ honest.
+    let d0 = g.D.Disk.state c.args.disk in
+    let d2 = g.D.Disk.state c.into_disk-disk-in-Err-prepare.result in
+    let s0 = g.P.Kept.Store.state c.in-Ok.opened.kept in
+    let s1 = g.P.Kept.Store.state c.prepare.new.store in
+    let place = g.P.OpenStation.place c.args.station in
+    let quiet = c.into_disk-disk-in-Err-prepare.ensures.quiet in
+    let looks = c.prepare.ensures.looks in
+    let honest0 = looks.quiet.honest (quiet.honest honest) in
+    let begun = looks_open place d0 s0 s1 looks (c.in-Ok.ensures.opened.begun honest0) in
+    inr (record {
+      stopped = Err (Met c.in-Err-prepare.fault);
+      is = refl;
+      not_run = record {
+        fault = c.in-Err-prepare.fault;
+        is = refl;
+        cause = inr c.in-Err-prepare.ensures.stopped;
+        printed = refl;
+        crash = λ base stands. then_nothing d0 s1.disk d2 (StandsOrWasLeft place d0 base) (begun.run base stands) quiet;
+      };
+    })
+
+pub returns-clause-runs : goal.returns-clause-runs
+returns-clause-runs g c = λ honest.
+    let shut = c.in-Err.ensures.stopped in
+    inr (record {
+      stopped = Err (Met c.in-Err.stopped.fault);
+      is = refl;
+      not_run = record { fault = c.in-Err.stopped.fault; is = refl; cause = inl (shut.cause honest); printed = refl; crash = shut.crash honest };
+    })

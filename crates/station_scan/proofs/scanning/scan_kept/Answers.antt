@@ -1,0 +1,43 @@
+use Rattle.std.proofs.Common.{◌≤◌, List, Result, ⊎_elim, arith, inl, inr, subst}
+use Rattle.std.specs.Prelude.{OnOk}
+use Rattle.echo_status.specs.Devices.{output_of}
+use Rattle.echo_steps.specs.PacketFiles.{PacketFile}
+use Rattle.echo_store.specs.Store.{GoesOn, all_scanned}
+use Rattle.echo_station_files.proofs.Failures.{failed_wider}
+use Rattle.echo_station_files.specs.Paths.{dotted}
+use Rattle.echo_store_changing.specs.Scanned.{ScansOn}
+use Rattle.echo_store_changing.specs.declared.stop.Stop.{Stop}
+use Rattle.echo_toss.specs.PacketsIn.{state_in}
+use Rattle.station_scan.specs.Scanning.{SendsOut}
+use Rattle.station_scan.proofs.Scans.{scans_ok}
+use Rattle.station_scan.proofs.Stops.{put_wider}
+use Rattle.station_scan.proofs.scanning.scan_kept.Goals as goal
+
+pub returns-in-Ok-clause-scans : goal.returns-in-Ok-clause-scans
+returns-in-Ok-clause-scans g c = λ honest base keeps committed.
+    let s1 = g.P.Kept.Store.state c.args.store in
+    let sA = g.P.Kept.Store.state c.take_waiting-store.result.store in
+    let s2 = g.P.Kept.Store.state c.put_taken.result.store in
+    let took = c.take_waiting-store.ensures in
+    let put = c.put_taken.ensures in
+    let honestA = put.keeps.keeps.honest honest in
+    let honest1 = took.quiet.honest honestA in
+    let next = all_scanned base in
+    let moved = subst (λ (r : Result (List PacketFile) Stop). OnOk r (sA.keeps next)) c.in-Ok.is (took.moved honestA base keeps) in
+    let on = subst (λ (r : Result (List PacketFile) Stop). OnOk r (GoesOn s1 sA)) c.in-Ok.is took.goes_on in
+    let out = output_of g.W.Write.contents g.W.Sink.failures g.W.Sink.holds c.args.out.now in
+    let now = output_of g.W.Write.contents g.W.Sink.failures g.W.Sink.holds c.take_waiting-store.new.out in
+    let answer = subst (λ (r : Result (List PacketFile) Stop). ScansOn c.args.scan.now.stamp (state_in c.args.links.now base) out now r) c.in-Ok.is (took.answers honestA base keeps) in
+    let IsTrue = g.G.Listing.is_true c.put_taken.new.scan.listing in
+    let Own = g.P.Paths.OwnPaths.is_own c.args.paths.now in
+    let outbound = c.args.scan.now.outbound.now in
+    let result = c.put_taken.result.done in
+    let cursor = c.cursor-cursor.result in
+    let sends = subst (λ (f : List PacketFile). SendsOut (IsTrue sA.disk.seen) Own outbound (dotted c.args.links.now.system) (sA.stands base) (sA.stands next) cursor f sA.disk s2.disk result) c.as_slice.ensures
+    (put.sends honest base next (on.committed honestA base committed) moved) in
+    let f1 = g.P.Kept.Store.failures c.args.store in
+    let fA = g.P.Kept.Store.failures c.take_waiting-store.result.store in
+    let f2 = g.P.Kept.Store.failures c.put_taken.result.store in
+    let later : f1 ≤ fA = took.cause.later in
+    scans_ok c.args.scan.now.stamp Own outbound IsTrue _ s1 sA s2 out now c.args.links.now base c.in-Ok.files result honest1 c.requires.ready committed took.same took.quiet answer cursor (c.cursor-cursor.ensures honest1 base keeps) sends
+    (put_wider _ _ result (λ failed. ⊎_elim (λ disk. inl (failed_wider f1 fA f2 f2 later (omega arith) disk)) (λ listing. inr listing) failed) (put.why honest next moved))
