@@ -1,7 +1,7 @@
 -- Stations of a net, each on a disk; several may share one.
-use Rattle.std.specs.Prelude.{◌≡◌, ◌≢◌, ◌⊎◌, ℕ, List, Some}
+use Rattle.std.specs.Prelude.{◌≡◌, ◌≢◌, ◌⊎◌, ◌++◌, ℕ, List, Some}
 use Rattle.echo_base.specs.Base.{Base}
-use Rattle.echo_disk.specs.Disk.{DiskState, Files, IsIn}
+use Rattle.echo_disk.specs.Disk.{DiskState, Files}
 use Rattle.echo_run.specs.Run.{nth}
 use Rattle.station.specs.Place.{Place}
 use Rattle.law_crashes.specs.Disks.{Disks}
@@ -24,9 +24,14 @@ pub record Seat (Kept : Type 0) : Type 0 where
   pub outbound : List ℕ
   pub kept : Kept
 
+-- a path of this folder, or of one below it
+pub record IsBelow (folder path : List ℕ) : Type 0 where
+  pub rest : List ℕ
+  pub parts : path ≡ folder ++ rest
+
 -- what commands at the station may touch: the files of its base, and its folder of packets
 abbrev pub reach : {Kept : Type 0} → (Kept → Place) → Seat Kept → Place
-reach place seat = record { stands_for = (place seat.kept).stands_for; is_own = λ m. (place seat.kept).is_own m ⊎ IsIn seat.outbound m }
+reach place seat = record { stands_for = (place seat.kept).stands_for; is_own = λ m. (place seat.kept).is_own m ⊎ IsBelow seat.outbound m }
 
 -- another station is on the same disk
 pub record IsShared {Kept : Type 0} (seats : List (Seat Kept)) (i : ℕ) (seat : Seat Kept) : Type 0 where

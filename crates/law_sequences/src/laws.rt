@@ -1,6 +1,7 @@
 //! What holds of steps at stations. Each law is the contract of a function that does nothing.
 
 ghost use Rattle.law_sequences.specs.Asked.{CommandsGoOn};
+ghost use Rattle.law_sequences.specs.Scanned.{ScansGoOn, TossesGoOn};
 ghost use Rattle.law_sequences.specs.Seats.{either};
 ghost use Rattle.law_sequences.specs.Sequences.{HeadlineOverSequences, SequencesAreAmong};
 
@@ -17,6 +18,16 @@ pub fn sequences_are_among<'a, D: Disk, P: OpenStation<'a, D>, O: OpenStation<'a
 /// it, and where it ends well; where others are on the disk, its base then has to be on that.
 pub fn commands_go_on<'a, D: Disk, P: OpenStation<'a, D>, O: OpenStation<'a, D>>()
     ensures { CommandsGoOn D.state (either P.place O.place) }
+{}
+
+/// The same of a toss that ended well: the packets that it tossed whole are delivered.
+pub fn tosses_go_on<'a, D: Disk, P: OpenStation<'a, D>, O: OpenStation<'a, D>>()
+    ensures { TossesGoOn D.state (either P.place O.place) }
+{}
+
+/// The same of a scan: whatever crash cuts it, and where it ends well.
+pub fn scans_go_on<'a, D: Disk, P: OpenStation<'a, D>, O: OpenStation<'a, D>>()
+    ensures { ScansGoOn D.state (either P.place O.place) }
 {}
 
 /// The headline over sequences: where `check` ended with 0 for the link files of the stations and an area, then after any
