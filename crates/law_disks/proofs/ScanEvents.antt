@@ -192,7 +192,7 @@ module _ (stamp : Stamp) (place : Place) (links outbound : List ℕ) (i : ℕ) (
 
       -- where it ended well
       module _ (sent : AreSentOut (IsTrue put.opened) place.is_own outbound own (place.stands_for next) base.cursor put.found files put.opened new) where
-        after-all : (c : Files) → c links ≡ old.seen links → place.stands_for next c → AllByRecursion (IsAtPath outbound c) files
+        abbrev after-all : (c : Files) → c links ≡ old.seen links → place.stands_for next c → AllByRecursion (IsAtPath outbound c) files
             → (scan : AreAfterScan stamp place links outbound i d ended base c) × (scan.waiting ≡ [])
         after-all c linked stands all =
             let (p, no_more) = all-named (IsAtPath outbound c) (IsBesidePath outbound own c) i base.cursor (length base.messages) files ended.beside
@@ -207,7 +207,13 @@ module _ (stamp : Stamp) (place : Place) (links outbound : List ℕ) (i : ℕ) (
         found-so : IsAfterScan stamp place links outbound i d ended base new
         found-so =
             let (scan, no_more) = after-all new.seen same-links sent.shown (recursion_from_All (IsAtPath outbound new.seen) files (λ j p lt. (sent.packets j p lt).seen)) in
-            record { scan = scan; none_waits = no_more; at = record { shows = scan.shows; linked = still-linked; outside = at.outside } }
+            record {
+              scan = scan;
+              none_waits = no_more;
+              at = record { shows = scan.shows; linked = still-linked; outside = at.outside };
+              on_disk = λ c now.
+                  record { station = scan.shows.station; there = scan.shows.there; of_links = left-links c now ∙ at.shows.of_links; stands = sent.on_disk c now };
+            }
 
       -- no fault of the command is answered
       placed : (fault : Fault) → result ≡ Err (Command (Met fault)) → ⊥

@@ -43,11 +43,13 @@ pub record AreAfterScan (stamp : Stamp) (place : Place) (links outbound : List �
   pub at_paths : AllByRecursion (IsAtPath outbound c) named
   pub beside_paths : AllByRecursion (IsBesidePath outbound (dotted file.system) c) waiting
 
--- The disk shows the link file and the base of the station after a scan of which no packet waits, and the next command finds it so.
+-- The disk shows the link file and the base of the station after a scan of which no packet waits, the next command finds it so, and
+-- each crash leaves both so.
 pub record IsAfterScan (stamp : Stamp) (place : Place) (links outbound : List ℕ) (i : ℕ) (d ended : Disks) (base : Base) (new : DiskState) : Type 0 where
   pub scan : AreAfterScan stamp place links outbound i d ended base new.seen
   pub none_waits : scan.waiting ≡ []
   pub at : IsStationAt place links i new scan.after
+  pub on_disk : (c : Files) → new.may_leave c → ShowsStation place links i c scan.after
 
 -- a place, and all paths of packets in a folder
 abbrev pub with_packets_in : List ℕ → Place → Place

@@ -44,21 +44,21 @@ abbrev pub MayBe : (Command → Type 0) → Option Command → Type 0
 MayBe IsCommand None = Unit {0}
 MayBe IsCommand (Some command) = IsCommand command
 
--- The net goes on where a crash cut it.
+-- A crash cut it, and the net goes on.
 pub record GoesOnCut {Kept : Type 0} (IsCommand : Command → Type 0) (place : Kept → Place) (seat : Seat Kept) (i : ℕ) (d : Disks) (old whole begun : DiskState) : Type 0 where
   pub command : Option Command
   pub is : MayBe IsCommand command
   pub next : Disks
   pub cut : WasCut place seat i command d next old whole begun
 
--- The net goes on where it ended well.
+-- It ended well, and the net goes on.
 pub record GoesOnEnded {Kept : Type 0} (IsCommand : Command → Type 0) (place : Kept → Place) (seats : List (Seat Kept)) (seat : Seat Kept) (i : ℕ) (d : Disks) (old new : DiskState) : Type 0 where
   pub command : Command
   pub is : IsCommand command
   pub next : Disks
   pub ended : HasEnded place seats seat i (Some command) d next old new
 
--- the base for which its files stand is on the disk, where another station is on that
+-- where another station is on the disk, the base for which the files of this one stand is on that
 abbrev pub IsKeptWhereShared : {Kept : Type 0} → (Kept → Place) → List (Seat Kept) → Seat Kept → ℕ → DiskState → Type 0
 IsKeptWhereShared place seats seat i disk = IsShared seats i seat → (base : Base) → (place seat.kept).stands_for base disk.seen → IsKeptOn (place seat.kept) base disk
 
