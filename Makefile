@@ -9,7 +9,7 @@
 # outside (docs/TRIALS.md). `make install` puts what was built, the program, its page, the scripts, the documents
 # and what shells complete, under PREFIX, or under DESTDIR and PREFIX, and `make uninstall` takes it away; `make
 # deb` makes a Debian package of the same.
-.PHONY: all test edits edit-table times seconds demo show-examples cases story net-test manual-test small-nets follow interop trials install uninstall deb toolchain clean
+.PHONY: all test edits edit-table crate-table times seconds demo show-examples cases story net-test manual-test small-nets follow interop trials install uninstall deb toolchain clean
 PREFIX = /usr/local
 
 # The program that the examples are run with. After the gate that is the one that it built and left in
@@ -60,6 +60,9 @@ edits: toolchain
 
 edit-table:
 	scripts/edit_table.sh | sed -i -e '/^<!-- edits -->/,/^<!-- end of edits -->/{//!d}' -e '/^<!-- edits -->/r /dev/stdin' docs/PROOFS.md
+
+crate-table:
+	scripts/crate_table.sh | sed -i -e '/^<!-- crates -->/,/^<!-- end of crates -->/{//!d}' -e '/^<!-- crates -->/r /dev/stdin' docs/ARCHITECTURE.md
 
 times: toolchain
 	@mkdir -p bin

@@ -387,5 +387,26 @@ same "OUTBOUND and PACKETS" "^$place/six/sent/$(ls six/sent)" "$(cat six/outb/$t
 same "no other folders" "base inb last-name links log outb scan.lock scanned sent settings toss.lock tossing" \
   "$(LC_ALL=C ls six | grep -v '^bad$' | xargs)"
 
+# An editor replaces the link file while a posting waits for its lock: the posting takes the lock of the new one.
+mkdir seven
+if [ "$kind" = folders ]; then mkdir seven/base; fi
+cp one/links seven/links
+exec 7< seven/links
+flock 7
+echo Late | "$program" post --area TEST --to All --from Ann --subject Late --serial auto --at now seven/links seven/base \
+  > posted.txt 7<&- &
+waiting=$!
+sleep 0.3
+cp one/links seven/links.new
+exec 8< seven/links.new
+flock 8
+mv seven/links.new seven/links
+exec 7<&-
+sleep 0.3
+same "a posting waits for the new link file" "" "$(cat posted.txt)"
+exec 8<&-
+wait $waiting
+same "and then it posts" "end 1 messages, 1 waiting" "$("$program" list seven/base | tail -n 1)"
+
 echo "$passed checks passed, $failed failed"
 [ $failed -eq 0 ]

@@ -32,6 +32,7 @@ each python3 trials/small_nets.py &
 each python3 trials/export.py &
 each python3 trials/stored.py &
 each python3 trials/jam.py &
+each python3 trials/readers.py &
 each python3 trials/answers.py &
 each python3 trials/terminal.py &
 wait

@@ -302,6 +302,25 @@ def try_left(place, base, messages):
     os.remove(os.path.join(folder, "9.msg.~msg~.new"))
     expect("the files", stored.files_of(folder), contents)
     jam.check_all(path, messages)
+    if os.geteuid() == 0:
+        try_others(path, folder, base, messages)
+
+
+def try_others(path, folder, base, messages):
+    """What another user left stays, but where a file of this kind is made in its place."""
+    first, beside = os.path.join(folder, "2.msg"), os.path.join(folder, "2.msg.~msg~.new")
+    wanted = jam.read(first)
+    for content, status in ((b"anything", 3), (wanted[:50], 0), (b"", 0)):
+        for name in os.listdir(folder):
+            os.remove(os.path.join(folder, name))
+        write(beside, content)
+        os.chown(beside, 65534, 65534)
+        expect("left by another user", quiet(words_of("--msg", folder, base)).returncode, status)
+        expect("it is gone", os.path.exists(beside), status == 3)
+    write(path + ".jhr.~jam~.new", b"anything")
+    os.chown(path + ".jhr.~jam~.new", 65534, 65534)
+    expect("left by another user", quiet(words_of("--jam", path, base)).stdout.decode(), exported(0, len(messages)))
+    expect("it stays", jam.read(path + ".jhr.~jam~.new"), b"anything")
 
 
 def try_modes(place, base, messages):

@@ -54,7 +54,7 @@ export_to_jam() {
     sleep 1
   done
   cat "$work/fault" >&2
-  return $status
+  return "$status"
 }
 
 # Adds what is new in the base. Words: the folder or the JAM base, the file with the number of the next message.

@@ -28,9 +28,12 @@ pub(crate) fn locked_headers<'a>(
 ) -> Result<File, Fault<'a>> {
     let headers = with_end(rt, path, ".jhr")?;
     let beside = with_end(rt, headers.as_str(), ".~jam~.new")?;
-    if !is_there(rt, path, headers.as_str())? || is_there(rt, path, beside.as_str())? {
+    if !is_there(rt, path, headers.as_str())? {
         base_bytes(rt, base)?;
         begin_alone(rt, path, headers.as_str(), beside.as_str())?;
+    } else if is_there(rt, path, beside.as_str())? {
+        // What cannot be tidied up is no fault of the base.
+        let _ = begin_alone(rt, path, headers.as_str(), beside.as_str());
     }
     let headers = open_file(rt, path, ".jhr").map_err(|error| jam_fault(&error, path))?;
     lock_file(rt, &headers, path).map_err(|_| Fault::CannotUse(path))?;
@@ -128,8 +131,14 @@ pub(crate) fn begun_again<'a>(
         write_at(headers, bytes.as_slice(), 0).map_err(|error| jam_fault(&error, path))?;
         return Ok(bytes);
     }
-    if found.len() == FIXED && found.starts_with(b"JAM\0") {
+    if found.len() == FIXED && found.starts_with(b"JAM\0") && !has_others(rt, path)? {
         make_others(rt, path, false)?;
     }
     Ok(found)
+}
+
+// Whether the index and the texts are there.
+fn has_others<'a>(rt: &HostRuntime, path: &'a str) -> Result<bool, Fault<'a>> {
+    let (index, texts) = (with_end(rt, path, ".jdx")?, with_end(rt, path, ".jdt")?);
+    Ok(is_there(rt, path, index.as_str())? && is_there(rt, path, texts.as_str())?)
 }

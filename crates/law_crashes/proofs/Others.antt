@@ -1,14 +1,12 @@
 -- A posting, a purge or a toss on the disks is one on the net, and moves no cursor.
-use Rattle.std.proofs.Common.{◌≡◌, ◌⊎◌, inl, inr, refl, sym, subst, ap, ◌∙◌, ℕ, zero, suc, ◌-◌, ◌+◌, arith, append-nil, Bool, true, false, List, [], ◌∷◌, ◌++◌, length, map, take, Option, Some, None}
+use Rattle.std.proofs.Common.{◌≡◌, ◌⊎◌, inl, inr, refl, sym, subst, ap, ◌∙◌, ℕ, zero, suc, append-nil, Bool, true, false, List, [], ◌∷◌, ◌++◌, length, map, take, Option, Some, None}
 use Rattle.std.specs.Prelude.{if◌then◌else◌, ◌==◌}
 use Rattle.std.specs.List.{list_any}
 use Rattle.std.proofs.lemmas.Bool.{eqb-true}
-use Rattle.std.proofs.lemmas.List.{take_all}
 use Rattle.echo_base.specs.Base.{Base}
 use Rattle.echo_graph.specs.Walk.{Among}
 use Rattle.echo_filed.specs.Filed.{Filed}
 use Rattle.echo_links.specs.Links.{LinkFile}
-use Rattle.echo_status.specs.declared.fault.Fault.{Fault}
 use Rattle.echo_steps.specs.Posting.{posted}
 use Rattle.echo_steps.specs.SystemState.{SystemState}
 use Rattle.echo_store.specs.Store.{purged}
@@ -18,11 +16,10 @@ use Rattle.echo_run.proofs.Lists.{any-from, with_index-from}
 use Rattle.echo_changing.specs.declared.posting.NewMessage.{NewMessage}
 use Rattle.echo_changing.specs.Coming.{Coming, Fails, Holds, Unknown}
 use Rattle.echo_changing.specs.Posted.{draft_given}
-use Rattle.echo_changing.specs.Tossed.{run_begun}
 use Rattle.law_stations.specs.Commands.{Command, IsAt, IsPacketAt, Leads, Post, Posts, Purge, Purges, Toss, Tosses, whole_of}
 use Rattle.law_stations.specs.Nets.{Net, Paired, Station, with_base, with_indexes, with_left, with_posting, with_tossed}
-use Rattle.law_stations.proofs.FileRuns.{IsPartly, TossedFiles, each-tossed, wholes}
-use Rattle.law_stations.proofs.OfToss.{same-length}
+use Rattle.law_stations.proofs.FileRuns.{IsPartly, TossedFiles, tossed-all, wholes}
+use Rattle.law_stations.proofs.OfToss.{whole-first}
 use Rattle.law_stations.proofs.Pairs.{change-map, paired-nth}
 use Rattle.law_crashes.specs.Disks.{Disks, cursor_of}
 use Rattle.law_crashes.proofs.Counting.{IsItem}
@@ -141,13 +138,7 @@ tossed-there (suc n) packets (k ∷ indexes) (Holds bytes ∷ files) old new are
 tossed-there (suc n) packets (k ∷ indexes) (Fails why ∷ files) old new are tossed j h = absurd tossed.1
 tossed-there (suc n) packets (k ∷ indexes) (Unknown ∷ files) old new are tossed j h = absurd are.0
 
--- how many were tossed whole
-whole-first : (packets : List (List ℕ)) (indexes : List ℕ) (files : List Coming) (stopped : Option Fault) (left : List Coming) → Paired (IsPacketAt packets) indexes files
-    → take (wholes (length files) stopped left) indexes ≡ whole_of indexes stopped left
-whole-first packets indexes files None left are = take_all (length files) indexes (omega (arith, same-length packets indexes files are))
-whole-first packets indexes files (Some fault) left are = ap (λ (n : ℕ). take (n - (length left + 1)) indexes) (sym (same-length packets indexes files are))
-
--- the places of those
+-- the places of those that were tossed whole
 take-placed : (f : ℕ → ℕ) (n j : ℕ) (indexes : List ℕ) → Among j (take n indexes) → Among (f j) (take n (map f indexes))
 take-placed f zero j indexes h = absurd h
 take-placed f (suc n) j [] h = absurd h
@@ -201,9 +192,7 @@ tossed-too indexes i d new net t p beside =
     let next = with_tossed net i p.next later in
     let at = at-too d net i p.station p.file t.stations p.at in
     let are = files-at net.packets d.net.packets t.places indexes p.files t.named p.are in
-    let ran : TossedFiles n p.files (state_in p.file p.station.base) (state_in p.file p.next) =
-    subst (TossedFiles n p.files (state_in p.file p.station.base)) all.state
-    (each-tossed p.files (run_begun all.limits (state_in p.file p.station.base)) all.stopped all.left all.run all.each) in
+    let ran = tossed-all p.files p.file p.station.base p.next all in
     let tossed : (j : ℕ) → Among j (with_indexes whole d.net.delivered) → IsTossedAt t.places next.delivered j = λ j h. elim (all-from whole j d.net.delivered h) [
       | inl now ↦ (
           let P : List ℕ → Type 0 = λ ks. Among j ks in

@@ -1,5 +1,5 @@
 -- What a command leaves elsewhere leaves other stations as they were.
-use Rattle.std.proofs.Common.{◌≡◌, ◌≢◌, ◌⊎◌, inl, inr, ◌∙◌, ℕ, List, sym}
+use Rattle.std.proofs.Common.{◌≡◌, ◌≢◌, ◌⊎◌, inl, inr, ◌∙◌, ℕ, List}
 use Rattle.echo_disk.specs.Disk.{DiskState, Files}
 use Rattle.station.specs.Place.{Place, SameElsewhere}
 use Rattle.law_stations.specs.Commands.{CommandEvent}

@@ -5,10 +5,9 @@ use Rattle.echo_steps.specs.SystemState.{SystemState}
 use Rattle.echo_toss.specs.PacketsIn.{state_in}
 use Rattle.echo_run.specs.Run.{change}
 use Rattle.echo_changing.specs.Coming.{Coming, Fails, Holds, Unknown}
-use Rattle.echo_changing.specs.Tossed.{run_begun}
 use Rattle.law_stations.specs.Commands.{Command, CommandEvent, Happens, Post, Purge, Scan}
 use Rattle.law_stations.specs.Nets.{Net, Paired, Station, with_base, with_left}
-use Rattle.law_stations.proofs.FileRuns.{IsPartly, TossedFiles, each-tossed, wholes}
+use Rattle.law_stations.proofs.FileRuns.{IsPartly, TossedFiles, tossed-all, wholes}
 use Rattle.law_crashes.specs.Disks.{cursor_of}
 use Rattle.law_crashes.specs.OverCrashes.{IsLike}
 use Rattle.law_crashes.specs.Stopping.{LeadsFar}
@@ -79,10 +78,9 @@ any-toss files s new net t p beside =
     let next = with_left net 0 [] p.next in
     let S : List Station → Type 0 = λ ss. ss ≡ p.station ∷ [] in
     let there = subst S t.stations p.there in
-    let begun = state_in p.file p.station.base in
     let n = wholes (length files) p.tosses.stopped p.tosses.left in
-    let ran = subst (TossedFiles n files begun) p.tosses.state (each-tossed files (run_begun p.tosses.limits begun) p.tosses.stopped p.tosses.left p.tosses.run p.tosses.each) in
-    let cursor : p.next.cursor ≡ p.station.base.cursor = tossed-cursor n files begun (state_in p.file p.next) p.any ran in
+    let cursor : p.next.cursor ≡ p.station.base.cursor =
+    tossed-cursor n files (state_in p.file p.station.base) (state_in p.file p.next) p.any (tossed-all files p.file p.station.base p.next p.tosses) in
     let C : List Station → Type 0 = λ ss. map cursor_of (change 0 (with_base p.next) ss) ≡ map cursor_of ss in
     let D : List ℕ → ℕ → Type 0 = λ ds j. Among j ds in (
       next,

@@ -14,10 +14,9 @@ use Rattle.echo_toss.specs.PacketsIn.{state_in}
 use Rattle.echo_run.specs.Run.{Run, change, nth, scanning_at, state_of}
 use Rattle.echo_changing.specs.Coming.{Coming}
 use Rattle.echo_changing.specs.Posted.{draft_given}
-use Rattle.echo_changing.specs.Tossed.{run_begun}
 use Rattle.law_stations.specs.Agreement.{Agrees, HasSystem, IsPacketFile}
 use Rattle.law_stations.specs.Nets.{Paired, Station, with_left}
-use Rattle.law_stations.proofs.FileRuns.{TossedFiles, each-tossed, wholes}
+use Rattle.law_stations.proofs.FileRuns.{TossedFiles, tossed-all, wholes}
 use Rattle.law_stations.proofs.OfEvents.{post-agrees, purge-agrees, scan-agrees}
 use Rattle.law_stations.proofs.Putting.{puts-agree}
 use Rattle.law_stations.proofs.Systems.{file-fits, one-file}
@@ -84,9 +83,7 @@ module _ (files : List Coming) (file : LinkFile) (s new : LoneStation) (events :
       let n = wholes (length files) tosses.stopped tosses.left in
       let same : state_in toss.file station.base ≡ state_of z.system =
       (let one = one-file station.links toss.file z.system.file toss.links has.links in λ j. state_in (one j) (has.base j)) in
-      let ran = each-tossed files (run_begun tosses.limits (state_in toss.file station.base)) tosses.stopped tosses.left tosses.run tosses.each in
-      let F : SystemState → SystemState → Type 0 = λ a b. TossedFiles n files a b in
-      let tossed = subst (F (state_of z.system)) tosses.state (subst (λ (x : SystemState). F x tosses.run.system) same ran) in
+      let tossed = subst (λ (x : SystemState). TossedFiles n files x (state_in toss.file toss.next)) same (tossed-all files toss.file station.base toss.next tosses) in
       let made = files-tossed n files z.system (state_in toss.file toss.next) toss.any (file-fits station.links z.system.file has.links) has.is_base tossed in
       subst (λ (w : List Coming). TossesFrom held (held_in w) z.system (state_in toss.file toss.next)) (whole-first files tosses.stopped tosses.left) made
 

@@ -1,15 +1,14 @@
 -- Command events are events of a run.
-use Rattle.std.proofs.Common.{◌≡◌, ◌⊎◌, inl, inr, refl, sym, subst, ap, ℕ, ◌==◌, arith, true, List, [], ◌∷◌, ◌++◌, map, Option, Some, None}
+use Rattle.std.proofs.Common.{◌≡◌, ◌⊎◌, inl, inr, refl, sym, subst, ap, ◌∙◌, ℕ, ◌==◌, arith, true, List, [], ◌∷◌, ◌++◌, map, Option, Some, None}
 use Rattle.std.specs.Prelude.{Bool, false, if◌then◌else◌}
 use Rattle.std.proofs.lemmas.Bool.{eqb-false, eqb-true}
-use Rattle.echo_addr.specs.declared.address.Address.{Address}
-use Rattle.echo_graph.specs.Walk.{Among, Different}
+use Rattle.echo_graph.specs.Walk.{Different}
 use Rattle.echo_links.specs.Links.{LinkFile}
-use Rattle.echo_filed.specs.Filed.{Filed}
 use Rattle.echo_run.specs.Event.{Posting, Purging, RunEvent, Scanning}
 use Rattle.echo_run.specs.Run.{Run, System, after_events, change, fresh, nth, posting_at, purging_at, scanning, scanning_at, start}
 use Rattle.echo_run.proofs.LaterSystems.{after-append}
 use Rattle.echo_run.proofs.Lists.{yes_or_no}
+use Rattle.echo_run.proofs.WholeRuns.{fresh-empty, fresh-files}
 use Rattle.echo_steps.specs.declared.stamp.Stamp.{Stamp}
 use Rattle.echo_steps.specs.Posting.{posting}
 use Rattle.echo_steps.specs.Scanning.{scanned}
@@ -22,7 +21,7 @@ use Rattle.law_stations.specs.InOrder.{WasPurged}
 use Rattle.law_stations.specs.Nets.{Net, Paired, first_net, new_station}
 use Rattle.law_stations.proofs.OfEvents.{post-agrees, purge-agrees, scan-agrees}
 use Rattle.law_stations.proofs.OfToss.{toss-agrees}
-use Rattle.law_stations.proofs.Places.{addresses-stay}
+use Rattle.law_stations.proofs.Places.{addresses-of, addresses-stay}
 use Rattle.law_stations.proofs.Unpurged.{AsFiledAt, change-as_filed, filing-as_filed}
 
 -- Where a command ends well: its events, and each system has its messages as they were filed if it had, but where it is purged.
@@ -122,30 +121,19 @@ first-stations [] (file ∷ files) are = absurd are
 first-stations (bytes ∷ links) [] are = absurd are
 first-stations (bytes ∷ links) (file ∷ files) are = (record { links = are.0; base = refl; is_base = record { each = tt; new = tt; within = omega arith } }, first-stations links files are.1)
 
-none-filed : (files : List LinkFile) (s : System) → Among s (map fresh files) → (m : Filed) → Among m s.history → ⊥
-none-filed [] s there m h = there
-none-filed (file ∷ files) s there m h = elim there [
-  | inl e ↦ (let P : System → Type 0 = λ x. Among m x.history in subst P e h)
-  | inr t ↦ none-filed files s t m h
-]
-
 pub first-agrees : (links : List (List ℕ)) (files : List LinkFile) → AreLinkFiles links files → Agrees (first_net links) (start files)
 first-agrees links files are = record {
   stations = first-stations links files are;
   packets = tt;
   delivered = refl;
   postings = λ m h. absurd h;
-  only_postings = λ s there m has. absurd (none-filed files s there m has.filed);
+  only_postings = λ s there m has. absurd (fresh-empty files s there m has.filed);
 }
-
-pub fresh-files : (files : List LinkFile) → map own_address (map fresh files) ≡ map file_address files
-fresh-files [] = refl
-fresh-files (file ∷ files) = ap (λ (xs : List Address). file_address file ∷ xs) (fresh-files files)
 
 pub led-from-first : (links : List (List ℕ)) (files : List LinkFile) → AreLinkFiles links files → Different (map file_address files)
     → (commands : List CommandEvent) (net : Net) → Happen commands (first_net links) net → LedAll commands net (start files)
 led-from-first links files are apart commands net happen =
-    led-all commands (first_net links) net (start files) (subst Different (sym (fresh-files files)) apart) (first-agrees links files are) happen
+    led-all commands (first_net links) net (start files) (subst Different (ap (map file_address) (sym (fresh-files files)) ∙ sym (addresses-of (map fresh files))) apart) (first-agrees links files are) happen
 
 pub events-are-a-run : EventsAreARun
 events-are-a-run links files are apart commands net happen =

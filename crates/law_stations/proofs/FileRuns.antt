@@ -1,16 +1,20 @@
 -- A toss of packet files, by their bytes: some first ones are tossed whole, and the next may be tossed in part.
-use Rattle.std.proofs.Common.{◌≡◌, ◌⊎◌, inl, inr, refl, sym, subst, ap, ℕ, zero, suc, ◌+◌, ◌-◌, ◌≤◌, arith, List, [], ◌∷◌, length, Option, Some, None, Result, Ok, Err}
+use Rattle.std.proofs.Common.{Bool, true, false, ◌≡◌, ◌⊎◌, inl, inr, refl, sym, subst, ap, ℕ, zero, suc, ◌+◌, ◌-◌, ◌≤◌, arith, List, [], ◌∷◌, length, Option, Some, None, Result, Ok, Err}
 use Rattle.echo_status.specs.Devices.{Device}
 use Rattle.echo_status.specs.declared.fault.Fault.{Fault}
+use Rattle.echo_status.specs.declared.fault.Fault.TheVariants.{OutOfMemory}
+use Rattle.echo_base.specs.Base.{Base}
+use Rattle.echo_links.specs.Links.{LinkFile}
+use Rattle.echo_toss.specs.PacketsIn.{state_in}
 use Rattle.echo_steps.specs.SystemState.{SystemState}
 use Rattle.echo_toss.specs.declared.fault.TossFault.{TossFault}
 use Rattle.echo_toss.specs.declared.tally.Tally.{Tally}
 use Rattle.echo_toss.specs.PacketSteps.{PacketStep}
 use Rattle.echo_changing.specs.Coming.{Coming, Fails, Holds, Unknown}
-use Rattle.echo_changing.specs.Tossed.{TossesEach, TossesFile}
-use Rattle.echo_changing.specs.TossedPacket.{HasTossedPacket, ReportsPacket, TossRun, TossesPacket}
+use Rattle.echo_changing.specs.Tossed.{TossesEachBy, TossesFileBy, run_begun}
+use Rattle.echo_changing.specs.TossedPacket.{ReportsPacket, TossRun, TossesPacketBy}
 use Rattle.echo_run.proofs.Lists.{none_some}
-use Rattle.law_stations.specs.Commands.{itself}
+use Rattle.law_stations.specs.Commands.{TossesAll, itself}
 use Rattle.law_stations.proofs.Readings.{TossesFront, TossesPacketThere, TossesSo, tosses-so}
 
 -- the file was tossed whole
@@ -37,21 +41,23 @@ abbrev pub wholes : ℕ → Option Fault → List Coming → ℕ
 wholes all None left = all
 wholes all (Some fault) left = all - (length left + 1)
 
--- as many files are left as stand behind the last that was opened
-left-behind : (files : List Coming) (old : TossRun) (fault : Fault) (left : List Coming) (new : TossRun) → TossesEach itself files old (Some fault) left new
-    → length left + 1 ≤ length files
-left-behind [] old fault left new (none, rest, end) = absurd (none_some (sym none))
-left-behind (file ∷ files) old fault left new (inl (run, first, more)) = let less = left-behind files run fault left new more in omega (arith, less)
-left-behind (file ∷ files) old fault left new (inr (why, is, same, last)) = omega (arith, ap (λ (l : List Coming). length l) same)
+-- the packet of a file was tossed with this answer, and why it was not tossed whole stopped the run
+record IsAnswered (old : TossRun) (reader left : Device) (stopped : Option Fault) (new : TossRun) : Type 0 where
+  answer : Result Tally TossFault
+  step : PacketStep old.limits old.system reader.contents left.contents answer new.system
+  noted : List ℕ
+  line : ReportsPacket noted new.lines answer stopped
 
-one-more : (files : List Coming) (old : TossRun) (stopped : Option Fault) (left : List Coming) (new : TossRun) → TossesEach itself files old stopped left new
-    → wholes (suc (length files)) stopped left ≡ suc (wholes (length files) stopped left)
-one-more files old None left new each = refl
-one-more files old (Some fault) left new each = let less = left-behind files old fault left new each in omega (arith, less)
+answered : (noting : Bool) (old : TossRun) (reader left : Device) (stopped : Option Fault) (new : TossRun) → TossesPacketBy noting old reader left stopped new
+    → ((stopped ≡ Some OutOfMemory) × (new ≡ old)) ⊎ IsAnswered old reader left stopped new
+answered false old reader left stopped new (inl none) = inl (none.0, none.1)
+answered false old reader left stopped new (inr h) = inr (record { answer = h.answer; step = h.step; noted = old.lines; line = h.line })
+answered true old reader left stopped new (inl none) = inl (none.0, none.1)
+answered true old reader left stopped new (inr h) = inr (record { answer = h.answer; step = h.step; noted = h.noted; line = h.line })
 
 -- what is said of a packet that was opened
 packet-so : (bytes : List ℕ) (old new : TossRun) (stopped : Option Fault) (reader left : Device) → reader.contents ≡ Some bytes
-    → (h : HasTossedPacket old reader left stopped new) → TossesSo bytes old.system new.system h.answer
+    → (h : IsAnswered old reader left stopped new) → TossesSo bytes old.system new.system h.answer
 packet-so bytes old new stopped reader left reads h =
     let P : Option (List ℕ) → Type 0 = λ o. PacketStep old.limits old.system o left.contents h.answer new.system in
     tosses-so old.limits bytes left.contents old.system new.system h.answer (subst P reads h.step)
@@ -59,51 +65,70 @@ packet-so bytes old new stopped reader left reads h =
 same-run : (old new : TossRun) → new ≡ old → new.system ≡ old.system
 same-run old new e = ap (λ (r : TossRun). r.system) e
 
--- a file after which the run went on
-went-on : (file : Coming) (old new : TossRun) → TossesFile itself file old None new → IsWholly file old.system new.system
-went-on Unknown old new tossed = tt
-went-on (Fails why) old new (inl opened) = opened.opened
-went-on (Fails why) old new (inr unopened) = none_some unopened.is
-went-on (Holds bytes) old new (inr unopened) = absurd (none_some unopened.is)
-went-on (Holds bytes) old new (inl opened) = by opened.packet
-  where
-    answered : (answer : Result Tally TossFault) → ReportsPacket old.lines new.lines answer None → TossesSo bytes old.system new.system answer
-        → TossesPacketThere bytes old.system new.system
-    answered (Ok tally) told so = so
-    answered (Err f) told so = absurd (none_some told.0)
+module _ (noting : Bool) where
+  -- a file after which the run went on
+  went-on : (file : Coming) (old new : TossRun) → TossesFileBy (TossesPacketBy noting) itself file old None new → IsWholly file old.system new.system
+  went-on Unknown old new tossed = tt
+  went-on (Fails why) old new (inl opened) = opened.opened
+  went-on (Fails why) old new (inr unopened) = none_some unopened.is
+  went-on (Holds bytes) old new (inr unopened) = absurd (none_some unopened.is)
+  went-on (Holds bytes) old new (inl opened) = elim (answered noting old opened.reader opened.left None new opened.packet) [
+    | inl none ↦ absurd (none_some none.0)
+    | inr h ↦ by h.answer h.noted h.line (packet-so bytes old new None opened.reader opened.left opened.opened h)
+  ]
+    where
+      by : (answer : Result Tally TossFault) (noted : List ℕ) → ReportsPacket noted new.lines answer None → TossesSo bytes old.system new.system answer
+          → TossesPacketThere bytes old.system new.system
+      by (Ok tally) noted told so = so
+      by (Err f) noted told so = absurd (none_some told.0)
 
-    by : TossesPacket old opened.reader opened.left None new → TossesPacketThere bytes old.system new.system
-    by (inl none) = absurd (none_some none.0)
-    by (inr h) = answered h.answer h.line (packet-so bytes old new None opened.reader opened.left opened.opened h)
+  -- and one that stopped it
+  stopped-at : (file : Coming) (later : List Coming) (old new : TossRun) (fault : Fault) → TossesFileBy (TossesPacketBy noting) itself file old (Some fault) new
+      → IsPartly (file ∷ later) old.system new.system
+  stopped-at Unknown later old new fault tossed = tt
+  stopped-at (Fails why) later old new fault (inl opened) = absurd opened.opened
+  stopped-at (Fails why) later old new fault (inr unopened) = same-run old new unopened.same
+  stopped-at (Holds bytes) later old new fault (inr unopened) = inl (same-run old new unopened.same)
+  stopped-at (Holds bytes) later old new fault (inl opened) = elim (answered noting old opened.reader opened.left (Some fault) new opened.packet) [
+    | inl none ↦ inl (same-run old new none.1)
+    | inr h ↦ by h.answer h.noted h.line (packet-so bytes old new (Some fault) opened.reader opened.left opened.opened h)
+  ]
+    where
+      by : (answer : Result Tally TossFault) (noted : List ℕ) → ReportsPacket noted new.lines answer (Some fault) → TossesSo bytes old.system new.system answer
+          → (new.system ≡ old.system) ⊎ TossesFront bytes old.system new.system
+      by (Ok tally) noted told so = absurd (none_some (sym told.0))
+      by (Err f) noted told so = so
 
--- and one that stopped it
-stopped-at : (file : Coming) (later : List Coming) (old new : TossRun) (fault : Fault) → TossesFile itself file old (Some fault) new → IsPartly (file ∷ later) old.system new.system
-stopped-at Unknown later old new fault tossed = tt
-stopped-at (Fails why) later old new fault (inl opened) = absurd opened.opened
-stopped-at (Fails why) later old new fault (inr unopened) = same-run old new unopened.same
-stopped-at (Holds bytes) later old new fault (inr unopened) = inl (same-run old new unopened.same)
-stopped-at (Holds bytes) later old new fault (inl opened) = by opened.packet
-  where
-    answered : (answer : Result Tally TossFault) → ReportsPacket old.lines new.lines answer (Some fault) → TossesSo bytes old.system new.system answer
-        → (new.system ≡ old.system) ⊎ TossesFront bytes old.system new.system
-    answered (Ok tally) told so = absurd (none_some (sym told.0))
-    answered (Err f) told so = so
+  -- as many files are left as stand behind the last that was opened
+  left-behind : (files : List Coming) (old : TossRun) (fault : Fault) (left : List Coming) (new : TossRun)
+      → TossesEachBy (TossesPacketBy noting) itself files old (Some fault) left new → length left + 1 ≤ length files
+  left-behind [] old fault left new (none, rest, end) = absurd (none_some (sym none))
+  left-behind (file ∷ files) old fault left new (inl (run, first, more)) = let less = left-behind files run fault left new more in omega (arith, less)
+  left-behind (file ∷ files) old fault left new (inr (why, is, same, last)) = omega (arith, ap (λ (l : List Coming). length l) same)
 
-    by : TossesPacket old opened.reader opened.left (Some fault) new → (new.system ≡ old.system) ⊎ TossesFront bytes old.system new.system
-    by (inl none) = inl (same-run old new none.1)
-    by (inr h) = answered h.answer h.line (packet-so bytes old new (Some fault) opened.reader opened.left opened.opened h)
+  one-more : (files : List Coming) (old : TossRun) (stopped : Option Fault) (left : List Coming) (new : TossRun)
+      → TossesEachBy (TossesPacketBy noting) itself files old stopped left new → wholes (suc (length files)) stopped left ≡ suc (wholes (length files) stopped left)
+  one-more files old None left new each = refl
+  one-more files old (Some fault) left new each = let less = left-behind files old fault left new each in omega (arith, less)
 
-pub each-tossed : (files : List Coming) (old : TossRun) (stopped : Option Fault) (left : List Coming) (new : TossRun) → TossesEach itself files old stopped left new
-    → TossedFiles (wholes (length files) stopped left) files old.system new.system
-each-tossed [] old stopped left new (ended, none, end) =
-    let T : Option Fault → Type 0 = λ o. TossedFiles (wholes 0 o left) [] old.system new.system in
-    subst T (sym ended) (same-run old new end)
-each-tossed (file ∷ files) old stopped left new (inl (mid, first, more)) =
-    let T : ℕ → Type 0 = λ n. TossedFiles n (file ∷ files) old.system new.system in
-    subst T (sym (one-more files mid stopped left new more)) (mid.system, went-on file old mid first, each-tossed files mid stopped left new more)
-each-tossed (file ∷ files) old stopped left new (inr (fault, is, rest, last)) =
-    let T : ℕ → Type 0 = λ n. TossedFiles n (file ∷ files) old.system new.system in
-    let F : Option Fault → Type 0 = λ o. TossesFile itself file old o new in
-    let W : Option Fault → Type 0 = λ o. wholes (suc (length files)) o left ≡ 0 in
-    let none : wholes (suc (length files)) stopped left ≡ 0 = subst W (sym is) (omega (arith, ap (λ (l : List Coming). length l) rest)) in
-    subst T (sym none) (stopped-at file files old new fault (subst F is last))
+  pub each-tossed : (files : List Coming) (old : TossRun) (stopped : Option Fault) (left : List Coming) (new : TossRun)
+      → TossesEachBy (TossesPacketBy noting) itself files old stopped left new → TossedFiles (wholes (length files) stopped left) files old.system new.system
+  each-tossed [] old stopped left new (ended, none, end) =
+      let T : Option Fault → Type 0 = λ o. TossedFiles (wholes 0 o left) [] old.system new.system in
+      subst T (sym ended) (same-run old new end)
+  each-tossed (file ∷ files) old stopped left new (inl (mid, first, more)) =
+      let T : ℕ → Type 0 = λ n. TossedFiles n (file ∷ files) old.system new.system in
+      subst T (sym (one-more files mid stopped left new more)) (mid.system, went-on file old mid first, each-tossed files mid stopped left new more)
+  each-tossed (file ∷ files) old stopped left new (inr (fault, is, rest, last)) =
+      let T : ℕ → Type 0 = λ n. TossedFiles n (file ∷ files) old.system new.system in
+      let F : Option Fault → Type 0 = λ o. TossesFileBy (TossesPacketBy noting) itself file old o new in
+      let W : Option Fault → Type 0 = λ o. wholes (suc (length files)) o left ≡ 0 in
+      let none : wholes (suc (length files)) stopped left ≡ 0 = subst W (sym is) (omega (arith, ap (λ (l : List Coming). length l) rest)) in
+      subst T (sym none) (stopped-at file files old new fault (subst F is last))
+
+-- what becomes of the base
+pub tossed-all : (files : List Coming) (file : LinkFile) (base next : Base) → (t : TossesAll files file base next)
+    → TossedFiles (wholes (length files) t.stopped t.left) files (state_in file base) (state_in file next)
+tossed-all files file base next t =
+    let F : SystemState → Type 0 = λ x. TossedFiles (wholes (length files) t.stopped t.left) files (state_in file base) x in
+    subst F t.state (each-tossed t.noting files (run_begun t.limits (state_in file base)) t.stopped t.left t.run t.each)

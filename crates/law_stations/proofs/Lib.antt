@@ -12,4 +12,4 @@ pub mod EachEvent
 pub mod Unpurged
 pub mod Sound
 pub mod Headline
-pub mod WithoutNotes
+pub mod AnyReader

@@ -17,11 +17,10 @@ use Rattle.echo_run.specs.Event.{Delivery, PartDelivery, RunEvent}
 use Rattle.echo_run.specs.Run.{Run, System, after_events, change, coming, delivery, destination, nth, part_delivery, receiver, state_of, taking, tossing_at, with_index}
 use Rattle.echo_status.specs.declared.fault.Fault.{Fault}
 use Rattle.echo_changing.specs.Coming.{Coming, Fails, Holds, Unknown}
-use Rattle.echo_changing.specs.Tossed.{run_begun}
 use Rattle.law_stations.specs.Agreement.{Agrees, AreTossesOf, HasSystem, IsPacketFile, limits_of, own_address}
 use Rattle.law_stations.specs.Commands.{IsPacketAt, Tosses, whole_of}
 use Rattle.law_stations.specs.Nets.{Net, Paired, Station, with_base, with_indexes, with_tossed}
-use Rattle.law_stations.proofs.FileRuns.{IsPartly, TossedFiles, each-tossed, wholes}
+use Rattle.law_stations.proofs.FileRuns.{IsPartly, TossedFiles, tossed-all, wholes}
 use Rattle.law_stations.proofs.Pairs.{change-same, change-twice, changed-there, paired-nth}
 use Rattle.law_stations.proofs.Places.{addresses-stay, place-of}
 use Rattle.law_stations.proofs.Putting.{puts-agree}
@@ -200,9 +199,7 @@ toss-agrees indexes net new i run apart agrees toss =
     let (s, there, has) = paired-nth HasSystem i station net.stations run.systems agrees.stations toss.at.there in
     let same : state_in toss.file station.base ≡ state_of s =
     (let file = one-file station.links toss.file s.file toss.at.links has.links in λ j. state_in (file j) (has.base j)) in
-    let F : SystemState → SystemState → Type 0 = λ a b. TossedFiles n toss.files a b in
-    let ran = each-tossed toss.files (run_begun tosses.limits (state_in toss.file station.base)) tosses.stopped tosses.left tosses.run tosses.each in
-    let tossed = subst (F (state_of s)) tosses.state (subst (λ (x : SystemState). F x tosses.run.system) same ran) in
+    let tossed = subst (λ (x : SystemState). TossedFiles n toss.files x next) same (tossed-all toss.files toss.file station.base toss.next tosses) in
     let here : Here i net run = record { apart = apart; agrees = agrees; station = station; at = toss.at.there; s = s; there = there; has = has } in
     let t = each-toss n i indexes toss.files net run next here toss.are tossed in
     let whole = whole-first net.packets indexes toss.files tosses.stopped tosses.left toss.are in

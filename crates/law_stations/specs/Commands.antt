@@ -1,5 +1,5 @@
 -- What a command may do to a net of stations: it makes a base of that of one station, and that is committed there.
-use Rattle.std.specs.Prelude.{◌≡◌, ℕ, ◌⊎◌, ◌+◌, ◌-◌, true, List, [], ◌∷◌, length, map, take, Option, Some, None, Ok}
+use Rattle.std.specs.Prelude.{◌≡◌, ℕ, ◌⊎◌, ◌+◌, ◌-◌, Bool, true, List, [], ◌∷◌, length, map, take, Option, Some, None, Ok}
 use Rattle.std.specs.List.{AllByRecursion}
 use Rattle.echo_base.specs.Base.{Base}
 use Rattle.echo_packet.specs.Header.{AreBytes}
@@ -20,8 +20,8 @@ use Rattle.echo_changing.specs.declared.posting.NewMessage.{NewMessage}
 use Rattle.echo_changing.specs.Coming.{Coming, Fails, Holds, Unknown}
 use Rattle.echo_changing.specs.Posted.{draft_given}
 use Rattle.echo_changing.specs.Scanned.{file_sent}
-use Rattle.echo_changing.specs.Tossed.{TossesEach, run_begun}
-use Rattle.echo_changing.specs.TossedPacket.{TossRun}
+use Rattle.echo_changing.specs.Tossed.{TossesEachBy, run_begun}
+use Rattle.echo_changing.specs.TossedPacket.{TossRun, TossesPacketBy}
 use Rattle.echo_store_changing.specs.Posted as store
 use Rattle.law_stations.specs.Nets.{Net, Paired, Station, with_left, with_posting, with_tossed}
 
@@ -76,13 +76,14 @@ abbrev pub whole_of : List ℕ → Option Fault → List Coming → List ℕ
 whole_of indexes None left = indexes
 whole_of indexes (Some fault) left = take (length indexes - (length left + 1)) indexes
 
--- Files are tossed at a system with this base, in order, up to the first fault; then it has the other.
+-- Files are tossed at a system with this base, in order, with notes or without, up to the first fault; then it has the other.
 pub record TossesAll (files : List Coming) (file : LinkFile) (base next : Base) : Type 0 where
+  pub noting : Bool
   pub limits : Limits
   pub run : TossRun
   pub stopped : Option Fault
   pub left : List Coming
-  pub each : TossesEach itself files (run_begun limits (state_in file base)) stopped left run
+  pub each : TossesEachBy (TossesPacketBy noting) itself files (run_begun limits (state_in file base)) stopped left run
   pub state : run.system ≡ state_in file next
 
 -- `toss` commits what it filed, also where a fault ended its run

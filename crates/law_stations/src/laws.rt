@@ -14,13 +14,17 @@ ghost use Rattle.law_stations.specs.InOrder.{HeadlineOnNets, NetsAreSound};
 
 use echo_device::Source;
 
-/// What `toss` does over readers of any type, with notes or without, it does over what is known of them: the same
-/// stops it, and the same files are left. What it answers, where its store did not fail, is what stopped it.
+/// What `toss` does over readers of any type it does over what is known of them: the same stops it, and the same files
+/// are left.
 pub fn tosses_are_what_is_known<R: Source>()
-    ensures made { (noting : Bool) (limits : Limits) (file : LinkFile) (files : List Coming) (base next : Base) →
+    ensures { (noting : Bool) (limits : Limits) (file : LinkFile) (files : List Coming) (base next : Base) →
         (toss : Tosses noting limits (device_of R.remaining R.failures) file files base next) →
         (known : TossesAll files file base next) × (known.stopped ≡ toss.stopped) × (known.left ≡ toss.left) }
-    ensures answered { (noting : Bool) (limits : Limits) (file : LinkFile) (files left : List Coming) (base next : Base) (old new : Output) (answer : Option Fault) →
+{}
+
+/// What `toss` answers, where its store did not fail, is what stopped it.
+pub fn tosses_answer_what_stopped_them<R: Source>()
+    ensures { (noting : Bool) (limits : Limits) (file : LinkFile) (files left : List Coming) (base next : Base) (old new : Output) (answer : Option Fault) →
         TossesTo noting limits (device_of R.remaining R.failures) file base files left old new (Ok answer) next →
         (known : TossesAll files file base next) × (known.stopped ≡ answer) × (known.left ≡ left) }
 {}

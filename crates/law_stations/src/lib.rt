@@ -8,5 +8,5 @@ mod laws;
 
 pub use laws::{
     command_is_events, commands_are_a_run, nets_are_in_order, nets_are_sound,
-    tosses_are_what_is_known,
+    tosses_answer_what_stopped_them, tosses_are_what_is_known,
 };

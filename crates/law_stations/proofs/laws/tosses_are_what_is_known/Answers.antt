@@ -1,5 +1,5 @@
-use Rattle.law_stations.proofs.WithoutNotes.{tosses-answered, tosses-known}
+use Rattle.law_stations.proofs.AnyReader.{tosses-known}
 use Rattle.law_stations.proofs.laws.tosses_are_what_is_known.Goals as goal
 
 pub returns : goal.returns
-returns g c = record { made = tosses-known _; answered = tosses-answered _ }
+returns g c noting = tosses-known _ noting

@@ -1,0 +1,4 @@
+pub mod Seated
+pub mod Sequence
+pub mod GoingOn
+pub mod Scanning

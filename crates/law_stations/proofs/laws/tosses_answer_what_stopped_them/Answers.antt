@@ -1,0 +1,5 @@
+use Rattle.law_stations.proofs.AnyReader.{tosses-answered}
+use Rattle.law_stations.proofs.laws.tosses_answer_what_stopped_them.Goals as goal
+
+pub returns : goal.returns
+returns g c noting = tosses-answered _ noting
