@@ -1,8 +1,10 @@
 """How long `check` and `why` take on great nets with a loop, beside the yes of the same net without its last
-links, by processor time. For each net three figures: the yes of `check`, its no, which names a loop, and `why`,
-each the middle one of three runs with the link files read, and how many times the yes the others take.
+links, by processor time, and on great nets with another fault at their last system, beside the yes without it. For
+each net three figures: the yes of `check`, its no, and `why`, each the middle one of three runs with the link files
+read, and how many times the yes the others take.
 
-Words: names of nets; with none, all but the rings. ECHONET names the program, bin/echonet without it.
+Words: names of nets; with none, all but the rings and the `far` ones, whose run is as long as the net. ECHONET names
+the program, bin/echonet without it.
 """
 import os
 import shutil
@@ -77,30 +79,64 @@ NETS = {
 }
 
 
+def apart(links):
+    """The last system and those that it lists no longer list each other."""
+    for other in links[-1]:
+        links[other].remove(len(links) - 1)
+    links[-1].clear()
+
+
+SHAPES = {
+    "tree": lambda: nets.linked(100000, tree(100000)),
+    "chain": lambda: nets.chain(100000),
+    "star": lambda: nets.star(80000),
+}
+# The last system lists itself; an address that no file has; nobody, though it is listed; the second system.
+FAULTS = {
+    "self": lambda links: links[-1].append(len(links) - 1),
+    "unknown": lambda links: links[-1].append(len(links)),
+    "side": lambda links: links[-1].clear(),
+    "apart": apart,
+    "far": lambda links: links[-1].append(1),
+}
+
+
 def middle(wanted, *words):
     """The middle one of some runs, by its processor time, in seconds."""
     runs = files.runs(wanted, files.PROGRAM, *words)
     return runs[len(runs) // 2][0]
 
 
+def pair(name):
+    """What each system of the net lists where it is in order, and with the fault."""
+    if name in NETS:
+        links, last = NETS[name]()
+        count = 1 + max(map(max, links))
+        return nets.linked(count, links), nets.linked(count, links + last)
+    shape, fault = name.split("-")
+    good, bad = SHAPES[shape](), SHAPES[shape]()
+    FAULTS[fault](bad)
+    return good, bad
+
+
 def measure(name, folder):
     """Prints the figures of a net."""
-    links, last = NETS[name]()
-    count = 1 + max(map(max, links))
-    names = files.put_net(folder, nets.linked(count, links))
+    good, bad = pair(name)
+    names = files.put_net(folder, good)
     yes = middle(0, "check", "--links-from", names, "TEST")
-    names = files.put_net(folder, nets.linked(count, links + last))
+    names = files.put_net(folder, bad)
     no = middle(1, "check", "--links-from", names, "TEST")
     why = middle(1, "why", "--links-from", names, "TEST")
     print("%-14s %7d systems %7d links  yes %7.3f s, no %7.3f s (%4.1f), why %7.3f s (%4.1f)" % (
-        name, count, len(links + last), yes, no, no / yes, why, why / yes), flush=True)
+        name, len(bad), sum(map(len, bad)) // 2, yes, no, no / yes, why, why / yes), flush=True)
 
 
 def main(words):
     """Measures the nets of these names."""
     top = tempfile.mkdtemp(dir="/dev/shm" if os.path.isdir("/dev/shm") else None)
     try:
-        for name in words or [name for name in NETS if not name.startswith("ring")]:
+        others = ["%s-%s" % (shape, fault) for shape in SHAPES for fault in FAULTS if fault != "far"]
+        for name in words or [name for name in NETS if not name.startswith("ring")] + others:
             measure(name, os.path.join(top, "net"))
     finally:
         shutil.rmtree(top)

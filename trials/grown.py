@@ -25,15 +25,18 @@ LEAST_KILOBYTES = 16_384
 # So many bytes of memory for each byte of the input.
 MOST_BYTES = {"show": 4, "hex": 4, "toss": 24, "base": 24, "nodelist": 64, "check": 32, "picture": 32,
               "replay": 64, "post": 32}
+# And of `replay` for each packet that it makes, whatever the texts in it.
+MOST_OF_PACKET = 256
+HUB_LINKS = 2000
 SMALL_LIMIT = 1_048_000
 
 
 class Row:
     """A kind of input, what is run on it, and what came of it."""
 
-    def __init__(self, command, name, make, size, words, given=False):
+    def __init__(self, command, name, make, size, words, given=False, packets=0):
         self.command, self.name, self.make, self.size = command, name, make, size
-        self.words, self.given = words, given
+        self.words, self.given, self.packets = words, given, packets
 
 
 def rows(size):
@@ -62,6 +65,8 @@ def rows(size):
         yield Row("post", name + " in a link file", make, small, (*POSTING, "input", "base"))
     for name, make in growing.SCRIPTS.items():
         yield Row("replay", name, make, small, ("replay", "input", *CHAIN))
+    yield Row("replay", "200 scans of a hub", growing.SCRIPTS["postings and scans"], 6000, ("replay", "input", "hub.links"),
+              packets=200 * HUB_LINKS)
     for name, make in growing.BODIES.items():
         yield Row("post", name, make, small, (*POSTING, "1.links", "base"), True)
 
@@ -76,7 +81,8 @@ def make_input(row, size, folder):
     shutil.rmtree(folder, ignore_errors=True)
     os.makedirs(os.path.join(folder, "out"))
     links = making.link_file(making.OWN, [("TEST", (making.UPLINK, *making.DOWNLINKS))])
-    for name, content in (("1.links", links), ("input", row.make(size))):
+    hub = making.link_file(making.OWN, [("TEST", [(1, 20, node) for node in range(1, HUB_LINKS + 1)])])
+    for name, content in (("1.links", links), ("hub.links", hub), ("input", row.make(size))):
         with open(os.path.join(folder, name), "wb") as file:
             file.write(content)
 
@@ -84,7 +90,7 @@ def make_input(row, size, folder):
 def measure(row, size, folder):
     """Runs a row's command on an input of a size, made by a process of its own, and tells how it ended."""
     subprocess.run([sys.executable, __file__, "--make", row.command, row.name, str(size), folder], check=True)
-    files = ("input", "base", "out", "1.links")
+    files = ("input", "base", "out", "1.links", "hub.links")
     words = [os.path.join(folder, word) if word in files else word for word in row.words]
     with open(os.path.join(folder, "input") if row.given else os.devnull, "rb") as given:
         return running.measured([PROGRAM, *words], given)
@@ -103,7 +109,7 @@ def try_row(row, folder):
     ratio = seconds / measure(row, row.size // 2, folder)[1] if seconds > LEAST_SECONDS else 0.0
     if ratio > MOST_RATIO:
         ratio = running.steady_ratio(lambda size: (size, measure(row, size, folder)[1]), row.size)
-    most = LEAST_KILOBYTES + MOST_BYTES[row.command] * row.size / 1024
+    most = LEAST_KILOBYTES + (MOST_BYTES[row.command] * row.size + MOST_OF_PACKET * row.packets) / 1024
     wrong = [what for what, it in (("not in order", not is_orderly(status, fault)), ("not linear", ratio > MOST_RATIO),
                                    ("too much memory", kilobytes > most)) if it]
     print("%-9s %-42s %10d bytes  status %d  %7.2f s  ratio %4.2f  %8d kB %6.1f each  %s" % (

@@ -133,8 +133,7 @@ def check(message, got):
     expected = (seconds_of(message.date), ECHOMAIL | kind, ids.get(4, GONE), ids.get(5, GONE))
     if got.fields != fields or got.text != body or numbers != expected:
         sys.exit("message %d: %r, and not %r" % (message.number, (got.fields, got.text, numbers), (fields, body, expected)))
-    if any((got.times_read, got.reply_to, got.first_reply, got.next_reply, got.received, got.processed, got.attribute2,
-            got.cost)) or got.password != GONE:
+    if any((got.times_read, got.received, got.processed, got.attribute2, got.cost)) or got.password != GONE:
         sys.exit("message %d: a number that is not 0" % message.number)
 
 
@@ -181,7 +180,33 @@ def add(path, base, first, messages, end):
         sys.exit("exported: %r, and not %r" % (got, expected))
 
 
-def check_all(path, messages):
+def wanted_links(found):
+    """The message that each replies to, the first reply to it, and the next reply to the same message, in turn."""
+    links = [[0, 0, 0] for _ in found]
+    for i, message in enumerate(found):
+        parents = [k for k in range(i) if found[k].msgid == message.reply]
+        if message.reply == GONE or not parents:
+            continue
+        parent = parents[-1]
+        number = found[parent].number
+        before = [k for k in range(parent + 1, i) if links[k][0] == number]
+        at, field = (before[-1], 2) if before else (parent, 1)
+        links[at][field] = links[at][field] or message.number
+        links[i][0] = number
+    return links
+
+
+def check_links(found, was_stopped):
+    """The messages are linked; where a run was stopped, those that stood there may not name their last replies."""
+    for message, (reply_to, first, following) in zip(found, wanted_links(found)):
+        if message.reply_to != reply_to:
+            sys.exit("message %d replies to %d, and not %d" % (message.number, message.reply_to, reply_to))
+        for got, wanted in ((message.first_reply, first), (message.next_reply, following)):
+            if got != wanted and not (was_stopped and got == 0):
+                sys.exit("a reply of message %d: %d, and not %d" % (message.number, got, wanted))
+
+
+def check_all(path, messages, was_stopped=False):
     """The JAM base has these messages, each once, and says so."""
     jam = Jam(path)
     if len(jam.messages) != len(messages):
@@ -189,6 +214,7 @@ def check_all(path, messages):
     for message, got in zip(messages, jam.messages):
         check(message, got)
     jam.check_active()
+    check_links(jam.messages, was_stopped)
     return jam
 
 
@@ -235,7 +261,7 @@ def try_stopped(chance, place, base, messages, cut):
         for message, got in zip(messages, found):
             check(message, got)
         add(path, base, 0, messages[len(found):], len(messages))
-        check_all(path, messages)
+        check_all(path, messages, True)
 
 
 def try_changed(path, base, messages):

@@ -1,19 +1,21 @@
 //! `export --jam`: messages of a base added to the four files of a JAM base. The file of headers is locked from before
 //! anything is read until the last write, so that two runs at once add each message once.
 //!
-//! What is added is written in this order, each flushed before the next: texts, headers, index, counts. A reader sees just
-//! what the index names. So wherever a run is stopped, there stands a base with the first of its messages, and what is
-//! left behind the last of them is seen by nobody; only the number of active messages may be too small, until the next run.
+//! What is added is written in this order, each flushed before the next: texts, headers, index, and then the counts and
+//! what earlier headers name as replies. A reader sees just what the index names. So wherever a run is stopped, there
+//! stands a base with the first of its messages, and what is left behind the last of them is seen by nobody; only the
+//! number of active messages may be too small, until the next run, and earlier headers may not name the last replies.
 
 use crate::locked::{begun_again, locked_headers, unlock};
 use crate::named::{bytes_of, jam_fault, open_file, open_or_make, write_at};
 use cmd_base::base_bytes;
 use echo_base::BaseFault;
 use echo_device::Sink;
-use echo_jam::{Last, Standing, counts_after, standing_in};
+use echo_jam::{Last, Standing, counts_after, link_replies, standing_in};
 use echo_numbered::{JamBase, JamEnd, JamExport, export_jam, tell_added, tell_cuts};
 use echo_status::{Fault, Status, ended, number_of};
 use echo_words::ExportWords;
+use std::alloc::AllocError;
 use std::collections::hash_map::RandomState;
 use std::fs::File;
 use std::io;
@@ -22,6 +24,9 @@ use std::os::unix::fs::FileExt;
 /// Where the counts stand among the headers.
 const COUNTS_AT: u64 = 8;
 
+/// Where a header names the first reply of its message, and the next one to the same message.
+const REPLIES_AT: usize = 28;
+
 // The files of a JAM base, that of the headers under its lock, and what stands in them.
 #[derive(Drop)]
 struct JamFiles {
@@ -29,6 +34,7 @@ struct JamFiles {
     texts: File,
     index: File,
     found: Vec<u8>,
+    entries: Vec<u8>,
     index_end: u64,
     index_len: u64,
     standing: Standing,
@@ -136,6 +142,7 @@ fn files_read<'a>(
         found,
         index_end,
         index_len: entries.len() as u64,
+        entries,
         standing,
         end,
         text,
@@ -170,22 +177,67 @@ fn write_jam(rt: &HostRuntime, files: &JamFiles, exported: &JamExport) -> io::Re
     }
     let jam = &exported.adding.jam;
     let counts = counts_after(rt.alloc(), standing, added)?;
+    let headers = linked_headers(rt, files, exported)?;
     write_at(
         &files.texts,
         jam.texts.as_slice(),
         u64::from(files.end.texts),
     )?;
-    write_at(
-        &files.headers,
-        jam.headers.as_slice(),
-        u64::from(files.end.headers),
-    )?;
+    let new = headers.get(files.found.len()..).unwrap_or(&[]);
+    write_at(&files.headers, new, u64::from(files.end.headers))?;
     if has_zeros {
         files.index.set_len(files.index_end)?;
         files.index.sync_all()?;
     }
     write_at(&files.index, jam.index.as_slice(), files.index_end)?;
+    write_replies(files, headers.as_slice())?;
     write_at(&files.headers, counts.as_slice(), COUNTS_AT)
+}
+
+// The headers with those that are added, each message linked to the one that it replies to.
+fn linked_headers(
+    rt: &HostRuntime,
+    files: &JamFiles,
+    exported: &JamExport,
+) -> Result<Vec<u8>, AllocError> {
+    let jam = &exported.adding.jam;
+    let mut headers = Vec::from_slice(rt.alloc(), files.found.as_slice())?;
+    headers.extend_from_slice(jam.headers.as_slice())?;
+    let from = files.standing.entries as usize;
+    let written = files.entries.get(..from * 8).unwrap_or(&[]);
+    let mut index = Vec::from_slice(rt.alloc(), written)?;
+    index.extend_from_slice(jam.index.as_slice())?;
+    let entries = index.len() / 8;
+    if from <= entries {
+        link_replies(
+            headers.as_mut_slice(),
+            index.as_slice(),
+            from,
+            entries - from,
+        );
+    }
+    Ok(headers)
+}
+
+// Writes which replies the messages have that stood there, where that changed.
+fn write_replies(files: &JamFiles, linked: &[u8]) -> io::Result<()> {
+    for entry in files.entries.as_slice().chunks_exact(8) {
+        let begin = place_in(entry) as usize + REPLIES_AT;
+        let old = files.found.get(begin..begin + 8).unwrap_or(&[]);
+        let new = linked.get(begin..begin + 8).unwrap_or(&[]);
+        if old != new {
+            files.headers.write_all_at(new, begin as u64)?;
+        }
+    }
+    Ok(())
+}
+
+// Where the header of an entry of the index stands.
+fn place_in(entry: &[u8]) -> u32 {
+    match entry {
+        [_, _, _, _, a, b, c, d] => u32::from_le_bytes([*a, *b, *c, *d]),
+        _ => u32::MAX,
+    }
 }
 
 // How many of the messages stand in the base, where a write failed: as many as the index has whole entries of.

@@ -5,3 +5,4 @@ pub mod JamMessage
 pub mod Fixed
 pub mod Standing
 pub mod Same
+pub mod Links

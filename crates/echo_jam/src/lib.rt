@@ -6,13 +6,14 @@
 //!
 //! Modules in reading order: `crc` (names and ids by CRC), `moment` (a DateTime as seconds), `content` (what becomes of a
 //! line), `fields` (subfields and the text), `message` (a message in the files), `fixed` (the fixed header), `standing` (a
-//! base that is there) and `same` (whether a message stands in it).
+//! base that is there), `same` (whether a message stands in it) and `links` (which message one replies to).
 #![tactic(auto)]
 
 mod content;
 mod crc;
 mod fields;
 mod fixed;
+mod links;
 mod long;
 mod message;
 mod moment;
@@ -21,6 +22,7 @@ mod standing;
 
 pub use crc::jam_crc;
 pub use fixed::{counts_after, new_fixed};
+pub use links::link_replies;
 pub use message::{Jam, push_jam};
 pub use moment::seconds_of;
 pub use same::is_same;

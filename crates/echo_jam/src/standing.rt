@@ -169,8 +169,8 @@ fn is_deleted(headers: &[u8], at: usize) -> bool
     }
 }
 
-// Where the header of an entry stands.
-fn place_in(index: &[u8], i: usize) -> u32
+/// Where the header of an entry stands.
+pub(crate) fn place_in(index: &[u8], i: usize) -> u32
     requires { 8 * i + 8 ≤ length index.now }
     ensures { result ≡ place_in index.now i }
 {

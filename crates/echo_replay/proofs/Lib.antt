@@ -8,3 +8,4 @@ pub mod Numbers
 pub mod Scripts
 pub mod Words
 mod Counted
+mod Sizes

@@ -12,6 +12,7 @@ ghost use Rattle.echo_replay.specs.Taken.{AreTaken};
 ghost use Rattle.echo_replay.specs.Worlds as model;
 ghost use Rattle.echo_replay.specs.Worlds.{Fits, IsWorldOf, LeadsToFirst, ScanFits, own_addresses, after_posting, after_purge, after_scan, after_toss, arrived, encoded, made, made_by, scanned_world, with_change, world_after};
 
+use crate::fitting::fit;
 use crate::receivers::Receivers;
 use crate::world::{Exported, World};
 use echo_packet::Limits;
@@ -157,23 +158,31 @@ fn export(
     ensures bytes { OnOk result (exported.new.items ≡ exported.old.items ++ map made packets.items) }
     ensures fit { OnOk result (All Fits packets.items) }
 {
+    let alone = packets.len() == 1;
     'packets: for packet in packets {
-        export_one(alloc, exported, packet)?;
+        export_one(alloc, exported, packet, alone)?;
     }
     Ok(())
 }
 
-// The packet is put last. Its bytes are made again when it comes: kept, they would take the room of a text for each
-// link, which the copies of a message share.
-fn export_one(alloc: Global, exported: &mut Vec<Exported>, packet: Packet) -> Result<(), AllocError>
+// The packet is put last: as its bytes where its scan made no other one. Else they are made when it comes, since kept
+// they would take the room of a text for each link.
+fn export_one(
+    alloc: Global,
+    exported: &mut Vec<Exported>,
+    packet: Packet,
+    alone: bool,
+) -> Result<(), AllocError>
     ensures bytes { OnOk result (exported.new.items ≡ exported.old.items ++ made packet ∷ []) }
     ensures fit { OnOk result (Fits packet) }
 {
-    packet.encode(alloc)?;
-    exported.push(Exported {
-        packet,
-        came: false,
-    })?;
+    if alone {
+        let bytes = packet.encode(alloc)?;
+        exported.push(Exported::alone(&packet, bytes))?;
+        return Ok(());
+    }
+    fit(&packet)?;
+    exported.push(Exported::shared(alloc, packet)?)?;
     Ok(())
 }
 

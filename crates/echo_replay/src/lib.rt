@@ -4,10 +4,12 @@
 //! of these events on these files, which the laws of runs speak of.
 //!
 //! Modules in reading order: `world` (the systems and packets after the events, and what one reads off
-//! them), `receivers` (which system has an address), `happening` (what one event does), `telling` (who is told how
+//! them), `receivers` (which system has an address), `fitting` (what is known of a packet without its bytes),
+//! `happening` (what one event does), `telling` (who is told how
 //! far it is), `replaying`, `script` (events as text), and `laws` (what holds of every replay).
 #![tactic(auto)]
 
+mod fitting;
 mod happening;
 mod laws;
 mod receivers;

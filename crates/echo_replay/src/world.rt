@@ -7,9 +7,9 @@ ghost use Rattle.echo_base.specs.BaseFile.{is_countable, saved_bytes};
 ghost use Rattle.echo_base.specs.Saving.{CountsSaved, Saves, TellsTooMany};
 ghost use Rattle.echo_run.specs.Run.{Run, destination, nth};
 ghost use Rattle.echo_run.specs.World.{area_count, filed_at, waiting_at, is_settled, undelivered};
-ghost use Rattle.echo_replay.specs.Worlds.{IsWorldOf, OfSystem, encoded, message_at};
+ghost use Rattle.echo_replay.specs.Worlds.{IsWorldOf, OfSystem, encoded, made, message_at};
 
-use echo_addr::Address;
+use echo_addr::{Address, Items};
 use echo_base::BaseFault;
 use echo_device::Sink;
 use echo_filed::Filed;
@@ -20,41 +20,86 @@ use std::alloc::{AllocError, Global};
 use std::hash::{BuildHasher, RandomState};
 use std::marker::Model;
 
-/// A packet that was made, and whether it came. Packets of one scan share what their copies of a message do.
+/// A packet that was made, whom it is for, and whether it came.
 #[derive(Drop)]
 pub struct Exported {
-    pub packet: Packet,
-    pub came: bool,
+    /// The packet, where its scan made others, with which it shares the texts of messages.
+    shared: Option<Box<Packet>>,
+    /// Its bytes, where it is the only one.
+    bytes: Items<u8>,
+    to: Address,
+    pub(crate) came: bool,
 }
 
 impl Model for Exported {
+    ghost use Rattle.std.specs.Prelude.{option_map, unwrap_or};
     ghost use Rattle.echo_replay.specs.Worlds as model;
 
     ghost Value = { model.Exported };
 
-    ghost use Rattle.echo_run.specs.Run.{destination};
-
-    ghost view = { λ e. record { bytes = model.encoded e.packet; to = destination e.packet; came = e.came } };
+    ghost view = { λ e. record { bytes = unwrap_or (option_map (λ p. model.encoded p.value) e.shared) e.bytes; to = e.to; came = e.came } };
 }
 
 impl Exported {
+    /// A packet that is the only one of its scan, as these bytes.
+    pub(crate) fn alone(packet: &Packet, bytes: Vec<u8>) -> Exported
+        ensures { result ≡ record { bytes = bytes.items; to = destination packet.now; came = false } }
+    {
+        Exported {
+            shared: None,
+            bytes: Items::new(bytes),
+            to: destination(packet),
+            came: false,
+        }
+    }
+
+    /// A packet that shares texts with others.
+    pub(crate) fn shared(alloc: Global, packet: Packet) -> Result<Exported, AllocError>
+        ensures { IfOk result (λ e. e ≡ made packet) }
+    {
+        let to = destination(&packet);
+        Ok(Exported {
+            shared: Some(Box::new(alloc, packet)?),
+            bytes: Items::new(Vec::new(alloc)),
+            to,
+            came: false,
+        })
+    }
+
     /// Whom it is for.
     pub(crate) fn to(&self) -> Address
         ensures { result ≡ self.now.to }
     {
-        let header = &self.packet.header;
-        Address {
-            zone: header.dest_zone,
-            net: header.dest_net,
-            node: header.dest_node,
-        }
+        self.to
+    }
+
+    /// Whether it has still to come.
+    fn is_missing(&self) -> bool
+        ensures { result ≡ not self.now.came }
+    {
+        !self.came
     }
 
     /// Its bytes.
     pub(crate) fn bytes(&self, alloc: Global) -> Result<Vec<u8>, AllocError>
         ensures { IfOk result (λ bytes. bytes.items ≡ self.now.bytes) }
     {
-        self.packet.encode(alloc)
+        match &self.shared {
+            Some(packet) => packet.encode(alloc),
+            None => Vec::from_slice(alloc, self.bytes.as_slice()),
+        }
+    }
+}
+
+// Whom a packet is for.
+fn destination(packet: &Packet) -> Address
+    ensures { result ≡ destination packet.now }
+{
+    let header = &packet.header;
+    Address {
+        zone: header.dest_zone,
+        net: header.dest_net,
+        node: header.dest_node,
     }
 }
 
@@ -198,7 +243,13 @@ fn is_of_area<S: BuildHasher>(tosser: &Tosser<S>, i: usize, tag: &[u8]) -> bool
 fn count_missing(packets: &[Exported]) -> usize
     ensures { result ≡ count_by (λ e. not e.came) packets.now }
 {
-    packets.iter().filter(|packet| !packet.came).count()
+    let mut count = 0;
+    'packets: for packet in packets {
+        if packet.is_missing() {
+            count += 1;
+        }
+    }
+    count
 }
 
 // Whether no message waits for a scan at any of the systems.

@@ -1,8 +1,8 @@
 //! Nets of stations whose commands may be stopped at any moment: what the disks show then is what they would show if
 //! nothing had stopped a command inside.
 //!
-//! The definitions stand in specs/: `Disks` (files under their names, and files beside names), `Stopping` (how far
-//! a command comes), `CanEnd` (what stopped scans left, brought to its end) and `OverCrashes` (what the disks are to show).
+//! The definitions stand in specs/: `Disks` (files under their names, and files beside names), `Stopping` (how far a
+//! command comes), `CanEnd` (what stopped scans left) and `OverCrashes` (what the disks are to show).
 #![tactic(auto)]
 
 mod laws;

@@ -1,5 +1,5 @@
 -- The bases that each command makes are those of command events of a net.
-use Rattle.std.proofs.Common.{◌≡◌, ◌⊎◌, inl, inr, ⊎_elim, refl, sym, ap, subst, arith, Bool, true, false, ℕ, List, [], Ok, Some, length, take}
+use Rattle.std.proofs.Common.{◌≡◌, inl, inr, ⊎_elim, refl, sym, ap, subst, arith, Bool, true, false, ℕ, List, [], Ok, Some, length, take}
 use Rattle.std.proofs.lemmas.List.{take_all}
 use Rattle.echo_base.specs.Base.{Base}
 use Rattle.echo_changing.specs.declared.posting.NewMessage.{NewMessage}
@@ -70,7 +70,7 @@ module _ (station : Station) (file : LinkFile) (i : ℕ) (d : Disks) (there : nt
   holding-or-purging next may = ⊎_elim (λ same. inl same) (λ purges. inr (purging next purges)) may
 
   -- a toss of the packet files of these indexes
-  pub tossing : (files : List Coming) (indexes : List ℕ) (next : Base) → Paired (IsPacketAt d.net.packets) indexes files → TossesAll files file station.base next → LeadsTo (IsToss indexes) i d next
+  abbrev pub tossing : (files : List Coming) (indexes : List ℕ) (next : Base) → Paired (IsPacketAt d.net.packets) indexes files → TossesAll files file station.base next → LeadsTo (IsToss indexes) i d next
   tossing files indexes next are tosses =
       let all : take (length indexes) indexes ≡ indexes = take_all (length indexes) indexes (omega arith) in
       record {

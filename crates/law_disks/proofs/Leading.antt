@@ -42,7 +42,7 @@ module _ (IsCommand : Command → Type 0) (place : Place) (links : List ℕ) (i 
   SaysIn file = LinksOf at.shows.station.links (Ok file)
 
   -- that command
-  led : (next : Base) (to : LeadsTo IsCommand i d next) → LeadsFarBy IsCommand i d to.after
+  pub led : (next : Base) (to : LeadsTo IsCommand i d next) → LeadsFarBy IsCommand i d to.after
   led next to = record { command = to.command; is = to.is; leads = to.leads }
 
   -- files that a crash left show the station as it was
@@ -51,7 +51,7 @@ module _ (IsCommand : Command → Type 0) (place : Place) (links : List ℕ) (i 
       record { station = at.shows.station; there = at.shows.there; of_links = linked ∙ at.shows.of_links; stands = stands }
 
   -- or after a command that made another base
-  after-it : (next : Base) (to : LeadsTo IsCommand i d next) (c : Files) → c links ≡ old.seen links → place.stands_for next c → ShowsStation place links i c to.after
+  pub after-it : (next : Base) (to : LeadsTo IsCommand i d next) (c : Files) → c links ≡ old.seen links → place.stands_for next c → ShowsStation place links i c to.after
   after-it next to c linked stands = record {
     station = with_base next at.shows.station;
     there = ap (nth i) to.stations ∙ changed-there i (with_base next) at.shows.station d.net.stations at.shows.there;
@@ -59,18 +59,32 @@ module _ (IsCommand : Command → Type 0) (place : Place) (links : List ℕ) (i 
     stands = stands;
   }
 
+  -- what a link file says that was read
+  pub says-so : (Reads : LinkFile → Type 0) → ReadsLinks Reads links old → (file : LinkFile) → Reads file → SaysIn file
+  says-so Reads read file is =
+      let of_links = read file is in subst (λ (b : List ℕ). LinksOf b (Ok file)) (some_same (sym of_links.seen ∙ at.shows.of_links)) of_links.judged
+
   -- the link file, which was on the disk elsewhere
   outside-links : (c : Files) → SameElsewhere place old c → c links ≡ old.seen links
   outside-links c same = same links at.outside at.linked.named at.linked.flushed
 
-  same-links : new.seen links ≡ old.seen links
+  pub same-links : new.seen links ≡ old.seen links
   same-links = kept.seen links at.outside
 
-  still-linked : IsLinkedOn links new
+  pub still-linked : IsLinkedOn links new
   still-linked = record { named = kept.named links at.outside at.linked.named; flushed = kept.flushed links at.outside at.linked.flushed }
 
-  left-links : (c : Files) → new.may_leave c → c links ≡ old.seen links
+  pub left-links : (c : Files) → new.may_leave c → c links ≡ old.seen links
   left-links c left = new.on_disk links still-linked.named still-linked.flushed c left ∙ same-links
+
+  -- the disk after a command that made this base and committed it
+  abbrev pub is-after : (next : Base) (to : LeadsTo IsCommand i d next) → place.stands_for next new.seen → ((c : Files) → new.may_leave c → place.stands_for next c) → IsAfter IsCommand place links i d new
+  is-after next to seen stands = record {
+    after = to.after;
+    leads = led next to;
+    at = record { shows = after-it next to new.seen same-links seen; linked = still-linked; outside = at.outside };
+    on_disk = λ c since. after-it next to c (left-links c since) (stands c since);
+  }
 
   -- a crash that left the base as it was, or what one before might have left
   was-left : (c : Files) → StandsOrWasLeft place old base c → old.may_leave c ⊎ ShowsStation place links i c d
@@ -92,7 +106,7 @@ module _ (IsCommand : Command → Type 0) (place : Place) (links : List ℕ) (i 
         on = run.runs base at.shows.stands
 
         says : SaysIn run.file
-        says = let of_links = read run.file run.read in subst (λ (b : List ℕ). LinksOf b (Ok run.file)) (some_same (sym of_links.seen ∙ at.shows.of_links)) of_links.judged
+        says = says-so Reads read run.file run.read
 
         made-so : (c : Files) (next : Base) → c links ≡ old.seen links → place.stands_for next c → MadeOrHeld IsCommand i d base next → AreAsMay IsCommand place links i d c
         made-so c next linked stands (inl same) =
@@ -115,13 +129,7 @@ module _ (IsCommand : Command → Type 0) (place : Place) (links : List ℕ) (i 
         well : (value : A) → result ≡ Ok value → IsAfter IsCommand place links i d new
         well value ok =
             let it : IsKept place (Makes run.file base) new = subst (λ (r : Result A Stop). OnOk r (IsKept place (Makes run.file base) new)) ok on.kept in
-            let to = makes run.file it.next says it.made in
-            record {
-              after = to.after;
-              leads = led it.next to;
-              at = record { shows = after-it it.next to new.seen same-links it.seen; linked = still-linked; outside = at.outside };
-              on_disk = λ c since. after-it it.next to c (left-links c since) (it.stands c since);
-            }
+            is-after it.next (makes run.file it.next says it.made) it.seen it.stands
 
         met : (fault : Fault) → result ≡ Err (Met fault) → (c : Files) → new.left_since old.moment c → old.may_leave c ⊎ ShowsStation place links i c d
         met fault is c since = was-left c ((subst (λ (r : Result A Stop). IfErr r (LeavesWhereMet place old new base)) is on.met).each c since)

@@ -1,4 +1,5 @@
 mod Leading
 pub mod Events
 pub mod Runs
+pub mod ScanEvents
 pub mod Neighbours

@@ -1,5 +1,7 @@
 -- Each command that was run on a station does what its command event may do.
-use Rattle.std.proofs.Common.{inr, ℕ, Bool, List, Option, Result, Ok, slice_get}
+use Rattle.std.proofs.Common.{◌≡◌, inl, inr, ◌∙◌, sym, subst, ap, arith, ℕ, Bool, List, length, take, Option, Result, Ok, slice_get}
+use Rattle.std.specs.Prelude.{OnOk}
+use Rattle.std.proofs.lemmas.List.{take_all}
 use Rattle.echo_base.specs.Base.{Base}
 use Rattle.echo_changing.specs.declared.posting.NewMessage.{NewMessage}
 use Rattle.echo_changing.specs.declared.replying.Answer.{Answer}
@@ -20,13 +22,23 @@ use Rattle.echo_store_changing.specs.Replied.{Replies, RepliesOn}
 use Rattle.echo_store_changing.specs.Tossed.{Tosses, TossesIn, TossesTo}
 use Rattle.echo_toss.specs.PacketsIn.{state_in}
 use Rattle.station.specs.Place.{KeepsElsewhere, Place}
-use Rattle.station.specs.Running.{RunsIn}
-use Rattle.law_stations.specs.Commands.{TossesAll}
+use Rattle.station.specs.Running.{IsKept, RunsIn}
+use Rattle.law_stations.specs.Commands.{IsPacketAt, TossesAll, whole_of}
 use Rattle.law_stations.specs.Kinds.{IsPurge, IsToss}
+use Rattle.law_stations.specs.Nets.{Paired, with_indexes}
+use Rattle.law_crashes.specs.Disks.{Disks}
 use Rattle.law_disks.specs.Kinds.{IsMail, IsPostAs, IsReplyAs}
-use Rattle.law_disks.specs.OnDisks.{AsMay, TossesAsMay}
+use Rattle.law_disks.specs.OnDisks.{AsMay, IsAfterToss, IsStationAt, ReadsLinks, TossesAsEvent, TossesAsMay}
 use Rattle.law_disks.proofs.Events.{holding-or-purging, mailing, posting-as, purging, replying, tossing}
-use Rattle.law_disks.proofs.Leading.{does}
+use Rattle.law_disks.proofs.Leading.{does, is-after, says-so}
+
+-- the packets that were tossed whole, by what the toss answered
+delivered-so : (indexes delivered : List ℕ) (stopped answer : Option Fault) (behind left : List Coming) → stopped ≡ answer → behind ≡ left
+    → with_indexes (whole_of (take (length indexes) indexes) stopped behind) delivered ≡ with_indexes (whole_of indexes answer left) delivered
+delivered-so indexes delivered stopped answer behind left is is_left =
+    ap (λ (l : List ℕ). with_indexes (whole_of l stopped behind) delivered) (take_all (length indexes) indexes (omega arith))
+    ∙ ap (λ (s : Option Fault). with_indexes (whole_of indexes s behind) delivered) is
+    ∙ ap (λ (l : List Coming). with_indexes (whole_of indexes answer l) delivered) is_left
 
 module _ (place : Place) (Reads : LinkFile → Type 0) (Shut : Fault → Type 0) (failed : Type 0) (old new : DiskState) (kept : KeepsElsewhere place old new) (out out_now : Output) where
   pub purge-does : (result : Result (Unit {0}) Stop) → RunsIn (λ file base. PurgesOn base out out_now result) (λ file. Purges) (λ file. HoldsOrPurges) place Reads Shut failed old new out out_now result
@@ -68,15 +80,47 @@ module _ (place : Place) (Reads : LinkFile → Type 0) (Shut : Fault → Type 0)
       Reads read Shut failed result (λ file next says mails. inr (leads file next says mails)) leads out out_now runs
 
   module _ {R : Type 0} (noting : Bool) (limits : Limits) (device : R → Device)
-      (known : (file : LinkFile) (files : List Coming) (base next : Base) → Tosses noting limits device file files base next → TossesAll files file base next) where
-    pub toss-does : (files left : List Coming) (result : Result (Option Fault) Stop)
-        → RunsIn (λ file base. TossesIn noting limits device file base files left out out_now result) (λ file base. TossesTo noting limits device file base files left out out_now result) (λ file. Tosses noting limits device file files)
-        place Reads Shut failed old new out out_now result → TossesAsMay files place Reads old new result
-    toss-does files left result runs indexes i d are links read at =
-        let leads = λ (file : LinkFile) (next : Base) (says : LinksOf at.shows.station.links (Ok file)) (tosses : Tosses noting limits device file files at.shows.station.base next).
-        tossing at.shows.station file i d at.shows.there says files indexes next are (known file files at.shows.station.base next tosses) in
-        does (IsToss indexes) place links i d old new at kept
-        (λ file base. TossesIn noting limits device file base files left out out_now result) (λ file base. TossesTo noting limits device file base files left out out_now result) (λ file. Tosses noting limits device file files)
-        Reads read Shut failed result
-        (λ file next says tosses. inr (leads file next says tosses))
-        (λ file next says to. leads file next says (record { stopped = to.tossed.stopped; left = left; run = to.tossed.run; each = to.tossed.each; state = to.state })) out out_now runs
+      (known : (file : LinkFile) (files : List Coming) (base next : Base) → Tosses noting limits device file files base next → TossesAll files file base next)
+      (answered : (file : LinkFile) (files left : List Coming) (base next : Base) (answer : Option Fault) → TossesTo noting limits device file base files left out out_now (Ok answer) next
+      → (all : TossesAll files file base next) × (all.stopped ≡ answer) × (all.left ≡ left)) (files left : List Coming) (result : Result (Option Fault) Stop) where
+    -- a toss that was run
+    abbrev TossRuns : Type 0
+    TossRuns =
+        RunsIn (λ file base. TossesIn noting limits device file base files left out out_now result) (λ file base. TossesTo noting limits device file base files left out out_now result) (λ file. Tosses noting limits device file files)
+        place Reads Shut failed old new out out_now result
+
+    module _ (indexes : List ℕ) (i : ℕ) (d : Disks) (links : List ℕ) (are : Paired (IsPacketAt d.net.packets) indexes files) (read : ReadsLinks Reads links old) (at : IsStationAt place links i old d) where
+      abbrev base : Base
+      base = at.shows.station.base
+
+      -- where it ended well
+      ended : (answer : Option Fault) → result ≡ Ok answer → TossRuns → IsAfterToss indexes left place links i d new answer
+      ended answer ok (inl run) =
+          let says = says-so (IsToss indexes) place links i d old new at kept Reads read run.file run.read in
+          let on = run.runs base at.shows.stands in
+          let it : IsKept place (TossesTo noting limits device run.file base files left out out_now result) new =
+          subst (λ (r : Result (Option Fault) Stop). OnOk r (IsKept place (TossesTo noting limits device run.file base files left out out_now result) new)) ok on.kept in
+          let (all, stopped, behind) =
+          answered run.file files left base it.next answer (subst (λ (r : Result (Option Fault) Stop). TossesTo noting limits device run.file base files left out out_now r it.next) ok it.made) in
+          record {
+            at = is-after (IsToss indexes) place links i d old new at kept it.next (tossing at.shows.station run.file i d at.shows.there says files indexes it.next are all) it.seen it.stands;
+            delivered = delivered-so indexes d.net.delivered all.stopped answer all.left left stopped behind;
+          }
+      ended answer ok (inr none) = absurd (cc (sym ok ∙ none.is))
+
+      toss-at : TossRuns → TossesAsEvent indexes left place links i d old new result
+      toss-at runs =
+          let leads = λ (file : LinkFile) (next : Base) (says : LinksOf at.shows.station.links (Ok file)) (tosses : Tosses noting limits device file files base next).
+          tossing at.shows.station file i d at.shows.there says files indexes next are (known file files base next tosses) in
+          record {
+            does =
+                does (IsToss indexes) place links i d old new at kept
+                (λ file b. TossesIn noting limits device file b files left out out_now result) (λ file b. TossesTo noting limits device file b files left out out_now result) (λ file. Tosses noting limits device file files)
+                Reads read Shut failed result
+                (λ file next says tosses. inr (leads file next says tosses))
+                (λ file next says to. leads file next says (record { stopped = to.tossed.stopped; left = left; run = to.tossed.run; each = to.tossed.each; state = to.state })) out out_now runs;
+            ends = λ answer ok. ended answer ok runs;
+          }
+
+    pub toss-does : TossRuns → TossesAsMay files left place Reads old new result
+    toss-does runs indexes i d links are read at = toss-at indexes i d links are read at runs

@@ -1,3 +1,4 @@
 pub mod Kinds
 pub mod OnDisks
+pub mod Scans
 pub mod Neighbours

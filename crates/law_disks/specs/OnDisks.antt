@@ -1,5 +1,5 @@
 -- A link file and a base on a disk as those of a station in a net, whatever the base is kept in.
-use Rattle.std.specs.Prelude.{◌≡◌, ◌⊎◌, ℕ, List, Some, Result, Ok, Err}
+use Rattle.std.specs.Prelude.{◌≡◌, ◌⊎◌, ℕ, List, Option, Some, Result, Ok, Err}
 use Rattle.echo_base.specs.Base.{Base}
 use Rattle.echo_changing.specs.Coming.{Coming}
 use Rattle.echo_disk.specs.Disk.{DiskState, Files}
@@ -10,9 +10,9 @@ use Rattle.echo_status.specs.declared.fault.Fault.{Fault}
 use Rattle.echo_store_changing.specs.declared.stop.Stop.{Stop}
 use Rattle.echo_store_changing.specs.declared.stop.Stop.TheVariants.{Met}
 use Rattle.station.specs.Place.{KeepsElsewhere, Place, SameElsewhere}
-use Rattle.law_stations.specs.Commands.{Command, IsPacketAt}
+use Rattle.law_stations.specs.Commands.{Command, IsPacketAt, whole_of}
 use Rattle.law_stations.specs.Kinds.{IsToss}
-use Rattle.law_stations.specs.Nets.{Paired, Station}
+use Rattle.law_stations.specs.Nets.{Paired, Station, with_indexes}
 use Rattle.law_crashes.specs.Disks.{Disks}
 use Rattle.law_crashes.specs.Stopping.{LeadsFar}
 
@@ -50,23 +50,23 @@ pub record AreAsMay (IsCommand : Command → Type 0) (place : Place) (links : Li
   pub leads : MayLeadBy IsCommand i d after
   pub shows : ShowsStation place links i c after
 
--- the disk shows the link file and the base of the station after a command of this kind, each crash leaves them so, and
--- the next command finds it so
+-- The disk shows the link file and the base of the station after a command of this kind. Each crash leaves them so, and the
+-- next command finds them so.
 pub record IsAfter (IsCommand : Command → Type 0) (place : Place) (links : List ℕ) (i : ℕ) (d : Disks) (new : DiskState) : Type 0 where
   pub after : Disks
   pub leads : LeadsFarBy IsCommand i d after
   pub at : IsStationAt place links i new after
   pub on_disk : (c : Files) → new.may_leave c → ShowsStation place links i c after
 
--- What stands elsewhere stays: a crash at any moment leaves what one before it might have left, or each file that was on the
--- disk elsewhere as it was.
+-- What stands elsewhere stays. A crash at any moment leaves what one before it might have left, or each file elsewhere that
+-- was on the disk.
 pub record LeavesElsewhere (place : Place) (old new : DiskState) : Type 0 where
   pub crash : (c : Files) → new.left_since old.moment c → old.may_leave c ⊎ SameElsewhere place old c
   pub keeps : KeepsElsewhere place old new
 
 -- A command does on the disk what the command event may do.
 pub record DoesAsMay {A : Type 0} (IsCommand : Command → Type 0) (place : Place) (links : List ℕ) (i : ℕ) (d : Disks) (old new : DiskState) (result : Result A Stop) : Type 0 where
-  -- a crash at any moment leaves what one before it might have left, or the link file and the base as before the event or after it
+  -- a crash at any moment leaves what one before it might have left, or the station as before the event or after it
   pub crash : (c : Files) → new.left_since old.moment c → old.may_leave c ⊎ AreAsMay IsCommand place links i d c
   -- where it ends well they are as after the event
   pub done : (value : A) → result ≡ Ok value → IsAfter IsCommand place links i d new
@@ -82,17 +82,23 @@ pub record DoesAsMay {A : Type 0} (IsCommand : Command → Type 0) (place : Plac
 abbrev pub ReadsLinks : (LinkFile → Type 0) → List ℕ → DiskState → Type 0
 ReadsLinks Reads links disk = (file : LinkFile) → Reads file → AreLinks disk links file
 
--- At the station of this index, where the disk shows it in this place, a command does what a command event of this kind may do. The kind
--- may depend on the base of the station.
-abbrev pub AsMayAt : {A : Type 0} → (Base → Command → Type 0) → Place → (LinkFile → Type 0) → DiskState → DiskState → Result A Stop → ℕ → Disks → Type 0
-AsMayAt IsCommand place Reads old new result i d = (links : List ℕ) → ReadsLinks Reads links old → (at : IsStationAt place links i old d)
+-- At each station of a net that the disk shows in this place a command does what a command event of this kind may do. The kind may depend
+-- on the base of the station.
+abbrev pub AsMay : {A : Type 0} → (Base → Command → Type 0) → Place → (LinkFile → Type 0) → DiskState → DiskState → Result A Stop → Type 0
+AsMay IsCommand place Reads old new result = (i : ℕ) (d : Disks) (links : List ℕ) → ReadsLinks Reads links old → (at : IsStationAt place links i old d)
     → DoesAsMay (IsCommand at.shows.station.base) place links i d old new result
 
--- so at any station of a net
-abbrev pub AsMay : {A : Type 0} → (Base → Command → Type 0) → Place → (LinkFile → Type 0) → DiskState → DiskState → Result A Stop → Type 0
-AsMay IsCommand place Reads old new result = (i : ℕ) (d : Disks) → AsMayAt IsCommand place Reads old new result i d
+-- Of a toss with this answer, which left these files, the packets that it tossed whole are delivered: all where nothing stopped it.
+pub record IsAfterToss (indexes : List ℕ) (left : List Coming) (place : Place) (links : List ℕ) (i : ℕ) (d : Disks) (new : DiskState) (answer : Option Fault) : Type 0 where
+  pub at : IsAfter (IsToss indexes) place links i d new
+  pub delivered : at.after.net.delivered ≡ with_indexes (whole_of indexes answer left) d.net.delivered
 
--- The same of a toss of these files, where they are the packet files of these indexes.
-abbrev pub TossesAsMay : {A : Type 0} → List Coming → Place → (LinkFile → Type 0) → DiskState → DiskState → Result A Stop → Type 0
-TossesAsMay files place Reads old new result = (indexes : List ℕ) (i : ℕ) (d : Disks) → Paired (IsPacketAt d.net.packets) indexes files
-    → AsMayAt (λ base. IsToss indexes) place Reads old new result i d
+-- A toss of the packet files of these indexes does on the disk what the command event may do, and where it ends well just what it answers.
+pub record TossesAsEvent (indexes : List ℕ) (left : List Coming) (place : Place) (links : List ℕ) (i : ℕ) (d : Disks) (old new : DiskState) (result : Result (Option Fault) Stop) : Type 0 where
+  pub does : DoesAsMay (IsToss indexes) place links i d old new result
+  pub ends : (answer : Option Fault) → result ≡ Ok answer → IsAfterToss indexes left place links i d new answer
+
+-- So it is at any station of a net, where these files are the packet files of these indexes, and the others are left of them.
+abbrev pub TossesAsMay : List Coming → List Coming → Place → (LinkFile → Type 0) → DiskState → DiskState → Result (Option Fault) Stop → Type 0
+TossesAsMay files left place Reads old new result = (indexes : List ℕ) (i : ℕ) (d : Disks) (links : List ℕ) → Paired (IsPacketAt d.net.packets) indexes files → ReadsLinks Reads links old
+    → IsStationAt place links i old d → TossesAsEvent indexes left place links i d old new result

@@ -12,12 +12,12 @@ use echo_mailing::PostMail;
 use echo_station_files::FileLock;
 use echo_status::Fault;
 use echo_store_changing::{Post, Purge, Reply, Toss};
-use law_stations::tosses_are_what_is_known;
+use law_stations::{tosses_answer_what_stopped_them, tosses_are_what_is_known};
 use station::{BeforeCommand, Ended, Locks, OpenStation, run_command};
 use std::alloc::Global;
 
-/// `purge` on a station: a crash at any moment leaves what one before it might have left, or the link file and the base as
-/// before the command, or as the law over crashes allows; where it ended well each crash leaves them as after it.
+/// `purge` on a station: a crash at any moment leaves what one before it might have left, or the station as before the
+/// command or after it. Where it ended well, each crash leaves the station as after it, and the next command finds it so.
 pub fn purge_as_may<
     'a,
     D: Disk,
@@ -117,7 +117,8 @@ pub fn mail_as_may<
     run_command(alloc, disk, locks, station, before, command, out)
 }
 
-/// The same of `toss` of packet files of the net, with notes or without, whatever reads them.
+/// The same of `toss` of packet files of the net, with notes or without, whatever reads them. Where it ended well just those
+/// were tossed whole that stood before what it answers.
 pub fn toss_as_may<
     'a,
     D: Disk,
@@ -138,8 +139,9 @@ pub fn toss_as_may<
 ) -> Ended<'a, D, Option<Fault<'a>>>
     requires free { AreFree (L.held locks.old.links) (K.held locks.old.base) }
     requires can { Honestly (D.state disk) (P.can_open station (D.state disk)) }
-    ensures { Honestly (D.state result.disk) (TossesAsMay (F.coming command.old.packets) (P.place station) (P.reads station (D.state disk)) (D.state disk) (D.state result.disk) result.done) }
+    ensures { Honestly (D.state result.disk) (TossesAsMay (F.coming command.old.packets) (F.coming command.new.packets) (P.place station) (P.reads station (D.state disk)) (D.state disk) (D.state result.disk) result.done) }
 {
     tosses_are_what_is_known::<F::Reader>();
+    tosses_answer_what_stopped_them::<F::Reader>();
     run_command(alloc, disk, locks, station, before, command, out)
 }

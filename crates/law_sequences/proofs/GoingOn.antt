@@ -10,15 +10,15 @@ use Rattle.law_sequences.specs.Asked.{Asked, AnswerOf, CommandGoesOn, CommandsGo
 use Rattle.law_sequences.specs.Seats.{Seat, reach}
 use Rattle.law_sequences.specs.Steps.{IsAllOnDisk}
 
--- what is away from all that a station touches is away from its base
-reaches : {Kept : Type 0} (place : Kept → Place) (seat : Seat Kept) (old new : DiskState) → LeavesElsewhere (place seat.kept) old new → LeavesElsewhere (reach place seat) old new
-reaches place seat old new left = record {
-  crash = λ c since. ⊎_elim (λ was. inl was) (λ (same : SameElsewhere (place seat.kept) old c). inr (λ m out. same m (λ own. out (inl own)))) (left.crash c since);
+-- what is away from more paths is away from fewer
+pub reaches-by : (place further : Place) (old new : DiskState) → ((m : List ℕ) → place.is_own m → further.is_own m) → LeavesElsewhere place old new → LeavesElsewhere further old new
+reaches-by place further old new more left = record {
+  crash = λ c since. ⊎_elim (λ was. inl was) (λ (same : SameElsewhere place old c). inr (λ m out. same m (λ own. out (more m own)))) (left.crash c since);
   keeps = record {
-    seen = λ m out. left.keeps.seen m (λ own. out (inl own));
-    named = λ m out. left.keeps.named m (λ own. out (inl own));
-    flushed = λ m out. left.keeps.flushed m (λ own. out (inl own));
-    alone = λ m out. left.keeps.alone m (λ own. out (inl own));
+    seen = λ m out. left.keeps.seen m (λ own. out (more m own));
+    named = λ m out. left.keeps.named m (λ own. out (more m own));
+    flushed = λ m out. left.keeps.flushed m (λ own. out (more m own));
+    alone = λ m out. left.keeps.alone m (λ own. out (more m own));
     honest = left.keeps.honest;
   };
 }
@@ -27,17 +27,17 @@ module _ {D Kept : Type 0} (state : D → DiskState) (place : Kept → Place) (s
     (result : Result (AnswerOf asked) Stop) (does : DoesAsMay (IsAsked asked base) (place seat.kept) seat.links i d (state old) (state whole) result)
     (on_disk : (c : Files) → (state old).may_leave c → ShowsStation (place seat.kept) seat.links i c d) where
   elsewhere : LeavesElsewhere (reach place seat) (state old) (state whole)
-  elsewhere = reaches place seat (state old) (state whole) does.elsewhere
+  elsewhere = reaches-by (place seat.kept) (reach place seat) (state old) (state whole) (λ m own. inl own) does.elsewhere
 
   module _ (begun : D) (left : (state whole).left_since (state old).moment (state begun).seen) (all : IsAllOnDisk (state begun)) where
     led : (next : Disks) → MayLeadBy (IsAsked asked base) i d next → ShowsStation (place seat.kept) seat.links i (state begun).seen next
-        → GoesOnCut place seat i asked base d (state old) (state whole) (state begun)
+        → GoesOnCut (IsAsked asked base) place seat i d (state old) (state whole) (state begun)
     led next (inl same) shows =
         record { command = None; is = tt; next = next; cut = record { left = left; begins = all; may = same; shows = shows; elsewhere = elsewhere } }
     led next (inr by) shows =
         record { command = Some by.command; is = by.is; next = next; cut = record { left = left; begins = all; may = by.leads; shows = shows; elsewhere = elsewhere } }
 
-    cut : GoesOnCut place seat i asked base d (state old) (state whole) (state begun)
+    cut : GoesOnCut (IsAsked asked base) place seat i d (state old) (state whole) (state begun)
     cut = elim (does.crash (state begun).seen left) [
       | inl was ↦ led d (inl refl) (on_disk (state begun).seen was)
       | inr may ↦ led may.after may.leads may.shows

@@ -1,3 +1,4 @@
 pub mod Seated
 pub mod Sequence
 pub mod GoingOn
+pub mod Scanning

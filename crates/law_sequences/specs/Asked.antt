@@ -40,34 +40,34 @@ AnswerOf (AsksToss indexes) = Option Fault
 AnswerOf asked = Unit {0}
 
 -- what came of it is one of these events, or nothing did
-abbrev pub MayBeAsked : Asked → Base → Option Command → Type 0
-MayBeAsked asked base None = Unit {0}
-MayBeAsked asked base (Some command) = IsAsked asked base command
+abbrev pub MayBe : (Command → Type 0) → Option Command → Type 0
+MayBe IsCommand None = Unit {0}
+MayBe IsCommand (Some command) = IsCommand command
 
--- The net goes on where a crash cut it.
-pub record GoesOnCut {Kept : Type 0} (place : Kept → Place) (seat : Seat Kept) (i : ℕ) (asked : Asked) (base : Base) (d : Disks) (old whole begun : DiskState) : Type 0 where
+-- A crash cut it, and the net goes on.
+pub record GoesOnCut {Kept : Type 0} (IsCommand : Command → Type 0) (place : Kept → Place) (seat : Seat Kept) (i : ℕ) (d : Disks) (old whole begun : DiskState) : Type 0 where
   pub command : Option Command
-  pub is : MayBeAsked asked base command
+  pub is : MayBe IsCommand command
   pub next : Disks
   pub cut : WasCut place seat i command d next old whole begun
 
--- The net goes on where it ended well.
-pub record GoesOnEnded {Kept : Type 0} (place : Kept → Place) (seats : List (Seat Kept)) (seat : Seat Kept) (i : ℕ) (asked : Asked) (base : Base) (d : Disks) (old new : DiskState) : Type 0 where
+-- It ended well, and the net goes on.
+pub record GoesOnEnded {Kept : Type 0} (IsCommand : Command → Type 0) (place : Kept → Place) (seats : List (Seat Kept)) (seat : Seat Kept) (i : ℕ) (d : Disks) (old new : DiskState) : Type 0 where
   pub command : Command
-  pub is : IsAsked asked base command
+  pub is : IsCommand command
   pub next : Disks
   pub ended : HasEnded place seats seat i (Some command) d next old new
 
--- the base for which its files stand is on the disk, where another station is on that
+-- where another station is on the disk, the base for which the files of this one stand is on that
 abbrev pub IsKeptWhereShared : {Kept : Type 0} → (Kept → Place) → List (Seat Kept) → Seat Kept → ℕ → DiskState → Type 0
 IsKeptWhereShared place seats seat i disk = IsShared seats i seat → (base : Base) → (place seat.kept).stands_for base disk.seen → IsKeptOn (place seat.kept) base disk
 
 -- Whatever crash cuts a command at a station, and where it ends well, the net goes on by a command event that it may be.
 pub record CommandGoesOn {D Kept : Type 0} (state : D → DiskState) (place : Kept → Place) (seats : List (Seat Kept)) (seat : Seat Kept) (i : ℕ) (asked : Asked) (base : Base) (d : Disks) (old whole : D) (result : Result (AnswerOf asked) Stop) : Type 0 where
   pub cut : (begun : D) → (state whole).left_since (state old).moment (state begun).seen → IsAllOnDisk (state begun)
-      → GoesOnCut place seat i asked base d (state old) (state whole) (state begun)
+      → GoesOnCut (IsAsked asked base) place seat i d (state old) (state whole) (state begun)
   pub ended : (value : AnswerOf asked) → result ≡ Ok value → IsKeptWhereShared place seats seat i (state whole)
-      → GoesOnEnded place seats seat i asked base d (state old) (state whole)
+      → GoesOnEnded (IsAsked asked base) place seats seat i d (state old) (state whole)
 
 -- so does each command that does on the disk what its event may do
 abbrev pub CommandsGoOn : {D Kept : Type 0} → (D → DiskState) → (Kept → Place) → Type 0

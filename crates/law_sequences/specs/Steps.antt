@@ -9,8 +9,8 @@ use Rattle.law_crashes.specs.Stopping.{LeadsFar}
 use Rattle.law_disks.specs.OnDisks.{LeavesElsewhere, ShowsStation}
 use Rattle.law_sequences.specs.Seats.{Seat, StandsAt, reach}
 
--- A command at a station comes to its end; or a crash cuts it, which would have come to this disk; or a crash comes between
--- commands. Where nothing comes of a command it is none.
+-- A command at a station comes to its end, or a crash cuts it, where it would have come to this disk, or a crash comes between
+-- commands. A command of which nothing comes is none.
 pub data Happening (D : Type 0) : Type 0 where
   Ends : (station : ℕ) (command : Option Command) → Happening D
   IsCut : (station : ℕ) (command : Option Command) (whole : D) → Happening D
@@ -21,7 +21,7 @@ abbrev pub MayLead : Option Command → ℕ → Disks → Disks → Type 0
 MayLead None i d next = next ≡ d
 MayLead (Some command) i d next = LeadsFar command d i next
 
--- what happens on the disk of a number, and that disk then: after a crash the one with which the machine begins anew
+-- What happens on the disk of a number, and that disk then. After a crash it is the one with which the machine begins anew.
 pub record Step (D : Type 0) : Type 0 where
   pub disk : ℕ
   pub what : Happening D
@@ -36,13 +36,13 @@ pub record IsAllOnDisk (disk : DiskState) : Type 0 where
   pub named : (m : List ℕ) → disk.is_named m
   pub flushed : (m : List ℕ) → disk.is_flushed m
 
--- The command ended well, met a fault or was refused: the net may go on to disks that are shown then, and what stands elsewhere stays.
+-- The command came to its end. The disk shows what it may have led the net to, and what stands elsewhere is as it was.
 pub record HasEnded {Kept : Type 0} (place : Kept → Place) (seats : List (Seat Kept)) (seat : Seat Kept) (i : ℕ) (command : Option Command) (d next : Disks) (old new : DiskState) : Type 0 where
   pub may : MayLead command i d next
   pub stands : StandsAt place seats i seat new next
   pub elsewhere : LeavesElsewhere (reach place seat) old new
 
--- A crash at a moment of the command left what the disk begins with: the net may go on to disks that are shown so.
+-- A crash at a moment of the command left what the disk begins with, and that shows what the command may have led the net to.
 pub record WasCut {Kept : Type 0} (place : Kept → Place) (seat : Seat Kept) (i : ℕ) (command : Option Command) (d next : Disks) (old whole begun : DiskState) : Type 0 where
   pub left : whole.left_since old.moment begun.seen
   pub begins : IsAllOnDisk begun
@@ -50,7 +50,7 @@ pub record WasCut {Kept : Type 0} (place : Kept → Place) (seat : Seat Kept) (i
   pub shows : ShowsStation (place seat.kept) seat.links i begun.seen next
   pub elsewhere : LeavesElsewhere (reach place seat) old whole
 
--- a crash between commands left what the disk begins with
+-- a crash between commands left what the disk begins with, all of it on the disk
 pub record HasCrashed (old begun : DiskState) : Type 0 where
   pub left : old.may_leave begun.seen
   pub begins : IsAllOnDisk begun

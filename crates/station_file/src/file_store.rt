@@ -92,7 +92,9 @@ impl<'a, D: Disk, S: BuildHasher> FileStore<'a, D, S> {
     /// The store of these parts.
     pub(crate) fn of_parts(alloc: Global, disk: D, rest: FileRest<'a, S>) -> FileStore<'a, D, S>
         ensures disk { result.disk ≡ disk }
-        ensures rest { record { base = result.base; place = result.place; path = result.path; own = result.own } ≡ rest }
+        ensures base { result.base ≡ rest.entry.base }
+        ensures path { result.path ≡ rest.entry.path }
+        ensures own { result.own ≡ rest.entry.own }
     {
         let FileRest {
             base,

@@ -1,5 +1,5 @@
 //! The disk of a station with a base file is used beneath its store.
-ghost use Rattle.std.specs.Prelude.{◌≡◌, ◌↔◌, [], ℕ, List, IsTrue};
+ghost use Rattle.std.specs.Prelude.{◌≡◌, ◌↔◌, ◌++◌, ℕ, List, IsTrue, codes};
 ghost use Rattle.echo_station_files.specs.Paths.{path_beside};
 ghost use Rattle.station_file.specs.InFile.{IsOfFile, file_state};
 
@@ -9,6 +9,11 @@ use echo_disk::Disk;
 use station::{LendStation, OwnPaths};
 use std::alloc::Global;
 use std::hash::BuildHasher;
+
+/// What stands before and behind the name of a system in the path of a file beside another.
+const BEFORE: &[u8] = b".~";
+
+const BEHIND: &[u8] = b"~.new";
 
 /// The path of a base file, and those beside it, whichever system they are of.
 #[derive(Clone, Copy, Debug, Drop)]
@@ -28,7 +33,16 @@ impl OwnPaths for FilePaths<'_> {
 fn is_of_file(base: &[u8], path: &[u8]) -> bool
     ensures { IsTrue result ↔ ((own : List ℕ) × IsOfFile base.now own path.now) }
 {
-    path == base || is_beside(base, path)
+    if is_beside(base, path) {
+        return true;
+    }
+    is_same(path, base)
+}
+
+fn is_same(one: &[u8], other: &[u8]) -> bool
+    ensures { IsTrue result ↔ (one.now ≡ other.now) }
+{
+    one == other
 }
 
 // Whether the path is one beside the other.
@@ -43,10 +57,20 @@ fn is_beside(base: &[u8], path: &[u8]) -> bool
 
 // Whether a path beside another ends so.
 fn is_ending(rest: &[u8]) -> bool
-    ensures { IsTrue result ↔ ((own : List ℕ) × (rest.now ≡ path_beside [] own)) }
+    ensures { IsTrue result ↔ ((own : List ℕ) × (rest.now ≡ codes ".~" ++ (own ++ codes "~.new"))) }
 {
-    match rest.strip_prefix(b".~".as_slice()) {
-        Some(rest) => rest.ends_with(b"~.new"),
+    match rest.strip_prefix(BEFORE) {
+        Some(name) => is_new(name),
+        None => false,
+    }
+}
+
+// Whether it is the name of a system, and then this.
+fn is_new(name: &[u8]) -> bool
+    ensures { IsTrue result ↔ ((own : List ℕ) × (name.now ≡ own ++ codes "~.new")) }
+{
+    match name.strip_suffix(BEHIND) {
+        Some(_own) => true,
         None => false,
     }
 }

@@ -1,5 +1,5 @@
 //! The disk of a station with a base folder is used beneath its store.
-ghost use Rattle.std.specs.Prelude.{◌≡◌, ◌↔◌, IsTrue, None};
+ghost use Rattle.std.specs.Prelude.{◌≡◌, ◌≢◌, ◌↔◌, true, false, All, IsTrue, None};
 ghost use Rattle.echo_disk.specs.Disk.{IsIn};
 ghost use Rattle.echo_disk.specs.Runs.{ChangesNothing};
 ghost use Rattle.echo_folder_store.specs.State.{state_of};
@@ -33,9 +33,22 @@ fn is_in(folder: &[u8], path: &[u8]) -> bool
     ensures { IsTrue result ↔ IsIn folder.now path.now }
 {
     match path.strip_prefix(folder) {
-        Some(name) => !name.contains(&b'/'),
+        Some(name) => is_plain(name),
         None => false,
     }
+}
+
+// Whether no byte of a name is a slash.
+fn is_plain(name: &[u8]) -> bool
+    ensures yes { result ≡ true → All (λ b. b ≢ 47) name.now }
+    ensures no { result ≡ false → All (λ b. b ≢ 47) name.now → ⊥ }
+{
+    'bytes: for byte in name {
+        if *byte == b'/' {
+            return false;
+        }
+    }
+    true
 }
 
 impl<'a, D: Disk + Drop, H: Digest> LendStation<'a, D> for FolderStation<'a, H> {

@@ -58,6 +58,7 @@ module _ (Own : List ℕ → Type 0) (outbound own : List ℕ) (Stays Comes Stay
         ended = at.ended;
         beside_them = at.beside_them;
         packets = at.packets;
+        gone = at.gone;
         shown = comes d2.seen at.shown;
         on_disk = λ c left. comes c (at.on_disk c left);
         others = at.others;

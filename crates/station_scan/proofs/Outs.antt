@@ -97,7 +97,7 @@ module _ (Own : List ℕ → Type 0) (outbound own : List ℕ) (is_true : Type 0
     sent_crash : LeavesOnly s1.disk s2.disk (SendsThese s1 outbound own files first next) → LeavesOnly s0.disk s2.disk All_may
     sent_crash run = then_run s0.disk s1.disk s2.disk All_may (SendsThese s1 outbound own files first next) (ended_moments (Ok tt) ends) run sent_moment
 
-    sent_out : AreSentOn outbound files s1 s2 → AreSentOut is_true Own outbound own Comes cursor these files s0.disk.seen s2.disk
+    sent_out : AreSentOn outbound own files s1 s2 → AreSentOut is_true Own outbound own Comes cursor these files s0.disk.seen s2.disk
     sent_out sent =
         let now = sent.committed.committed honest2 next (used.holds.keeps next is) in
         let back : (c : Files) → s2.stands next c → Comes c = λ c stands. (used.same.stands next c).0 ((kept.same.stands next c).0 stands) in
@@ -107,17 +107,18 @@ module _ (Own : List ℕ → Type 0) (outbound own : List ℕ) (is_true : Type 0
           ended = all_ended;
           beside_them = ends.changes.seen;
           packets = sent.packets honest2;
+          gone = sent.gone honest2;
           shown = back s2.disk.seen (s2.shown honest2 sent.committed.ready next now);
           on_disk = λ c left. back c (s2.stays honest2 sent.committed.ready next now c left);
           others = λ m other. kept.keeps.seen m (λ of. other (of_these m of));
           bytes = sent.bytes;
         }
 
-    sent_if : {E : Type 0} (result : Result (Unit {0}) E) → OnOk result (AreSentOn outbound files s1 s2) → OnOk result (AreSentOut is_true Own outbound own Comes cursor these files s0.disk.seen s2.disk)
+    sent_if : {E : Type 0} (result : Result (Unit {0}) E) → OnOk result (AreSentOn outbound own files s1 s2) → OnOk result (AreSentOut is_true Own outbound own Comes cursor these files s0.disk.seen s2.disk)
     sent_if (Ok done) sent = sent_out sent
     sent_if (Err cause) sent = tt
 
-    pub sends_out : {E : Type 0} (result : Result (Unit {0}) E) → OnOk result (AreSentOn outbound files s1 s2) → LeavesOnly s1.disk s2.disk (SendsThese s1 outbound own files first next)
+    pub sends_out : {E : Type 0} (result : Result (Unit {0}) E) → OnOk result (AreSentOn outbound own files s1 s2) → LeavesOnly s1.disk s2.disk (SendsThese s1 outbound own files first next)
         → SendsOut is_true Own outbound own Stays Comes cursor files s0.disk s2.disk result
     sends_out result sent run = record { found = these; each = ends.each; sent = sent_if result sent; crash = sent_crash run }
 

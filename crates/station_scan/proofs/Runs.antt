@@ -7,7 +7,7 @@ use Rattle.echo_disk.specs.Runs.{ChangesNothing, LeavesOnly, OneStepOn}
 use Rattle.echo_disk.proofs.Moments.{left_now, then_nothing, then_run, weaker_run}
 use Rattle.echo_links.specs.Links.{LinkFile}
 use Rattle.echo_placing.specs.declared.finishing.Left.{Left}
-use Rattle.echo_station_files.specs.Paths.{dotted}
+use Rattle.echo_station_files.specs.Paths.{dotted, path_beside}
 use Rattle.echo_status.specs.Devices.{Output}
 use Rattle.echo_steps.specs.PacketFiles.{PacketFile}
 use Rattle.echo_steps.specs.declared.stamp.Stamp.{Stamp}
@@ -124,6 +124,7 @@ module _ (place : Place) (d0 d2 : DiskState) (s1 s2 : StoreState) (begun : IsOpe
             let at = sent.packets k z lt in
             let path = outbound ++ (get_or files k z).name in
             record { seen = quiet.seen path ∙ at.seen; named = quiet.named path (λ h. h) at.named; flushed = quiet.flushed path (λ h. h) at.flushed };
+        gone = λ k z lt. quiet.seen (path_beside (outbound ++ (get_or files k z).name) own) ∙ sent.gone k z lt;
         shown = subst Comes (sym (same_seen s2.disk d2 quiet)) ((of.stands (all_scanned base) s2.disk.seen).0 sent.shown);
         on_disk = λ c left. (of.stands (all_scanned base) c).0 (sent.on_disk c (quiet.no_more c left));
         others = λ m other. quiet.seen m ∙ sent.others m (λ these. other (these_as Own place.is_own in_own outbound own files own_in m these));

@@ -12,10 +12,10 @@ use Rattle.echo_steps.specs.PacketFiles.{PacketFile}
 use Rattle.echo_store.specs.Store.{Commits, MayCommit, StandsForEither, StoreState}
 use Rattle.station_scan.specs.Fitting.{AreFitting}
 use Rattle.station_scan.specs.Publishing.{ArePublished, IsPublishedAt, KeepsStoreBut, PublishesOn}
-use Rattle.station_scan.specs.Sending.{HasBytes, IsAtItsPath, IsFreeAt, StandsWhole}
+use Rattle.station_scan.specs.Sending.{HasBytes, IsAtItsPath, IsFreeAt, IsGoneBeside, StandsWhole}
 use Rattle.station_scan.specs.Sends.{AreSentOn, IsOfThese, SendsThese}
 use Rattle.station_scan.proofs.Published.{store_wider}
-use Rattle.station_scan.proofs.Sent.{are_apart_from, are_placed, at_its_path, files_bytes, have_none, is_beside_file, is_of_file, stand_whole}
+use Rattle.station_scan.proofs.Sent.{are_apart_from, are_placed, at_its_path, files_bytes, have_none, is_beside_file, is_of_file, none_beside, stand_whole}
 
 module _ (Own : List ℕ → Type 0) (outbound own : List ℕ) (files : List PacketFile) (packets : List Outgoing) (fit : AreFitting Own outbound own files packets) where
   pub fit_placed : All (λ b. b ≢ 47) own → ArePlaced outbound packets
@@ -26,10 +26,11 @@ module _ (Own : List ℕ → Type 0) (outbound own : List ℕ) (files : List Pac
       let away = are_apart_from outbound own files fit.paths packets fit.are fit.sent Own fit.off k z lt in
       record { path = λ o. away.path (inside _ o); beside = λ o. away.beside (inside _ o) }
 
-  pub fit_sent : (s t : StoreState) → ArePublished packets s t → AreSentOn outbound files s t
+  pub fit_sent : (s t : StoreState) → ArePublished packets s t → AreSentOn outbound own files s t
   fit_sent s t are = record {
     committed = are.committed;
     packets = λ honest. at_its_path outbound own files fit.paths packets fit.are fit.sent t.disk (are.named honest);
+    gone = λ honest. none_beside outbound own files fit.paths packets fit.are fit.sent t.disk (are.named honest);
     bytes = files_bytes outbound own files fit.paths packets fit.are fit.sent are.bytes;
   }
 
@@ -77,5 +78,5 @@ module _ (outbound own : List ℕ) (files : List PacketFile) (none : length file
         either = ⊎_elim (λ stands. inl (stands, all_none (IsFreeAt outbound c))) (λ stands. inr (stands, all_none (StandsWhole outbound own c), all_none HasBytes)) either.stands;
       }))
 
-  pub alone_sent : (s t : StoreState) → Commits s t → AreSentOn outbound files s t
-  alone_sent s t commits = record { committed = commits; packets = λ honest. all_none (IsAtItsPath outbound t.disk); bytes = all_none HasBytes }
+  pub alone_sent : (s t : StoreState) → Commits s t → AreSentOn outbound own files s t
+  alone_sent s t commits = record { committed = commits; packets = λ honest. all_none (IsAtItsPath outbound t.disk); gone = λ honest. all_none (IsGoneBeside outbound own t.disk.seen); bytes = all_none HasBytes }

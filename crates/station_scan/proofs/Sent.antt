@@ -16,7 +16,7 @@ use Rattle.echo_station_files.specs.Paths.{path_beside}
 use Rattle.echo_station_files.proofs.BesidePaths.{beside_other}
 use Rattle.station_scan.specs.declared.sending.TwoPaths.{TwoPaths}
 use Rattle.station_scan.specs.Publishing.{IsFreeIn}
-use Rattle.station_scan.specs.Sending.{AreSent, HasBytes, HaveOtherPaths, IsAtItsPath, IsBesidePacket, IsFreeAt, IsNameByte, IsOfPacket, IsOffOwn, StandsWhole, file_paths}
+use Rattle.station_scan.specs.Sending.{AreSent, HasBytes, HaveOtherPaths, IsAtItsPath, IsBesidePacket, IsFreeAt, IsGoneBeside, IsNameByte, IsOfPacket, IsOffOwn, StandsWhole, file_paths}
 use Rattle.station_scan.proofs.Names.{four_apart, name_beside_in, name_in}
 
 -- no file
@@ -142,6 +142,9 @@ module _ (folder own : List ℕ) (files : List PacketFile) (paths : List TwoPath
       (λ (e : c (get_or packets k nobody).path.now ≡ Some (get_or packets k nobody).file.now.bytes). inl (ap c (sym is.path) ∙ e ∙ ap (λ (b : List ℕ). Some b) is.bytes))
       (λ (e : c (get_or packets k nobody).beside.now ≡ Some (get_or packets k nobody).file.now.bytes). inr (ap c (sym is.beside) ∙ e ∙ ap (λ (b : List ℕ). Some b) is.bytes))
       (all k nobody (back k lt))
+
+  pub none_beside : (disk : DiskState) → All (HasItsPath disk) packets → All (IsGoneBeside folder own disk.seen) files
+  none_beside disk all k f lt = ap disk.seen (sym (goes k f nobody lt).beside) ∙ (all k nobody (back k lt)).gone
 
   pub have_none : (c : Files) → All (IsFreeIn c) packets → All (IsFreeAt folder c) files
   have_none c all k f lt = ap c (sym (goes k f nobody lt).path) ∙ all k nobody (back k lt)

@@ -22,7 +22,7 @@ use Rattle.station.specs.Place.{Place, StandsOrWasLeft}
 use Rattle.station.specs.Running.{IsNotRun}
 use Rattle.station_scan.specs.Left.{AreAllLeft, IsEnded, IsEndedAt, IsLeftOf, IsOfName}
 use Rattle.station_scan.specs.Publishing.{IsOnDisk}
-use Rattle.station_scan.specs.Sending.{HasBytes, IsAtItsPath, IsBesidePacket, IsFreeAt, StandsWhole}
+use Rattle.station_scan.specs.Sending.{HasBytes, IsAtItsPath, IsBesidePacket, IsFreeAt, IsGoneBeside, StandsWhole}
 use Rattle.station_scan.specs.Sends.{IsOfThese}
 use Rattle.station_scan.specs.Stops.{IsOfPlacing, as_scan}
 use Rattle.station_scan.specs.declared.scan_stop.ScanStop.{ScanStop}
@@ -59,8 +59,9 @@ pub record AreSentOut (is_true : Type 0) (Own : List ℕ → Type 0) (outbound o
   pub between : Files
   pub ended : All (IsEnded cursor seen between) found
   pub beside_them : DifferAt (IsOfLeft found) seen between
-  -- each packet of this scan is on the disk, at its path
+  -- each packet of this scan is on the disk, at its path alone
   pub packets : All (IsAtItsPath outbound new) files
+  pub gone : All (IsGoneBeside outbound own new.seen) files
   -- the new base stands, as it is seen and whatever a crash leaves
   pub shown : Comes new.seen
   pub on_disk : (c : Files) → new.may_leave c → Comes c

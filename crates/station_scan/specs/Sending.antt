@@ -57,6 +57,10 @@ StandsWhole folder own c sent = (c (folder ++ sent.name) ≡ Some sent.bytes) �
 abbrev pub IsFreeAt : List ℕ → Files → PacketFile → Type 0
 IsFreeAt folder c sent = c (folder ++ sent.name) ≡ None
 
+-- nothing stands beside its path
+abbrev pub IsGoneBeside : List ℕ → List ℕ → Files → PacketFile → Type 0
+IsGoneBeside folder own c sent = c (path_beside (folder ++ sent.name) own) ≡ None
+
 -- one of the two paths of a packet
 abbrev pub IsOfPacket : List ℕ → List ℕ → List PacketFile → List ℕ → Type 0
 IsOfPacket folder own files m = (sent : PacketFile) × Contains files sent × All IsNameByte sent.name × ((m ≡ path_beside (folder ++ sent.name) own) ⊎ (m ≡ folder ++ sent.name))

@@ -7,7 +7,7 @@ use Rattle.echo_placing.specs.Changes.{DifferAt}
 use Rattle.echo_steps.specs.PacketFiles.{PacketFile}
 use Rattle.echo_store.specs.Store.{Commits, StoreState}
 use Rattle.station_scan.specs.Publishing.{IsOnDisk}
-use Rattle.station_scan.specs.Sending.{HasBytes, IsAtItsPath, IsBesidePacket, IsFreeAt, IsOfPacket, StandsWhole}
+use Rattle.station_scan.specs.Sending.{HasBytes, IsAtItsPath, IsBesidePacket, IsFreeAt, IsGoneBeside, IsOfPacket, StandsWhole}
 
 -- one of these paths, or one of the two paths of a packet
 abbrev pub IsOfThese : (List ℕ → Type 0) → List ℕ → List ℕ → List PacketFile → List ℕ → Type 0
@@ -33,8 +33,9 @@ abbrev pub MaySendThese : List ℕ → List ℕ → List PacketFile → StoreSta
 MaySendThese outbound own files old new =
     Honestly new.disk ((first next : Base) → old.committed first → old.keeps next → LeavesOnly old.disk new.disk (SendsThese old outbound own files first next))
 
--- each packet is on the disk at its path, and what the store held is committed
-pub record AreSentOn (outbound : List ℕ) (files : List PacketFile) (old new : StoreState) : Type 0 where
+-- each packet is on the disk at its path alone, and what the store held is committed
+pub record AreSentOn (outbound own : List ℕ) (files : List PacketFile) (old new : StoreState) : Type 0 where
   pub committed : Commits old new
   pub packets : Honestly new.disk (All (IsAtItsPath outbound new.disk) files)
+  pub gone : Honestly new.disk (All (IsGoneBeside outbound own new.disk.seen) files)
   pub bytes : All HasBytes files

@@ -74,7 +74,7 @@ fn publish_packets<'a, D: Disk, P: LendStation<'a, D>>(
     requires plain { All (λ b. b ≢ 47) sending.own.now }
     requires ready { (P.Kept.state store).is_ready }
     requires own { (m : List ℕ) → (P.Kept.state store).is_own m → P.Paths.is_own paths.now m }
-    ensures sent { OnOk result.done (AreSentOn sending.entry.outbound.now sending.entry.files.now (P.Kept.state store) (P.Kept.state result.store)) }
+    ensures sent { OnOk result.done (AreSentOn sending.entry.outbound.now sending.entry.own.now sending.entry.files.now (P.Kept.state store) (P.Kept.state result.store)) }
     ensures any_moment { MaySendThese sending.entry.outbound.now sending.entry.own.now sending.entry.files.now (P.Kept.state store) (P.Kept.state result.store) }
     ensures keeps { KeepsStoreBut (IsOfThese (P.Kept.state store).is_own sending.entry.outbound.now sending.entry.own.now sending.entry.files.now) (P.Kept.state store) (P.Kept.state result.store) }
     ensures cause { HasPublishCause (P.Kept.state store) (P.Kept.state result.store) (P.Kept.failures store) (P.Kept.failures result.store) result.done }
@@ -111,7 +111,7 @@ fn publish_files<'a, D: Disk, P: LendStation<'a, D>>(
     requires plain { All (λ b. b ≢ 47) sending.own.now }
     requires ready { (P.Kept.state store).is_ready }
     requires own { (m : List ℕ) → (P.Kept.state store).is_own m → P.Paths.is_own paths.now m }
-    ensures sent { OnOk result.done (AreSentOn sending.entry.outbound.now sending.entry.files.now (P.Kept.state store) (P.Kept.state result.store)) }
+    ensures sent { OnOk result.done (AreSentOn sending.entry.outbound.now sending.entry.own.now sending.entry.files.now (P.Kept.state store) (P.Kept.state result.store)) }
     ensures any_moment { MaySendThese sending.entry.outbound.now sending.entry.own.now sending.entry.files.now (P.Kept.state store) (P.Kept.state result.store) }
     ensures keeps { KeepsStoreBut (IsOfThese (P.Kept.state store).is_own sending.entry.outbound.now sending.entry.own.now sending.entry.files.now) (P.Kept.state store) (P.Kept.state result.store) }
     ensures cause { HasPublishCause (P.Kept.state store) (P.Kept.state result.store) (P.Kept.failures store) (P.Kept.failures result.store) result.done }

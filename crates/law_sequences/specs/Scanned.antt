@@ -1,0 +1,45 @@
+-- What the contracts of a scan and of a toss that ended well say of the steps of a net.
+use Rattle.std.specs.Prelude.{◌≡◌, ℕ, List, Option, Result, Ok}
+use Rattle.echo_changing.specs.Coming.{Coming}
+use Rattle.echo_disk.specs.Disk.{DiskState}
+use Rattle.echo_status.specs.declared.fault.Fault.{Fault}
+use Rattle.echo_steps.specs.declared.stamp.Stamp.{Stamp}
+use Rattle.echo_store_changing.specs.declared.stop.Stop.{Stop}
+use Rattle.station.specs.Place.{Place}
+use Rattle.station_scan.specs.declared.scan_stop.ScanStop.{ScanStop}
+use Rattle.law_stations.specs.Commands.{Command, Scan, whole_of}
+use Rattle.law_stations.specs.Kinds.{IsToss}
+use Rattle.law_stations.specs.Nets.{with_indexes}
+use Rattle.law_crashes.specs.Disks.{Disks}
+use Rattle.law_disks.specs.OnDisks.{TossesAsEvent}
+use Rattle.law_disks.specs.Scans.{ScansAsEvent}
+use Rattle.law_sequences.specs.Asked.{GoesOnCut, GoesOnEnded, IsKeptWhereShared}
+use Rattle.law_sequences.specs.Seats.{Seat, StandsAt}
+use Rattle.law_sequences.specs.Steps.{IsAllOnDisk}
+
+-- the packets that a toss tossed whole are delivered
+pub record GoesOnTossed {Kept : Type 0} (place : Kept → Place) (seats : List (Seat Kept)) (seat : Seat Kept) (i : ℕ) (indexes : List ℕ) (answer : Option Fault) (left : List Coming) (d : Disks) (old new : DiskState) : Type 0 where
+  pub goes : GoesOnEnded (IsToss indexes) place seats seat i d old new
+  pub delivered : goes.next.net.delivered ≡ with_indexes (whole_of indexes answer left) d.net.delivered
+
+-- a toss that ended well
+abbrev pub TossesGoOn : {D Kept : Type 0} → (D → DiskState) → (Kept → Place) → Type 0
+TossesGoOn {D} {Kept} state place = (seats : List (Seat Kept)) (seat : Seat Kept) (i : ℕ) (indexes : List ℕ) (left : List Coming) (d : Disks) (old new : D) (result : Result (Option Fault) Stop) (answer : Option Fault)
+    → TossesAsEvent indexes left (place seat.kept) seat.links i d (state old) (state new) result → result ≡ Ok answer → IsKeptWhereShared place seats seat i (state new)
+    → GoesOnTossed place seats seat i indexes answer left d (state old) (state new)
+
+-- it is the scan of this moment
+abbrev pub IsScan : Stamp → Command → Type 0
+IsScan stamp command = command ≡ Scan stamp
+
+-- Whatever crash cuts a scan, and where it ends well, the net goes on by its command event.
+pub record ScanGoesOn {D Kept : Type 0} (state : D → DiskState) (place : Kept → Place) (seats : List (Seat Kept)) (seat : Seat Kept) (i : ℕ) (stamp : Stamp) (d : Disks) (old whole : D) (result : Result (Unit {0}) ScanStop) : Type 0 where
+  pub cut : (begun : D) → (state whole).left_since (state old).moment (state begun).seen → IsAllOnDisk (state begun)
+      → GoesOnCut (IsScan stamp) place seat i d (state old) (state whole) (state begun)
+  pub ended : result ≡ Ok tt → IsKeptWhereShared place seats seat i (state whole) → GoesOnEnded (IsScan stamp) place seats seat i d (state old) (state whole)
+
+abbrev pub ScansGoOn : {D Kept : Type 0} → (D → DiskState) → (Kept → Place) → Type 0
+ScansGoOn {D} {Kept} state place = (seats : List (Seat Kept)) (seat : Seat Kept) (i : ℕ) (stamp : Stamp) (d ended : Disks) (old whole : D) (result : Result (Unit {0}) ScanStop)
+    → (stands : StandsAt place seats i seat (state old) d)
+    → ScansAsEvent stamp (place seat.kept) seat.links seat.outbound i d ended stands.at.shows.station.base (state old) (state whole) result
+    → ScanGoesOn state place seats seat i stamp d old whole result
