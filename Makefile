@@ -5,7 +5,7 @@
 # examples/net; `make manual-test` compares the manual page with the program's help; `make small-nets` holds the
 # verdicts on all small nets against the definitions; `make follow` does
 # what docs/OPERATORS.md says (it needs binkd); `make interop` runs a net with another tosser, and holds that
-# to the rules of docs/OPERATORS.md (it needs binkd and crashmail); `make trials` tries the program from
+# to the rules of docs/INTEROP.md (it needs binkd and crashmail); `make trials` tries the program from
 # outside (docs/TRIALS.md). `make install` puts what was built, the program, its page, the scripts, the documents
 # and what shells complete, under PREFIX, or under DESTDIR and PREFIX, and `make uninstall` takes it away; `make
 # deb` makes a Debian package of the same.

@@ -1,5 +1,5 @@
 #!/usr/bin/env bash
-# Holds CrashMail II to the rules of docs/OPERATORS.md, and prints which it keeps. Words: trials to hold (all
+# Holds CrashMail II to the rules of docs/INTEROP.md, and prints which it keeps. Words: trials to hold (all
 # without a word), and -v to print what was broken. The program is bin/echonet, or the one that ECHONET names.
 # Needs crashmail and Python 3; without a C compiler the trial half-a-year is left out.
 set -euo pipefail

@@ -1,7 +1,7 @@
 #!/usr/bin/env bash
 # Three systems on this machine, of which Beta runs CrashMail II and the other two echonet, joined by binkd
 # daemons on local ports. What is posted at each is to come to each other one exactly once, unchanged. Then
-# CrashMail is held to the rules of docs/OPERATORS.md (rules.sh).
+# CrashMail is held to the rules of docs/INTEROP.md (rules.sh).
 # Word: the program. PORT is the first of the four ports that are used (24570 where it is not given).
 # Needs binkd and crashmail, Python 3, and perl, flock and setsid, which Debian always has.
 set -euo pipefail

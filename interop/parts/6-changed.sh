@@ -1,4 +1,4 @@
-# What the other tosser changes, as docs/OPERATORS.md tells it
+# What the other tosser changes, as docs/INTEROP.md tells it
 
 # The body lines of a message. Words: station, subject.
 body_at() { messages_of "$1" | awk -F '|' -v subject="$2" '$6 == subject { print $8 }'; }

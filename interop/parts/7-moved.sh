@@ -1,4 +1,4 @@
-# Beta moves from CrashMail to echonet, with its messages, as docs/OPERATORS.md tells it
+# Beta moves from CrashMail to echonet, with its messages, as docs/INTEROP.md tells it
 
 stop_daemon two
 mkdir -p moved/{base,inbound,packets,rescanned}

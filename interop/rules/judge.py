@@ -1,4 +1,4 @@
-"""Judges by the five rules of docs/OPERATORS.md what a tosser did with what it was given.
+"""Judges by the five rules of docs/INTEROP.md what a tosser did with what it was given.
 
 What came, what was posted, what the tosser filed and what it sent are read by trials/reading.py, from
 docs/FORMATS.md. Two copies are one message where they have one subject: each message of a trial has its own.

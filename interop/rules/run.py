@@ -1,4 +1,4 @@
-"""Holds CrashMail II to the rules that docs/OPERATORS.md asks of each tosser, and prints which it keeps.
+"""Holds CrashMail II to the rules that docs/INTEROP.md asks of each tosser, and prints which it keeps.
 
 In each trial a system of its own gets packets and postings; what it files and sends is judged by all five
 rules, and the rules that it breaks have to be those that the trial names. The same trials are held with
@@ -48,7 +48,7 @@ def expect(trial, tosser, breaks, is_wordy):
 
 def print_table(trials):
     """The table: each rule, whether it was kept, and what was tried."""
-    print("CrashMail II and the rules of docs/OPERATORS.md, by trial:")
+    print("CrashMail II and the rules of docs/INTEROP.md, by trial:")
     for rule in RULES:
         breaking = [trial for trial in trials if rule in trial.breaks]
         keeping_it = [trial for trial in trials if trial.rule == rule and trial not in breaking]

@@ -10,4 +10,3 @@ pub mod Replied
 pub mod Coming
 pub mod TossedPacket
 pub mod Tossed
-pub mod PacketFiles

@@ -8,14 +8,14 @@ ghost use Rattle.echo_changing.specs.System.{IsSystemGiven};
 ghost use Rattle.echo_changing.specs.Lines.{named_receiver};
 
 use crate::given::Given;
-use crate::leaving::{Done, Files, PacketFile, leave};
+use crate::leaving::{Done, Files, leave};
 use crate::lines::push_sent;
 use crate::system::{saved, system_given};
 use echo_addr::{Address, Items};
 use echo_device::Sink;
 use echo_packet::Header;
 use echo_status::{Fault, print_rest};
-use echo_steps::{Packet, Stamp};
+use echo_steps::{Packet, PacketFile, Stamp};
 use echo_toss::Tosser;
 use std::alloc::{AllocError, Global};
 use std::hash::BuildHasher;
