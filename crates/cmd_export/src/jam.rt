@@ -171,7 +171,7 @@ fn last_text(
 fn write_jam(rt: &HostRuntime, files: &JamFiles, exported: &JamExport) -> io::Result<()> {
     let standing = files.standing;
     let added = exported.adding.messages.len();
-    let has_zeros = files.index_len >= files.index_end + 8;
+    let has_zeros = files.index_len.saturating_sub(files.index_end) >= 8;
     if added == 0 && standing.active == standing.counted && !has_zeros {
         return Ok(());
     }
