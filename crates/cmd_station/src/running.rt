@@ -72,7 +72,7 @@ fn run_on_file<'a, C: StoreCommand<'a>, W: Sink>(
 // Runs a command on a station whose store needs nothing before.
 fn run_unprepared<
     'a,
-    D: Disk,
+    D: Disk + Drop,
     P: OpenStation<'a, D>,
     C: StoreCommand<'a>,
     L: FileLock,

@@ -46,10 +46,10 @@ pub struct Scan<'a> {
 }
 
 /// `scan`: the stamp is judged first. The packets get their names once the base is written.
-pub fn run_scan<W: Sink, E: Sink>(
-    rt: &HostRuntime,
-    words: ScanWords<'_>,
-    progress: &Progress<'_>,
+pub fn run_scan<'x, W: Sink, E: Sink>(
+    rt: &'x HostRuntime,
+    words: ScanWords<'x>,
+    progress: &'x Progress<'x>,
     out: &mut W,
     errors: &mut E,
 ) -> Status {
@@ -128,7 +128,7 @@ fn scan_file<'a, W: Sink>(
 }
 
 // Scans a station whose store needs nothing before.
-fn scan_unprepared<'a, D: Disk, P: LendStation<'a, D>, L: FileLock, K: FileLock, W: Sink>(
+fn scan_unprepared<'a, D: Disk + Drop, P: LendStation<'a, D>, L: FileLock, K: FileLock, W: Sink>(
     scan: Scan<'a>,
     disk: D,
     locks: &mut Locks<L, K>,
