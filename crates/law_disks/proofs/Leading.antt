@@ -3,6 +3,7 @@ use Rattle.std.proofs.Common.{◌≡◌, ◌⊎◌, inl, inr, ⊎_elim, ◌∙�
 use Rattle.std.specs.Prelude.{IfErr, OnOk}
 use Rattle.echo_base.specs.Base.{Base}
 use Rattle.echo_disk.specs.Disk.{DiskState, Files}
+use Rattle.echo_disk.specs.Runs.{LeavesOnly}
 use Rattle.echo_links.specs.Links.{LinkFile}
 use Rattle.echo_links.specs.LinkLines.{LinksOf}
 use Rattle.echo_run.specs.Run.{change, nth}
@@ -10,15 +11,15 @@ use Rattle.echo_run.proofs.Lists.{some_same}
 use Rattle.echo_status.specs.declared.fault.Fault.{Fault}
 use Rattle.echo_status.specs.Devices.{Output}
 use Rattle.echo_store_changing.specs.declared.stop.Stop.{Stop}
-use Rattle.echo_store_changing.specs.declared.stop.Stop.TheVariants.{Met}
+use Rattle.echo_store_changing.specs.declared.stop.Stop.TheVariants.{Met, Store}
 use Rattle.station.specs.Place.{KeepsElsewhere, Place, SameElsewhere, StandsOrWasLeft}
-use Rattle.station.specs.Running.{IsKept, IsNotRun, IsRun, IsRunOn, LeavesWhereMet, MadeOrWasLeft, RunsIn}
+use Rattle.station.specs.Running.{IsKept, IsRun, IsRunOn, MadeOrWasLeft, RunsIn, StandsAsBefore, StandsWhereMet}
 use Rattle.law_stations.specs.Commands.{Command}
 use Rattle.law_stations.specs.Nets.{with_base}
 use Rattle.law_stations.proofs.Pairs.{changed-there}
 use Rattle.law_crashes.specs.Disks.{Disks}
 use Rattle.law_crashes.specs.Stopping.{LeadsFar}
-use Rattle.law_disks.specs.OnDisks.{AreAsMay, DoesAsMay, IsAfter, IsLinkedOn, IsStationAt, LeadsFarBy, ReadsLinks, ShowsStation}
+use Rattle.law_disks.specs.OnDisks.{AreAsMay, DoesAsMay, IsAfter, IsAsBefore, IsLinkedOn, IsStationAt, LeadsFarBy, ReadsLinks, ShowsStation}
 
 -- disks to which a command of this kind leads, on which the station has this base
 pub record LeadsTo (IsCommand : Command → Type 0) (i : ℕ) (d : Disks) (next : Base) : Type 0 where
@@ -86,6 +87,13 @@ module _ (IsCommand : Command → Type 0) (place : Place) (links : List ℕ) (i 
     on_disk = λ c since. after-it next to c (left-links c since) (stands c since);
   }
 
+  -- the disk after a command that left the base as it was
+  is-as-before : StandsAsBefore place old new base → IsAsBefore place links i d new
+  is-as-before it = record {
+    at = record { shows = as-it-was new.seen same-links it.seen; linked = still-linked; outside = at.outside };
+    on_disk = λ c left. as-it-was c (left-links c left) (it.stands c left);
+  }
+
   -- a crash that left the base as it was, or what one before might have left
   was-left : (c : Files) → StandsOrWasLeft place old base c → old.may_leave c ⊎ ShowsStation place links i c d
   was-left c (inl alone) = inr (as-it-was c (outside-links c alone.elsewhere) alone.stands)
@@ -95,12 +103,20 @@ module _ (IsCommand : Command → Type 0) (place : Place) (links : List ℕ) (i 
   may-be c (inl was) = inl was
   may-be c (inr shows) = inr (record { after = d; leads = inl refl; shows = shows })
 
-  module _ {A : Type 0} (IsAnswer : LinkFile → Base → Type 0) (Makes May : LinkFile → Base → Base → Type 0) (Reads : LinkFile → Type 0) (read : ReadsLinks Reads links old) (Shut : Fault → Type 0) (failed : Type 0) (result : Result A Stop)
+  module _ {A : Type 0} (IsAnswer : LinkFile → Base → Type 0) (Makes May : LinkFile → Base → Base → Type 0) (Reads : LinkFile → Type 0) (read : ReadsLinks Reads links old) (IsShut Stops : Fault → Type 0) (failed : Type 0) (result : Result A Stop)
       (may : (file : LinkFile) (next : Base) → SaysIn file → May file base next → MadeOrHeld IsCommand i d base next)
       (makes : (file : LinkFile) (next : Base) → SaysIn file → Makes file base next → LeadsTo IsCommand i d next) where
     -- what a command does that ran
-    ran : IsRun IsAnswer Makes May place Reads failed old new result → DoesAsMay IsCommand place links i d old new result
-    ran run = record { crash = left; done = well; stopped = met; same_links = same-links; linked = still-linked; elsewhere = record { crash = beside; keeps = kept } }
+    ran : IsRun IsAnswer Makes May place Reads failed old new result → DoesAsMay IsCommand place IsShut links i d old new result
+    ran run = record {
+      crash = left;
+      done = well;
+      stopped = λ fault is c since. was-left c ((met fault is).crash.each c since);
+      as_before = λ fault is. inl (is-as-before (met fault is));
+      same_links = same-links;
+      linked = still-linked;
+      elsewhere = record { crash = beside; keeps = kept };
+    }
       where
         on : IsRunOn (IsAnswer run.file base) (Makes run.file base) (May run.file base) place old new base result
         on = run.runs base at.shows.stands
@@ -131,24 +147,37 @@ module _ (IsCommand : Command → Type 0) (place : Place) (links : List ℕ) (i 
             let it : IsKept place (Makes run.file base) new = subst (λ (r : Result A Stop). OnOk r (IsKept place (Makes run.file base) new)) ok on.kept in
             is-after it.next (makes run.file it.next says it.made) it.seen it.stands
 
-        met : (fault : Fault) → result ≡ Err (Met fault) → (c : Files) → new.left_since old.moment c → old.may_leave c ⊎ ShowsStation place links i c d
-        met fault is c since = was-left c ((subst (λ (r : Result A Stop). IfErr r (LeavesWhereMet place old new base)) is on.met).each c since)
+        met : (fault : Fault) → result ≡ Err (Met fault) → StandsAsBefore place old new base
+        met fault is = subst (λ (r : Result A Stop). IfErr r (StandsWhereMet place old new base)) is on.met
 
         beside : (c : Files) → new.left_since old.moment c → old.may_leave c ⊎ SameElsewhere place old c
         beside c since = ⊎_elim (λ alone. inr alone.elsewhere) (λ was. inl was) (on.crash.each c since)
 
+    -- why one did not
+    abbrev is-shut-by : Stop → Type 0
+    is-shut-by (Met fault) = IsShut fault
+    is-shut-by (Store cause) = Unit {0}
+
+    shut-so : (is fault : Fault) → result ≡ Err (Met is) → IsShut is → result ≡ Err (Met fault) → IsShut fault
+    shut-so is fault one shut other = subst (λ (r : Result A Stop). IfErr r is-shut-by) (sym one ∙ other) shut
+
     -- what one does that did not
-    not-run : (out out_now : Output) → IsNotRun place Shut old new out out_now result → DoesAsMay IsCommand place links i d old new result
-    not-run out out_now none = record {
-      crash = λ c since. may-be c (was-left c ((none.crash base at.shows.stands).each c since));
-      done = λ value ok. absurd (cc (sym ok ∙ none.is));
-      stopped = λ fault is c since. was-left c ((none.crash base at.shows.stands).each c since);
+    not-run : (fault : Fault) → result ≡ Err (Met fault) → LeavesOnly old new (StandsOrWasLeft place old base)
+        → ((other : Fault) → result ≡ Err (Met other) → IsAsBefore place links i d new ⊎ IsShut other) → DoesAsMay IsCommand place IsShut links i d old new result
+    not-run fault is leaves before = record {
+      crash = λ c since. may-be c (was-left c (leaves.each c since));
+      done = λ value ok. absurd (cc (sym ok ∙ is));
+      stopped = λ other met c since. was-left c (leaves.each c since);
+      as_before = before;
       same_links = same-links;
       linked = still-linked;
-      elsewhere = record { crash = λ c since. ⊎_elim (λ alone. inr alone.elsewhere) (λ was. inl was) ((none.crash base at.shows.stands).each c since); keeps = kept };
+      elsewhere = record { crash = λ c since. ⊎_elim (λ alone. inr alone.elsewhere) (λ was. inl was) (leaves.each c since); keeps = kept };
     }
 
     -- what a command does
-    pub does : (out out_now : Output) → RunsIn IsAnswer Makes May place Reads Shut failed old new out out_now result → DoesAsMay IsCommand place links i d old new result
+    pub does : (out out_now : Output) → RunsIn IsAnswer Makes May place Reads IsShut Stops failed old new out out_now result → DoesAsMay IsCommand place IsShut links i d old new result
     does out out_now (inl run) = ran run
-    does out out_now (inr none) = not-run out out_now none
+    does out out_now (inr (inl shut)) =
+        not-run shut.fault shut.is (shut.crash base at.shows.stands) (λ other met. inr (shut-so shut.fault other shut.is shut.cause met))
+    does out out_now (inr (inr stopped)) =
+        let it = stopped.stands base at.shows.stands in not-run stopped.fault stopped.is it.crash (λ other met. inl (is-as-before it))

@@ -5,4 +5,4 @@ pub returns : goal.returns
 returns g c = λ honest.
     let ran = c.run_command.ensures in
     let mail = c.args.command.now in
-    mail-does (g.P.OpenStation.place c.args.station) _ _ _ _ _ ran.elsewhere _ _ mail.letter mail.asked c.run_command.result.done (ran.runs honest)
+    mail-does (g.P.OpenStation.place c.args.station) _ _ _ _ _ _ ran.elsewhere _ _ mail.letter mail.asked c.run_command.result.done (ran.runs honest)

@@ -5,4 +5,4 @@ pub returns : goal.returns
 returns g c = λ honest.
     let ran = c.run_command.ensures in
     let post = c.args.command.now in
-    post-does (g.P.OpenStation.place c.args.station) _ _ _ _ _ ran.elsewhere _ _ post.free post.words post.body.now c.run_command.result.done (ran.runs honest)
+    post-does (g.P.OpenStation.place c.args.station) _ _ _ _ _ _ ran.elsewhere _ _ post.free post.words post.body.now c.run_command.result.done (ran.runs honest)
