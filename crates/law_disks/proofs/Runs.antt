@@ -106,7 +106,8 @@ module _ (place : Place) (Reads : LinkFile → Type 0) (IsShut Stops : Fault →
             at = is-after (IsToss indexes) place links i d old new at kept it.next (tossing at.shows.station run.file i d at.shows.there says files indexes it.next are all) it.seen it.stands;
             delivered = delivered-so indexes d.net.delivered all.stopped answer all.left left stopped behind;
           }
-      ended answer ok (inr none) = absurd (cc (sym ok ∙ none.is))
+      ended answer ok (inr (inl shut)) = absurd (cc (sym ok ∙ shut.is))
+      ended answer ok (inr (inr stopped)) = absurd (cc (sym ok ∙ stopped.is))
 
       toss-at : TossRuns → TossesAsEvent indexes left place IsShut links i d old new result
       toss-at runs =
