@@ -70,16 +70,14 @@ pub record LeavesElsewhere (place : Place) (old new : DiskState) : Type 0 where
   pub crash : (c : Files) → new.left_since old.moment c → old.may_leave c ⊎ SameElsewhere place old c
   pub keeps : KeepsElsewhere place old new
 
--- A command does on the disk what the command event may do. A station that is shut is not opened for the fault of which this is said.
-pub record DoesAsMay {A : Type 0} (IsCommand : Command → Type 0) (place : Place) (IsShut : Fault → Type 0) (links : List ℕ) (i : ℕ) (d : Disks) (old new : DiskState) (result : Result A Stop) : Type 0 where
+-- A command does on the disk what the command event may do.
+pub record DoesAsMay {A : Type 0} (IsCommand : Command → Type 0) (place : Place) (links : List ℕ) (i : ℕ) (d : Disks) (old new : DiskState) (result : Result A Stop) : Type 0 where
   -- a crash at any moment leaves what one before it might have left, or the station as before the event or after it
   pub crash : (c : Files) → new.left_since old.moment c → old.may_leave c ⊎ AreAsMay IsCommand place links i d c
   -- where it ends well they are as after the event
   pub done : (value : A) → result ≡ Ok value → IsAfter IsCommand place links i d new
   -- where it met a fault a crash meanwhile leaves what one before it might have left, or both as they were
   pub stopped : (fault : Fault) → result ≡ Err (Met fault) → (c : Files) → new.left_since old.moment c → old.may_leave c ⊎ ShowsStation place links i c d
-  -- and where the station was opened they are as they were
-  pub as_before : (fault : Fault) → result ≡ Err (Met fault) → IsAsBefore place links i d new ⊎ IsShut fault
   -- the link file is as it was, on the disk
   pub same_links : new.seen links ≡ old.seen links
   pub linked : IsLinkedOn links new
@@ -92,9 +90,15 @@ ReadsLinks Reads links disk = (file : LinkFile) → Reads file → AreLinks disk
 
 -- At each station of a net that the disk shows in this place a command does what a command event of this kind may do. The kind may depend
 -- on the base of the station.
-abbrev pub AsMay : {A : Type 0} → (Base → Command → Type 0) → Place → (LinkFile → Type 0) → (Fault → Type 0) → DiskState → DiskState → Result A Stop → Type 0
-AsMay IsCommand place Reads IsShut old new result = (i : ℕ) (d : Disks) (links : List ℕ) → ReadsLinks Reads links old → (at : IsStationAt place links i old d)
-    → DoesAsMay (IsCommand at.shows.station.base) place IsShut links i d old new result
+abbrev pub AsMay : {A : Type 0} → (Base → Command → Type 0) → Place → (LinkFile → Type 0) → DiskState → DiskState → Result A Stop → Type 0
+AsMay IsCommand place Reads old new result = (i : ℕ) (d : Disks) (links : List ℕ) → ReadsLinks Reads links old → (at : IsStationAt place links i old d)
+    → DoesAsMay (IsCommand at.shows.station.base) place links i d old new result
+
+-- Each station of a net that the disk shows in this place is as before a command that met a fault, unless it is shut, as is said of the
+-- fault.
+abbrev pub StaysWhereMet : {A : Type 0} → Place → (Fault → Type 0) → DiskState → DiskState → Result A Stop → Type 0
+StaysWhereMet place IsShut old new result = (i : ℕ) (d : Disks) (links : List ℕ) → IsStationAt place links i old d → (fault : Fault) → result ≡ Err (Met fault)
+    → IsAsBefore place links i d new ⊎ IsShut fault
 
 -- Of a toss with this answer, which left these files, the packets that it tossed whole are delivered: all where nothing stopped it.
 pub record IsAfterToss (indexes : List ℕ) (left : List Coming) (place : Place) (links : List ℕ) (i : ℕ) (d : Disks) (new : DiskState) (answer : Option Fault) : Type 0 where
@@ -102,11 +106,11 @@ pub record IsAfterToss (indexes : List ℕ) (left : List Coming) (place : Place)
   pub delivered : at.after.net.delivered ≡ with_indexes (whole_of indexes answer left) d.net.delivered
 
 -- A toss of the packet files of these indexes does on the disk what the command event may do, and where it ends well just what it answers.
-pub record TossesAsEvent (indexes : List ℕ) (left : List Coming) (place : Place) (IsShut : Fault → Type 0) (links : List ℕ) (i : ℕ) (d : Disks) (old new : DiskState) (result : Result (Option Fault) Stop) : Type 0 where
-  pub does : DoesAsMay (IsToss indexes) place IsShut links i d old new result
+pub record TossesAsEvent (indexes : List ℕ) (left : List Coming) (place : Place) (links : List ℕ) (i : ℕ) (d : Disks) (old new : DiskState) (result : Result (Option Fault) Stop) : Type 0 where
+  pub does : DoesAsMay (IsToss indexes) place links i d old new result
   pub ends : (answer : Option Fault) → result ≡ Ok answer → IsAfterToss indexes left place links i d new answer
 
 -- So it is at any station of a net, where these files are the packet files of these indexes, and the others are left of them.
-abbrev pub TossesAsMay : List Coming → List Coming → Place → (LinkFile → Type 0) → (Fault → Type 0) → DiskState → DiskState → Result (Option Fault) Stop → Type 0
-TossesAsMay files left place Reads IsShut old new result = (indexes : List ℕ) (i : ℕ) (d : Disks) (links : List ℕ) → Paired (IsPacketAt d.net.packets) indexes files → ReadsLinks Reads links old
-    → IsStationAt place links i old d → TossesAsEvent indexes left place IsShut links i d old new result
+abbrev pub TossesAsMay : List Coming → List Coming → Place → (LinkFile → Type 0) → DiskState → DiskState → Result (Option Fault) Stop → Type 0
+TossesAsMay files left place Reads old new result = (indexes : List ℕ) (i : ℕ) (d : Disks) (links : List ℕ) → Paired (IsPacketAt d.net.packets) indexes files → ReadsLinks Reads links old
+    → IsStationAt place links i old d → TossesAsEvent indexes left place links i d old new result

@@ -3,7 +3,7 @@ ghost use Rattle.echo_disk.specs.Disk.{Honestly};
 ghost use Rattle.station.specs.Opening.{AreFree, HaveFailed};
 ghost use Rattle.law_stations.specs.Kinds.{IsPurge};
 ghost use Rattle.law_disks.specs.Kinds.{IsMail, IsPostAs, IsReplyAs};
-ghost use Rattle.law_disks.specs.OnDisks.{AsMay, TossesAsMay};
+ghost use Rattle.law_disks.specs.OnDisks.{AsMay, StaysWhereMet, TossesAsMay};
 
 use echo_changing::PacketFiles;
 use echo_device::Sink;
@@ -38,8 +38,9 @@ pub fn purge_as_may<
 ) -> Ended<'a, D, ()>
     requires free { AreFree (L.held locks.old.links) (K.held locks.old.base) }
     requires can { Honestly (D.state disk) (P.can_open station (D.state disk)) }
-    ensures { let failed = HaveFailed (D.failures disk) (D.failures result.disk) (L.failures locks.old.links) (L.failures locks.new.links) (K.failures locks.old.base) (K.failures locks.new.base) in
-        Honestly (D.state result.disk) (AsMay (λ base. IsPurge) (P.place station) (P.reads station (D.state disk)) (P.is_shut station failed (D.state disk) (D.state result.disk)) (D.state disk) (D.state result.disk) result.done) }
+    ensures does { Honestly (D.state result.disk) (AsMay (λ base. IsPurge) (P.place station) (P.reads station (D.state disk)) (D.state disk) (D.state result.disk) result.done) }
+    ensures stays { let failed = HaveFailed (D.failures disk) (D.failures result.disk) (L.failures locks.old.links) (L.failures locks.new.links) (K.failures locks.old.base) (K.failures locks.new.base) in
+        Honestly (D.state result.disk) (StaysWhereMet (P.place station) (P.is_shut station failed (D.state disk) (D.state result.disk)) (D.state disk) (D.state result.disk) result.done) }
 {
     run_command(alloc, disk, locks, station, before, command, out)
 }
@@ -64,8 +65,9 @@ pub fn post_as_may<
 ) -> Ended<'a, D, ()>
     requires free { AreFree (L.held locks.old.links) (K.held locks.old.base) }
     requires can { Honestly (D.state disk) (P.can_open station (D.state disk)) }
-    ensures { let failed = HaveFailed (D.failures disk) (D.failures result.disk) (L.failures locks.old.links) (L.failures locks.new.links) (K.failures locks.old.base) (K.failures locks.new.base) in
-        Honestly (D.state result.disk) (AsMay (λ base. IsPostAs command.old.free command.old.words command.old.body.now) (P.place station) (P.reads station (D.state disk)) (P.is_shut station failed (D.state disk) (D.state result.disk)) (D.state disk) (D.state result.disk) result.done) }
+    ensures does { Honestly (D.state result.disk) (AsMay (λ base. IsPostAs command.old.free command.old.words command.old.body.now) (P.place station) (P.reads station (D.state disk)) (D.state disk) (D.state result.disk) result.done) }
+    ensures stays { let failed = HaveFailed (D.failures disk) (D.failures result.disk) (L.failures locks.old.links) (L.failures locks.new.links) (K.failures locks.old.base) (K.failures locks.new.base) in
+        Honestly (D.state result.disk) (StaysWhereMet (P.place station) (P.is_shut station failed (D.state disk) (D.state result.disk)) (D.state disk) (D.state result.disk) result.done) }
 {
     run_command(alloc, disk, locks, station, before, command, out)
 }
@@ -90,8 +92,9 @@ pub fn reply_as_may<
 ) -> Ended<'a, D, ()>
     requires free { AreFree (L.held locks.old.links) (K.held locks.old.base) }
     requires can { Honestly (D.state disk) (P.can_open station (D.state disk)) }
-    ensures { let failed = HaveFailed (D.failures disk) (D.failures result.disk) (L.failures locks.old.links) (L.failures locks.new.links) (K.failures locks.old.base) (K.failures locks.new.base) in
-        Honestly (D.state result.disk) (AsMay (IsReplyAs command.old.index command.old.answer command.old.body.now) (P.place station) (P.reads station (D.state disk)) (P.is_shut station failed (D.state disk) (D.state result.disk)) (D.state disk) (D.state result.disk) result.done) }
+    ensures does { Honestly (D.state result.disk) (AsMay (IsReplyAs command.old.index command.old.answer command.old.body.now) (P.place station) (P.reads station (D.state disk)) (D.state disk) (D.state result.disk) result.done) }
+    ensures stays { let failed = HaveFailed (D.failures disk) (D.failures result.disk) (L.failures locks.old.links) (L.failures locks.new.links) (K.failures locks.old.base) (K.failures locks.new.base) in
+        Honestly (D.state result.disk) (StaysWhereMet (P.place station) (P.is_shut station failed (D.state disk) (D.state result.disk)) (D.state disk) (D.state result.disk) result.done) }
 {
     run_command(alloc, disk, locks, station, before, command, out)
 }
@@ -116,8 +119,9 @@ pub fn mail_as_may<
 ) -> Ended<'a, D, ()>
     requires free { AreFree (L.held locks.old.links) (K.held locks.old.base) }
     requires can { Honestly (D.state disk) (P.can_open station (D.state disk)) }
-    ensures { let failed = HaveFailed (D.failures disk) (D.failures result.disk) (L.failures locks.old.links) (L.failures locks.new.links) (K.failures locks.old.base) (K.failures locks.new.base) in
-        Honestly (D.state result.disk) (AsMay (λ base. IsMail command.old.letter command.old.asked) (P.place station) (P.reads station (D.state disk)) (P.is_shut station failed (D.state disk) (D.state result.disk)) (D.state disk) (D.state result.disk) result.done) }
+    ensures does { Honestly (D.state result.disk) (AsMay (λ base. IsMail command.old.letter command.old.asked) (P.place station) (P.reads station (D.state disk)) (D.state disk) (D.state result.disk) result.done) }
+    ensures stays { let failed = HaveFailed (D.failures disk) (D.failures result.disk) (L.failures locks.old.links) (L.failures locks.new.links) (K.failures locks.old.base) (K.failures locks.new.base) in
+        Honestly (D.state result.disk) (StaysWhereMet (P.place station) (P.is_shut station failed (D.state disk) (D.state result.disk)) (D.state disk) (D.state result.disk) result.done) }
 {
     run_command(alloc, disk, locks, station, before, command, out)
 }
@@ -144,8 +148,9 @@ pub fn toss_as_may<
 ) -> Ended<'a, D, Option<Fault<'a>>>
     requires free { AreFree (L.held locks.old.links) (K.held locks.old.base) }
     requires can { Honestly (D.state disk) (P.can_open station (D.state disk)) }
-    ensures { let failed = HaveFailed (D.failures disk) (D.failures result.disk) (L.failures locks.old.links) (L.failures locks.new.links) (K.failures locks.old.base) (K.failures locks.new.base) in
-        Honestly (D.state result.disk) (TossesAsMay (F.coming command.old.packets) (F.coming command.new.packets) (P.place station) (P.reads station (D.state disk)) (P.is_shut station failed (D.state disk) (D.state result.disk)) (D.state disk) (D.state result.disk) result.done) }
+    ensures does { Honestly (D.state result.disk) (TossesAsMay (F.coming command.old.packets) (F.coming command.new.packets) (P.place station) (P.reads station (D.state disk)) (D.state disk) (D.state result.disk) result.done) }
+    ensures stays { let failed = HaveFailed (D.failures disk) (D.failures result.disk) (L.failures locks.old.links) (L.failures locks.new.links) (K.failures locks.old.base) (K.failures locks.new.base) in
+        Honestly (D.state result.disk) (StaysWhereMet (P.place station) (P.is_shut station failed (D.state disk) (D.state result.disk)) (D.state disk) (D.state result.disk) result.done) }
 {
     tosses_are_what_is_known::<F::Reader>();
     tosses_answer_what_stopped_them::<F::Reader>();

@@ -2,11 +2,10 @@
 use Rattle.std.proofs.Common.{inl, inr, ⊎_elim, refl, ℕ, List, Some, None, Result}
 use Rattle.echo_base.specs.Base.{Base}
 use Rattle.echo_disk.specs.Disk.{DiskState, Files}
-use Rattle.echo_status.specs.declared.fault.Fault.{Fault}
 use Rattle.echo_store_changing.specs.declared.stop.Stop.{Stop}
 use Rattle.station.specs.Place.{Place, SameElsewhere}
 use Rattle.law_crashes.specs.Disks.{Disks}
-use Rattle.law_disks.specs.OnDisks.{DoesAsMay, IsAsBefore, LeavesElsewhere, MayLeadBy, ShowsStation}
+use Rattle.law_disks.specs.OnDisks.{DoesAsMay, LeavesElsewhere, MayLeadBy, ShowsStation}
 use Rattle.law_sequences.specs.Asked.{Asked, AnswerOf, CommandGoesOn, CommandsGoOn, GoesOnCut, IsAsked}
 use Rattle.law_sequences.specs.Seats.{Seat, reach}
 use Rattle.law_sequences.specs.Steps.{IsAllOnDisk}
@@ -24,8 +23,8 @@ reaches-by place further old new more left = record {
   };
 }
 
-module _ {D Kept : Type 0} (state : D → DiskState) (place : Kept → Place) (seats : List (Seat Kept)) (seat : Seat Kept) (i : ℕ) (asked : Asked) (IsShut : Fault → Type 0) (base : Base) (d : Disks) (old whole : D)
-    (result : Result (AnswerOf asked) Stop) (does : DoesAsMay (IsAsked asked base) (place seat.kept) IsShut seat.links i d (state old) (state whole) result)
+module _ {D Kept : Type 0} (state : D → DiskState) (place : Kept → Place) (seats : List (Seat Kept)) (seat : Seat Kept) (i : ℕ) (asked : Asked) (base : Base) (d : Disks) (old whole : D)
+    (result : Result (AnswerOf asked) Stop) (does : DoesAsMay (IsAsked asked base) (place seat.kept) seat.links i d (state old) (state whole) result)
     (on_disk : (c : Files) → (state old).may_leave c → ShowsStation (place seat.kept) seat.links i c d) where
   elsewhere : LeavesElsewhere (reach place seat) (state old) (state whole)
   elsewhere = reaches-by (place seat.kept) (reach place seat) (state old) (state whole) (λ m own. inl own) does.elsewhere
@@ -44,7 +43,7 @@ module _ {D Kept : Type 0} (state : D → DiskState) (place : Kept → Place) (s
       | inr may ↦ led may.after may.leads may.shows
     ]
 
-  goes-on : CommandGoesOn state place seats seat i asked IsShut base d old whole result
+  goes-on : CommandGoesOn state place seats seat i asked base d old whole result
   goes-on = record {
     cut = cut;
     ended = λ value is kept.
@@ -59,16 +58,8 @@ module _ {D Kept : Type 0} (state : D → DiskState) (place : Kept → Place) (s
             elsewhere = elsewhere;
           };
         };
-    met = λ fault is kept. ⊎_elim
-        (λ (was : IsAsBefore (place seat.kept) seat.links i d (state whole)). inl (record {
-          may = refl;
-          stands = record { at = was.at; on_disk = was.on_disk; kept = λ shared. kept shared was.at.shows.station.base was.at.shows.stands };
-          elsewhere = elsewhere;
-        }))
-        (λ (shut : IsShut fault). inr shut)
-        (does.as_before fault is);
   }
 
 pub commands-go-on : {D Kept : Type 0} (state : D → DiskState) (place : Kept → Place) → CommandsGoOn state place
-commands-go-on state place seats seat i asked IsShut d old whole result stands does =
-    goes-on state place seats seat i asked IsShut stands.at.shows.station.base d old whole result does stands.on_disk
+commands-go-on state place seats seat i asked d old whole result stands does =
+    goes-on state place seats seat i asked stands.at.shows.station.base d old whole result does stands.on_disk

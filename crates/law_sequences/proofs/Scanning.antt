@@ -72,7 +72,7 @@ scans-go-on state place seats seat i stamp d ended old whole result stands does 
     goes-on state place seats seat i stamp d ended stands.at.shows.station.base old whole result does stands.on_disk
 
 pub tosses-go-on : {D Kept : Type 0} (state : D → DiskState) (place : Kept → Place) → TossesGoOn state place
-tosses-go-on state place seats seat i indexes left IsShut d old new result answer tosses is kept =
+tosses-go-on state place seats seat i indexes left d old new result answer tosses is kept =
     let after = tosses.ends answer is in
     record {
       goes = record {

@@ -1,5 +1,5 @@
 -- What the contract of a command that is run at a station says of the steps of a net.
-use Rattle.std.specs.Prelude.{◌≡◌, ◌⊎◌, ℕ, Bool, List, Option, Some, None, Result, Ok, Err}
+use Rattle.std.specs.Prelude.{◌≡◌, ℕ, Bool, List, Option, Some, None, Result, Ok}
 use Rattle.echo_base.specs.Base.{Base}
 use Rattle.echo_changing.specs.declared.posting.NewMessage.{NewMessage}
 use Rattle.echo_changing.specs.declared.replying.Answer.{Answer}
@@ -8,7 +8,6 @@ use Rattle.echo_mailing.specs.declared.letter.Letter.{Letter}
 use Rattle.echo_mailing.specs.declared.mailed.MailWords.{MailWords}
 use Rattle.echo_status.specs.declared.fault.Fault.{Fault}
 use Rattle.echo_store_changing.specs.declared.stop.Stop.{Stop}
-use Rattle.echo_store_changing.specs.declared.stop.Stop.TheVariants.{Met}
 use Rattle.station.specs.Place.{Place}
 use Rattle.law_stations.specs.Commands.{Command}
 use Rattle.law_stations.specs.Kinds.{IsPurge, IsToss}
@@ -63,19 +62,16 @@ pub record GoesOnEnded {Kept : Type 0} (IsCommand : Command → Type 0) (place :
 abbrev pub IsKeptWhereShared : {Kept : Type 0} → (Kept → Place) → List (Seat Kept) → Seat Kept → ℕ → DiskState → Type 0
 IsKeptWhereShared place seats seat i disk = IsShared seats i seat → (base : Base) → (place seat.kept).stands_for base disk.seen → IsKeptOn (place seat.kept) base disk
 
--- Whatever crash cuts a command at a station, and where it ends well, the net goes on by a command event that it may be. Where it met a
--- fault the net goes on as it was, unless the station is shut, as is said of the fault.
-pub record CommandGoesOn {D Kept : Type 0} (state : D → DiskState) (place : Kept → Place) (seats : List (Seat Kept)) (seat : Seat Kept) (i : ℕ) (asked : Asked) (IsShut : Fault → Type 0) (base : Base) (d : Disks) (old whole : D) (result : Result (AnswerOf asked) Stop) : Type 0 where
+-- Whatever crash cuts a command at a station, and where it ends well, the net goes on by a command event that it may be.
+pub record CommandGoesOn {D Kept : Type 0} (state : D → DiskState) (place : Kept → Place) (seats : List (Seat Kept)) (seat : Seat Kept) (i : ℕ) (asked : Asked) (base : Base) (d : Disks) (old whole : D) (result : Result (AnswerOf asked) Stop) : Type 0 where
   pub cut : (begun : D) → (state whole).left_since (state old).moment (state begun).seen → IsAllOnDisk (state begun)
       → GoesOnCut (IsAsked asked base) place seat i d (state old) (state whole) (state begun)
   pub ended : (value : AnswerOf asked) → result ≡ Ok value → IsKeptWhereShared place seats seat i (state whole)
       → GoesOnEnded (IsAsked asked base) place seats seat i d (state old) (state whole)
-  pub met : (fault : Fault) → result ≡ Err (Met fault) → IsKeptWhereShared place seats seat i (state whole)
-      → HasEnded place seats seat i None d d (state old) (state whole) ⊎ IsShut fault
 
 -- so does each command that does on the disk what its event may do
 abbrev pub CommandsGoOn : {D Kept : Type 0} → (D → DiskState) → (Kept → Place) → Type 0
-CommandsGoOn {D} {Kept} state place = (seats : List (Seat Kept)) (seat : Seat Kept) (i : ℕ) (asked : Asked) (IsShut : Fault → Type 0) (d : Disks) (old whole : D) (result : Result (AnswerOf asked) Stop)
+CommandsGoOn {D} {Kept} state place = (seats : List (Seat Kept)) (seat : Seat Kept) (i : ℕ) (asked : Asked) (d : Disks) (old whole : D) (result : Result (AnswerOf asked) Stop)
     → (stands : StandsAt place seats i seat (state old) d)
-    → DoesAsMay (IsAsked asked stands.at.shows.station.base) (place seat.kept) IsShut seat.links i d (state old) (state whole) result
-    → CommandGoesOn state place seats seat i asked IsShut stands.at.shows.station.base d old whole result
+    → DoesAsMay (IsAsked asked stands.at.shows.station.base) (place seat.kept) seat.links i d (state old) (state whole) result
+    → CommandGoesOn state place seats seat i asked stands.at.shows.station.base d old whole result

@@ -24,8 +24,8 @@ pub record GoesOnTossed {Kept : Type 0} (place : Kept → Place) (seats : List (
 
 -- a toss that ended well
 abbrev pub TossesGoOn : {D Kept : Type 0} → (D → DiskState) → (Kept → Place) → Type 0
-TossesGoOn {D} {Kept} state place = (seats : List (Seat Kept)) (seat : Seat Kept) (i : ℕ) (indexes : List ℕ) (left : List Coming) (IsShut : Fault → Type 0) (d : Disks) (old new : D) (result : Result (Option Fault) Stop) (answer : Option Fault)
-    → TossesAsEvent indexes left (place seat.kept) IsShut seat.links i d (state old) (state new) result → result ≡ Ok answer → IsKeptWhereShared place seats seat i (state new)
+TossesGoOn {D} {Kept} state place = (seats : List (Seat Kept)) (seat : Seat Kept) (i : ℕ) (indexes : List ℕ) (left : List Coming) (d : Disks) (old new : D) (result : Result (Option Fault) Stop) (answer : Option Fault)
+    → TossesAsEvent indexes left (place seat.kept) seat.links i d (state old) (state new) result → result ≡ Ok answer → IsKeptWhereShared place seats seat i (state new)
     → GoesOnTossed place seats seat i indexes answer left d (state old) (state new)
 
 -- it is the scan of this moment
