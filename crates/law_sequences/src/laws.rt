@@ -26,7 +26,7 @@ pub fn tosses_go_on<'a, D: Disk, P: OpenStation<'a, D>, O: OpenStation<'a, D>>()
     ensures { TossesGoOn D.state (either P.place O.place) }
 {}
 
-/// The same of a scan: whatever crash cuts it, and where it ends well.
+/// The same of a scan: whatever crash cuts it, where it ends well, and where it leaves the station as it was.
 pub fn scans_go_on<'a, D: Disk, P: OpenStation<'a, D>, O: OpenStation<'a, D>>()
     ensures { ScansGoOn D.state (either P.place O.place) }
 {}
