@@ -4,14 +4,17 @@ use Rattle.std.specs.Prelude.{IfErr, OnOk}
 use Rattle.echo_base.specs.Base.{Base}
 use Rattle.echo_disk.specs.Disk.{Files, Honestly}
 use Rattle.echo_disk.proofs.Moments.{then_nothing, then_run, weaker_run}
-use Rattle.echo_store.specs.Store.{Commits, CommitsNothing, GoesOn, HasStoreCause, IsSameStore, KeepsBeside, LooksOn, MayCommit, StandsBeside, StandsForEither, StoreState}
+use Rattle.echo_store.specs.Store.{Commits, CommitsNothing, GoesOn, HasStoreCause, IsSameStore, KeepsBeside, KeepsOrCommits, LooksOn, MayCommit, StandsBeside, StandsForEither, StoreState}
 use Rattle.echo_store.specs.declared.store_error.StoreError.{StoreError}
 use Rattle.echo_store.proofs.Causes.{cause_after, no_cause}
-use Rattle.echo_store.proofs.Runs.{commits_none, looks_commit, same_twice}
+use Rattle.echo_store.proofs.Runs.{commits_none, goes_on_twice, looks_commit, looks_go_on, same_twice}
+use Rattle.echo_toss.specs.declared.stop.PostStop.{PostStop}
+use Rattle.echo_toss.specs.declared.stop.PostStop.TheVariants as post
+use Rattle.echo_toss.specs.Stores.{LooksWhereRefused}
 use Rattle.echo_store_changing.specs.declared.stop.Stop.{Stop}
 use Rattle.echo_store_changing.specs.declared.stop.Stop.TheVariants.{Met, Store}
-use Rattle.echo_store_changing.specs.Stops.{IsOfStore}
-use Rattle.echo_store_changing.specs.Answered.{CommitsNoneWhereMet, HasCommitted, LooksWhereMet, MayCommitWhereMet, MayMake, StandsForMade, StaysWhereMet}
+use Rattle.echo_store_changing.specs.Stops.{IsOfStore, post_stop}
+use Rattle.echo_store_changing.specs.Answered.{CommitsNoneWhereMet, GoesOnFromEither, HasCommitted, LooksWhereMet, MayCommitWhereMet, MayMake, StandsForMade, StaysWhereMet}
 
 -- what stands beside the store through both
 pub kept_twice : (old mid new : StoreState) → IsSameStore old mid → KeepsBeside old mid → KeepsBeside mid new → KeepsBeside old new
@@ -86,16 +89,22 @@ only_store old new (Ok value) only = tt
 only_store old new (Err (Met fault)) only = absurd only
 only_store old new (Err (Store cause)) only = tt
 
--- what stopped a command committed nothing, or the store failed
-pub met_none : (old new : StoreState) (why : Stop) → CommitsNothing old new → CommitsNoneWhereMet old new why
-met_none old new (Met fault) none = none
-met_none old new (Store cause) none = tt
+-- what stopped a command was a look, or the store failed
+pub met_looking : (old new : StoreState) (why : Stop) → old.is_ready → LooksOn old new → CommitsNoneWhereMet old new why
+met_looking old new (Met fault) ready looks = (looks_commit old new ready looks, looks_go_on old new looks)
+met_looking old new (Store cause) ready looks = tt
+
+-- a posting was refused, or the store failed
+pub met_refused : (old new : StoreState) (why : PostStop) → CommitsNothing old new → LooksWhereRefused old new why → CommitsNoneWhereMet old new (post_stop why)
+met_refused old new (post.Refused refusal) none looks = (none, looks_go_on old new looks)
+met_refused old new (post.Store cause) none looks = tt
 
 -- what stopped a command after a change that was not committed
 pub met_after : {A : Type 0} (old mid new : StoreState) (result : Result A Stop) → CommitsNothing old mid → GoesOn old mid → IfErr result (LooksWhereMet mid new)
     → IfErr result (CommitsNoneWhereMet old new)
 met_after old mid new (Ok value) none on looks = tt
-met_after old mid new (Err (Met fault)) none on looks = commits_none old mid new none on (looks_commit mid new on.ready looks)
+met_after old mid new (Err (Met fault)) none on looks =
+    (commits_none old mid new none on (looks_commit mid new on.ready looks), goes_on_twice old mid new on (looks_go_on mid new looks))
 met_after old mid new (Err (Store cause)) none on looks = tt
 
 -- what may be committed, and then nothing more
@@ -106,19 +115,27 @@ may_then_none old mid new may ready looks = record {
   same = same_twice old mid new may.same looks.same;
 }
 
+-- what was committed is so after a look
+either_then : (old mid new : StoreState) → Honestly mid.disk (KeepsOrCommits old mid) → LooksOn mid new → GoesOnFromEither old new
+either_then old mid new done looks = record {
+  ready = looks.ready;
+  committed = λ honest.
+      ⊎_elim (λ was. inl (λ base h. looks.committed base (was base h))) (λ is. inr (λ base h. looks.committed base (is base h))) (done (looks.quiet.honest honest));
+}
+
 -- the same after one that may have committed what was held before
-pub may_after : {A : Type 0} (old mid new : StoreState) (result : Result A Stop) → MayCommit old mid → mid.is_ready → IfErr result (LooksWhereMet mid new)
-    → IfErr result (MayCommitWhereMet old new)
-may_after old mid new (Ok value) may ready looks = tt
-may_after old mid new (Err (Met fault)) may ready looks = may_then_none old mid new may ready looks
-may_after old mid new (Err (Store cause)) may ready looks = tt
+pub may_after : {A : Type 0} (old mid new : StoreState) (result : Result A Stop) → MayCommit old mid → mid.is_ready → Honestly mid.disk (KeepsOrCommits old mid)
+    → IfErr result (LooksWhereMet mid new) → IfErr result (MayCommitWhereMet old new)
+may_after old mid new (Ok value) may ready done looks = tt
+may_after old mid new (Err (Met fault)) may ready done looks = (may_then_none old mid new may ready looks, either_then old mid new done looks)
+may_after old mid new (Err (Store cause)) may ready done looks = tt
 
 -- where a command met a fault, at most what was held before was committed, whichever command it is
 pub stays_may : {A : Type 0} (held : Bool) (old new : StoreState) (result : Result A Stop) → IfErr result (StaysWhereMet held old new) → IfErr result (MayCommitWhereMet old new)
 stays_may held old new (Ok value) stays = tt
 stays_may held old new (Err (Store cause)) stays = tt
 stays_may true old new (Err (Met fault)) stays = stays
-stays_may false old new (Err (Met fault)) stays = none_may old new stays
+stays_may false old new (Err (Met fault)) stays = (none_may old new stays.0, record { ready = stays.1.ready; committed = λ honest. inl (stays.1.committed honest) })
 
 -- why a later call failed
 pub caused_after : {T : Type 0} (old mid new : StoreState) (before between now : ℕ) (r : Result T StoreError) → before ≤ between

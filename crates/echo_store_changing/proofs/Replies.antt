@@ -13,7 +13,7 @@ use Rattle.echo_links.specs.Links.{LinkFile}
 use Rattle.echo_status.specs.Devices.{Output}
 use Rattle.echo_steps.specs.SystemState.{SystemState}
 use Rattle.echo_store.specs.Store.{LooksOn, StandsBeside, StoreState}
-use Rattle.echo_store.proofs.Runs.{looks_commit, looks_then_commits, same_twice}
+use Rattle.echo_store.proofs.Runs.{goes_on_twice, looks_commit, looks_go_on, looks_then_commits, same_twice}
 use Rattle.echo_store_changing.specs.declared.stop.Stop.{Stop}
 use Rattle.echo_store_changing.specs.declared.stop.Stop.TheVariants.{Met, Store}
 use Rattle.echo_store_changing.specs.Answered.{CommitsNoneWhereMet, MayMake, StandsForMade}
@@ -40,7 +40,8 @@ replies file index answer body base next m words found of_message made = record 
 -- what stopped a command after a look
 pub met_looked : {A : Type 0} (old mid new : StoreState) (result : Result A Stop) → old.is_ready → LooksOn old mid → IfErr result (CommitsNoneWhereMet mid new) → IfErr result (CommitsNoneWhereMet old new)
 met_looked old mid new (Ok value) ready looks none = tt
-met_looked old mid new (Err (Met fault)) ready looks none = looks_then_commits old mid new ready looks none
+met_looked old mid new (Err (Met fault)) ready looks none =
+    (looks_then_commits old mid new ready looks none.0, goes_on_twice old mid new (looks_go_on old mid looks) none.1)
 met_looked old mid new (Err (Store cause)) ready looks none = tt
 
 -- what a crash leaves of a command after a look, as it stood before the look

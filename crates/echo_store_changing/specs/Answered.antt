@@ -6,7 +6,7 @@ use Rattle.echo_disk.specs.Runs.{LeavesOnly}
 use Rattle.echo_status.specs.declared.fault.Fault.{Fault}
 use Rattle.echo_status.specs.Devices.{Output}
 use Rattle.echo_status.specs.Ended.{Answers, IsDone, IsOutOfMemory}
-use Rattle.echo_store.specs.Store.{CommitsNothing, IsSameStore, KeepsBeside, LooksOn, MayCommit, SameBesideStore, StoreState}
+use Rattle.echo_store.specs.Store.{CommitsNothing, GoesOn, IsSameStore, KeepsBeside, KeepsOrCommits, LooksOn, MayCommit, SameBesideStore, StoreState}
 use Rattle.echo_store_changing.specs.declared.stop.Stop.{Stop}
 use Rattle.echo_store_changing.specs.declared.stop.Stop.TheVariants.{Met, Store}
 
@@ -45,14 +45,19 @@ abbrev pub LooksWhereMet : StoreState → StoreState → Stop → Type 0
 LooksWhereMet old new (Met fault) = LooksOn old new
 LooksWhereMet old new (Store cause) = Unit {0}
 
--- where the store did not fail, nothing was committed
+-- the store goes on, and what was committed before is so still, or what was held is
+pub record GoesOnFromEither (old new : StoreState) : Type 0 where
+  pub ready : new.is_ready
+  pub committed : Honestly new.disk (KeepsOrCommits old new)
+
+-- where the store did not fail, nothing was committed, and it goes on
 abbrev pub CommitsNoneWhereMet : StoreState → StoreState → Stop → Type 0
-CommitsNoneWhereMet old new (Met fault) = CommitsNothing old new
+CommitsNoneWhereMet old new (Met fault) = CommitsNothing old new × GoesOn old new
 CommitsNoneWhereMet old new (Store cause) = Unit {0}
 
--- where the store did not fail, at most what it held before was committed
+-- where the store did not fail, at most what it held before was committed, and it goes on
 abbrev pub MayCommitWhereMet : StoreState → StoreState → Stop → Type 0
-MayCommitWhereMet old new (Met fault) = MayCommit old new
+MayCommitWhereMet old new (Met fault) = MayCommit old new × GoesOnFromEither old new
 MayCommitWhereMet old new (Store cause) = Unit {0}
 
 -- the one or the other, by whether the command may commit what was held before

@@ -23,6 +23,7 @@ use Rattle.echo_store_changing.specs.declared.stop.Stop.{Stop}
 use Rattle.echo_store_changing.specs.declared.stop.Stop.TheVariants.{Met}
 use Rattle.echo_toss.specs.PacketsIn.{state_in}
 use Rattle.station.specs.Place.{KeepsElsewhere, Place, StandsOrWasLeft}
+use Rattle.station.specs.Running.{IsNotRun, IsStopped}
 use Rattle.station_scan.specs.Left.{IsLeftOf}
 use Rattle.station_scan.specs.Publishing.{KeepsBut}
 use Rattle.station_scan.specs.Scanning.{AreSentOut, IsPutAs, IsPutIn, IsTouched, MayLeave, ScansIn}
@@ -249,19 +250,25 @@ module _ (stamp : Stamp) (place : Place) (links outbound : List ℕ) (i : ℕ) (
   made-so : (file : LinkFile) → LinksOf at.shows.station.links (Ok file) → (out out_now : Output) (IsTrue : Files → Type 0) (failed : Type 0) (result : Result (Unit {0}) ScanStop) (made : Result (List PacketFile) Stop)
       → ScansOn stamp (state_in file base) out out_now made → IsPutAs place outbound (dotted file.system) IsTrue failed old new base made result → ScansAsEvent stamp place links outbound i d ended base old new result
   made-so file says out out_now IsTrue failed result (Ok files) answers put = put-so file says files out out_now answers IsTrue failed result put
-  made-so file says out out_now IsTrue failed result (Err why) answers put = stopped-so result (Command why) put.0 put.1
+  made-so file says out out_now IsTrue failed result (Err why) answers put = stopped-so result (Command why) put.0 put.1.crash
 
-  ran : (Reads : LinkFile → Type 0) (Shut : Fault → Type 0) (out out_now : Output) (IsTrue : Files → Type 0) (failed : Type 0) (result : Result (Unit {0}) ScanStop) → ReadsLinks Reads links old
-      → ScansIn stamp place outbound IsTrue Reads Shut failed old new out out_now result → ScansAsEvent stamp place links outbound i d ended base old new result
-  ran Reads Shut out out_now IsTrue failed result read (inl run) =
+  -- where it was not run
+  not-run : (IsShut Stops : Fault → Type 0) (out out_now : Output) (result : Result (Unit {0}) ScanStop) (stopped : Result (Unit {0}) Stop) → result ≡ as_scan stopped
+      → IsNotRun place IsShut old new out out_now stopped ⊎ IsStopped place Stops old new out out_now stopped → ScansAsEvent stamp place links outbound i d ended base old new result
+  not-run IsShut Stops out out_now result stopped is (inl shut) =
+      stopped-so result (Command (Met shut.fault)) (is ∙ ap as_scan shut.is) (shut.crash base at.shows.stands)
+  not-run IsShut Stops out out_now result stopped is (inr by) =
+      stopped-so result (Command (Met by.fault)) (is ∙ ap as_scan by.is) (by.stands base at.shows.stands).crash
+
+  ran : (Reads : LinkFile → Type 0) (IsShut Stops : Fault → Type 0) (out out_now : Output) (IsTrue : Files → Type 0) (failed : Type 0) (result : Result (Unit {0}) ScanStop) → ReadsLinks Reads links old
+      → ScansIn stamp place outbound IsTrue Reads IsShut Stops failed old new out out_now result → ScansAsEvent stamp place links outbound i d ended base old new result
+  ran Reads IsShut Stops out out_now IsTrue failed result read (inl run) =
       let on = run.runs base at.shows.stands in
       let of_links = read run.file run.read in
       made-so run.file (subst (λ (b : List ℕ). LinksOf b (Ok run.file)) (some_same (sym of_links.seen ∙ at.shows.of_links)) of_links.judged) out out_now IsTrue failed result on.made on.answer on.put
-  ran Reads Shut out out_now IsTrue failed result read (inr not) =
-      let why = not.not_run.fault in
-      stopped-so result (Command (Met why)) (not.is ∙ ap as_scan not.not_run.is) (not.not_run.crash base at.shows.stands)
+  ran Reads IsShut Stops out out_now IsTrue failed result read (inr not) = not-run IsShut Stops out out_now result not.stopped not.is not.not_run
 
-pub scan-does : (stamp : Stamp) (place : Place) (outbound : List ℕ) (IsTrue : Files → Type 0) (Reads : LinkFile → Type 0) (Shut : Fault → Type 0) (failed : Type 0) (old new : DiskState) (out out_now : Output) (result : Result (Unit {0}) ScanStop)
-    → KeepsBut (IsTouched place.is_own outbound) old new → ScansIn stamp place outbound IsTrue Reads Shut failed old new out out_now result → ScansAsMay stamp place outbound Reads old new result
-scan-does stamp place outbound IsTrue Reads Shut failed old new out out_now result kept scans links i d n ended read away at ends none =
-    ran stamp place links outbound i d n ended old new at kept away ends none Reads Shut out out_now IsTrue failed result read scans
+pub scan-does : (stamp : Stamp) (place : Place) (outbound : List ℕ) (IsTrue : Files → Type 0) (Reads : LinkFile → Type 0) (IsShut Stops : Fault → Type 0) (failed : Type 0) (old new : DiskState) (out out_now : Output) (result : Result (Unit {0}) ScanStop)
+    → KeepsBut (IsTouched place.is_own outbound) old new → ScansIn stamp place outbound IsTrue Reads IsShut Stops failed old new out out_now result → ScansAsMay stamp place outbound Reads old new result
+scan-does stamp place outbound IsTrue Reads IsShut Stops failed old new out out_now result kept scans links i d n ended read away at ends none =
+    ran stamp place links outbound i d n ended old new at kept away ends none Reads IsShut Stops out out_now IsTrue failed result read scans

@@ -58,6 +58,12 @@ pub record IsAfter (IsCommand : Command → Type 0) (place : Place) (links : Lis
   pub at : IsStationAt place links i new after
   pub on_disk : (c : Files) → new.may_leave c → ShowsStation place links i c after
 
+-- The disk shows the link file and the base of the station as before a command. Each crash leaves them so, and the next command
+-- finds them so.
+pub record IsAsBefore (place : Place) (links : List ℕ) (i : ℕ) (d : Disks) (new : DiskState) : Type 0 where
+  pub at : IsStationAt place links i new d
+  pub on_disk : (c : Files) → new.may_leave c → ShowsStation place links i c d
+
 -- What stands elsewhere stays. A crash at any moment leaves what one before it might have left, or each file elsewhere that
 -- was on the disk.
 pub record LeavesElsewhere (place : Place) (old new : DiskState) : Type 0 where
@@ -87,6 +93,12 @@ ReadsLinks Reads links disk = (file : LinkFile) → Reads file → AreLinks disk
 abbrev pub AsMay : {A : Type 0} → (Base → Command → Type 0) → Place → (LinkFile → Type 0) → DiskState → DiskState → Result A Stop → Type 0
 AsMay IsCommand place Reads old new result = (i : ℕ) (d : Disks) (links : List ℕ) → ReadsLinks Reads links old → (at : IsStationAt place links i old d)
     → DoesAsMay (IsCommand at.shows.station.base) place links i d old new result
+
+-- Each station of a net that the disk shows in this place is as before a command that met a fault, unless it is shut, as is said of the
+-- fault.
+abbrev pub StaysWhereMet : {A : Type 0} → Place → (Fault → Type 0) → DiskState → DiskState → Result A Stop → Type 0
+StaysWhereMet place IsShut old new result = (i : ℕ) (d : Disks) (links : List ℕ) → IsStationAt place links i old d → (fault : Fault) → result ≡ Err (Met fault)
+    → IsAsBefore place links i d new ⊎ IsShut fault
 
 -- Of a toss with this answer, which left these files, the packets that it tossed whole are delivered: all where nothing stopped it.
 pub record IsAfterToss (indexes : List ℕ) (left : List Coming) (place : Place) (links : List ℕ) (i : ℕ) (d : Disks) (new : DiskState) (answer : Option Fault) : Type 0 where

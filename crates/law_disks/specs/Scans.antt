@@ -18,7 +18,7 @@ use Rattle.law_stations.specs.Commands.{Scan}
 use Rattle.law_stations.specs.Nets.{bytes_of}
 use Rattle.law_crashes.specs.Disks.{Disks}
 use Rattle.law_crashes.specs.Stopping.{EndsSome, HasNoneBeside, LeadsFar, beside_of}
-use Rattle.law_disks.specs.OnDisks.{IsLinkedOn, IsStationAt, LeavesElsewhere, ReadsLinks, ShowsStation}
+use Rattle.law_disks.specs.OnDisks.{IsAsBefore, IsLinkedOn, IsStationAt, LeavesElsewhere, ReadsLinks, ShowsStation}
 
 -- the packet stands whole at its path
 abbrev pub IsAtPath : List ℕ → Files → PacketFile → Type 0
@@ -78,3 +78,8 @@ abbrev pub ScansAsMay : Stamp → Place → List ℕ → (LinkFile → Type 0) �
 ScansAsMay stamp place outbound Reads old new result = (links : List ℕ) (i : ℕ) (d : Disks) (n : ℕ) (ended : Disks) → ReadsLinks Reads links old → (IsTouched place.is_own outbound links → ⊥)
     → (at : IsStationAt place links i old d) → EndsSome n i d ended → HasNoneBeside i ended.beside
     → ScansAsEvent stamp place links outbound i d ended at.shows.station.base old new result
+
+-- Each station of a net that the disk shows in this place is as before a scan that met a fault, unless it is shut, as is said of the fault.
+abbrev pub StaysWhereScanMet : Place → List ℕ → (Fault → Type 0) → DiskState → DiskState → Result (Unit {0}) ScanStop → Type 0
+StaysWhereScanMet place outbound IsShut old new result = (links : List ℕ) (i : ℕ) (d : Disks) → (IsTouched place.is_own outbound links → ⊥) → IsStationAt place links i old d
+    → (fault : Fault) → result ≡ Err (Command (Met fault)) → IsAsBefore place links i d new ⊎ IsShut fault

@@ -58,6 +58,11 @@ module _ {D Kept : Type 0} (state : D → DiskState) (place : Kept → Place) (s
             elsewhere = elsewhere;
           };
         };
+    none = λ was kept. record {
+      may = refl;
+      stands = record { at = was.at; on_disk = was.on_disk; kept = λ shared. kept shared was.at.shows.station.base was.at.shows.stands };
+      elsewhere = elsewhere;
+    };
   }
 
 pub commands-go-on : {D Kept : Type 0} (state : D → DiskState) (place : Kept → Place) → CommandsGoOn state place

@@ -14,7 +14,7 @@ use Rattle.law_stations.specs.Kinds.{IsPurge, IsToss}
 use Rattle.law_crashes.specs.Disks.{Disks}
 use Rattle.law_disks.specs.Kinds.{IsMail, IsPostAs, IsReplyAs}
 use Rattle.law_disks.specs.Neighbours.{IsKeptOn}
-use Rattle.law_disks.specs.OnDisks.{DoesAsMay}
+use Rattle.law_disks.specs.OnDisks.{DoesAsMay, IsAsBefore}
 use Rattle.law_sequences.specs.Seats.{IsShared, Seat, StandsAt}
 use Rattle.law_sequences.specs.Steps.{HasEnded, IsAllOnDisk, WasCut}
 
@@ -62,12 +62,15 @@ pub record GoesOnEnded {Kept : Type 0} (IsCommand : Command → Type 0) (place :
 abbrev pub IsKeptWhereShared : {Kept : Type 0} → (Kept → Place) → List (Seat Kept) → Seat Kept → ℕ → DiskState → Type 0
 IsKeptWhereShared place seats seat i disk = IsShared seats i seat → (base : Base) → (place seat.kept).stands_for base disk.seen → IsKeptOn (place seat.kept) base disk
 
--- Whatever crash cuts a command at a station, and where it ends well, the net goes on by a command event that it may be.
+-- Whatever crash cuts a command at a station, and where it ends well, the net goes on by a command event that it may be. Where the station
+-- is as before it, as after a fault that it met, the net goes on by none.
 pub record CommandGoesOn {D Kept : Type 0} (state : D → DiskState) (place : Kept → Place) (seats : List (Seat Kept)) (seat : Seat Kept) (i : ℕ) (asked : Asked) (base : Base) (d : Disks) (old whole : D) (result : Result (AnswerOf asked) Stop) : Type 0 where
   pub cut : (begun : D) → (state whole).left_since (state old).moment (state begun).seen → IsAllOnDisk (state begun)
       → GoesOnCut (IsAsked asked base) place seat i d (state old) (state whole) (state begun)
   pub ended : (value : AnswerOf asked) → result ≡ Ok value → IsKeptWhereShared place seats seat i (state whole)
       → GoesOnEnded (IsAsked asked base) place seats seat i d (state old) (state whole)
+  pub none : IsAsBefore (place seat.kept) seat.links i d (state whole) → IsKeptWhereShared place seats seat i (state whole)
+      → HasEnded place seats seat i None d d (state old) (state whole)
 
 -- so does each command that does on the disk what its event may do
 abbrev pub CommandsGoOn : {D Kept : Type 0} → (D → DiskState) → (Kept → Place) → Type 0

@@ -1,5 +1,5 @@
 -- What the contracts of a scan and of a toss that ended well say of the steps of a net.
-use Rattle.std.specs.Prelude.{◌≡◌, ℕ, List, Option, Result, Ok}
+use Rattle.std.specs.Prelude.{◌≡◌, ℕ, List, Option, None, Result, Ok}
 use Rattle.echo_changing.specs.Coming.{Coming}
 use Rattle.echo_disk.specs.Disk.{DiskState}
 use Rattle.echo_status.specs.declared.fault.Fault.{Fault}
@@ -11,11 +11,11 @@ use Rattle.law_stations.specs.Commands.{Command, Scan, whole_of}
 use Rattle.law_stations.specs.Kinds.{IsToss}
 use Rattle.law_stations.specs.Nets.{with_indexes}
 use Rattle.law_crashes.specs.Disks.{Disks}
-use Rattle.law_disks.specs.OnDisks.{TossesAsEvent}
+use Rattle.law_disks.specs.OnDisks.{IsAsBefore, TossesAsEvent}
 use Rattle.law_disks.specs.Scans.{ScansAsEvent}
 use Rattle.law_sequences.specs.Asked.{GoesOnCut, GoesOnEnded, IsKeptWhereShared}
 use Rattle.law_sequences.specs.Seats.{Seat, StandsAt}
-use Rattle.law_sequences.specs.Steps.{IsAllOnDisk}
+use Rattle.law_sequences.specs.Steps.{HasEnded, IsAllOnDisk}
 
 -- the packets that a toss tossed whole are delivered
 pub record GoesOnTossed {Kept : Type 0} (place : Kept → Place) (seats : List (Seat Kept)) (seat : Seat Kept) (i : ℕ) (indexes : List ℕ) (answer : Option Fault) (left : List Coming) (d : Disks) (old new : DiskState) : Type 0 where
@@ -32,11 +32,14 @@ TossesGoOn {D} {Kept} state place = (seats : List (Seat Kept)) (seat : Seat Kept
 abbrev pub IsScan : Stamp → Command → Type 0
 IsScan stamp command = command ≡ Scan stamp
 
--- Whatever crash cuts a scan, and where it ends well, the net goes on by its command event.
+-- Whatever crash cuts a scan, and where it ends well, the net goes on by its command event. Where the station is as before it, as after a
+-- fault that it met, the net goes on by none.
 pub record ScanGoesOn {D Kept : Type 0} (state : D → DiskState) (place : Kept → Place) (seats : List (Seat Kept)) (seat : Seat Kept) (i : ℕ) (stamp : Stamp) (d : Disks) (old whole : D) (result : Result (Unit {0}) ScanStop) : Type 0 where
   pub cut : (begun : D) → (state whole).left_since (state old).moment (state begun).seen → IsAllOnDisk (state begun)
       → GoesOnCut (IsScan stamp) place seat i d (state old) (state whole) (state begun)
   pub ended : result ≡ Ok tt → IsKeptWhereShared place seats seat i (state whole) → GoesOnEnded (IsScan stamp) place seats seat i d (state old) (state whole)
+  pub none : IsAsBefore (place seat.kept) seat.links i d (state whole) → IsKeptWhereShared place seats seat i (state whole)
+      → HasEnded place seats seat i None d d (state old) (state whole)
 
 abbrev pub ScansGoOn : {D Kept : Type 0} → (D → DiskState) → (Kept → Place) → Type 0
 ScansGoOn {D} {Kept} state place = (seats : List (Seat Kept)) (seat : Seat Kept) (i : ℕ) (stamp : Stamp) (d ended : Disks) (old whole : D) (result : Result (Unit {0}) ScanStop)

@@ -15,7 +15,8 @@ pub fn sequences_are_among<'a, D: Disk, P: OpenStation<'a, D>, O: OpenStation<'a
 {}
 
 /// A command that does on the disk what its event may do, as the contracts of law_disks say, is such a step, whatever crash
-/// cuts it. It is one where it ended well, if its base is on the disk wherever others share that.
+/// cuts it. It is one where it ended well, or met a fault and left the station as it was, if its base is on the disk wherever
+/// others share that.
 pub fn commands_go_on<'a, D: Disk, P: OpenStation<'a, D>, O: OpenStation<'a, D>>()
     ensures { CommandsGoOn D.state (either P.place O.place) }
 {}
@@ -25,7 +26,7 @@ pub fn tosses_go_on<'a, D: Disk, P: OpenStation<'a, D>, O: OpenStation<'a, D>>()
     ensures { TossesGoOn D.state (either P.place O.place) }
 {}
 
-/// The same of a scan: whatever crash cuts it, and where it ends well.
+/// The same of a scan: whatever crash cuts it, where it ends well, and where it leaves the station as it was.
 pub fn scans_go_on<'a, D: Disk, P: OpenStation<'a, D>, O: OpenStation<'a, D>>()
     ensures { ScansGoOn D.state (either P.place O.place) }
 {}

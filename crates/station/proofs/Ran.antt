@@ -5,14 +5,15 @@ use Rattle.echo_base.specs.Base.{Base}
 use Rattle.echo_disk.specs.Disk.{DiskState, Files}
 use Rattle.echo_disk.specs.Runs.{ChangesNothing, LeavesOnly}
 use Rattle.echo_disk.proofs.Moments.{then_nothing, then_run, weaker_run}
-use Rattle.echo_store.specs.Store.{HasStoreCause, KeepsBeside, LooksOn, SameBesideStore, StandsForEither, StandsBeside, StoreState}
+use Rattle.echo_store.specs.Store.{HasStoreCause, IsSameStore, KeepsBeside, LooksOn, SameBesideStore, StandsForEither, StandsBeside, StoreState}
+use Rattle.echo_store.proofs.Runs.{same_store}
 use Rattle.echo_store_changing.specs.Answered.{HasCommitted, MayMake, StandsForMade, StaysWhereMet}
 use Rattle.echo_store_changing.specs.Stops.{store_answer}
 use Rattle.echo_store_changing.specs.declared.stop.Stop.{Stop}
 use Rattle.echo_store_changing.specs.declared.stop.Stop.TheVariants.{Met, Store}
 use Rattle.station.specs.Opening.{IsOpenFor}
 use Rattle.station.specs.Place.{IsOfPlace, KeepsElsewhere, Place, SameElsewhere, StandsAlone, StandsOrWasLeft}
-use Rattle.station.specs.Running.{IsKept, IsRunOn, LeavesWhereMet, MadeOrWasLeft}
+use Rattle.station.specs.Running.{IsKept, IsRunOn, MadeOrWasLeft, StandsAsBefore, StandsWhereMet}
 
 same_seen : (a b : DiskState) → ChangesNothing a b → a.seen ≡ b.seen
 same_seen a b quiet =
@@ -63,21 +64,37 @@ module _ (place : Place) (d0 d2 : DiskState) (s0 s1 : StoreState) (begun : IsOpe
   outside_store c same m out named flushed =
       same m (λ own. out (of.own m own)) (of.elsewhere.named m out named) (of.elsewhere.flushed m out flushed) ∙ of.elsewhere.seen m out
 
+  -- what is committed stands, as it is seen and whatever a crash leaves
+  module _ (next : Base) (same : IsSameStore s0 s1) (ready : s1.is_ready) (honest : s1.disk.is_honest) (is : s1.committed next) where
+    to_place : (c : Files) → s1.stands next c → place.stands_for next c
+    to_place c here = (of.stands next c).0 ((same.stands next c).0 here)
+
+    seen_so : place.stands_for next d2.seen
+    seen_so = to_place d2.seen (subst (λ (c : Files). s1.stands next c) (same_seen s1.disk d2 quiet) (s1.shown honest ready next is))
+
+    left_so : (c : Files) → d2.may_leave c → place.stands_for next c
+    left_so c left = to_place c (s1.stays honest ready next is c (quiet.no_more c left))
+
   module _ (base : Base) (stands : place.stands_for base d0.seen) where
-    met_may : {A : Type 0} (held : Bool) (result : Result A Stop) → s1.disk.is_honest → IfErr result (StaysWhereMet held s0 s1) → IfErr result (LeavesWhereMet place d0 d2 base)
+    as_before : (same : IsSameStore s0 s1) (ready : s1.is_ready) → s1.disk.is_honest → s1.committed base → LeavesOnly d0 s1.disk (StandsOrWasLeft place d0 base) → StandsAsBefore place d0 d2 base
+    as_before same ready honest is leaves = record {
+      crash = then_nothing d0 s1.disk d2 (StandsOrWasLeft place d0 base) leaves quiet;
+      seen = seen_so base same ready honest is;
+      stands = left_so base same ready honest is;
+    }
+
+    met_may : {A : Type 0} (held : Bool) (result : Result A Stop) → s1.disk.is_honest → IfErr result (StaysWhereMet held s0 s1) → IfErr result (StandsWhereMet place d0 d2 base)
     met_may held (Ok done) honest may = tt
-    met_may false (Err (Met fault)) honest may =
-        then_nothing d0 s1.disk d2 (StandsOrWasLeft place d0 base)
+    met_may false (Err (Met fault)) honest (none, on) =
+        as_before none.same on.ready honest (on.committed honest base (begun.committed base stands))
         (then_run d0 s0.disk s1.disk (StandsOrWasLeft place d0 base) (StandsBeside s0 base) (begun.run base stands)
-        (may.any_moment honest base (begun.committed base stands))
+        (none.any_moment honest base (begun.committed base stands))
         (λ c s. inl (record { elsewhere = outside_store c s.beside; stands = (of.stands base c).0 s.stands })))
-        quiet
-    met_may true (Err (Met fault)) honest may =
-        then_nothing d0 s1.disk d2 (StandsOrWasLeft place d0 base)
+    met_may true (Err (Met fault)) honest (may, on) =
+        as_before may.same on.ready honest (⊎_elim (λ was. was base (begun.committed base stands)) (λ is. is base (begun.keeps base stands)) (on.committed honest))
         (then_run d0 s0.disk s1.disk (StandsOrWasLeft place d0 base) (StandsForEither s0 base base) (begun.run base stands)
         (may.any_moment honest base base (begun.committed base stands) (begun.keeps base stands))
         (λ c s. inl (record { elsewhere = outside_store c s.beside; stands = (of.stands base c).0 (⊎_elim (λ was. was) (λ is. is) s.stands) })))
-        quiet
     met_may held (Err (Store cause)) honest may = tt
 
     made_run : (May : Base → Base → Type 0) → s1.disk.is_honest → MayMake May s0 s1 → LeavesOnly d0 d2 (MadeOrWasLeft place d0 (May base) base)
@@ -95,14 +112,12 @@ module _ (place : Place) (d0 d2 : DiskState) (s0 s1 : StoreState) (begun : IsOpe
 
     kept_run : {A : Type 0} (Makes : Base → Type 0) (May : Base → Base → Type 0) (result : Result A Stop) → s1.disk.is_honest → OnOk result (HasCommitted Makes s1) → OnOk result s1.is_ready → MayMake May s0 s1
         → OnOk result (IsKept place Makes d2)
-    kept_run Makes May (Ok done) honest committed ready crash =
-        let to_place : (c : Files) → s1.stands committed.next c → place.stands_for committed.next c = λ c is. (of.stands committed.next c).0 ((crash.same.stands committed.next c).0 is) in
-        record {
-          next = committed.next;
-          made = committed.made;
-          seen = to_place d2.seen (subst (λ (c : Files). s1.stands committed.next c) (same_seen s1.disk d2 quiet) (s1.shown honest ready committed.next committed.committed));
-          stands = λ c left. to_place c (s1.stays honest ready committed.next committed.committed c (quiet.no_more c left));
-        }
+    kept_run Makes May (Ok done) honest committed ready crash = record {
+      next = committed.next;
+      made = committed.made;
+      seen = seen_so committed.next crash.same ready honest committed.committed;
+      stands = left_so committed.next crash.same ready honest committed.committed;
+    }
     kept_run Makes May (Err why) honest committed ready crash = tt
 
     pub run_on : {A : Type 0} (IsAnswer : Type 0) (Makes : Base → Type 0) (May : Base → Base → Type 0) (held : Bool) (result : Result A Stop) (before now : ℕ) → s1.disk.is_honest → (s0.keeps base → IsAnswer)
@@ -117,3 +132,9 @@ module _ (place : Place) (d0 d2 : DiskState) (s0 s1 : StoreState) (begun : IsOpe
           crash = made_run May honest crash;
           whole = λ is. cause.damaged honest (ap (λ r. store_answer r) is) base keeps;
         }
+
+-- a command that the program stopped on the open station
+pub stopped_on : (place : Place) (d0 d2 : DiskState) (s : StoreState) → IsOpenFor place d0 s → IsOfPlace place d0 s → ChangesNothing s.disk d2 → s.is_ready → s.disk.is_honest
+    → (base : Base) → place.stands_for base d0.seen → StandsAsBefore place d0 d2 base
+stopped_on place d0 d2 s begun of quiet ready honest base stands =
+    as_before place d0 d2 s s begun of quiet base stands (same_store s) ready honest (begun.committed base stands) (begun.run base stands)

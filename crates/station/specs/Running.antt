@@ -27,16 +27,22 @@ pub record StandsForMadeAlone (place : Place) (old : DiskState) (IsMade : Base �
 abbrev pub MadeOrWasLeft : Place → DiskState → (Base → Type 0) → Base → Files → Type 0
 MadeOrWasLeft place old IsMade base c = StandsForMadeAlone place old IsMade base c ⊎ old.may_leave c
 
--- where the store did not fail, a crash meanwhile leaves the base from before
-abbrev pub LeavesWhereMet : Place → DiskState → DiskState → Base → Stop → Type 0
-LeavesWhereMet place old new base (Met fault) = LeavesOnly old new (StandsOrWasLeft place old base)
-LeavesWhereMet place old new base (Store cause) = Unit {0}
+-- the files stand for the base from before, as they are seen and whatever a crash leaves, meanwhile and then
+pub record StandsAsBefore (place : Place) (old new : DiskState) (base : Base) : Type 0 where
+  pub crash : LeavesOnly old new (StandsOrWasLeft place old base)
+  pub seen : place.stands_for base new.seen
+  pub stands : (c : Files) → new.may_leave c → place.stands_for base c
+
+-- where the store did not fail, the files stand for the base from before
+abbrev pub StandsWhereMet : Place → DiskState → DiskState → Base → Stop → Type 0
+StandsWhereMet place old new base (Met fault) = StandsAsBefore place old new base
+StandsWhereMet place old new base (Store cause) = Unit {0}
 
 -- what is so of a run on a station whose files stood for this base
 pub record IsRunOn {A : Type 0} (IsAnswer : Type 0) (Makes May : Base → Type 0) (place : Place) (old new : DiskState) (base : Base) (result : Result A Stop) : Type 0 where
   pub answer : IsAnswer
   pub kept : OnOk result (IsKept place Makes new)
-  pub met : IfErr result (LeavesWhereMet place old new base)
+  pub met : IfErr result (StandsWhereMet place old new base)
   pub crash : LeavesOnly old new (MadeOrWasLeft place old May base)
   pub whole : IsErrOf result (Store Damaged) → ⊥
 
@@ -55,7 +61,17 @@ pub record IsNotRun {A : Type 0} (place : Place) (Shut : Fault → Type 0) (old 
   pub printed : new_out ≡ old_out
   pub crash : (base : Base) → place.stands_for base old.seen → LeavesOnly old new (StandsOrWasLeft place old base)
 
--- What comes of a command on a station. It is not run where that is shut, as is said of the fault.
-abbrev pub RunsIn : {A : Type 0} → (LinkFile → Base → Type 0) → (LinkFile → Base → Base → Type 0) → (LinkFile → Base → Base → Type 0) → Place → (LinkFile → Type 0) → (Fault → Type 0) → Type 0 → DiskState → DiskState → Output → Output → Result A Stop → Type 0
-RunsIn IsAnswer Makes May place Reads Shut failed old new old_out new_out result =
-    IsRun IsAnswer Makes May place Reads failed old new result ⊎ IsNotRun place Shut old new old_out new_out result
+-- The program stopped the command on the open station, for this reason: nothing is printed, and the base is as before.
+pub record IsStopped {A : Type 0} (place : Place) (Stops : Fault → Type 0) (old new : DiskState) (old_out new_out : Output) (result : Result A Stop) : Type 0 where
+  pub fault : Fault
+  pub is : result ≡ Err (Met fault)
+  pub cause : Stops fault
+  pub printed : new_out ≡ old_out
+  pub stands : (base : Base) → place.stands_for base old.seen → StandsAsBefore place old new base
+
+-- What comes of a command on a station. It is not run where that is shut, as is said of the fault, or where the program stops it.
+abbrev pub RunsIn : {A : Type 0} → (LinkFile → Base → Type 0) → (LinkFile → Base → Base → Type 0) → (LinkFile → Base → Base → Type 0) → Place → (LinkFile → Type 0) → (Fault → Type 0) → (Fault → Type 0) → Type 0
+    → DiskState → DiskState → Output → Output → Result A Stop → Type 0
+RunsIn IsAnswer Makes May place Reads Shut Stops failed old new old_out new_out result =
+    IsRun IsAnswer Makes May place Reads failed old new result
+    ⊎ (IsNotRun place Shut old new old_out new_out result ⊎ IsStopped place Stops old new old_out new_out result)

@@ -52,7 +52,8 @@ pub fn run_command<
         (C.may command.old)
         (P.place station)
         (P.reads station (D.state disk))
-        (λ fault. P.is_shut station failed (D.state disk) (D.state result.disk) fault ⊎ Q.stops before.new fault)
+        (P.is_shut station failed (D.state disk) (D.state result.disk))
+        (Q.stops before.new)
         failed (D.state disk) (D.state result.disk)
         (output_of W.contents W.failures W.holds out.old) (output_of W.contents W.failures W.holds out.new) result.done) }
     ensures elsewhere { KeepsElsewhere (P.place station) (D.state disk) (D.state result.disk) }

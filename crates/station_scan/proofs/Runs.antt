@@ -4,7 +4,7 @@ use Rattle.std.specs.Prelude.{OnOk, get_or}
 use Rattle.echo_base.specs.Base.{Base}
 use Rattle.echo_disk.specs.Disk.{DiskState, Files}
 use Rattle.echo_disk.specs.Runs.{ChangesNothing, LeavesOnly, OneStepOn}
-use Rattle.echo_disk.proofs.Moments.{left_now, then_nothing, then_run, weaker_run}
+use Rattle.echo_disk.proofs.Moments.{left_now, nothing_twice, then_nothing, then_run, weaker_run}
 use Rattle.echo_links.specs.Links.{LinkFile}
 use Rattle.echo_placing.specs.declared.finishing.Left.{Left}
 use Rattle.echo_station_files.specs.Paths.{dotted, path_beside}
@@ -15,6 +15,7 @@ use Rattle.echo_store.specs.Store.{StoreState, all_scanned}
 use Rattle.echo_store_changing.specs.declared.stop.Stop.{Stop}
 use Rattle.station.specs.Opening.{IsOpenFor}
 use Rattle.station.specs.Place.{IsOfPlace, KeepsElsewhere, Place, StandsAlone, StandsOrWasLeft}
+use Rattle.station.proofs.Ran.{stopped_on}
 use Rattle.station_scan.specs.Left.{AreAllLeft, IsLeftOf}
 use Rattle.station_scan.specs.Publishing.{IsOnDisk, KeepsBut, KeepsStoreBut}
 use Rattle.station_scan.specs.Scanning.{AreSentOut, CommitsScan, IsPutAs, IsPutIn, IsPutOn, IsScanOn, IsSentOn, IsTouched, MayLeave, PreparesScan, ScansOnStore, SendsOut}
@@ -146,19 +147,19 @@ module _ (place : Place) (d0 d2 : DiskState) (s1 s2 : StoreState) (begun : IsOpe
           why = put_wider some failed result wider sent.why;
         }
 
-    put_as : (IsTrue : Files → Type 0) (some failed : Type 0) (made : Result (List PacketFile) Stop) (result : Result (Unit {0}) ScanStop) → (some → failed)
+    put_as : (IsTrue : Files → Type 0) (some failed : Type 0) (made : Result (List PacketFile) Stop) (result : Result (Unit {0}) ScanStop) → (some → failed) → s1.is_ready → s1.disk.is_honest
         → IsPutOn Own outbound own IsTrue some s1 s2 base made result → IsPutAs place outbound own IsTrue failed d0 d2 base made result
-    put_as IsTrue some failed (Ok files) result wider sent = put_in files IsTrue some failed result wider sent
-    put_as IsTrue some failed (Err why) result wider sent =
-        (sent.0, then_nothing d0 s2.disk d2 (StandsOrWasLeft place d0 base) (then_nothing d0 s1.disk s2.disk (StandsOrWasLeft place d0 base) (begun.run base stands) sent.1) quiet)
+    put_as IsTrue some failed (Ok files) result wider ready honest sent = put_in files IsTrue some failed result wider sent
+    put_as IsTrue some failed (Err why) result wider ready honest sent =
+        (sent.0, stopped_on place d0 d2 s1 begun of (nothing_twice s1.disk s2.disk d2 sent.1 quiet) ready honest base stands)
 
   -- what is so of the scan
   pub scanned_on : (stamp : Stamp) (IsTrue : Files → Type 0) (some failed : Type 0) (out now : Output) (file : LinkFile) (base : Base) (result : Result (Unit {0}) ScanStop) → place.stands_for base d0.seen → (some → failed)
-      → ScansOnStore stamp Own outbound IsTrue some s1 s2 out now file base result → IsScanOn stamp place outbound IsTrue failed d0 d2 out now file base result
-  scanned_on stamp IsTrue some failed out now file base result stands wider scans = record {
+      → s1.is_ready → s1.disk.is_honest → ScansOnStore stamp Own outbound IsTrue some s1 s2 out now file base result → IsScanOn stamp place outbound IsTrue failed d0 d2 out now file base result
+  scanned_on stamp IsTrue some failed out now file base result stands wider ready honest scans = record {
     made = scans.made;
     answer = scans.answer;
-    put = put_as (dotted file.system) base stands IsTrue some failed scans.made result wider scans.put;
+    put = put_as (dotted file.system) base stands IsTrue some failed scans.made result wider ready honest scans.put;
     whole = scans.whole;
   }
 

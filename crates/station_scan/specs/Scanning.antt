@@ -19,7 +19,7 @@ use Rattle.echo_store_changing.specs.declared.stop.Stop.{Stop}
 use Rattle.echo_store_changing.specs.declared.stop.Stop.TheVariants.{Store}
 use Rattle.echo_toss.specs.PacketsIn.{state_in}
 use Rattle.station.specs.Place.{Place, StandsOrWasLeft}
-use Rattle.station.specs.Running.{IsNotRun}
+use Rattle.station.specs.Running.{IsNotRun, IsStopped, StandsAsBefore}
 use Rattle.station_scan.specs.Left.{AreAllLeft, IsEnded, IsEndedAt, IsLeftOf, IsOfName}
 use Rattle.station_scan.specs.Publishing.{IsOnDisk}
 use Rattle.station_scan.specs.Sending.{HasBytes, IsAtItsPath, IsBesidePacket, IsFreeAt, IsGoneBeside, StandsWhole}
@@ -112,10 +112,10 @@ pub record IsPutIn (place : Place) (outbound own : List ℕ) (IsTrue : Files →
   pub crash : LeavesOnly old new (MayLeave place outbound own old base found files opened)
   pub why : IfErr result (IsOfPlacing failed)
 
--- What the scan answered is put in place; where it stopped that is answered, and a crash meanwhile leaves the base from before.
+-- What the scan answered is put in place; where it stopped that is answered, and the files stand for the base from before.
 abbrev pub IsPutAs : Place → List ℕ → List ℕ → (Files → Type 0) → Type 0 → DiskState → DiskState → Base → Result (List PacketFile) Stop → Result (Unit {0}) ScanStop → Type 0
 IsPutAs place outbound own IsTrue failed old new base (Ok files) result = IsPutIn place outbound own IsTrue failed old new base files result
-IsPutAs place outbound own IsTrue failed old new base (Err why) result = (result ≡ Err (Command why)) × LeavesOnly old new (StandsOrWasLeft place old base)
+IsPutAs place outbound own IsTrue failed old new base (Err why) result = (result ≡ Err (Command why)) × StandsAsBefore place old new base
 
 -- what is so of a scan of a station whose files stood for this base
 pub record IsScanOn (stamp : Stamp) (place : Place) (outbound : List ℕ) (IsTrue : Files → Type 0) (failed : Type 0) (old new : DiskState) (old_out new_out : Output) (file : LinkFile) (base : Base) (result : Result (Unit {0}) ScanStop) : Type 0 where
@@ -131,14 +131,14 @@ pub record IsScanRun (stamp : Stamp) (place : Place) (outbound : List ℕ) (IsTr
   pub runs : (base : Base) → place.stands_for base old.seen → IsScanOn stamp place outbound IsTrue failed old new old_out new_out file base result
   pub cause : IsErrOf result (Command (Store Device)) → failed
 
--- the scan was not run
-pub record IsScanNotRun (place : Place) (Shut : Fault → Type 0) (old new : DiskState) (old_out new_out : Output) (result : Result (Unit {0}) ScanStop) : Type 0 where
+-- the scan was not run: the station is shut, or the program stopped it
+pub record IsScanNotRun (place : Place) (Shut Stops : Fault → Type 0) (old new : DiskState) (old_out new_out : Output) (result : Result (Unit {0}) ScanStop) : Type 0 where
   pub stopped : Result (Unit {0}) Stop
   pub is : result ≡ as_scan stopped
-  pub not_run : IsNotRun place Shut old new old_out new_out stopped
+  pub not_run : IsNotRun place Shut old new old_out new_out stopped ⊎ IsStopped place Stops old new old_out new_out stopped
 
 -- What comes of a scan of a station into this folder of packets, of which it was listed so what earlier scans left. It is not run where the
--- station is shut, as is said of the fault.
-abbrev pub ScansIn : Stamp → Place → List ℕ → (Files → Type 0) → (LinkFile → Type 0) → (Fault → Type 0) → Type 0 → DiskState → DiskState → Output → Output → Result (Unit {0}) ScanStop → Type 0
-ScansIn stamp place outbound IsTrue Reads Shut failed old new old_out new_out result =
-    IsScanRun stamp place outbound IsTrue Reads failed old new old_out new_out result ⊎ IsScanNotRun place Shut old new old_out new_out result
+-- station is shut, as is said of the fault, or where the program stops it.
+abbrev pub ScansIn : Stamp → Place → List ℕ → (Files → Type 0) → (LinkFile → Type 0) → (Fault → Type 0) → (Fault → Type 0) → Type 0 → DiskState → DiskState → Output → Output → Result (Unit {0}) ScanStop → Type 0
+ScansIn stamp place outbound IsTrue Reads Shut Stops failed old new old_out new_out result =
+    IsScanRun stamp place outbound IsTrue Reads failed old new old_out new_out result ⊎ IsScanNotRun place Shut Stops old new old_out new_out result

@@ -1,10 +1,10 @@
 use Rattle.std.proofs.Common.{ℕ}
 use Rattle.std.proofs.lemmas.Result.{err_from_is_err_and}
-use Rattle.echo_store.proofs.Runs.{looks_commit, no_look}
+use Rattle.echo_store.proofs.Runs.{looks_commit, looks_go_on, no_look}
 use Rattle.echo_toss.specs.PacketsIn.{state_in}
 use Rattle.echo_store_changing.specs.FreeSerial.{PostsAs}
 use Rattle.echo_store_changing.specs.Stops.{store_answer}
-use Rattle.echo_store_changing.proofs.Commits.{caused_after, committed_where, makes_none, makes_then, met_after, met_none, ready_where}
+use Rattle.echo_store_changing.proofs.Commits.{caused_after, committed_where, makes_none, makes_then, met_after, met_refused, ready_where}
 use Rattle.echo_store_changing.proofs.FreePostings.{as_memory, as_posts, as_printed, as_stopped}
 use Rattle.echo_store_changing.proofs.Postings.{post_caused}
 use Rattle.echo_store_changing.proofs.posting.post_as.Goals as goal
@@ -17,7 +17,7 @@ returns-in_err-draft-clause-answers g c =
 pub returns-in_err-draft-clause-met : goal.returns-in_err-draft-clause-met
 returns-in_err-draft-clause-met g c =
     let p = err_from_is_err_and c.from_residual.result c.from_residual.ensures.1 in
-    rw (p.1, p.2) (looks_commit _ _ c.requires (no_look _ c.requires))
+    rw (p.1, p.2) (looks_commit _ _ c.requires (no_look _ c.requires), looks_go_on _ _ (no_look _ c.requires))
 
 pub returns-in_err-draft-clause-crash : goal.returns-in_err-draft-clause-crash
 returns-in_err-draft-clause-crash g c = makes_none _ _ _ (looks_commit _ _ c.requires (no_look _ c.requires))
@@ -31,7 +31,7 @@ returns-in_err-serial-clause-answers g c =
 pub returns-in_err-serial-clause-met : goal.returns-in_err-serial-clause-met
 returns-in_err-serial-clause-met g c =
     let p = err_from_is_err_and c.from_residual-in_err-serial.result c.from_residual-in_err-serial.ensures.1 in
-    rw (p.1, p.2) (met_none _ _ _ c.file_as.ensures.commits)
+    rw (p.1, p.2) (met_refused _ _ c.in_err-serial.field-0.0 c.file_as.ensures.commits c.in_err-serial.ensures.looks)
 
 pub returns-in_err-serial-clause-crash : goal.returns-in_err-serial-clause-crash
 returns-in_err-serial-clause-crash g c = makes_none _ _ _ c.file_as.ensures.commits

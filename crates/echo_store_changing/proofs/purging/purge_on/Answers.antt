@@ -22,7 +22,7 @@ returns-in_err-push_purged-clause-answers g c =
 pub returns-in_err-push_purged-clause-met : goal.returns-in_err-push_purged-clause-met
 returns-in_err-push_purged-clause-met g c =
     let p = err_from_is_err_and c.from_residual-in_err-push_purged.result c.from_residual-in_err-push_purged.ensures.1 in
-    rw (p.1, p.2) c.purge.ensures.either
+    rw (p.1, p.2) (c.purge.ensures.either, record { ready = c.in_ok-count.ensures.ready; committed = c.in_ok-count.ensures.committed })
 
 pub returns-in_err-push_purged-clause-crash : goal.returns-in_err-push_purged-clause-crash
 returns-in_err-push_purged-clause-crash g c = purge_may _ _ c.purge.ensures.either
@@ -41,7 +41,7 @@ pub returns-clause-ready : goal.returns-clause-ready
 returns-clause-ready g c = ready_where _ _ c.leave.result c.leave.ensures.committed
 
 pub returns-clause-met : goal.returns-clause-met
-returns-clause-met g c = may_after _ _ _ c.leave.result c.purge.ensures.either c.in_ok-count.ensures.ready c.leave.ensures.met
+returns-clause-met g c = may_after _ _ _ c.leave.result c.purge.ensures.either c.in_ok-count.ensures.ready c.in_ok-count.ensures.committed c.leave.ensures.met
 
 pub returns-clause-crash : goal.returns-clause-crash
 returns-clause-crash g c = purge_then _ _ _ c.purge.ensures.either c.in_ok-count.ensures.purged c.in_ok-count.ensures.committed c.leave.ensures.either

@@ -2,7 +2,7 @@ use Rattle.std.proofs.Common.{refl, ◌∙◌}
 use Rattle.std.proofs.lemmas.Result.{err_from_is_err_and}
 use Rattle.echo_store.proofs.Runs.{looks_commit}
 use Rattle.echo_toss.specs.PacketsIn.{state_in}
-use Rattle.echo_store_changing.proofs.Commits.{makes_none, met_none}
+use Rattle.echo_store_changing.proofs.Commits.{makes_none, met_looking}
 use Rattle.echo_store_changing.proofs.Replies.{met_looked, reply_crash, reply_stopped}
 use Rattle.echo_store_changing.proofs.replying.reply_on.Goals as goal
 
@@ -14,7 +14,7 @@ returns-in_err-found-clause-answers g c =
 pub returns-in_err-found-clause-met : goal.returns-in_err-found-clause-met
 returns-in_err-found-clause-met g c =
     let p = err_from_is_err_and c.from_residual.result c.from_residual.ensures.1 in
-    rw (p.1, p.2) (met_none _ _ _ (looks_commit _ _ c.requires c.found_on.ensures.looks))
+    rw (p.1, p.2) (met_looking _ _ _ c.requires c.found_on.ensures.looks)
 
 pub returns-in_err-found-clause-crash : goal.returns-in_err-found-clause-crash
 returns-in_err-found-clause-crash g c = makes_none _ _ _ (looks_commit _ _ c.requires c.found_on.ensures.looks)

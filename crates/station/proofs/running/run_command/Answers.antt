@@ -1,9 +1,7 @@
 use Rattle.std.proofs.Common.{◌≡◌, ◌≤◌, ap, arith, inl, inr, refl}
-use Rattle.echo_disk.proofs.Moments.{then_nothing}
 use Rattle.echo_station_files.proofs.Failures.{failed_wider}
 use Rattle.echo_store_changing.specs.Stops.{store_answer}
-use Rattle.station.specs.Place.{StandsOrWasLeft}
-use Rattle.station.proofs.Ran.{elsewhere_after, looks_of, looks_open, run_on}
+use Rattle.station.proofs.Ran.{elsewhere_after, looks_of, looks_open, run_on, stopped_on}
 use Rattle.station.proofs.running.run_command.Goals as goal
 
 pub returns-in-Ok-prepare-clause-runs : goal.returns-in-Ok-prepare-clause-runs
@@ -60,10 +58,15 @@ returns-in-Ok-clause-runs g c = λ honest.
     let looks = c.prepare.ensures.looks in
     let honest0 = looks.quiet.honest (quiet.honest honest) in
     let begun = looks_open place d0 s0 s1 looks (c.in-Ok.ensures.opened.begun honest0) in
-    inr (record {
+    inr (inr (record {
       fault = c.in-Err-prepare.fault;
       is = refl;
-      cause = inr c.in-Err-prepare.ensures.stopped;
+      cause = c.in-Err-prepare.ensures.stopped;
       printed = refl;
-      crash = λ base stands. then_nothing d0 s1.disk d2 (StandsOrWasLeft place d0 base) (begun.run base stands) quiet;
-    })
+      stands = stopped_on place d0 d2 s1 begun (looks_of place d0 s0 s1 looks c.in-Ok.ensures.opened.of_place) quiet looks.ready (quiet.honest honest);
+    }))
+
+pub returns-clause-runs : goal.returns-clause-runs
+returns-clause-runs g c = λ honest.
+    let shut = c.in-Err.ensures.stopped in
+    inr (inl (record { fault = c.in-Err.stopped.fault; is = refl; cause = shut.cause honest; printed = refl; crash = shut.crash honest }))

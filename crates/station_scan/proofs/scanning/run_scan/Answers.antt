@@ -1,12 +1,10 @@
 use Rattle.std.proofs.Common.{◌≡◌, ◌≤◌, ◌⊎◌, Err, arith, inl, inr, refl}
 use Rattle.echo_device.specs.Device.{Failed}
-use Rattle.echo_disk.proofs.Moments.{then_nothing}
 use Rattle.echo_station_files.proofs.Failures.{failed_wider}
 use Rattle.echo_store_changing.specs.declared.stop.Stop.TheVariants.{Met}
 use Rattle.echo_status.specs.Devices.{output_of}
 use Rattle.station.specs.Opening.{HaveFailed}
-use Rattle.station.specs.Place.{StandsOrWasLeft}
-use Rattle.station.proofs.Ran.{looks_of, looks_open}
+use Rattle.station.proofs.Ran.{looks_of, looks_open, stopped_on}
 use Rattle.station_scan.proofs.Runs.{scan_keeps, scanned_on}
 use Rattle.station_scan.proofs.Stops.{failed_too}
 use Rattle.station_scan.proofs.scanning.run_scan.Goals as goal
@@ -51,7 +49,7 @@ returns-in-Ok-prepare-clause-runs g c = λ honest.
       runs = λ base stands.
           scanned_on place d0 d2 s1 s2 begun of quiet (g.P.Paths.OwnPaths.is_own c.paths-paths.result) (λ m o. (own m).0 o) (λ m o. (own m).1 o) c.args.scan.now.outbound.now c.args.scan.now.stamp
           (g.G.Listing.is_true c.scan_kept-store.new.scan.listing) (Failed f2 f3 ⊎ listed) (HaveFailed f0 f4 l0 l1 k0 k1 ⊎ listed) out now c.in-Ok.opened.links base c.scan_kept-store.result.done stands (failed_too (Failed f2 f3) (Failed f0 f4) (Failed l0 l1 ⊎ Failed k0 k1) listed wider)
-          (did.scans honest2 base (begun.keeps base stands) (begun.committed base stands));
+          looked.looks.ready honest1 (did.scans honest2 base (begun.keeps base stands) (begun.committed base stands));
       cause = λ is. inl (inl (wider (did.device is)));
     })
 
@@ -79,13 +77,13 @@ returns-in-Ok-clause-runs g c = λ honest.
     inr (record {
       stopped = Err (Met c.in-Err-prepare.fault);
       is = refl;
-      not_run = record {
+      not_run = inr (record {
         fault = c.in-Err-prepare.fault;
         is = refl;
-        cause = inr c.in-Err-prepare.ensures.stopped;
+        cause = c.in-Err-prepare.ensures.stopped;
         printed = refl;
-        crash = λ base stands. then_nothing d0 s1.disk d2 (StandsOrWasLeft place d0 base) (begun.run base stands) quiet;
-      };
+        stands = stopped_on place d0 d2 s1 begun (looks_of place d0 s0 s1 looks c.in-Ok.ensures.opened.of_place) quiet looks.ready (quiet.honest honest);
+      });
     })
 
 pub returns-clause-runs : goal.returns-clause-runs
@@ -94,5 +92,5 @@ returns-clause-runs g c = λ honest.
     inr (record {
       stopped = Err (Met c.in-Err.stopped.fault);
       is = refl;
-      not_run = record { fault = c.in-Err.stopped.fault; is = refl; cause = inl (shut.cause honest); printed = refl; crash = shut.crash honest };
+      not_run = inl (record { fault = c.in-Err.stopped.fault; is = refl; cause = shut.cause honest; printed = refl; crash = shut.crash honest });
     })
