@@ -1,6 +1,7 @@
 //! `scan`, as its words ask for it, on the files of the system. What it reads, and what it puts in place, is settled by what
 //! it is over any disk.
 ghost use Rattle.echo_disk.specs.Disk.{Honestly};
+ghost use Rattle.echo_folder.specs.Opening.{AreAlone};
 ghost use Rattle.station.specs.Opening.{AreFree};
 
 use crate::place::{Place, Station, find_base};
@@ -160,18 +161,36 @@ fn scan_folder<W: Sink, E: Sink>(
         links: LinkLock::new(at.rt),
         base: LinkLock::new(at.rt),
     };
-    let mut opened = Opened::new(at.rt, at.place.base, None).apart_from(scan.folder);
     let files = ScanFiles::new(at.rt, at.path, scan.slashed, progress);
+    let disk = RealDisk::new(&files, Unknown);
+    let done = scan_opened(scan, progress, disk, &mut locks, station, out);
+    report_scanned(scan, &files, done, errors)
+}
+
+// Scans a station with a base folder.
+fn scan_opened<'a, D: Disk + Drop, L: FileLock, K: FileLock, W: Sink>(
+    scan: Scan<'a>,
+    progress: &'a Progress<'a>,
+    disk: D,
+    locks: &mut Locks<L, K>,
+    station: FolderStation<'a, SipDigest>,
+    out: &mut W,
+) -> Result<(), ScanStop<'a>>
+    requires free { AreFree (L.held locks.old.links) (K.held locks.old.base) }
+    requires alone { Honestly (D.state disk) (AreAlone station.at.path.now (D.state disk)) }
+{
+    let at = scan.at;
+    let mut opened = Opened::new(at.rt, at.place.base, None).apart_from(scan.folder);
     let scanned = scan_station(
         at.rt.alloc(),
-        RealDisk::new(&files, Unknown),
-        &mut locks,
+        disk,
+        locks,
         station,
         &mut opened,
         &mut wanted(scan, progress),
         out,
     );
-    report_scanned(scan, &files, scanned.done, errors)
+    scanned.done
 }
 
 // What is asked of a scan.
