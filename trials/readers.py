@@ -1,15 +1,12 @@
-"""Runs `export --jam` and `export --msg` beside each other and beside a JAM program, and after power cuts.
+"""Runs `export --jam` and `export --msg` beside each other, and after power cuts.
 
-The JAM program posts as JAM-001 says, under `fcntl` on the first byte of the headers; no message of its may go, none of the
-base may come twice, and the counts have to be right. What a power cut leaves of a JAM base is begun again or gone on with,
-what stopped runs left beside files goes, links are not followed, and new files have the mode that the umask says. Words: how
-many messages the JAM program posts, and in how many runs the base's messages are exported meanwhile.
+No message of the base may come twice, and the counts have to be right. What a power cut leaves of a JAM base is begun again or gone on with,
+what stopped runs left beside files goes, links are not followed, and new files have the mode that the umask says.
 """
 import fcntl
 import os
 import random
 import shutil
-import struct
 import subprocess
 import sys
 import tempfile
@@ -18,7 +15,6 @@ import time
 import jam
 import stored
 
-TOP = os.path.dirname(os.path.dirname(os.path.abspath(__file__)))
 FIXED = 1024
 
 
@@ -118,86 +114,6 @@ def try_two_msg(place, base, messages):
     contents = stored.files_of(folder)
     for message, content in zip(messages, contents, strict=True):
         stored.check(message, content)
-
-
-def post(path, number):
-    """Posts as a JAM program does."""
-    with open(path + ".jhr", "r+b") as headers:
-        fcntl.lockf(headers, fcntl.LOCK_EX, 1, 0)
-        changes, active = struct.unpack_from("<2I", os.pread(headers.fileno(), FIXED, 0), 8)
-        to, subject, text = b"All", b"Posted %d" % number, b"Text %d\r" % number
-        fields = b"".join(struct.pack("<2HI", kind, 0, len(content)) + content
-                          for kind, content in ((2, b"Ann"), (3, to), (6, subject)))
-        with open(path + ".jdt", "ab") as texts, open(path + ".jdx", "ab") as index:
-            place, at = headers.seek(0, os.SEEK_END), texts.seek(0, os.SEEK_END)
-            header = struct.pack("<4s2H17I", b"JAM\0", 1, 0, len(fields), 0, jam.GONE, jam.GONE, 0, 0, 0, 7, 0, 0,
-                                 index.seek(0, os.SEEK_END) // 8 + 1, jam.ECHOMAIL | jam.LOCAL, 0, at, len(text), jam.GONE, 0)
-            texts.write(text)
-            texts.flush()
-            headers.write(header + fields)
-            headers.flush()
-            index.write(struct.pack("<2I", jam.crc(to), place))
-        time.sleep(0.003)
-        os.pwrite(headers.fileno(), struct.pack("<2I", changes + 1, active + 1), 8)
-
-
-def try_posting(place, base, messages, posts, runs):
-    """A JAM program posts while the base is exported: each message of both is there, once and in order."""
-    path = os.path.join(place, "posted")
-    jam.write_base(base, [])
-    jam.add(path, base, 0, [], 0)
-    child = os.fork()
-    if child == 0:
-        for number in range(posts):
-            post(path, number)
-            time.sleep(0.003)
-        os._exit(0)
-    refused = 0
-    for number in range(runs):
-        jam.write_base(base, messages[:number + 1])
-        while True:
-            got = jam.run(path, base, number)
-            if got[0] == 0:
-                expect("an export", got[1], exported(1, number + 1))
-                break
-            expect("a base that is locked", got, (3, "", "echonet: cannot use %s\n" % path))
-            refused += 1
-    expect("the posting program", os.waitpid(child, 0)[1], 0)
-    found = jam.Jam(path)
-    found.check_active()
-    expect("changes", found.changes, posts + runs)
-    posted = [message for message in found.messages if message.written == 7]
-    expect("posted", [message.fields[2][1] for message in posted], [b"Posted %d" % number for number in range(posts)])
-    expect("their texts", [message.text for message in posted], [b"Text %d\r" % number for number in range(posts)])
-    for message, got in zip(messages[:runs], [it for it in found.messages if it.written != 7], strict=True):
-        jam.check(message, got)
-    return refused
-
-
-def try_first_byte(place, base, messages):
-    """Where a JAM program has the base nothing changes, and reader.sh tries again."""
-    station, path = os.path.join(place, "station"), os.path.join(place, "byte")
-    os.makedirs(station)
-    base = os.path.join(station, "base")
-    jam.write_base(base, messages[:5])
-    jam.add(path, base, 0, messages[:5], 5)
-    write(path + ".next", b"5\n")
-    jam.write_base(base, messages)
-    files = jam.contents(path)
-    with open(path + ".jhr", "r+b") as headers:
-        fcntl.lockf(headers, fcntl.LOCK_EX, 1, 0)
-        expect("a base that is locked", jam.run(path, base, 5), (3, "", "echonet: cannot use %s\n" % path))
-        expect("what stands there", jam.contents(path), files)
-        # To close a file that was read gave the lock back.
-        fcntl.lockf(headers, fcntl.LOCK_EX, 1, 0)
-        words = [os.path.join(TOP, "examples", "net", "reader.sh"), "--jam", station, "TEST", path]
-        with subprocess.Popen(words, stdout=subprocess.PIPE, stderr=subprocess.DEVNULL,
-                              env={**os.environ, "ECHONET": jam.PROGRAM}) as reader:
-            time.sleep(1.5)
-            expect("reader.sh", reader.poll(), None)
-            fcntl.lockf(headers, fcntl.LOCK_UN, 1, 0)
-            expect("reader.sh", reader.communicate()[0].decode(), exported(len(messages) - 5, len(messages)))
-    jam.check_all(path, messages)
 
 
 def try_zeros(place, base, messages):
@@ -337,19 +253,14 @@ def try_modes(place, base, messages):
 
 def main():
     """Each of them, in a folder of its own."""
-    posts = int(sys.argv[1]) if len(sys.argv) > 1 else 500
-    runs = int(sys.argv[2]) if len(sys.argv) > 2 else 60
-    messages = made(max(20, runs))
+    messages = made(60)
     for message in messages:
         if message.by == message.to == message.subject == b"":
             message.subject = b"x"
-    for trial in (try_two_jam, try_begun, try_two_msg, try_first_byte, try_zeros, try_alone, try_links, try_left, try_modes):
+    for trial in (try_two_jam, try_begun, try_two_msg, try_zeros, try_alone, try_links, try_left, try_modes):
         with tempfile.TemporaryDirectory() as place:
             trial(place, os.path.join(place, "base"), messages[:20])
-    with tempfile.TemporaryDirectory() as place:
-        refused = try_posting(place, os.path.join(place, "base"), messages, posts, runs)
-    print("readers.py: %d postings of a JAM program and %d exports, none gone (%d tried again); after power cuts and links, too"
-          % (posts, runs, refused))
+    print("readers.py: exports beside each other, and after power cuts and links")
 
 
 if __name__ == "__main__":

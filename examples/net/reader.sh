@@ -2,8 +2,7 @@
 # reader.sh STATION AREA DIR: lets a reader of the field, as GoldED, read and write an area in the folder DIR of
 # stored messages (N.msg).
 # reader.sh --jam STATION AREA PATH: lets it read the area in the JAM base PATH (PATH.jhr and so on). What is new in the
-# base is added, and nothing is posted; PATH.next has the number of the message with which the next run begins. Where
-# another program has the JAM base, it is tried again for half a minute.
+# base is added, and nothing is posted; PATH.next has the number of the message with which the next run begins.
 #
 # What an editor wrote there (Local, not Sent, and under no id of the base) is posted and then moves to DIR/posted;
 # what is refused goes to DIR/refused, with the line that tells why beside it in NAME.why. Then what is new in the
@@ -38,31 +37,12 @@ work=$(mktemp -d)
 trap 'rm -rf "$work"' EXIT
 trap 'exit 3' HUP INT TERM
 
-# Adds to the folder or the JAM base what is new from a message on. Words: both.
-export_from() {
-  "$program" export "$form" "$1" --area "$area" --from "$2" "$station/base" > "$work/told"
-}
-
-# The same of a JAM base, which other programs lock while they write to it.
-export_to_jam() {
-  left=30
-  while :; do
-    status=0
-    export_from "$@" 2> "$work/fault" || status=$?
-    if [ $status -ne 3 ] || [ $left -eq 0 ] || ! grep -q '^echonet: cannot use ' "$work/fault"; then break; fi
-    left=$((left - 1))
-    sleep 1
-  done
-  cat "$work/fault" >&2
-  return "$status"
-}
-
 # Adds what is new in the base. Words: the folder or the JAM base, the file with the number of the next message.
 add_new() {
   if [ ! -e "$station/base" ]; then return; fi
   from=0
   if [ -e "$2" ]; then from=$(cat "$2"); fi
-  if [ $form = --jam ]; then export_to_jam "$1" "$from"; else export_from "$1" "$from"; fi
+  "$program" export "$form" "$1" --area "$area" --from "$from" "$station/base" > "$work/told"
   next=$(sed -n 's/^exported [0-9]* messages, next \([0-9]*\)$/\1/p' "$work/told")
   if [ -z "$next" ]; then exit 3; fi
   printf '%s\n' "$next" > "$2.new"

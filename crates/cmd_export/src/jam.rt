@@ -6,7 +6,7 @@
 //! stands a base with the first of its messages, and what is left behind the last of them is seen by nobody; only the
 //! number of active messages may be too small, until the next run, and earlier headers may not name the last replies.
 
-use crate::locked::{begun_again, locked_headers, unlock};
+use crate::locked::{begun_again, locked_headers};
 use crate::named::{bytes_of, jam_fault, open_file, open_or_make, write_at};
 use cmd_base::base_bytes;
 use echo_base::BaseFault;
@@ -63,7 +63,7 @@ pub fn run_export_jam<W: Sink, E: Sink>(
         Ok(()) => Ok(Status::Good),
         Err(fault) => Err(fault),
     };
-    unlock(&files.headers);
+    let _ = files.headers.unlock();
     match stopped {
         Some(error) => jam_fault(&error, path).report(errors),
         None => {
@@ -171,7 +171,7 @@ fn last_text(
 fn write_jam(rt: &HostRuntime, files: &JamFiles, exported: &JamExport) -> io::Result<()> {
     let standing = files.standing;
     let added = exported.adding.messages.len();
-    let has_zeros = files.index_len >= files.index_end + 8;
+    let has_zeros = files.index_len.saturating_sub(files.index_end) >= 8;
     if added == 0 && standing.active == standing.counted && !has_zeros {
         return Ok(());
     }

@@ -1,5 +1,5 @@
-//! A JAM base under its locks: `flock` on the file of headers, and the lock that JAM programs take, `fcntl` on its first
-//! byte. A base that is not there is begun before, under the lock of its folder.
+//! A JAM base under its lock: `flock` on the file of headers. A base that is not there is begun before, under the lock of
+//! its folder.
 
 use crate::making::{Making, make_file, remove_left};
 use crate::named::{check_file, folder_of, jam_fault, open_file, open_or_make, with_end, write_at};
@@ -8,9 +8,7 @@ use cmd_input::{created_now, lock_file, locked_folder, output_fault};
 use echo_files::flush_folder;
 use echo_jam::new_fixed;
 use echo_status::Fault;
-use os::RangeLock;
 use std::fs::File;
-use std::os::fd::AsRawFd;
 use std::{fs, io};
 
 /// How many bytes show that a file is one of headers: `JAM` and 00.
@@ -37,23 +35,8 @@ pub(crate) fn locked_headers<'a>(
     }
     let headers = open_file(rt, path, ".jhr").map_err(|error| jam_fault(&error, path))?;
     lock_file(rt, &headers, path).map_err(|_| Fault::CannotUse(path))?;
-    lock_first_byte(&headers, path)?;
     check_file(rt, path, ".jhr", &headers).map_err(|error| jam_fault(&error, path))?;
     Ok(headers)
-}
-
-// Takes the lock of JAM programs. Where one of them holds it, the base cannot be used.
-fn lock_first_byte<'a>(headers: &File, path: &'a str) -> Result<(), Fault<'a>> {
-    match os::try_lock_range(headers.as_raw_fd(), RangeLock::Exclusive, 0, 1) {
-        0 => Ok(()),
-        _ => Err(Fault::CannotUse(path)),
-    }
-}
-
-/// Gives both locks back, first the one that no run waits for.
-pub(crate) fn unlock(headers: &File) {
-    let _ = os::try_lock_range(headers.as_raw_fd(), RangeLock::Unlock, 0, 1);
-    let _ = headers.unlock();
 }
 
 // Whether something has the path of one of the files.

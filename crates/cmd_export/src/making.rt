@@ -45,7 +45,8 @@ pub(crate) fn remove_left(rt: &HostRuntime, beside: &str) {
 // Whether a regular file of this user has the path.
 fn is_own(rt: &HostRuntime, path: &str) -> io::Result<bool> {
     let found = fs::symlink_metadata(rt, path)?;
-    Ok(found.is_file() && found.uid() == libc::geteuid())
+    let this_run = fs::metadata(rt, "/proc/self")?;
+    Ok(found.is_file() && found.uid() == this_run.uid())
 }
 
 // Removes what stands beside: a regular file of this user, or one of another user that begins as a file of its kind.

@@ -1,6 +1,8 @@
 //! A command is run on a station, whatever its base is kept in, on the files of the system. What it reads, and what it
 //! puts in place, is settled by what `run_command` does over any disk. The locks are held until what the command left
 //! beside the base is gone, and what is damaged was found.
+ghost use Rattle.echo_disk.specs.Disk.{Honestly};
+ghost use Rattle.station.specs.Opening.{AreFree};
 
 use crate::place::Station;
 use cmd_base::{Counting, look_into, messages_at};
@@ -9,12 +11,14 @@ use cmd_base_folder::Opened;
 use cmd_input::{LinkLock, Progress, Tossing};
 use echo_base::BaseFault;
 use echo_device::Sink;
+use echo_disk::Disk;
 use echo_keys::SipDigest;
 use echo_real_disk::{RealDisk, Unknown};
+use echo_station_files::FileLock;
 use echo_status::Fault;
 use echo_store::StoreError;
 use echo_store_changing::{Stop, StoreCommand};
-use station::{Ended, Locks, Nothing, Unread, run_command};
+use station::{Ended, Locks, Nothing, OpenStation, Unread, run_command};
 use station_file::FileStation;
 use station_folder::{FolderPlace, FolderStation, Found};
 use std::collections::hash_map::RandomState;
@@ -49,32 +53,57 @@ fn run_on_file<'a, C: StoreCommand<'a>, W: Sink>(
     command: &mut C,
     out: &mut W,
 ) -> Result<C::Answer, Fault<'a>> {
-    let rt = at.rt;
     let station = file_station(at, before.progress)?;
     let mut locks = Locks {
-        links: LinkLock::new(rt),
-        base: LinkLock::new(rt),
+        links: LinkLock::new(at.rt),
+        base: LinkLock::new(at.rt),
     };
-    let mut before = Unread {
-        first: Nothing,
-        fault: before.unread,
-    };
-    let files = BaseFiles::new(rt);
+    let files = BaseFiles::new(at.rt);
     let disk = RealDisk::new(&files, Unknown);
-    let Ended { done, .. } = run_command(
-        rt.alloc(),
-        disk,
-        &mut locks,
-        station,
-        &mut before,
-        command,
-        out,
-    );
+    let unread = before.unread;
+    let done = run_unprepared(at, disk, &mut locks, station, unread, command, out);
     files.tidy();
     match done {
         Ok(answer) => Ok(answer),
         Err(stop) => Err(fault_of(at, stop)),
     }
+}
+
+// Runs a command on a station whose store needs nothing before.
+fn run_unprepared<
+    'a,
+    D: Disk + Drop,
+    P: OpenStation<'a, D>,
+    C: StoreCommand<'a>,
+    L: FileLock,
+    K: FileLock,
+    W: Sink,
+>(
+    at: Station<'a>,
+    disk: D,
+    locks: &mut Locks<L, K>,
+    station: P,
+    unread: Option<Fault<'a>>,
+    command: &mut C,
+    out: &mut W,
+) -> Result<C::Answer, Stop<'a>>
+    requires free { AreFree (L.held locks.old.links) (K.held locks.old.base) }
+    requires can { Honestly (D.state disk) (P.can_open station (D.state disk)) }
+{
+    let mut before = Unread {
+        first: Nothing,
+        fault: unread,
+    };
+    let ended = run_command(
+        at.rt.alloc(),
+        disk,
+        locks,
+        station,
+        &mut before,
+        command,
+        out,
+    );
+    ended.done
 }
 
 /// A station whose base is a file, with a hasher that tells how far its reading is. A seed for that which cannot be had is a

@@ -1,5 +1,7 @@
 //! `scan`, as its words ask for it, on the files of the system. What it reads, and what it puts in place, is settled by what
 //! it is over any disk.
+ghost use Rattle.echo_disk.specs.Disk.{Honestly};
+ghost use Rattle.station.specs.Opening.{AreFree};
 
 use crate::place::{Place, Station, find_base};
 use crate::running::{fault_of, file_station, folder_place};
@@ -8,12 +10,14 @@ use cmd_base_file::{LeftFiles, ScanFiles};
 use cmd_base_folder::Opened;
 use cmd_input::{LinkLock, Progress, folder_path, moment_of};
 use echo_device::Sink;
+use echo_disk::Disk;
 use echo_keys::SipDigest;
 use echo_real_disk::{RealDisk, Unknown};
+use echo_station_files::FileLock;
 use echo_status::{Fault, Status};
 use echo_steps::Stamp;
 use echo_store_changing::Stop;
-use station::{Locks, Nothing};
+use station::{LendStation, Locks, Nothing, OpenStation};
 use station_folder::{FolderStation, Found};
 use station_scan::{Scan as Wanted, ScanStop, Watching, run_scan as scan_station};
 use std::marker::PhantomData;
@@ -42,10 +46,10 @@ pub struct Scan<'a> {
 }
 
 /// `scan`: the stamp is judged first. The packets get their names once the base is written.
-pub fn run_scan<W: Sink, E: Sink>(
-    rt: &HostRuntime,
-    words: ScanWords<'_>,
-    progress: &Progress<'_>,
+pub fn run_scan<'x, W: Sink, E: Sink>(
+    rt: &'x HostRuntime,
+    words: ScanWords<'x>,
+    progress: &'x Progress<'x>,
     out: &mut W,
     errors: &mut E,
 ) -> Status {
@@ -64,14 +68,26 @@ pub fn run_scan<W: Sink, E: Sink>(
     let Ok(slashed) = folder_path(rt, words.folder) else {
         return Fault::OutOfMemory.report(errors);
     };
-    let scan = Scan {
-        at: found.at(rt, place),
-        stamp,
-        folder: words.folder,
-        slashed: slashed.as_str(),
-        progress,
-    };
+    let at = found.at(rt, place);
+    let scan = scan_of(at, stamp, words.folder, slashed.as_str(), progress);
     scan_at_once(scan, out, errors)
+}
+
+// A scan of a station into this folder.
+fn scan_of<'a>(
+    at: Station<'a>,
+    stamp: Stamp,
+    folder: &'a str,
+    slashed: &'a str,
+    progress: &'a Progress<'a>,
+) -> Scan<'a> {
+    Scan {
+        at,
+        stamp,
+        folder,
+        slashed,
+        progress,
+    }
 }
 
 // Scans, and reports what it met.
@@ -97,25 +113,40 @@ fn scan_file<'a, W: Sink>(
     files: &ScanFiles<'_, '_>,
     out: &mut W,
 ) -> Result<(), ScanStop<'a>> {
-    let at = scan.at;
-    let station = match file_station(at, Some(scan.progress)) {
+    let station = match file_station(scan.at, Some(scan.progress)) {
         Ok(station) => station,
         Err(fault) => return Err(ScanStop::Command(Stop::Met(fault))),
     };
     let mut locks = Locks {
-        links: LinkLock::new(at.rt),
-        base: LinkLock::new(at.rt),
+        links: LinkLock::new(scan.at.rt),
+        base: LinkLock::new(scan.at.rt),
     };
+    let disk = RealDisk::new(files, Unknown);
+    let done = scan_unprepared(scan, disk, &mut locks, station, out);
+    files.tidy();
+    done
+}
+
+// Scans a station whose store needs nothing before.
+fn scan_unprepared<'a, D: Disk + Drop, P: LendStation<'a, D>, L: FileLock, K: FileLock, W: Sink>(
+    scan: Scan<'a>,
+    disk: D,
+    locks: &mut Locks<L, K>,
+    station: P,
+    out: &mut W,
+) -> Result<(), ScanStop<'a>>
+    requires free { AreFree (L.held locks.old.links) (K.held locks.old.base) }
+    requires can { Honestly (D.state disk) (P.can_open station (D.state disk)) }
+{
     let scanned = scan_station(
-        at.rt.alloc(),
-        RealDisk::new(files, Unknown),
-        &mut locks,
+        scan.at.rt.alloc(),
+        disk,
+        locks,
         station,
         &mut Nothing,
         &mut wanted(scan),
         out,
     );
-    files.tidy();
     scanned.done
 }
 

@@ -19,11 +19,13 @@ pub fn report_unplaced<E: Sink>(
         PlacingError::Taken => files.taken_at(),
         PlacingError::Device => files.failed_at().or(files.taken_at()),
     };
-    let path = match &met {
-        Some(met) => named(scan.at.place, scan.at.path, scan.folder, scan.slashed, met),
-        None => scan.folder,
-    };
-    Fault::CannotUse(path).report(errors)
+    match &met {
+        Some(met) => {
+            let path = named(scan.at.place, scan.at.path, scan.folder, scan.slashed, met);
+            Fault::CannotUse(path).report(errors)
+        }
+        None => Fault::CannotUse(scan.folder).report(errors),
+    }
 }
 
 // The path at which a call failed, by the name that was given: of the folder of packets, of the base, or of a packet. The

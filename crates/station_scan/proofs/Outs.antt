@@ -15,12 +15,11 @@ use Rattle.echo_store.specs.Store.{StoreState}
 use Rattle.station_scan.specs.Beneath.{IsUsedAt}
 use Rattle.station_scan.specs.Left.{EndsLeft, IsEnded, IsLeftOf, IsOfNameOff}
 use Rattle.station_scan.specs.Publishing.{IsOnDisk, KeepsStoreBut}
-use Rattle.station_scan.specs.Scanning.{AreSentOut, CommitsScan, IsTouched, PreparesScan, SendsOut}
+use Rattle.station_scan.specs.Scanning.{AreSentOut, CommitsScan, PreparesScan, SendsOut}
 use Rattle.station_scan.specs.Sends.{AreSentOn, IsOfThese, SendsThese}
 use Rattle.station_scan.specs.Stops.{scan_done}
 use Rattle.station_scan.specs.declared.scan_stop.ScanStop.{ScanStop}
 use Rattle.station_scan.specs.declared.unpublished.Unpublished.{Unpublished}
-use Rattle.station_scan.proofs.Published.{store_then, store_wider, used_keeps}
 
 -- one that is over, by what is seen
 is_ended : (cursor : ℕ) (d0 d1 : DiskState) (l : Left) → IsOver cursor d0 d1 l → IsEnded cursor d0.seen d1.seen l
@@ -121,17 +120,6 @@ module _ (Own : List ℕ → Type 0) (outbound own : List ℕ) (is_true : Type 0
     pub sends_out : {E : Type 0} (result : Result (Unit {0}) E) → OnOk result (AreSentOn outbound own files s1 s2) → LeavesOnly s1.disk s2.disk (SendsThese s1 outbound own files first next)
         → SendsOut is_true Own outbound own Stays Comes cursor files s0.disk s2.disk result
     sends_out result sent run = record { found = these; each = ends.each; sent = sent_if result sent; crash = sent_crash run }
-
--- which paths are touched
-module _ (Own : List ℕ → Type 0) (outbound own : List ℕ) (s0 s1 : StoreState) (used : IsUsedAt (IsOfNameOff Own outbound own) s0 s1) where
-  pub ended_keeps : KeepsStoreBut (IsTouched s0.is_own outbound) s0 s1
-  ended_keeps = store_wider (IsOfNameOff Own outbound own) (IsTouched s0.is_own outbound) s0 s1 (λ m at. inr (own, at.0)) (used_keeps (IsOfNameOff Own outbound own) s0 s1 used)
-
-  pub sent_keeps : (files : List PacketFile) (s2 : StoreState) → KeepsStoreBut (IsOfThese s1.is_own outbound own files) s1 s2 → KeepsStoreBut (IsTouched s0.is_own outbound) s0 s2
-  sent_keeps files s2 kept =
-      store_then (IsTouched s0.is_own outbound) s0 s1 s2 ended_keeps
-      (store_wider (IsOfThese s1.is_own outbound own files) (IsTouched s0.is_own outbound) s1 s2
-      (λ m of. ⊎_elim (λ o. inl ((used.same.own m).0 o)) (λ p. inr (own, (p.0.name, p.2, p.3))) of) kept)
 
 -- what was sent where the publishing ended well was where the scan did
 pub scan_sent : (P : Type 0) (done : Result (Unit {0}) Unpublished) (result : Result (Unit {0}) ScanStop) → result ≡ scan_done done → OnOk done P → OnOk result P

@@ -5,18 +5,14 @@ use Rattle.std.proofs.lemmas.List.Elements.{All-contains}
 use Rattle.echo_base.specs.Base.{Base}
 use Rattle.echo_disk.specs.Disk.{DiskState, Honestly}
 use Rattle.echo_disk.specs.declared.disk_error.DiskError.{DiskError}
-use Rattle.echo_disk.specs.declared.disk_error.DiskError.TheVariants as disk_error
 use Rattle.echo_disk.specs.Runs.{ChangesNothing, LeavesOnly, OneStepOn}
 use Rattle.echo_disk.proofs.Moments.{then_run, weaker_run}
 use Rattle.echo_placing.specs.Changes.{ChangesOnly, DifferAt}
 use Rattle.echo_placing.specs.Naming.{HasItsPath, NamesEach}
-use Rattle.echo_placing.specs.Outgoing.{ArePlaced, IsBesideOne, IsFree, IsOfOne, IsStaged, SendsBytes}
-use Rattle.echo_placing.specs.Publishing.{IsApartFrom, placing_cause}
-use Rattle.echo_placing.specs.declared.placing_error.PlacingError.TheVariants as placing
+use Rattle.echo_placing.specs.Outgoing.{ArePlaced, IsBesideOne, IsOfOne, SendsBytes}
+use Rattle.echo_placing.specs.Publishing.{IsApartFrom}
 use Rattle.echo_placing.specs.declared.outgoing.Outgoing.{Outgoing}
-use Rattle.echo_placing.proofs.Packets.{path_not_beside}
-use Rattle.echo_store.specs.Store.{Commits, KeepsBeside, IsSameStore, MayCommit, StandsForEither, StoreState}
-use Rattle.echo_store.proofs.Runs.{same_twice}
+use Rattle.echo_store.specs.Store.{Commits, MayCommit, StandsForEither, StoreState}
 use Rattle.station.specs.Beneath.{HoldsAsBefore}
 use Rattle.station_scan.specs.Beneath.{IsUsedAt}
 use Rattle.station_scan.specs.Publishing.{ArePublished, AreStaged, CommitsWith, IsClear, IsNamedAs, KeepsBut, KeepsStoreBut, PublishesOn, StagesOver}
@@ -31,12 +27,6 @@ module _ (s : StoreState) (packets : List Outgoing) (apart : All (IsApartFrom s.
 
   pub own_not_beside : (m : List ℕ) → s.is_own m → IsBesideOne packets m → ⊥
   own_not_beside m own (p, is, at) = own_not_of m own (p, is, inl at)
-
-  -- of a store with the same paths too
-  pub apart_again : (t : StoreState) → IsSameStore s t → All (IsApartFrom t.is_own) packets
-  apart_again t same k z lt =
-      let away = apart k z lt in
-      record { path = λ own. away.path ((same.own (get_or packets k z).path.now).0 own); beside = λ own. away.beside ((same.own (get_or packets k z).beside.now).0 own) }
 
 -- ---- what stands still
 
@@ -64,9 +54,6 @@ keeps_wider few many d0 d1 more run =
 pub keeps_only : (paths : List ℕ → Type 0) (d0 d1 : DiskState) → ChangesOnly paths d0 d1 → KeepsBut paths d0 d1
 keeps_only paths d0 d1 run = record { seen = run.seen; named = run.named; flushed = run.flushed; alone = run.alone; honest = run.honest }
 
-pub keeps_beside : (s t : StoreState) → KeepsBeside s t → KeepsBut s.is_own s.disk t.disk
-keeps_beside s t kept = record { seen = kept.seen; named = kept.named; flushed = kept.flushed; alone = kept.alone; honest = kept.honest }
-
 pub keeps_nothing : (paths : List ℕ → Type 0) (d0 d1 : DiskState) → ChangesNothing d0 d1 → KeepsBut paths d0 d1
 keeps_nothing paths d0 d1 quiet = record {
   seen = λ m other. quiet.seen m;
@@ -77,17 +64,8 @@ keeps_nothing paths d0 d1 quiet = record {
 }
 
 -- and of a store
-pub store_then : (paths : List ℕ → Type 0) (s0 s1 s2 : StoreState) → KeepsStoreBut paths s0 s1 → KeepsStoreBut paths s1 s2 → KeepsStoreBut paths s0 s2
-store_then paths s0 s1 s2 one two = record { same = same_twice s0 s1 s2 one.same two.same; keeps = keeps_then paths s0.disk s1.disk s2.disk one.keeps two.keeps }
-
 pub store_wider : (few many : List ℕ → Type 0) (s0 s1 : StoreState) → ((m : List ℕ) → few m → many m) → KeepsStoreBut few s0 s1 → KeepsStoreBut many s0 s1
 store_wider few many s0 s1 more kept = record { same = kept.same; keeps = keeps_wider few many s0.disk s1.disk more kept.keeps }
-
-pub used_keeps : (paths : List ℕ → Type 0) (s0 s1 : StoreState) → IsUsedAt paths s0 s1 → KeepsStoreBut paths s0 s1
-used_keeps paths s0 s1 used = record { same = used.same; keeps = keeps_only paths s0.disk s1.disk used.changes }
-
-pub commit_keeps : (s0 s1 : StoreState) → MayCommit s0 s1 → KeepsStoreBut s0.is_own s0 s1
-commit_keeps s0 s1 may = record { same = may.same; keeps = keeps_beside s0 s1 may.beside }
 
 -- ---- what is committed
 
@@ -97,14 +75,6 @@ commits_still s0 s1 s2 commits holds honest = record {
   keeps = λ is base h. holds.keeps base (commits.keeps (honest is) base h);
   committed = λ is base h. holds.committed base (commits.committed (honest is) base h);
   honest = λ is. commits.honest (honest is);
-}
-
-pub commits_since : (s0 s1 s2 : StoreState) → HoldsAsBefore s0 s1 → (s1.disk.is_honest → s0.disk.is_honest) → Commits s1 s2 → Commits s0 s2
-commits_since s0 s1 s2 holds honest commits = record {
-  ready = commits.ready;
-  keeps = λ is base h. commits.keeps is base (holds.keeps base h);
-  committed = λ is base h. commits.committed is base (holds.keeps base h);
-  honest = λ is. honest (commits.honest is);
 }
 
 -- ---- what a crash leaves
@@ -138,19 +108,6 @@ module _ (outbound : List ℕ) (packets : List Outgoing) (placed : ArePlaced out
               either.stands;
         })
 
-    pub still_staged : All (IsStaged s1.disk) packets
-    still_staged k z lt =
-        let p = get_or packets k z in
-        let was = staged.staged k z lt in
-        record {
-          file = record {
-            seen = may.beside.seen p.beside.now (apart k z lt).beside ∙ was.file.seen;
-            named = may.beside.named p.beside.now (apart k z lt).beside was.file.named;
-            flushed = may.beside.flushed p.beside.now (apart k z lt).beside was.file.flushed;
-          };
-          named = may.beside.named p.path.now (apart k z lt).path was.named;
-        }
-
     -- and then they get their paths
     pub naming : (s2 : StoreState) → Commits s0 s1 → IsUsedAt (IsOfOne packets) s1 s2 → s1.disk.is_honest → LeavesOnly s1.disk s2.disk (OneStepOn (NamesEach packets) s1.disk) → (first next : Base) → s0.committed first
         → s0.keeps next → LeavesOnly s0.disk s2.disk (CommitsWith s0 packets first next)
@@ -167,9 +124,6 @@ module _ (outbound : List ℕ) (packets : List Outgoing) (placed : ArePlaced out
             staged.bytes,
           );
         })
-
-    pub committed_only : s1.disk.is_honest → (first next : Base) → s0.committed first → s0.keeps next → LeavesOnly s0.disk s1.disk (CommitsWith s0 packets first next)
-    committed_only = committing
 
   -- all of it
   pub publishing : (s1 s2 : StoreState) → IsUsedAt (IsBesideOne packets) s0 s1 → s1.disk.is_honest → (first next : Base) → s0.committed first → s0.keeps next → LeavesOnly s1.disk s2.disk (CommitsWith s1 packets first next)
@@ -191,10 +145,6 @@ module _ (outbound : List ℕ) (packets : List Outgoing) (placed : ArePlaced out
   stopping s1 used honest first next was =
       weaker_run s0.disk s1.disk (StagesOver s0 packets first) (PublishesOn s0 packets first next) (staging s1 used (used.changes.honest honest) first was) (λ c over. inl over)
 
-  -- a path that was taken once they were written beside was taken before
-  pub was_free : (s1 : StoreState) → IsUsedAt (IsBesideOne packets) s0 s1 → All (IsFree s0.disk) packets → All (IsFree s1.disk) packets
-  was_free s1 used free k z lt = used.changes.seen (get_or packets k z).path.now (path_not_beside outbound packets placed k z lt) ∙ free k z lt
-
 -- whether all got their paths
 pub published_if : (packets : List Outgoing) (s0 s2 : StoreState) (named : Result Bool DiskError) (result : Result (Unit {0}) Unpublished) → IsNamedAs named result
     → Honestly s2.disk (IfOk named (λ all. all ≡ true → All (HasItsPath s2.disk) packets)) → Commits s0 s2 → All SendsBytes packets → OnOk result (ArePublished packets s0 s2)
@@ -202,8 +152,3 @@ published_if packets s0 s2 (Ok true) result is paths commits bytes =
     subst (λ (r : Result (Unit {0}) Unpublished). OnOk r (ArePublished packets s0 s2)) (sym is) (record { committed = commits; named = λ honest. paths honest refl; bytes = bytes })
 published_if packets s0 s2 (Ok false) result is paths commits bytes = subst (λ (r : Result (Unit {0}) Unpublished). OnOk r (ArePublished packets s0 s2)) (sym is) tt
 published_if packets s0 s2 (Err cause) result is paths commits bytes = subst (λ (r : Result (Unit {0}) Unpublished). OnOk r (ArePublished packets s0 s2)) (sym is) tt
-
--- a disk does not answer that a path is taken
-pub not_taken : (cause : DiskError) → placing_cause cause ≡ placing.Taken → ⊥
-not_taken disk_error.Memory is = absurd (cc is)
-not_taken disk_error.Device is = absurd (cc is)

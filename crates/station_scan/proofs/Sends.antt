@@ -1,18 +1,17 @@
 -- The packets of a scan and the commit of a store.
-use Rattle.std.proofs.Common.{◌≡◌, ◌≢◌, inl, inr, ⊎_elim, ℕ, List, arith, length, refl}
+use Rattle.std.proofs.Common.{◌≢◌, inl, inr, ⊎_elim, ℕ, List}
 use Rattle.std.specs.Prelude.{All}
 use Rattle.echo_base.specs.Base.{Base}
 use Rattle.echo_disk.specs.Disk.{DiskState, Files}
 use Rattle.echo_disk.specs.Runs.{LeavesOnly}
-use Rattle.echo_disk.proofs.Moments.{no_call, weaker_run}
+use Rattle.echo_disk.proofs.Moments.{weaker_run}
 use Rattle.echo_placing.specs.Outgoing.{ArePlaced}
 use Rattle.echo_placing.specs.Publishing.{IsApartFrom}
 use Rattle.echo_placing.specs.declared.outgoing.Outgoing.{Outgoing}
 use Rattle.echo_steps.specs.PacketFiles.{PacketFile}
-use Rattle.echo_store.specs.Store.{Commits, MayCommit, StandsForEither, StoreState}
+use Rattle.echo_store.specs.Store.{StoreState}
 use Rattle.station_scan.specs.Fitting.{AreFitting}
 use Rattle.station_scan.specs.Publishing.{ArePublished, IsPublishedAt, KeepsStoreBut, PublishesOn}
-use Rattle.station_scan.specs.Sending.{HasBytes, IsAtItsPath, IsFreeAt, IsGoneBeside, StandsWhole}
 use Rattle.station_scan.specs.Sends.{AreSentOn, IsOfThese, SendsThese}
 use Rattle.station_scan.proofs.Published.{store_wider}
 use Rattle.station_scan.proofs.Sent.{are_apart_from, are_placed, at_its_path, files_bytes, have_none, is_beside_file, is_of_file, none_beside, stand_whole}
@@ -59,24 +58,3 @@ module _ (Own : List ℕ → Type 0) (outbound own : List ℕ) (files : List Pac
 
   pub fit_moments : (s : StoreState) (d : DiskState) (first next : Base) → LeavesOnly s.disk d (PublishesOn s packets first next) → LeavesOnly s.disk d (SendsThese s outbound own files first next)
   fit_moments s d first next run = weaker_run s.disk d (PublishesOn s packets first next) (SendsThese s outbound own files first next) run (fit_moment s first next)
-
--- nothing was done
-pub sends_none : (s : StoreState) (outbound own : List ℕ) (files : List PacketFile) (first next : Base) → s.disk.is_honest → s.is_ready → s.committed first → LeavesOnly s.disk s.disk (SendsThese s outbound own files first next)
-sends_none s outbound own files first next honest ready is =
-    no_call s.disk (SendsThese s outbound own files first next) (λ c left. inl (record { writes = (c, left, λ m other. refl); stands = s.stays honest ready first is c left }))
-
--- the store alone is committed
-module _ (outbound own : List ℕ) (files : List PacketFile) (none : length files ≡ 0) where
-  pub all_none : (P : PacketFile → Type 0) → All P files
-  all_none P k z lt = absurd (omega (arith, lt, none))
-
-  pub alone_moments : (s t : StoreState) → MayCommit s t → t.disk.is_honest → (first next : Base) → s.committed first → s.keeps next → LeavesOnly s.disk t.disk (SendsThese s outbound own files first next)
-  alone_moments s t may honest first next was is =
-      weaker_run s.disk t.disk (StandsForEither s first next) (SendsThese s outbound own files first next) (may.any_moment honest first next was is)
-      (λ c either. inr (record {
-        others = λ m other on. either.beside m (λ o. other (inl o)) on.0 on.1;
-        either = ⊎_elim (λ stands. inl (stands, all_none (IsFreeAt outbound c))) (λ stands. inr (stands, all_none (StandsWhole outbound own c), all_none HasBytes)) either.stands;
-      }))
-
-  pub alone_sent : (s t : StoreState) → Commits s t → AreSentOn outbound own files s t
-  alone_sent s t commits = record { committed = commits; packets = λ honest. all_none (IsAtItsPath outbound t.disk); gone = λ honest. all_none (IsGoneBeside outbound own t.disk.seen); bytes = all_none HasBytes }

@@ -1,6 +1,6 @@
 -- Packets that go out, as the files of a scan.
 use Rattle.std.proofs.Common.{◌≡◌, ◌≢◌, inl, inr, ⊎_elim, ◌∙◌, ◌<◌, ℕ, List, [], ◌++◌, get_or, length, map, sym, subst, ap, Some, arith}
-use Rattle.std.specs.Prelude.{All, AllPairs, Contains, Err, Ok, OnOk, Result}
+use Rattle.std.specs.Prelude.{All, AllPairs, Contains}
 use Rattle.std.proofs.lemmas.List.{get_or-map, length-map}
 use Rattle.std.proofs.lemmas.List.Elements.{All-contains, Contains-get_or}
 use Rattle.echo_device.specs.Fixed.{AreBytes}
@@ -148,12 +148,3 @@ module _ (folder own : List ℕ) (files : List PacketFile) (paths : List TwoPath
 
   pub have_none : (c : Files) → All (IsFreeIn c) packets → All (IsFreeAt folder c) files
   have_none c all k f lt = ap c (sym (goes k f nobody lt).path) ∙ all k nobody (back k lt)
-
--- the same lists
-pub sent_again : (files : List PacketFile) (paths read : List TwoPaths) (packets lent : List Outgoing) → read ≡ paths → lent ≡ packets → AreSent files read packets → AreSent files paths lent
-sent_again files paths read packets lent is_read is_lent sent = subst (λ (l : List Outgoing). AreSent files paths l) (sym is_lent) (subst (λ (l : List TwoPaths). AreSent files l packets) is_read sent)
-
--- what follows from what holds at Ok
-pub on_ok_gives : {T E P Q : Type 0} (result : Result T E) → (P → Q) → OnOk result P → OnOk result Q
-on_ok_gives (Ok value) gives is = gives is
-on_ok_gives (Err error) gives is = tt

@@ -1,12 +1,9 @@
 -- Why a scan stopped.
-use Rattle.std.proofs.Common.{◌≡◌, ◌⊎◌, inl, inr, ⊎_elim, ap, refl, subst}
+use Rattle.std.proofs.Common.{◌≡◌, ◌⊎◌, inl, inr, ⊎_elim, refl, subst}
 use Rattle.std.specs.Prelude.{Err, IfErr, IsErrOf, Ok, Result}
 use Rattle.echo_placing.specs.declared.placing_error.PlacingError.{PlacingError}
 use Rattle.echo_placing.specs.declared.placing_error.PlacingError.TheVariants as placing
-use Rattle.echo_store.specs.declared.store_error.StoreError.{StoreError}
 use Rattle.echo_store.specs.declared.store_error.StoreError.TheVariants as error
-use Rattle.echo_store_changing.specs.Stops.{store_answer}
-use Rattle.echo_store_changing.specs.declared.stop.Stop.{Stop}
 use Rattle.echo_store_changing.specs.declared.stop.Stop.TheVariants.{Met, Store}
 use Rattle.station_scan.specs.Stops.{IsOfPlacing, stop_of}
 use Rattle.station_scan.specs.declared.scan_stop.ScanStop.{ScanStop}
@@ -62,8 +59,3 @@ put_whole failed (Err why) is damaged = let same : why ≡ Command (Store error.
 pub put_device : (failed : Type 0) (result : Result (Unit {0}) ScanStop) → IfErr result (IsOfPlacing failed) → IsErrOf result (Command (Store error.Device)) → failed
 put_device failed (Ok done) is device = absurd (cc device)
 put_device failed (Err why) is device = let same : why ≡ Command (Store error.Device) = cc device in subst (IsOfPlacing failed) same is
-
--- a fault of the store, as the command answered it
-pub stopped_by : (A : Type 0) {P : Type 0} (why : Stop) (cause : StoreError) → (store_answer {A = A} (Err why) ≡ Err cause → P) → IsErrOf {T = Unit {0}} (Err (Command why)) (Command (Store cause)) → P
-stopped_by A (Met fault) cause gives is = absurd (cc is)
-stopped_by A (Store other) cause gives is = gives (let same : other ≡ cause = cc is in ap (λ (e : StoreError). Err e) same)

@@ -7,7 +7,7 @@ use Rattle.echo_disk.proofs.Moments.{then_nothing, then_run, weaker_run}
 use Rattle.echo_placing.specs.Changes.{HasOnDisk}
 use Rattle.echo_placing.specs.Finishing.{FinishesEach, IsOfLeft, IsOver}
 use Rattle.echo_placing.specs.Naming.{HasItsPath, NamesEach}
-use Rattle.echo_placing.specs.Outgoing.{IsFree, IsStaged}
+use Rattle.echo_placing.specs.Outgoing.{IsStaged}
 use Rattle.echo_placing.specs.declared.finishing.Left.{Left}
 use Rattle.echo_placing.specs.declared.outgoing.Outgoing.{Outgoing}
 use Rattle.echo_placing.specs.declared.placing_error.PlacingError.{PlacingError}
@@ -49,9 +49,6 @@ module _ (d e : DiskState) (quiet : ChangesNothing d e) where
   have_their_paths packets all k z lt =
       let p = get_or packets k z in
       record { file = file_through p.path.now p.file.now.bytes (all k z lt).file; gone = quiet.seen p.beside.now ∙ (all k z lt).gone }
-
-  pub were_free : (packets : List Outgoing) → All (IsFree d) packets → All (IsFree e) packets
-  were_free packets all k z lt = quiet.seen (get_or packets k z).path.now ∙ all k z lt
 
 -- a run between two that change nothing
 module _ (a d e b : DiskState) (before : ChangesNothing a d) (after : ChangesNothing e b) where

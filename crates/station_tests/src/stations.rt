@@ -2,9 +2,9 @@ use echo_base::Base;
 use echo_device::Watched;
 use echo_links::LinkFile;
 use echo_packet::Limits;
-use echo_stations::readers_are_what_is_known;
 use echo_store::MemoryStore;
 use echo_store_changing::{StoreCommand, Toss};
+use law_stations::tosses_are_what_is_known;
 use std::hash::{BuildHasherDefault, FoldHasher};
 use std::test::Fail;
 
@@ -19,7 +19,7 @@ fn packets_in_memory(rt: HostRuntime) -> Result<(), Fail> {
     let links = LinkFile::read(alloc, b"SYSTEM 1:10/2\n")?;
     let hasher: BuildHasherDefault<FoldHasher> = BuildHasherDefault::default();
     let mut store = MemoryStore::new(Base::new(alloc, hasher));
-    readers_are_what_is_known::<&[u8]>();
+    tosses_are_what_is_known::<&[u8]>();
     let packets = [EMPTY];
     let mut toss = Toss::new(Limits::NONE, false, packets.as_slice());
     let stopped = toss.run(alloc, &links, &mut store, &mut out)?;
