@@ -42,14 +42,13 @@ pub struct Scan<'a> {
     pub stamp: Stamp,
     pub folder: &'a str,
     pub slashed: &'a str,
-    pub progress: &'a Progress<'a>,
 }
 
 /// `scan`: the stamp is judged first. The packets get their names once the base is written.
-pub fn run_scan<'x, W: Sink, E: Sink>(
-    rt: &'x HostRuntime,
-    words: ScanWords<'x>,
-    progress: &'x Progress<'x>,
+pub fn run_scan<W: Sink, E: Sink>(
+    rt: &HostRuntime,
+    words: ScanWords<'_>,
+    progress: &Progress<'_>,
     out: &mut W,
     errors: &mut E,
 ) -> Status {
@@ -68,68 +67,61 @@ pub fn run_scan<'x, W: Sink, E: Sink>(
     let Ok(slashed) = folder_path(rt, words.folder) else {
         return Fault::OutOfMemory.report(errors);
     };
-    let at = found.at(rt, place);
-    let scan = scan_of(at, stamp, words.folder, slashed.as_str(), progress);
-    scan_at_once(scan, out, errors)
-}
-
-// A scan of a station into this folder.
-fn scan_of<'a>(
-    at: Station<'a>,
-    stamp: Stamp,
-    folder: &'a str,
-    slashed: &'a str,
-    progress: &'a Progress<'a>,
-) -> Scan<'a> {
-    Scan {
-        at,
+    let scan = Scan {
+        at: found.at(rt, place),
         stamp,
-        folder,
-        slashed,
-        progress,
-    }
-}
-
-// Scans, and reports what it met.
-fn scan_at_once<W: Sink, E: Sink>(scan: Scan<'_>, out: &mut W, errors: &mut E) -> Status {
-    let at = scan.at;
-    let files = ScanFiles::new(at.rt, at.path, scan.slashed, scan.progress);
-    let done = match at.folder {
-        Some(found) => scan_folder(scan, found, &files, out),
-        None => scan_file(scan, &files, out),
+        folder: words.folder,
+        slashed: slashed.as_str(),
     };
-    match done {
-        Ok(()) => Status::Good,
-        Err(ScanStop::Command(stop)) => fault_of(at, stop).report(errors),
-        Err(ScanStop::Placing(cause) | ScanStop::Staying(cause)) => {
-            report_unplaced(scan, &files, cause, errors)
-        }
+    match scan.at.folder {
+        Some(found) => scan_folder(scan, found, progress, out, errors),
+        None => scan_file(scan, progress, out, errors),
     }
 }
 
-// Scans a base file.
-fn scan_file<'a, W: Sink>(
-    scan: Scan<'a>,
-    files: &ScanFiles<'_, '_>,
+// Scans a base file, and reports what it met.
+fn scan_file<W: Sink, E: Sink>(
+    scan: Scan<'_>,
+    progress: &Progress<'_>,
     out: &mut W,
-) -> Result<(), ScanStop<'a>> {
-    let station = match file_station(scan.at, Some(scan.progress)) {
+    errors: &mut E,
+) -> Status {
+    let at = scan.at;
+    let station = match file_station(at, Some(progress)) {
         Ok(station) => station,
-        Err(fault) => return Err(ScanStop::Command(Stop::Met(fault))),
+        Err(fault) => return fault.report(errors),
     };
     let mut locks = Locks {
-        links: LinkLock::new(scan.at.rt),
-        base: LinkLock::new(scan.at.rt),
+        links: LinkLock::new(at.rt),
+        base: LinkLock::new(at.rt),
     };
-    let disk = RealDisk::new(files, Unknown);
-    let done = scan_unprepared(scan, disk, &mut locks, station, out);
+    let files = ScanFiles::new(at.rt, at.path, scan.slashed, progress);
+    let disk = RealDisk::new(&files, Unknown);
+    let done = scan_unprepared(scan, progress, disk, &mut locks, station, out);
     files.tidy();
-    done
+    report_scanned(scan, &files, done, errors)
+}
+
+// Reports how a scan ended.
+fn report_scanned<E: Sink>(
+    scan: Scan<'_>,
+    files: &ScanFiles<'_, '_>,
+    done: Result<(), ScanStop<'_>>,
+    errors: &mut E,
+) -> Status {
+    match done {
+        Ok(()) => Status::Good,
+        Err(ScanStop::Command(stop)) => fault_of(scan.at, stop).report(errors),
+        Err(ScanStop::Placing(cause) | ScanStop::Staying(cause)) => {
+            report_unplaced(scan, files, cause, errors)
+        }
+    }
 }
 
 // Scans a station whose store needs nothing before.
 fn scan_unprepared<'a, D: Disk + Drop, P: LendStation<'a, D>, L: FileLock, K: FileLock, W: Sink>(
     scan: Scan<'a>,
+    progress: &'a Progress<'a>,
     disk: D,
     locks: &mut Locks<L, K>,
     station: P,
@@ -144,19 +136,20 @@ fn scan_unprepared<'a, D: Disk + Drop, P: LendStation<'a, D>, L: FileLock, K: Fi
         locks,
         station,
         &mut Nothing,
-        &mut wanted(scan),
+        &mut wanted(scan, progress),
         out,
     );
     scanned.done
 }
 
-// Scans a base folder, into another folder than that.
-fn scan_folder<'a, W: Sink>(
-    scan: Scan<'a>,
+// Scans a base folder, into another folder than that, and reports what it met.
+fn scan_folder<W: Sink, E: Sink>(
+    scan: Scan<'_>,
     found: Found,
-    files: &ScanFiles<'_, '_>,
+    progress: &Progress<'_>,
     out: &mut W,
-) -> Result<(), ScanStop<'a>> {
+    errors: &mut E,
+) -> Status {
     let at = scan.at;
     let station = FolderStation {
         at: folder_place(at),
@@ -168,30 +161,29 @@ fn scan_folder<'a, W: Sink>(
         base: LinkLock::new(at.rt),
     };
     let mut opened = Opened::new(at.rt, at.place.base, None).apart_from(scan.folder);
+    let files = ScanFiles::new(at.rt, at.path, scan.slashed, progress);
     let scanned = scan_station(
         at.rt.alloc(),
-        RealDisk::new(files, Unknown),
+        RealDisk::new(&files, Unknown),
         &mut locks,
         station,
         &mut opened,
-        &mut wanted(scan),
+        &mut wanted(scan, progress),
         out,
     );
-    match scanned.done {
-        Err(ScanStop::Command(stop)) => Err(ScanStop::Command(Stop::Met(fault_of(at, stop)))),
-        done => done,
-    }
+    report_scanned(scan, &files, scanned.done, errors)
 }
 
 // What is asked of a scan.
-fn wanted<'a>(scan: Scan<'a>) -> Wanted<'a, LeftFiles<'a>, ScanProgress<'a>> {
+fn wanted<'a>(
+    scan: Scan<'a>,
+    progress: &'a Progress<'a>,
+) -> Wanted<'a, LeftFiles<'a>, ScanProgress<'a>> {
     Wanted {
         stamp: scan.stamp,
         outbound: scan.slashed.as_bytes(),
         listing: LeftFiles::new(scan.at.rt),
-        watch: ScanProgress {
-            progress: scan.progress,
-        },
+        watch: ScanProgress { progress },
     }
 }
 
