@@ -94,8 +94,7 @@ abbrev pub AsMay : {A : Type 0} → (Base → Command → Type 0) → Place → 
 AsMay IsCommand place Reads old new result = (i : ℕ) (d : Disks) (links : List ℕ) → ReadsLinks Reads links old → (at : IsStationAt place links i old d)
     → DoesAsMay (IsCommand at.shows.station.base) place links i d old new result
 
--- Each station of a net that the disk shows in this place is as before a command that met a fault, unless it is shut, as is said of the
--- fault.
+-- Each station that the disk shows in this place is as before a command that met a fault, unless it is shut for that.
 abbrev pub StaysWhereMet : {A : Type 0} → Place → (Fault → Type 0) → DiskState → DiskState → Result A Stop → Type 0
 StaysWhereMet place IsShut old new result = (i : ℕ) (d : Disks) (links : List ℕ) → IsStationAt place links i old d → (fault : Fault) → result ≡ Err (Met fault)
     → IsAsBefore place links i d new ⊎ IsShut fault

@@ -79,7 +79,7 @@ ScansAsMay stamp place outbound Reads old new result = (links : List ℕ) (i : �
     → (at : IsStationAt place links i old d) → EndsSome n i d ended → HasNoneBeside i ended.beside
     → ScansAsEvent stamp place links outbound i d ended at.shows.station.base old new result
 
--- Each station of a net that the disk shows in this place is as before a scan that met a fault, unless it is shut, as is said of the fault.
+-- Each station that the disk shows in this place is as before a scan that met a fault, unless it is shut for that.
 abbrev pub StaysWhereScanMet : Place → List ℕ → (Fault → Type 0) → DiskState → DiskState → Result (Unit {0}) ScanStop → Type 0
 StaysWhereScanMet place outbound IsShut old new result = (links : List ℕ) (i : ℕ) (d : Disks) → (IsTouched place.is_own outbound links → ⊥) → IsStationAt place links i old d
     → (fault : Fault) → result ≡ Err (Command (Met fault)) → IsAsBefore place links i d new ⊎ IsShut fault
