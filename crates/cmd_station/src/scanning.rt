@@ -7,6 +7,7 @@ ghost use Rattle.station.specs.Opening.{AreFree};
 use crate::place::{Place, Station, find_base};
 use crate::running::{fault_of, file_station, folder_place};
 use crate::unplaced::report_unplaced;
+use cmd_base::Counting;
 use cmd_base_file::{LeftFiles, ScanFiles};
 use cmd_base_folder::Opened;
 use cmd_input::{LinkLock, Progress, folder_path, moment_of};
@@ -19,9 +20,11 @@ use echo_status::{Fault, Status};
 use echo_steps::Stamp;
 use echo_store_changing::Stop;
 use station::{LendStation, Locks, Nothing, OpenStation};
+use station_file::FileStation;
 use station_folder::{FolderStation, Found};
 use station_scan::{Scan as Wanted, ScanStop, Watching, run_scan as scan_station};
 use std::marker::PhantomData;
+use std::rt::Files;
 
 /// How many messages are taken at hand between two looks at the clock.
 const SOME: usize = 1_000;
@@ -97,10 +100,24 @@ fn scan_file<W: Sink, E: Sink>(
         base: LinkLock::new(at.rt),
     };
     let files = ScanFiles::new(at.rt, at.path, scan.slashed, progress);
-    let disk = RealDisk::new(&files, Unknown);
-    let done = scan_unprepared(scan, progress, disk, &mut locks, station, out);
+    let done = scan_over(scan, progress, &files, &mut locks, station, out);
     files.tidy();
     report_scanned(scan, &files, done, errors)
+}
+
+// Scans a station with a base file, over these files.
+fn scan_over<'a, F: Files + Drop + 'a, L: FileLock, K: FileLock, W: Sink>(
+    scan: Scan<'a>,
+    progress: &'a Progress<'a>,
+    files: F,
+    locks: &mut Locks<L, K>,
+    station: FileStation<'a, Counting<'a, 'a>>,
+    out: &mut W,
+) -> Result<(), ScanStop<'a>>
+    requires { AreFree (L.held locks.old.links) (K.held locks.old.base) }
+{
+    let disk = RealDisk::new(files, Unknown);
+    scan_unprepared(scan, progress, disk, locks, station, out)
 }
 
 // Reports how a scan ended.
