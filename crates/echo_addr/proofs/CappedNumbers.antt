@@ -7,7 +7,7 @@ use Rattle.std.proofs.lemmas.Int.Digits.{digits_value_more}
 use Rattle.std.proofs.lemmas.Str.{digit_value_digit}
 use Rattle.std.proofs.lemmas.List.{take_all}
 use Rattle.std.proofs.lemmas.List.Recursion.{and_fails_at, and_from_places}
-use Rattle.std.proofs.lemmas.Bool.{and_parts, and_from, and_left, and_right, leb-true, le-ltb, lt-ltb}
+use Rattle.std.proofs.lemmas.Bool.{and_parts, and_from, and_right, leb-true, lt-ltb}
 use Rattle.echo_addr.specs.Digits.{is_number}
 use Rattle.echo_addr.proofs.Decimals.{IsDigit}
 
@@ -15,9 +15,6 @@ use Rattle.echo_addr.proofs.Decimals.{IsDigit}
 pub record Digested (cap : ℕ) (ds : List ℕ) (i value : ℕ) : Type 0 where
   pub each : (k : ℕ) → k < i → is_ascii_digit (get_or ds k 0) ≡ true
   pub value_is : value ≡ min (digits_value 10 (take i ds)) cap
-
-pub Digested-none : (cap : ℕ) (ds : List ℕ) → Digested cap ds 0 0
-Digested-none cap ds = record { each = λ k lt. absurd (omega arith); value_is = omega arith }
 
 digit_range : (c : ℕ) → is_ascii_digit c ≡ true → IsDigit c
 digit_range c h = let parts = and_parts _ _ h in (leb-true 48 c parts.0, leb-true c 57 parts.1)
@@ -47,6 +44,3 @@ Digested-all cap ds i value some all d = (
 pub no_number : (ds : List ℕ) (i : ℕ) → i < length ds → is_ascii_digit (get_or ds i 0) ≡ false → is_number ds ≡ false
 no_number ds i lt other =
     and_right (nat_lt 0 (length ds)) (all_ascii_digits ds) (and_fails_at all_ascii_digits is_ascii_digit refl (λ c cs. refl) ds i 0 lt other)
-
-pub empty_number : (ds : List ℕ) → length ds ≡ 0 → is_number ds ≡ false
-empty_number ds empty = and_left (nat_lt 0 (length ds)) (all_ascii_digits ds) (le-ltb 0 (length ds) (omega arith))

@@ -117,11 +117,6 @@ none_from : {X : Type 0} (o : Option X) → is_some o ≡ false → o ≡ None
 none_from None h = refl
 none_from (Some x) h = absurd (true≢false h)
 
--- a new key is not found
-pub not_looked_up : (entries : List (Key × Filed)) (key : Key) → keys_of entries ≡ map key_of (values_of entries)
-    → is_known (values_of entries) key ≡ false → lookup (derived key) entries ≡ None
-not_looked_up entries key h new = none_from (lookup (derived key) entries) (looked_up entries key h ∙ new)
-
 pub any_map : {X Y : Type 0} (f : X → Y) (p : Y → Bool) (xs : List X) → list_any p (map f xs) ≡ list_any (λ x. p (f x)) xs
 any_map f p [] = refl
 any_map f p (x ∷ xs) = ap (λ b. p (f x) || b) (any_map f p xs)

@@ -1,5 +1,5 @@
 -- Whether a stored message may stand next in a base, test after test.
-use Rattle.std.proofs.Common.{◌≡◌, ◌==◌, ℕ, ◌||◌, not, Bool, true, false, List, [], ◌∷◌, length, refl, sym, ap, subst, ◌∙◌, Option, Some, None}
+use Rattle.std.proofs.Common.{◌≡◌, ◌==◌, ℕ, ◌||◌, not, Bool, true, false, List, [], ◌∷◌, length, refl, sym, ap, subst, ◌∙◌, Option, Some}
 use Rattle.std.specs.Prelude.{bytes_eq, is_none}
 use Rattle.std.specs.List.{list_all, list_any}
 use Rattle.std.proofs.lemmas.Bool.{not-false, or_parts}
@@ -101,6 +101,3 @@ last_said version s with_tag last o echo tagged same is h =
 -- what is found is the value, and not wrong
 pub found_right : {X : Type 0} (wrong : Bool) (x y : X) (o : Option X) → o ≡ Some y → UnlessWrong wrong x o → (wrong ≡ false) × (y ≡ x)
 found_right wrong x y o is h = subst (UnlessWrong wrong x) is h
-
-pub none_wrong : {X : Type 0} (wrong : Bool) (x : X) (o : Option X) → o ≡ None → UnlessWrong wrong x o → wrong ≡ true
-none_wrong wrong x o is h = subst (UnlessWrong wrong x) is h

@@ -37,10 +37,6 @@ both_where a b r is same = same ∙ ap (λ x. x && b) (sym is)
 pub neither_where : (a b r : Bool) → a ≡ false → r ≡ a → r ≡ (a && b)
 neither_where a b r isnt same = same ∙ isnt ∙ ap (λ x. x && b) (sym isnt)
 
--- what holds of two values holds of the same ones
-pub of_both : {A B : Type 0} (P : A → B → Type 0) (a c : A) (b d : B) → a ≡ c → b ≡ d → P a b → P c d
-of_both P a c b d same other holds = subst (λ x. P c x) other (subst (λ x. P x b) same holds)
-
 module _ (files : List LinkFile) (list : Option (List Line)) where
   -- the lines of the verdict on an area
   pub area_checked : (tag : List ℕ) (verdict : Verdict) (fine : Bool) (old new : List ℕ) → IsCheckVerdict files tag verdict

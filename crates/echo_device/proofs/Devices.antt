@@ -1,14 +1,10 @@
 -- What several reads or writes did, one after another.
-use Rattle.std.proofs.Common.{◌≡◌, ℕ, ◌+◌, ◌<◌, ◌≤◌, inl, inr, List, ◌++◌, Option, None, Some, length, take, sym, ap, ◌∙◌, subst, arith, append-nil, length-append, take_all}
+use Rattle.std.proofs.Common.{ℕ, ◌+◌, ◌≤◌, inl, inr, List, ◌++◌, Option, length, take, sym, subst, arith, length-append}
 use Rattle.std.proofs.lemmas.List.{take-append-le}
 use Rattle.std.proofs.Math.Seq.{take-append-add}
-use Rattle.std.specs.Io.KnownBytes.{Appends, Consumes}
+use Rattle.std.specs.Io.KnownBytes.{Appends}
 use Rattle.std.proofs.KnownBytes.{Appends-trans}
-use Rattle.echo_device.specs.Device.{Failed, FillsTo, SendsAll, SendsFront}
-
--- the failure came after calls that did not fail
-pub Failed-after : (before between after : ℕ) → between ≡ before → Failed between after → Failed before after
-Failed-after before between after same failed = subst (λ n. Failed n after) same failed
+use Rattle.echo_device.specs.Device.{Failed, SendsAll, SendsFront}
 
 -- the count never falls
 pub Failed-le : (before after : ℕ) → Failed before after → before ≤ after
@@ -19,17 +15,6 @@ Failed-le before after (inr (full, same)) = omega arith
 pub Failed-never : Failed 0 0 → ⊥
 Failed-never (inl rose) = omega arith
 Failed-never (inr (full, same)) = omega arith
-
--- the buffer was filled
-pub FillsTo-whole : (a b : Option (List ℕ)) (buf : List ℕ) (n : ℕ) → FillsTo a b buf n → length buf ≤ n → Consumes a b buf
-FillsTo-whole a b buf n filled full = subst (Consumes a b) (take_all n buf full) filled.0
-
--- the input ended before the buffer was full: these are all its bytes
-pub FillsTo-short : (bytes : List ℕ) (b : Option (List ℕ)) (buf : List ℕ) (n : ℕ) → FillsTo (Some bytes) b buf n → n < length buf
-    → bytes ≡ take n buf
-FillsTo-short bytes None buf n filled short = absurd filled.0
-FillsTo-short bytes (Some rest) buf n filled short =
-    filled.0 ∙ ap (λ l. take n buf ++ l) (filled.1 short) ∙ append-nil (take n buf)
 
 -- all of xs went out, and then all of ys
 pub SendsAll-then : (a b c : Option (List ℕ)) (xs ys : List ℕ) (s m t : ℕ) → SendsAll a b xs s m → SendsAll b c ys m t

@@ -1,9 +1,9 @@
 -- What was read of an input.
-use Rattle.std.proofs.Common.{◌≡◌, ℕ, ◌+◌, ◌-◌, ◌<◌, ◌≤◌, List, ◌++◌, length, take, drop, replicate, take_all, Option, None, Some, IfSome, sym, ap, subst, ◌∙◌, arith, length-append, length-drop, append-nil}
+use Rattle.std.proofs.Common.{◌≡◌, ℕ, ◌+◌, ◌-◌, ◌<◌, ◌≤◌, List, ◌++◌, length, take, drop, replicate, take_all, Option, None, Some, IfSome, sym, ap, subst, ◌∙◌, arith, length-append, length-drop}
 use Rattle.std.proofs.lemmas.List.{length-replicate, length-take}
 use Rattle.std.proofs.Math.Seq.{take-add, take-append_seam}
 use Rattle.echo_device.specs.Device.{FillsTo}
-use Rattle.std.specs.Io.KnownBytes.{Consumes, IsAtEnd}
+use Rattle.std.specs.Io.KnownBytes.{Consumes}
 use Rattle.std.proofs.KnownBytes.{Consumes-trans}
 use Rattle.echo_files.specs.Input.{ReadsOn}
 
@@ -11,12 +11,6 @@ use Rattle.echo_files.specs.Input.{ReadsOn}
 pub more_read : (a b c : Option (List ℕ)) (old new : List ℕ) (n piece : ℕ) → Consumes a b old → ReadsOn b c old new n piece → Consumes a c new
 more_read a b c old new n piece before more =
     subst (Consumes a c) (sym more.whole) (Consumes-trans a b c old more.came before more.took)
-
--- what was read is all of it
-pub all_read : (a b : Option (List ℕ)) (got : List ℕ) → Consumes a b got → IsAtEnd b → IfSome a (λ bytes. got ≡ bytes)
-all_read None b got took end = tt
-all_read (Some x) None got took end = absurd took
-all_read (Some x) (Some y) got took end = sym (took ∙ ap (λ t. got ++ t) end ∙ append-nil got)
 
 -- more was read than is allowed
 pub over : (a b : Option (List ℕ)) (got : List ℕ) (most : ℕ) → Consumes a b got → most < length got → IfSome a (λ bytes. most < length bytes)

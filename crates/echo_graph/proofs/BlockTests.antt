@@ -1,9 +1,9 @@
 -- A division into blocks, tested member by member, and which of its blocks are full.
-use Rattle.std.proofs.Common.{◌≡◌, ◌≢◌, ◌+◌, ◌<◌, ◌≤◌, ◌++◌, ℕ, Bool, false, IsTrue, Option, Some, None, List, [], ◌∷◌, length, get_or, set, replicate, sym, ap, ◌∙◌, subst, refl, arith, inl, inr}
-use Rattle.std.proofs.lemmas.Bool.{cases_eq, cases_lt, false≢true}
-use Rattle.std.proofs.lemmas.List.{length_push, length-set, length-replicate, get_or_push, get_or_append_left, get_or-set_same, get_or-set_other, get_or-replicate}
-use Rattle.echo_graph.specs.Rows.{linked, IsGraph}
-use Rattle.echo_graph.specs.Blocks.{IsInBlock, AreBlocks, AreFull, IsFullyLinked, IsLastBefore, LastMembers}
+use Rattle.std.proofs.Common.{◌≡◌, ◌≢◌, ◌+◌, ◌<◌, ◌≤◌, ◌++◌, ℕ, Bool, false, IsTrue, Option, Some, None, List, [], ◌∷◌, length, get_or, set, sym, ap, ◌∙◌, subst, arith, inl, inr}
+use Rattle.std.proofs.lemmas.Bool.{cases_eq, false≢true}
+use Rattle.std.proofs.lemmas.List.{length_push, length-set, get_or_push, get_or_append_left, get_or-set_same, get_or-set_other}
+use Rattle.echo_graph.specs.Rows.{linked}
+use Rattle.echo_graph.specs.Blocks.{IsInBlock, AreBlocks, IsLastBefore, LastMembers}
 use Rattle.echo_graph.proofs.Rows.{linked_within}
 
 pub AreBlocks-from_each : (rows : List (List ℕ)) (block top rank : ℕ → ℕ) →
@@ -11,33 +11,6 @@ pub AreBlocks-from_each : (rows : List (List ℕ)) (block top rank : ℕ → ℕ
 AreBlocks-from_each rows block top rank each = record {
   links = λ x y link. (each x (linked_within rows x y link)).0 y link;
   ranks = λ x lt. (each x lt).1;
-}
-
--- where no full block is known, none is
-pub AreFull-from_none : (links : ℕ → ℕ → Bool) (members : ℕ) (block top : ℕ → ℕ) (full : ℕ → Bool) → ((k : ℕ) → ¬ IsTrue (full k)) → AreFull links members block top full
-AreFull-from_none links members block top full none = record {
-  to_top = λ x lt is. absurd (none (block x) is);
-  each_other = λ x y lt_x lt_y same differ is. absurd (none (block x) is);
-}
-
-pub AreFull-from_each : (rows : List (List ℕ)) → IsGraph rows → (block top : ℕ → ℕ) (full : ℕ → Bool) →
-    ((x : ℕ) → x < length rows → IsTrue (full (block x)) → IsFullyLinked (linked rows) block top x) → AreFull (linked rows) (length rows) block top full
-AreFull-from_each rows graph block top full each = record {
-  to_top = λ x lt is. (each x lt is).0;
-  each_other = λ x y lt_x lt_y same differ is.
-      elim (cases_lt y x) [
-        | inl before ↦ (each x lt_x is).1 y before (sym same)
-        | inr after ↦
-            graph.both_ways y x ((each y lt_y (subst (λ k. IsTrue (full k)) same is)).1 x (omega arith) same)
-      ];
-}
-
-pub LastMembers-start : (block : ℕ → ℕ) (members : ℕ) (last : List (Option ℕ)) → last ≡ replicate members None → LastMembers block members 0 [] last
-LastMembers-start block members last is = record {
-  one_each = refl;
-  all_blocks = ap length is ∙ length-replicate members None;
-  previous = λ x lt. absurd (omega arith);
-  last = λ k lt. subst (IsLastBefore block k 0) (sym (ap (λ (l : List (Option ℕ)). get_or l k None) is ∙ get_or-replicate members k None None lt)) (λ y low. absurd (omega arith));
 }
 
 -- a further member of another block

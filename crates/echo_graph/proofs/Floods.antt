@@ -1,12 +1,11 @@
 -- A search by levels keeps its queue in order, and ends with all links settled.
-use Rattle.std.proofs.Common.{◌≡◌, ◌≢◌, ◌+◌, ◌<◌, ◌≤◌, ◌⊎◌, ℕ, suc, Bool, IsTrue, Option, Some, None, List, [], ◌∷◌, length, get_or, set, sym, ap, ◌∙◌, subst, arith, inl, inr}
-use Rattle.std.proofs.lemmas.Bool.{cases_eq, cases_lt}
-use Rattle.std.proofs.lemmas.List.{get_or-set_same, get_or-set_other, length-set}
+use Rattle.std.proofs.Common.{◌≡◌, ◌≢◌, ◌+◌, ◌<◌, ◌≤◌, ◌⊎◌, ℕ, suc, IsTrue, Option, Some, None, List, [], length, get_or, sym, ap, ◌∙◌, subst, arith, inl, inr}
+use Rattle.std.proofs.lemmas.Bool.{cases_lt}
 use Rattle.std.proofs.lemmas.Option.{none-some, same_Some}
 use Rattle.echo_graph.specs.Rows.{links_at, linked, IsGraph}
 use Rattle.echo_graph.specs.Levels.{level_of}
 use Rattle.echo_graph.specs.Visits.{Visited}
-use Rattle.echo_graph.specs.Floods.{Flooding, Flooded, IsSettledFlood}
+use Rattle.echo_graph.specs.Floods.{Flooding, IsSettledFlood}
 use Rattle.echo_graph.proofs.Rows.{place_of}
 use Rattle.echo_graph.proofs.Visits.{level_cases}
 
@@ -16,29 +15,6 @@ one_level levels i m n a b = same_Some m n (sym a ∙ b)
 
 no_level : (levels : List (Option ℕ)) (i m : ℕ) → level_of levels i ≡ None → level_of levels i ≡ Some m → ⊥
 no_level levels i m a b = none-some m (sym a ∙ b)
-
-pub Flooding-start : (links : ℕ → ℕ → Bool) (without root : ℕ) (old : List (Option ℕ)) → root < length old → root ≢ without → level_of old root ≡ None → Flooding links without root old (set old root (Some 0)) (root ∷ []) 0
-Flooding-start links without root old lt apart none =
-    let same : level_of (set old root (Some 0)) root ≡ Some 0 = get_or-set_same old root (Some 0) None lt in
-    let at : (k : ℕ) → k < 1 → get_or (root ∷ []) k 0 ≡ root = λ k low. ap (λ j. get_or (root ∷ []) j 0) (let z : k ≡ 0 = omega arith in z) in
-    let level : (k m : ℕ) → k < 1 → level_of (set old root (Some 0)) (get_or (root ∷ []) k 0) ≡ Some m → m ≡ 0 =
-    λ k m low e. one_level (set old root (Some 0)) root m 0 (sym (ap (level_of (set old root (Some 0))) (at k low)) ∙ e) same in
-    record {
-      same_length = length-set old root (Some 0);
-      in_queue = omega arith;
-      rooted = same;
-      kept = λ i m e. get_or-set_other old root i (Some 0) None (λ (bad : i ≡ root). no_level old root m none (ap (level_of old) (sym bad) ∙ e)) ∙ e;
-      queued = λ k low.
-          (ap (level_of old) (at k low) ∙ none, (0, ap (level_of (set old root (Some 0))) (at k low) ∙ same, omega arith));
-      made = λ i m e.
-          elim (cases_eq i root) [
-            | inl is ↦ inr (((λ (bad : i ≡ without). apart (sym is ∙ bad)), inl (one_level (set old root (Some 0)) root m 0 (ap (level_of (set old root (Some 0))) (sym is) ∙ e) same, is)), (0, omega arith, sym is))
-            | inr differ ↦ inl (sym (get_or-set_other old root i (Some 0) None differ) ∙ e)
-          ];
-      settled = λ k b m low. absurd (omega arith);
-      sorted = λ j k m n le lt_k ej ek. omega (arith, level j m (omega arith) ej, level k n (omega arith) ek);
-      near = λ k m n low lt_k e0 ek. omega (arith, level k n (omega arith) ek);
-    }
 
 -- the member at the head, once its links are visited, is settled
 pub Flooding-step : (rows : List (List ℕ)) (without root : ℕ) (old levels new : List (Option ℕ)) (queue longer : List ℕ) (head member level : ℕ) → IsGraph rows → IsSettledFlood (linked rows) without old → Flooding (linked rows) without root old levels queue head → head < length queue → get_or queue head 0 ≡ member → level_of levels member ≡ Some level → Visited (links_at rows member) (length (links_at rows member)) without (level + 1) levels new queue longer → Flooding (linked rows) without root old new longer (head + 1)
@@ -159,22 +135,3 @@ Flooding-step rows without root old levels new queue longer head member level gr
             | inr a ↦ omega (arith, a.1)
           ];
     }
-
--- once the whole queue is settled, the search is done
-pub Flooded-end : (links : ℕ → ℕ → Bool) (without root : ℕ) (old levels : List (Option ℕ)) (queue : List ℕ) (head : ℕ) → IsSettledFlood links without old → Flooding links without root old levels queue head → length queue ≤ head → Flooded links without root old levels
-Flooded-end links without root old levels queue head was f done = record {
-  same_length = f.same_length;
-  rooted = f.rooted;
-  kept = f.kept;
-  made = λ i m e.
-      elim (f.made i m e) [
-        | inl oldest ↦ inl oldest
-        | inr w ↦ inr w.0
-      ];
-  settled = λ a b m e link apart.
-      elim (f.made a m e) [
-        | inl oldest ↦ let s = was a b m oldest link apart in (s.0, f.kept b s.0 s.1, s.2)
-        | inr w ↦
-            f.settled w.1.0 b m (omega (arith, w.1.1)) (ap (level_of levels) w.1.2 ∙ e) (subst (λ (i : ℕ). IsTrue (links i b)) (sym w.1.2) link) apart
-      ];
-}

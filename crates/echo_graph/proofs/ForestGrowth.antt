@@ -10,14 +10,6 @@ use Rattle.echo_graph.specs.Forest.{IsForest}
 use Rattle.echo_graph.proofs.Walks.{Reaches-sym}
 use Rattle.echo_graph.proofs.PinchSearch.{Simple-from_graph}
 
-pub IsForest-start : (links : ℕ → ℕ → Bool) (members : ℕ) (levels : List (Option ℕ)) → ((i : ℕ) → level_of levels i ≡ None) → IsForest links members 0 levels
-IsForest-start links members levels fresh = record {
-  all = λ a lt. absurd (omega arith);
-  lower = λ a m e. absurd (none-some (suc m) (sym (fresh a) ∙ e));
-  near = λ a b m e link apart. absurd (none-some m (sym (fresh a) ∙ e));
-  one_root = λ a b at_a at_b walk. absurd (none-some 0 (sym (fresh a) ∙ at_a));
-}
-
 -- a member that has a level
 pub IsForest-passed : (links : ℕ → ℕ → Bool) (members root m : ℕ) (levels : List (Option ℕ)) → IsForest links members root levels → level_of levels root ≡ Some m → IsForest links members (root + 1) levels
 IsForest-passed links members root m levels f has = record {

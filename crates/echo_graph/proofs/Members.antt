@@ -52,10 +52,6 @@ Different-push (x ∷ xs) y h none = (
   Different-push xs y h.1 (λ t. none (inr t)),
 )
 
-pub Different-tail_of_append : {A : Type 0} (xs ys : List A) → Different (xs ++ ys) → Different ys
-Different-tail_of_append [] ys h = h
-Different-tail_of_append (x ∷ xs) ys h = Different-tail_of_append xs ys h.1
-
 -- a member stands at some index, and what stands at an index is a member
 pub Among-index : {A : Type 0} (x d : A) (xs : List A) → Among x xs → (k : ℕ) × (k < length xs) × (get_or xs k d ≡ x)
 Among-index x d [] h = absurd h

@@ -8,7 +8,7 @@ use Rattle.echo_graph.specs.Rows.{links_at, linked, IsGraph}
 use Rattle.echo_graph.specs.Levels.{level_of, Distance, AreLevels}
 use Rattle.echo_graph.specs.Pinches.{IsPinch, FirstOther, FirstHere}
 use Rattle.echo_graph.proofs.Members.{ℕ-can_tell}
-use Rattle.echo_graph.proofs.Around.{Around-sym, Beyond-from_no_around, no_around-from_Beyond}
+use Rattle.echo_graph.proofs.Around.{Around-sym, Beyond-from_no_around}
 use Rattle.echo_graph.proofs.Rows.{holds_at, place_of}
 use Rattle.echo_graph.proofs.Visits.{level_cases}
 
@@ -116,8 +116,3 @@ Parted-from_no_pinch links simple none b a c link_a link_c differ apart =
         around = Around-sym links simple b a c around;
       })
     ])
-
-pub no_pinch-from_Parted : (links : ℕ → ℕ → Bool) → Parted links → (b a c : ℕ) → ¬ IsPinch links b a c
-no_pinch-from_Parted links parted b a c pinch =
-    let differ : a ≢ c = (let lt = pinch.in_order in λ same. absurd (omega arith)) in
-    no_around-from_Beyond links b c a (parted b a c pinch.one pinch.other differ pinch.not_linked) pinch.around

@@ -34,18 +34,6 @@ unlevelled-set (Some m ∷ levels) zero level lt e = absurd (none-some m (sym e)
 unlevelled-set (None ∷ levels) (suc i) level lt e = omega (arith, unlevelled-set levels i level (omega arith) e)
 unlevelled-set (Some m ∷ levels) (suc i) level lt e = unlevelled-set levels i level (omega arith) e
 
-pub Visited-start : (links : List ℕ) (without level : ℕ) (old : List (Option ℕ)) (queue : List ℕ) → Visited links 0 without level old old queue queue
-Visited-start links without level old queue = record {
-  same_length = refl;
-  grows = omega arith;
-  front = λ k lt. refl;
-  kept = λ i m e. e;
-  made = λ i m e. inl e;
-  back = λ k low lt. absurd (omega arith);
-  reached = λ k lt apart. absurd (omega arith);
-  spent = refl;
-}
-
 -- a link that is to be left out, or that has a level already
 pub Visited-passed : (links : List ℕ) (count without level : ℕ) (old new : List (Option ℕ)) (queue longer : List ℕ) → Visited links count without level old new queue longer → (get_or links count 0 ≢ without → (m : ℕ) × (level_of new (get_or links count 0) ≡ Some m)) → Visited links (count + 1) without level old new queue longer
 Visited-passed links count without level old new queue longer v here = record {

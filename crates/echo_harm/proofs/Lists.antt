@@ -1,5 +1,5 @@
 -- Items of lists by their index, and what stands behind some of them.
-use Rattle.std.proofs.Common.{◌≡◌, ◌⊎◌, inl, inr, refl, sym, subst, ap, ◌∙◌, ℕ, zero, suc, ◌+◌, ◌<◌, arith, List, [], ◌∷◌, ◌++◌, length, drop, map, Some, None}
+use Rattle.std.proofs.Common.{◌≡◌, inl, inr, refl, sym, subst, ap, ◌∙◌, ℕ, zero, suc, ◌+◌, ◌<◌, arith, List, [], ◌∷◌, ◌++◌, length, map, Some, None}
 use Rattle.std.specs.Prelude.{Bool, false, not}
 use Rattle.std.specs.List.{position_or_len}
 use Rattle.std.proofs.lemmas.Bool.{cond-true, cond-false}
@@ -62,14 +62,3 @@ none_passes {X} p (y ∷ xs) h x i =
 
 same_list : {X : Type 0} (x : X) (xs ys : List X) → xs ≡ ys → Among x xs → Among x ys
 same_list {X} x xs ys e h = let P : List X → Type 0 = λ zs. Among x zs in subst P e h
-
--- what stands behind the first ones of two lists joined stands behind those of the first list, or in the second
-pub Among-drop_append : {X : Type 0} (n : ℕ) (x : X) (xs ys : List X) → Among x (drop n (xs ++ ys)) → Among x (drop n xs) ⊎ Among x ys
-Among-drop_append n x [] ys h = inr (dropped n x ys h)
-  where
-    dropped : {X : Type 0} (n : ℕ) (x : X) (ys : List X) → Among x (drop n ys) → Among x ys
-    dropped zero x ys h = h
-    dropped (suc n) x [] h = h
-    dropped (suc n) x (y ∷ ys) h = inr (dropped n x ys h)
-Among-drop_append zero x (z ∷ xs) ys h = elim h [ inl e ↦ inl (inl e) | inr t ↦ elim (Among-drop_append zero x xs ys t) [ inl l ↦ inl (inr l) | inr r ↦ inr r ] ]
-Among-drop_append (suc n) x (z ∷ xs) ys h = Among-drop_append n x xs ys h

@@ -8,38 +8,14 @@ use Rattle.echo_addr.specs.declared.address.Address.{Address}
 use Rattle.echo_addr.specs.Address.{address_in, outcome}
 use Rattle.echo_links.specs.Links.{same_address}
 use Rattle.echo_links.specs.declared.fault.LinkFault.TheVariants as fault
-use Rattle.echo_links.specs.LinkLines.{is_one_address, links_fault}
+use Rattle.echo_links.specs.LinkLines.{links_fault}
 use Rattle.echo_links.specs.LinkReading.{IsWordOf}
 use Rattle.echo_links.specs.Found.{HaveTheSame, address_order}
 use Rattle.echo_links.proofs.Found.{link_found}
 use Rattle.echo_links.proofs.LinkLoops.{any_last}
-use Rattle.echo_link_faults.specs.FaultyLines.{link_again, no_address, not_one_address}
+use Rattle.echo_link_faults.specs.FaultyLines.{link_again, no_address}
 
 -- ---- behind SYSTEM
-
--- the first word is no address
-pub first_is_wrong : (all : List (List ℕ)) (word : List ℕ) (more : List (List ℕ)) → all ≡ word ∷ more → IsWordOf word None
-    → (is_one_address all ≡ false) × (word ≡ not_one_address all)
-first_is_wrong all word more cut is = (
-  ap is_one_address cut ∙ by more,
-  sym (ap not_one_address cut ∙ cond-true (is_err (outcome word)) word _ is.1),
-)
-  where
-    by : (ws : List (List ℕ)) → is_one_address (word ∷ ws) ≡ false
-    by [] = is.0
-    by (w ∷ ws) = refl
-
--- a word stands behind it
-pub second_is_wrong : (all : List (List ℕ)) (word second : List ℕ) (rest more : List (List ℕ)) (a : Address) → all ≡ word ∷ rest → IsWordOf word (Some a) → rest ≡ second ∷ more
-    → (is_one_address all ≡ false) × (second ≡ not_one_address all)
-second_is_wrong all word second rest more a cut is next = (
-  ap is_one_address (cut ∙ ap (λ ws. word ∷ ws) next),
-  sym (ap not_one_address (cut ∙ ap (λ ws. word ∷ ws) next) ∙ cond-false (is_err (outcome word)) word second is.1),
-)
-
--- it stands alone
-pub first_is_right : (all : List (List ℕ)) (word : List ℕ) (rest : List (List ℕ)) (a : Address) → all ≡ word ∷ rest → IsWordOf word (Some a) → rest ≡ [] → is_one_address all ≡ true
-first_is_right all word rest a cut is next = ap is_one_address (cut ∙ ap (λ ws. word ∷ ws) next) ∙ is.0
 
 -- ---- links
 

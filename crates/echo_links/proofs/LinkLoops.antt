@@ -18,9 +18,6 @@ pub record LinksRead (number : ℕ) (all later : List (List ℕ)) (links : List 
   pub whole : map address_in all ≡ links ++ map address_in later
   pub known : (a : Address) → list_any (same_address a) (map address_in before) ≡ list_any (same_address a) links
 
-pub links_begun : (number : ℕ) (all : List (List ℕ)) → LinksRead number all all []
-links_begun number all = record { before = []; faults = refl; whole = refl; known = λ a. refl }
-
 pub any_last : (a b : Address) (links : List Address) → list_any (same_address a) (links ++ b ∷ []) ≡ (same_address a b || list_any (same_address a) links)
 any_last a b [] = refl
 any_last a b (c ∷ links) = ap (λ t. same_address a c || t) (any_last a b links) ∙ turned (same_address a c) (same_address a b) (list_any (same_address a) links)

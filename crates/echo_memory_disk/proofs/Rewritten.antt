@@ -1,6 +1,6 @@
 -- A write and a cut: all of it, and as far as a crash lets it come.
 use Rattle.std.proofs.Common.{◌≡◌, ◌≤◌, ◌+◌, ◌-◌, ℕ, min, List, ◌∷◌, ◌++◌, length, take, drop, refl, sym, ◌∙◌, ap, subst, arith, length-append, length-take, length-drop, append_assoc}
-use Rattle.std.specs.Prelude.{false, bytes_eq, reverse, Option, Some, Result, Ok, Err, MatchResult, OnOk, IsSome}
+use Rattle.std.specs.Prelude.{false, bytes_eq, reverse, Option, Some, Result, Ok, Err, MatchResult, OnOk}
 use Rattle.std.proofs.lemmas.List.{take_at, drop_at}
 use Rattle.echo_disk.specs.Disk.{bytes_in}
 use Rattle.echo_disk.specs.Steps.{IsWrittenAt, TornWrite, TornCut}
@@ -93,11 +93,3 @@ change_seen (Ok done) old new p seen kept a =
     let now : seen_at new p ≡ Some a.contents.seen.items = ap (λ (l : List Step). (shown l p).seen) (reversed old new (Changed a.at a.contents) a.adds)
     ∙ ap (λ (z : Shown). z.seen) (changed_here (reverse old) a.at a.contents p a.at_path) in
     subst (λ (f : Option (List ℕ)). seen (bytes_in f)) (sym now) a.now_seen
-
-pub change_there : (result : Result (Unit {0}) DiskError) (old new : List Step) (p : List ℕ) (seen : List ℕ → Type 0) (kept : Option (List ℕ) → Type 0)
-    → MatchResult result (λ _. AddsChange p seen kept old new) (λ _. new ≡ old) → IsSome (seen_at old p) → IsSome (seen_at new p)
-change_there (Err e) old new p seen kept same there = subst (λ (l : List Step). IsSome (seen_at l p)) (sym same) there
-change_there (Ok done) old new p seen kept a there =
-    let now : seen_at new p ≡ Some a.contents.seen.items = ap (λ (l : List Step). (shown l p).seen) (reversed old new (Changed a.at a.contents) a.adds)
-    ∙ ap (λ (z : Shown). z.seen) (changed_here (reverse old) a.at a.contents p a.at_path) in
-    subst (λ (f : Option (List ℕ)). IsSome f) (sym now) refl

@@ -1,7 +1,7 @@
 -- The steps of a disk in memory, and what one more does to it.
-use Rattle.std.proofs.Common.{◌≡◌, ◌+◌, ◌<◌, ℕ, List, [], ◌∷◌, ◌++◌, length, take, get_or, refl, ◌∙◌, ap, inl, inr, ⊎_elim, arith}
+use Rattle.std.proofs.Common.{◌≡◌, ◌+◌, List, [], ◌∷◌, ◌++◌, refl, ◌∙◌, ap, inl, inr, ⊎_elim, arith}
 use Rattle.std.specs.Prelude.{false, reverse}
-use Rattle.std.proofs.lemmas.List.{reverse-append, take_more}
+use Rattle.std.proofs.lemmas.List.{reverse-append}
 use Rattle.echo_disk.specs.Disk.{DiskState}
 use Rattle.echo_disk.specs.Runs.{Elapses}
 use Rattle.echo_memory_disk.specs.Memory.{AreTogether, MayLeave, disk_after}
@@ -11,9 +11,6 @@ use Rattle.echo_memory_disk.specs.declared.step.Step.TheVariants.{Changed, Made,
 -- the newest comes first
 pub reversed : (old new : List Step) (x : Step) → new ≡ old ++ x ∷ [] → reverse new ≡ x ∷ reverse old
 reversed old new x e = ap (λ (l : List Step). reverse l) e ∙ reverse-append old (x ∷ [])
-
-pub reverse-take_more : (steps : List Step) (i : ℕ) (d : Step) → i < length steps → reverse (take (i + 1) steps) ≡ get_or steps i d ∷ reverse (take i steps)
-reverse-take_more steps i d lt = reversed (take i steps) (take (i + 1) steps) (get_or steps i d) (take_more steps i d lt)
 
 -- a crash leaves what is kept
 pub none_came : (steps : List Step) → AreTogether steps (λ m. false)

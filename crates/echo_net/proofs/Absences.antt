@@ -1,16 +1,16 @@
 -- What a nodelist says of one carrier after another.
-use Rattle.std.proofs.Common.{◌≡◌, ◌<◌, ◌+◌, ◌↔◌, ◌≢◌, nat_lt, ℕ, true, false, List, [], ◌∷◌, ◌++◌, length, get_or, Option, Some, None, refl, sym, subst, ap, ◌∙◌, arith, inl, inr}
+use Rattle.std.proofs.Common.{◌≡◌, ◌<◌, ◌+◌, ◌↔◌, ◌≢◌, ℕ, true, List, [], ◌∷◌, ◌++◌, length, get_or, Option, Some, None, refl, sym, subst, ap, ◌∙◌, arith, inl, inr}
 use Rattle.std.specs.Prelude.{AllPairs, Contains}
 use Rattle.std.specs.List.Sorted.{IsStrictlySortedBy}
 use Rattle.std.specs.Ordering.{is_lt}
-use Rattle.std.proofs.lemmas.Bool.{cases_lt, cond-false, le-ltb}
+use Rattle.std.proofs.lemmas.Bool.{cases_lt}
 use Rattle.std.proofs.lemmas.List.{append-nil, get_or_default}
 use Rattle.std.proofs.lemmas.List.Elements.{Contains-append_left, Contains-get_or, Contains-push, Contains-push_cases}
 use Rattle.std.proofs.lemmas.List.Quantifiers.{all_pairs_push}
 use Rattle.echo_addr.specs.declared.address.Address.{Address}
 use Rattle.echo_filed.specs.Sets.{address_before}
 use Rattle.echo_nodelist.specs.declared.line.Line.{Line}
-use Rattle.echo_nodelist.specs.Back.{IsFirstAt, address_at, address_back, lines_back}
+use Rattle.echo_nodelist.specs.Back.{IsFirstAt, address_at}
 use Rattle.echo_net.specs.declared.presence.Absence.{Absence}
 use Rattle.echo_net.specs.declared.presence.Absence.TheVariants.{Missing, Down}
 use Rattle.echo_net.specs.Absent.{IsAbsent, IsWhy, absent_as, is_down_line}
@@ -22,12 +22,6 @@ use Rattle.echo_net.proofs.Orders.{address_order, address_total, before_is}
 pub record AreListed (lines : List Line) (carriers : List Address) (i : ℕ) (all : List (Address × Absence)) : Type 0 where
   pub ascending : AllPairs (λ (one later : Address × Absence). address_before one.0 later.0 ≡ true) all
   pub members : (a : Address) (why : Absence) → Contains all (a, why) ↔ ((k : ℕ) × (k < i) × IsAt carriers k a × IsAbsent lines a why)
-
-pub none_listed : (lines : List Line) (carriers : List Address) → AreListed lines carriers 0 []
-none_listed lines carriers = record {
-  ascending = λ i j d lt inside. absurd (omega arith);
-  members = λ a why. (λ (k, lt, is). absurd (omega (arith, lt)), λ (k, lt, at, absent). absurd (omega (arith, lt)));
-}
 
 module _ (lines : List Line) (carriers : List Address) (up : IsStrictlySortedBy address_order carriers) (i : ℕ) (d : Address) (inside : i < length carriers)
     (all : List (Address × Absence)) (before : AreListed lines carriers i all) where
@@ -81,12 +75,6 @@ all_listed lines carriers IsCarrier members all are a why = (
   λ (carrier, absent). (let (k, inside, is) = (members a).1 carrier in (are.members a why).1 (k, inside, (inside, is), absent)),
 )
 
-pub line_within : (lines : List Line) (a : Address) (i : ℕ) → address_at lines i ≡ Some a → i < length lines
-line_within lines a i h = elim (cases_lt i (length lines)) [
-  | inl lt ↦ lt
-  | inr past ↦ (let none : address_at lines i ≡ None = cond-false (nat_lt i (length lines)) (address_back (lines_back lines i)) None (le-ltb i (length lines) past) in cc)
-]
-
 pub is_missing : (lines : List Line) (a : Address) → ((i : ℕ) → address_at lines i ≢ Some a) → IsWhy lines a (Some Missing)
 is_missing lines a none = (none, only)
   where
@@ -100,19 +88,3 @@ is_down lines a i first down = ((i, first, down), only)
     only : (other : Absence) → IsAbsent lines a other → other ≡ Down
     only Missing h = absurd (h i first.here)
     only Down h = refl
-
-pub is_held : (lines : List Line) (a : Address) (i : ℕ) (d : Line) → IsFirstAt lines a i → is_down_line (get_or lines i d) ≡ false → IsWhy lines a None
-is_held lines a i d first up = only
-  where
-    only : (why : Absence) → ¬ IsAbsent lines a why
-    only Missing h = h i first.here
-    only Down (j, other, down) = elim (cases_lt i j) [
-      | inl lt ↦ other.before i lt first.here
-      | inr le ↦ elim (cases_lt j i) [
-        | inl lt ↦ first.before j lt other.here
-        | inr ge ↦ (let same : i ≡ j = omega arith in let yea = ap (λ (n : ℕ). is_down_line (get_or lines n d)) same ∙ down d in cc)
-      ]
-    ]
-
-pub at_any : (lines : List Line) (i : ℕ) (x : Line) → i < length lines → x ≡ get_or lines i x → (d : Line) → get_or lines i d ≡ x
-at_any lines i x inside is d = get_or_default lines i d x inside ∙ sym is

@@ -123,10 +123,6 @@ added_to_zeros zero (x ∷ xs) h = absurd (omega arith)
 added_to_zeros (suc n) [] h = absurd (omega arith)
 added_to_zeros (suc n) (x ∷ xs) h = ap (λ b. b ∷ added xs (zeros n)) (sum_of_false x) ∙ ap (λ l. x ∷ l) (added_to_zeros n xs (omega arith))
 
-pub length-zeros : (n : ℕ) → length (zeros n) ≡ n
-length-zeros zero = refl
-length-zeros (suc n) = ap suc (length-zeros n)
-
 -- ---- the register
 
 length-push : (xs : List Bool) → length (xs ++ false ∷ []) ≡ suc (length xs)

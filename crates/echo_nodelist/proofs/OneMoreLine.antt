@@ -1,5 +1,5 @@
 -- Reading line after line.
-use Rattle.std.proofs.Common.{◌≡◌, ℕ, ◌+◌, List, [], ◌∷◌, ◌++◌, length, reverse, refl, sym, ap, ◌∙◌, subst, arith, inl, inr, ◌⊎◌, Result, Ok, Err}
+use Rattle.std.proofs.Common.{◌≡◌, ℕ, ◌+◌, List, [], ◌∷◌, ◌++◌, length, reverse, sym, ap, ◌∙◌, subst, arith, inl, inr, ◌⊎◌, Result, Ok, Err}
 use Rattle.std.proofs.lemmas.List.{append_assoc, append-nil, length-reverse, nil_from_length}
 use Rattle.echo_nodelist.specs.declared.line.Line.{Line}
 use Rattle.echo_nodelist.specs.declared.fault.NodeFault.{NodeFault}
@@ -15,9 +15,6 @@ pub record Done (text : List ℕ) (lines : List Line) (rest : List ℕ) : Type 0
   pub front : List (List ℕ)
   pub pieces : front ++ lines_of rest ≡ lines_of text
   pub read : AreRead (reverse front) (reverse lines)
-
-pub done_none : (text : List ℕ) → Done text [] text
-done_none text = record { front = []; pieces = refl; read = tt }
 
 -- what the line says, with its number counted
 outcome_is : (lines : List Line) (raw : List ℕ) (number : ℕ) (said : Result Line NodeFault) → number ≡ length lines + 1 → said ≡ line_in number raw

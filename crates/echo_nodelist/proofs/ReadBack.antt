@@ -36,9 +36,6 @@ not_true : (b : Bool) → not b ≡ true → b ≡ false
 not_true true h = sym h
 not_true false h = refl
 
-inner_end : (b : ℕ) → is_inner b ≡ true → is_end b ≡ false
-inner_end b h = not_true (is_end b) (and_parts (not (is_end b)) (not (is_feed b)) h).0
-
 inner_feed : (b : ℕ) → is_inner b ≡ true → is_feed b ≡ false
 inner_feed b h = not_true (is_feed b) (and_parts (not (is_end b)) (not (is_feed b)) h).1
 

@@ -1,11 +1,10 @@
 -- The number that a first line states, beside the computed one.
-use Rattle.std.proofs.Common.{◌≡◌, ℕ, ◌+◌, ◌<◌, ◌≤◌, ◌==◌, ◌↔◌, nat_lt, Bool, true, false, List, length, drop, min, sym, ap, ◌∙◌, ◌≢◌, arith, Option, Some, None}
+use Rattle.std.proofs.Common.{◌≡◌, ℕ, ◌<◌, ◌≤◌, ◌==◌, ◌↔◌, nat_lt, true, false, List, length, min, sym, ap, ◌∙◌, ◌≢◌, arith, Option, Some, None}
 use Rattle.std.specs.Prelude.{IsNone, IfSome}
-use Rattle.std.specs.List.{after_first, before_first, position_or_len}
+use Rattle.std.specs.List.{after_first, before_first}
 use Rattle.std.specs.Str.{all_ascii_digits}
 use Rattle.std.specs.Str.Parse.{digits_value}
 use Rattle.std.specs.Io.BufRead.{strip_last}
-use Rattle.std.proofs.lemmas.List.{drop_all, take_all}
 use Rattle.std.proofs.lemmas.Str.Parse.{digits_value_short}
 use Rattle.std.proofs.lemmas.Bool.{and_parts, cond-false, cond-true, eq-eqb, ne_eqb, true_from_ne_false, true≢false}
 use Rattle.echo_addr.specs.Digits.{is_number}
@@ -14,14 +13,6 @@ use Rattle.echo_nodelist.specs.declared.stated.CrcLine.TheVariants.{Absent, Matc
 use Rattle.echo_nodelist.specs.Crc.{crc}
 use Rattle.echo_nodelist.specs.Raw.{is_feed}
 use Rattle.echo_nodelist.specs.CrcLine.{compared, crc_of_text, stating_line, later_bytes, stated_crc, states_crc}
-
--- a text of one line
-pub before_whole : (p : ℕ → Bool) (text : List ℕ) → position_or_len p text ≡ length text → text ≡ before_first p text
-before_whole p text none = sym (take_all (position_or_len p text) text (omega arith))
-
-pub after_whole : (p : ℕ → Bool) (text rest : List ℕ) → position_or_len p text ≡ length text → rest ≡ drop (length text) text → rest ≡ after_first p text
-after_whole p text rest none is =
-    is ∙ drop_all (length text) text (omega arith) ∙ sym (drop_all (position_or_len p text + 1) text (omega arith))
 
 -- five digits write a number that wasn't cut down
 pub five_digits : (r : Option ℕ) (ds : List ℕ) → length ds ≤ 5 → (IsNone r ↔ (is_number ds ≡ false)) → IfSome r (λ n. n ≡ min (digits_value 10 ds) 100000)

@@ -13,7 +13,6 @@ use Rattle.echo_packet.specs.Packet.{packet_bytes}
 use Rattle.echo_packet.specs.Fault.{FaultOf, place_of}
 use Rattle.echo_packet.specs.Answer.{Answer, Describes}
 use Rattle.echo_packet.specs.Next.{CountsFailures, NextFault}
-use Rattle.echo_packet.specs.Reader.{FrontFault}
 use Rattle.echo_packet.specs.Run.{SoFar, IsOfCall}
 use Rattle.echo_packet.proofs.MessageByMessage.{run-opens, run-gives, run-ends, run-fails, length-packet_bytes}
 
@@ -47,20 +46,6 @@ judge A limits bs ms (fault.BadField at) (inr call) device = absurd call
 pub slice-fails : (A : Type 0) (limits : Limits) (bs : List ℕ) (h : Header) (ms : List Message) (r : List ℕ) (given at : ℕ) (f : PacketFault)
     → SoFar limits bs h ms r given at → NextFault limits given at r f → CountsFailures {A = A} (Err f) 0 0 → IsJudged limits bs (Err f)
 slice-fails A limits bs h ms r given at f so wrong device = judge A limits bs ms f (run-fails limits bs h ms r given at f so wrong) device
-
--- a fault of the header
-pub slice-front : (limits : Limits) (bs : List ℕ) (f : PacketFault) → FrontFault bs f → (((at : ℕ) → f ≡ fault.Read at → ⊥)) → IsJudged limits bs (Err f)
-slice-front limits bs (fault.Truncated at) h alive = inr ([], inl (h.0, refl, h.1))
-slice-front limits bs (fault.NotType2 at) h alive = inr ([], (h.0, refl, h.1, h.2))
-slice-front limits bs (fault.Read at) h alive = absurd (alive at refl)
-slice-front limits bs (fault.NotMessage at) h alive = absurd h
-slice-front limits bs (fault.FieldTooLong at) h alive = absurd h
-slice-front limits bs (fault.TextTooLong at) h alive = absurd h
-slice-front limits bs fault.Memory h alive = absurd h
-slice-front limits bs fault.Stopped h alive = absurd h
-slice-front limits bs (fault.Write n) h alive = absurd h
-slice-front limits bs (fault.TooManyMessages at) h alive = absurd h
-slice-front limits bs (fault.BadField n) h alive = absurd h
 
 -- the header was read
 pub slice-opens : (limits : Limits) (bs : List ℕ) (h : Header) (rest : List ℕ) (own : Limits) (given at : ℕ) (next : Stage) → IsHeader h → bs ≡ header_bytes h ++ rest

@@ -1,5 +1,5 @@
 -- What a text says is printed.
-use Rattle.std.proofs.Common.{◌≡◌, ◌≢◌, ℕ, Bool, true, false, not, if◌then◌else◌, List, ◌++◌, codes, Some, None, Err, refl, sym, ap, subst, ◌∙◌, append_assoc, inl, inr}
+use Rattle.std.proofs.Common.{◌≡◌, ◌≢◌, ℕ, Bool, true, false, not, if◌then◌else◌, List, ◌++◌, Some, None, Err, refl, sym, ap, subst, ◌∙◌, append_assoc, inl, inr}
 use Rattle.echo_packet.specs.Message.{IsMessage, Message}
 use Rattle.echo_text.specs.declared.fault.TextFault.{TextFault}
 use Rattle.echo_text.specs.declared.fault.TextFault.TheVariants.{BadMsgId, BadTag, Memory, NotEcho}
@@ -20,20 +20,6 @@ pub echo_shown : (text lines : List ℕ) (e : EchoText) (dropped : ℕ) → Echo
 echo_shown text lines e dropped said whole =
     let shown : LinesFor None text lines = record { echo = e; dropped = dropped; said = said; whole = whole } in
     subst (λ r. LinesFor r text lines) (sym (not_refused text e dropped said)) shown
-
--- the line of a text that is none
-pub no_echo_shown : (text : List ℕ) → TextAnswers text (Err NotEcho) → TextShown text (codes "not echomail\n")
-no_echo_shown text answer = elim answer [
-  | inl is ↦ let shown : LinesFor (Some NotEcho) text (codes "not echomail\n") = refl in subst (λ r. LinesFor r text (codes "not echomail\n")) (sym is) shown
-  | inr memory ↦ let no = memory.1 in absurd cc
-]
-
--- the line of a text with a bad tag
-pub bad_tag_shown : (text : List ℕ) → TextAnswers text (Err BadTag) → TextShown text (codes "bad tag\n")
-bad_tag_shown text answer = elim answer [
-  | inl is ↦ let shown : LinesFor (Some BadTag) text (codes "bad tag\n") = refl in subst (λ r. LinesFor r text (codes "bad tag\n")) (sym is) shown
-  | inr memory ↦ let no = memory.1 in absurd cc
-]
 
 -- the lines of a message and those of what its text says
 pub message_shown : (number place : ℕ) (m : Message) (text old mid new : List ℕ) → text ≡ m.text

@@ -1,17 +1,14 @@
 -- What a replayed net is printed as.
-use Rattle.std.proofs.Common.{◌≡◌, ℕ, ◌+◌, ◌<◌, List, [], ◌∷◌, ◌++◌, length, map, take, get_or, sym, ap, ◌∙◌, arith, append_assoc, append-nil, inl, inr, Bool, Option, Some}
+use Rattle.std.proofs.Common.{◌≡◌, ℕ, ◌+◌, ◌<◌, List, [], ◌∷◌, ◌++◌, length, map, take, get_or, sym, ap, ◌∙◌, arith, append_assoc, append-nil, inl, inr, Bool, Some}
 use Rattle.std.specs.List.{flat_map}
-use Rattle.std.specs.Prelude.{slice_get}
 use Rattle.std.proofs.Math.ListN.{get_or-map}
 use Rattle.std.proofs.lemmas.List.{length-map, length-take-le, take_more}
 use Rattle.std.proofs.lemmas.Option.{slice_get_cases}
-use Rattle.echo_links.specs.Links.{Area, LinkFile}
+use Rattle.echo_links.specs.Links.{LinkFile}
 use Rattle.echo_run.specs.Run.{Run, System, nth}
-use Rattle.std.specs.Option.{option_map}
-use Rattle.echo_addr.specs.declared.address.Address.{Address}
-use Rattle.echo_run.specs.World.{filed_at, is_settled, undelivered, waiting_at}
+use Rattle.echo_run.specs.World.{is_settled, undelivered}
 use Rattle.echo_replay.proofs.Exports.{nth-slice_get}
-use Rattle.echo_rehearsing.specs.Replayed.{area_state_line, area_counts_line, packets_line, replay_lines, settled_line, systems_from}
+use Rattle.echo_rehearsing.specs.Replayed.{area_state_line, packets_line, replay_lines, settled_line, systems_from}
 
 -- one more system
 systems_last : (run : Run) (i : ℕ) (files : List LinkFile) (file : LinkFile)
@@ -55,15 +52,3 @@ world_lines run files packets missing settled old a b text new a-is b-is new-is 
     ∙ append_assoc old (systems_from run 0 files) (packets_line packets missing ++ text)
     ∙ ap (λ t. old ++ (systems_from run 0 files ++ (t ++ text))) line
     ∙ ap (λ t. old ++ (systems_from run 0 files ++ (packets_line (length run.packets) (undelivered run) ++ t))) text-so
-
--- the line of an area, by what the world tells
-pub area_told : (run : Run) (i : ℕ) (a : Address) (area : Area) (areas : List Area) (k filed waiting : ℕ) (tag old new : List ℕ) → slice_get areas k ≡ Some area
-    → Some tag ≡ option_map (λ (area : Area). area.tag) (slice_get areas k) → filed ≡ filed_at run i tag → waiting ≡ waiting_at run i tag
-    → new ≡ old ++ area_counts_line a tag filed waiting → new ≡ old ++ area_state_line run i a area
-area_told run i a area areas k filed waiting tag old new is told filed-is waiting-is so =
-    let same : tag ≡ area.tag = some_same tag area.tag (told ∙ ap (option_map (λ (area : Area). area.tag)) is) in
-    so ∙ ap (λ n. old ++ area_counts_line a tag n waiting) filed-is ∙ ap (λ n. old ++ area_counts_line a tag (filed_at run i tag) n) waiting-is
-    ∙ ap (λ t. old ++ area_counts_line a t (filed_at run i t) (waiting_at run i t)) same
-  where
-    some_same : (x y : List ℕ) → (let o : Option (List ℕ) = Some x in o ≡ Some y) → x ≡ y
-    some_same x y e = cc

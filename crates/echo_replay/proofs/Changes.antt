@@ -1,5 +1,5 @@
 -- An item of a list is changed.
-use Rattle.std.proofs.Common.{◌≡◌, ◌≢◌, ℕ, zero, suc, ◌<◌, ◌≤◌, List, [], ◌∷◌, ◌++◌, length, get_or, set, map, cond, refl, sym, ap, subst, ◌∙◌, Option, Some, None, Result, Ok, Err, arith}
+use Rattle.std.proofs.Common.{◌≡◌, ◌≢◌, ℕ, zero, suc, ◌<◌, ◌≤◌, List, [], ◌∷◌, ◌++◌, length, get_or, set, map, cond, refl, sym, ap, subst, ◌∙◌, Option, Some, None, arith}
 use Rattle.std.specs.Prelude.{is_none}
 use Rattle.std.specs.List.{All}
 use Rattle.std.proofs.lemmas.List.{append-nil}
@@ -10,12 +10,9 @@ use Rattle.echo_steps.specs.declared.draft.Draft.{Draft}
 use Rattle.echo_steps.specs.declared.stamp.Stamp.{Stamp}
 use Rattle.echo_steps.specs.declared.fault.PostFault.{PostFault}
 use Rattle.echo_steps.specs.declared.fault.PostFault.TheVariants as fault
-use Rattle.echo_steps.specs.declared.fault.ScanFault.{ScanFault}
 use Rattle.echo_steps.specs.declared.fault.ScanFault.TheVariants as scan_fault
 use Rattle.echo_steps.specs.declared.packet.Packet.{Packet}
-use Rattle.echo_steps.specs.Posting.{PostStep, IsPostFault, post_refusal, posted, posting}
-use Rattle.echo_steps.specs.Purging.{PurgeStep}
-use Rattle.echo_steps.specs.Scanning.{ScanStep}
+use Rattle.echo_steps.specs.Posting.{IsPostFault, post_refusal, posted, posting}
 use Rattle.echo_steps.specs.SystemState.{SystemState, state_with}
 use Rattle.echo_run.specs.Run.{change, nth}
 use Rattle.echo_replay.specs.Worlds.{Exported, Fits, ScanFits, WorldState, own_addresses, after_posting, after_scan, after_toss, arrived, made, made_by, scanned_world, with_change}
@@ -67,21 +64,6 @@ refused-after o tag draft serial stamp fault.FieldTooLong n h other same = after
 refused-after o tag draft serial stamp fault.BadStamp n h other same = after_refusal o tag draft serial stamp fault.BadStamp n h same
 refused-after o tag draft serial stamp fault.BadReply n h other same = after_refusal o tag draft serial stamp fault.BadReply n h same
 refused-after o tag draft serial stamp fault.KnownSerial n h other same = after_refusal o tag draft serial stamp fault.KnownSerial n h same
-
--- whatever a posting answers, the link file stays
-pub post-file : {A : Type 0} (o : SystemState) (tag : List ℕ) (draft : Draft) (serial : ℕ) (stamp : Stamp) (r : Result A PostFault) (n : SystemState)
-    → PostStep o tag draft serial stamp r n → n.file ≡ o.file
-post-file o tag draft serial stamp (Ok done) n h = ap (λ (s : SystemState). s.file) h.1
-post-file o tag draft serial stamp (Err f) n h = ap (λ (s : SystemState). s.file) h.1
-
-pub purge-file : {E : Type 0} (o : SystemState) (r : Result ℕ E) (n : SystemState) → PurgeStep o r n → n.file ≡ o.file
-purge-file o (Ok count) n h = ap (λ (s : SystemState). s.file) h.1
-purge-file o (Err f) n h = ap (λ (s : SystemState). s.file) h
-
-pub scan-file : (o : SystemState) (stamp : Stamp) (r : Result (List Packet) ScanFault) (n : SystemState) → ScanStep o stamp r n → n.file ≡ o.file
-scan-file o stamp (Ok packets) n h = ap (λ (s : SystemState). s.file) h.2
-scan-file o stamp (Err scan_fault.BadStamp) n h = ap (λ (s : SystemState). s.file) h.1
-scan-file o stamp (Err scan_fault.Memory) n h = ap (λ (s : SystemState). s.file) h.1
 
 -- the own_addresses stay where one system changes and its link file stays
 pub set-addresses : (ss : List SystemState) (i : ℕ) (s d : SystemState) → s.file ≡ (get_or ss i d).file → own_addresses (set ss i s) ≡ own_addresses ss

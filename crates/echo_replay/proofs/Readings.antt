@@ -1,5 +1,5 @@
 -- What is read off a world is what is read off its run.
-use Rattle.std.proofs.Common.{◌≡◌, ℕ, zero, suc, cond, arith, ◌+◌, ◌<◌, ◌≤◌, ◌==◌, ◌&&◌, not, Bool, false, List, [], ◌∷◌, length, drop, map, refl, sym, ap, ◌∙◌, Option, Some, None}
+use Rattle.std.proofs.Common.{◌≡◌, ℕ, zero, suc, cond, arith, ◌+◌, ◌<◌, ◌==◌, ◌&&◌, not, Bool, false, List, [], ◌∷◌, length, drop, map, sym, ap, ◌∙◌, Option, Some, None}
 use Rattle.std.proofs.lemmas.List.{length-map}
 use Rattle.std.proofs.lemmas.List.Sums.{sum_by-cons}
 use Rattle.echo_filed.specs.Filed.{Filed}
@@ -8,7 +8,7 @@ use Rattle.std.specs.List.{list_all}
 use Rattle.std.proofs.lemmas.List.Folds.{list_all-map}
 use Rattle.echo_steps.specs.SystemState.{SystemState}
 use Rattle.echo_run.specs.Run.{Run, System, destination, nth}
-use Rattle.echo_run.specs.World.{area_count, filed_at, is_settled, undelivered, waiting_at}
+use Rattle.echo_run.specs.World.{area_count, filed_at, is_settled, undelivered}
 use Rattle.echo_replay.specs.Worlds.{Exported, IsWorldOf, WorldState, encoded, exported_from, state_of}
 use Rattle.echo_replay.proofs.Exports.{exported-bytes, exported-length, exported-missing, exported-to, nth-map, nth-slice_get}
 
@@ -56,14 +56,6 @@ system_count world run is = ap (λ (ss : List SystemState). length ss) is.system
 pub packet_count : (world : WorldState) (run : Run) → IsWorldOf world run → length world.packets ≡ length run.packets
 packet_count world run is = ap (λ (es : List Exported). length es) is.packets ∙ exported-length run.delivered 0 run.packets
 
--- how many messages of an area the system of an index has, and how many wait
-pub none_filed : (world : WorldState) (run : Run) → IsWorldOf world run → (i : ℕ) → slice_get world.systems i ≡ None → nth i run.systems ≡ None
-none_filed world run is i h = none_before (nth i run.systems) (sym (system-is world run is i) ∙ h)
-  where
-    none_before : (o : Option System) → option_map state_of o ≡ None → o ≡ None
-    none_before None e = refl
-    none_before (Some s) e = absurd (cc)
-
 pub filed-is : (world : WorldState) (run : Run) → IsWorldOf world run → (i : ℕ) (tag : List ℕ) (s : SystemState) → slice_get world.systems i ≡ Some s
     → area_count tag s.base ≡ filed_at run i tag
 filed-is world run is i tag s h = of (nth i run.systems) (sym (system-is world run is i) ∙ h)
@@ -71,14 +63,6 @@ filed-is world run is i tag s h = of (nth i run.systems) (sym (system-is world r
     of : (o : Option System) → option_map state_of o ≡ Some s → area_count tag s.base ≡ unwrap_or (option_map (λ x. area_count tag x.base) o) 0
     of None e = absurd (cc)
     of (Some x) e = let same : state_of x ≡ s = cc in ap (λ (y : SystemState). area_count tag y.base) (sym same)
-
-pub waiting-is : (world : WorldState) (run : Run) → IsWorldOf world run → (i : ℕ) (tag : List ℕ) (s : SystemState) → slice_get world.systems i ≡ Some s
-    → area_count tag (drop s.cursor s.base) ≡ waiting_at run i tag
-waiting-is world run is i tag s h = of (nth i run.systems) (sym (system-is world run is i) ∙ h)
-  where
-    of : (o : Option System) → option_map state_of o ≡ Some s → area_count tag (drop s.cursor s.base) ≡ unwrap_or (option_map (λ x. area_count tag (drop x.cursor x.base)) o) 0
-    of None e = absurd (cc)
-    of (Some x) e = let same : state_of x ≡ s = cc in ap (λ (y : SystemState). area_count tag (drop y.cursor y.base)) (sym same)
 
 -- whether the message of an index is of the area; it is counted, and those after it are left
 abbrev pub is_of : List ℕ → List Filed → ℕ → Bool
@@ -95,10 +79,3 @@ pub count-step : (tag : List ℕ) (base : List Filed) (i n : ℕ) (b : Bool) →
 count-step tag base i n b h e is =
     let next : n ≡ suc i = omega (arith, e) in
     (λ j. cond (is j) 1 0 + area_count tag (drop (next j) base)) ∙ counted tag base i h
-
--- none is left at the end
-pub count-end : (tag : List ℕ) (base : List Filed) (i : ℕ) → length base ≤ i → area_count tag (drop i base) ≡ 0
-count-end tag [] zero h = refl
-count-end tag [] (suc i) h = refl
-count-end tag (m ∷ ms) zero h = absurd (omega arith)
-count-end tag (m ∷ ms) (suc i) h = count-end tag ms i (omega arith)

@@ -1,9 +1,8 @@
 -- The words of a script's lines.
-use Rattle.std.proofs.Common.{◌≡◌, ◌≢◌, ℕ, ◌<◌, ◌≤◌, ◌^◌, ◌&&◌, nat_lt, not, Bool, true, false, cond, List, [], ◌∷◌, length, drop, codes, refl, sym, ap, ◌∙◌, None, arith}
+use Rattle.std.proofs.Common.{◌≡◌, ◌≢◌, ℕ, ◌<◌, ◌≤◌, ◌&&◌, nat_lt, not, Bool, true, false, cond, List, [], ◌∷◌, length, drop, codes, refl, sym, ap, ◌∙◌, None, arith}
 use Rattle.std.specs.Prelude.{bytes_eq, nat_le, option_map}
 use Rattle.std.specs.Char.{is_ascii_uppercase}
 use Rattle.std.specs.List.{list_any, position_or_len}
-use Rattle.std.proofs.Math.Nat.{pow-le-pow_right}
 use Rattle.std.proofs.lemmas.Bool.{and_from, cond-false, cond-true, eq-eqb, le-leb, lt-leb, lt-ltb, ne_eqb}
 use Rattle.echo_addr.specs.Entries.{is_blank, tokens}
 use Rattle.echo_links.specs.LinkLines.{after_first_of, first_of, is_control_byte}
@@ -34,9 +33,6 @@ unfolding index_in
 index_short word some few =
     cond-true (nat_lt 0 (length word) && nat_le (length word) 9) (number_in 10 word) None
     (and_from _ _ (lt-ltb 0 (length word) (omega (arith, some))) (le-leb (length word) 9 few))
-
-pub index_room : (n : ℕ) → n ≤ 9 → 10 ^ n ≤ 2 ^ 32
-index_room n h = (let more = pow-le-pow_right {n = 10} (omega arith) h in omega (arith, more))
 
 -- ---- a serial
 

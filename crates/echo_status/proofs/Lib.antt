@@ -1,4 +1,3 @@
-pub mod Statuses
 pub mod Lines
 pub mod Numerals
 pub mod Giving

@@ -5,8 +5,8 @@ use Rattle.std.specs.Prelude.{slice_get}
 use Rattle.std.proofs.lemmas.Grind.{flat_map-append}
 use Rattle.std.proofs.lemmas.List.{take-append-drop, take_more}
 use Rattle.std.proofs.lemmas.Option.{slice_get_cases}
-use Rattle.std.specs.Io.KnownBytes.{Appends, Keeps}
-use Rattle.std.proofs.KnownBytes.{Appends-kept, Appends-nil, Appends-trans}
+use Rattle.std.specs.Io.KnownBytes.{Appends}
+use Rattle.std.proofs.KnownBytes.{Appends-nil, Appends-trans}
 use Rattle.echo_device.specs.Device.{SendsFront}
 use Rattle.echo_status.specs.Lines.{PassesOn, WritesFront}
 
@@ -24,16 +24,6 @@ none_added a lines = record { went = []; whole = append-nil lines; written = App
 
 pub none_begun : (a : Option (List ℕ)) (lines : List ℕ) → WritesFront lines a a
 none_begun a lines = record { rest = lines; passed = none_passed a lines }
-
--- all lines were written
-pub all_passed : (a b : Option (List ℕ)) (lines : List ℕ) → Appends a b lines → PassesOn lines [] a b
-all_passed a b lines out = record { went = lines; whole = sym (append-nil lines); written = out }
-
-pub all_written : (a b : Option (List ℕ)) (lines : List ℕ) → PassesOn lines [] a b → Appends a b lines
-all_written a b lines passed = subst (Appends a b) (sym (passed.whole ∙ append-nil passed.went)) passed.written
-
-pub all_begun : (a b c : Option (List ℕ)) (lines : List ℕ) → Appends a b lines → Keeps b c → WritesFront lines a c
-all_begun a b c lines out kept = record { rest = []; passed = all_passed a c lines (Appends-kept a b c lines out kept) }
 
 -- what a write that failed took of the bytes
 pub front_sent : (a b : Option (List ℕ)) (bytes : List ℕ) (m n : ℕ) → SendsFront a b bytes m n → WritesFront bytes a b

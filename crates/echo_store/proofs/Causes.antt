@@ -12,10 +12,6 @@ use Rattle.echo_store.specs.declared.store_error.StoreError.TheVariants as error
 pub no_cause : {T : Type 0} (old new : StoreState) (before now : ℕ) (value : T) → before ≤ now → HasStoreCause old new before now (Ok value)
 no_cause old new before now value later = record { later = later; failed = λ e. absurd (cc); damaged = λ honest e base h. cc }
 
--- a growth was refused
-pub memory_cause : {T : Type 0} (old new : StoreState) (before now : ℕ) → before ≤ now → HasStoreCause {T = T} old new before now (Err error.Memory)
-memory_cause old new before now later = record { later = later; failed = λ e. absurd (cc); damaged = λ honest e base h. cc }
-
 failed_since : (before mid now : ℕ) → before ≤ mid → Failed mid now → Failed before now
 failed_since before mid now le (inl rose) = inl (omega arith)
 failed_since before mid now le (inr (full, same)) = elim (eq-or-lt_of_le le) [

@@ -4,7 +4,7 @@ use Rattle.echo_disk.specs.Disk.{DiskState, Files}
 use Rattle.echo_disk.specs.Runs.{ChangesNothing}
 use Rattle.echo_disk.proofs.Moments.{no_call, nothing_twice, then_run, weaker_run}
 use Rattle.echo_base.specs.Base.{Base}
-use Rattle.echo_store.specs.Store.{StoreState, CommitsNothing, GoesOn, IsSameStore, KeepsBeside, LooksOn, StandsBeside, Undoes}
+use Rattle.echo_store.specs.Store.{StoreState, CommitsNothing, GoesOn, IsSameStore, KeepsBeside, LooksOn, StandsBeside}
 
 pub same_store : (s : StoreState) → IsSameStore s s
 same_store s = record { stands = λ base c. (λ h. h, λ h. h); own = λ m. (λ h. h, λ h. h); undoes = (λ h. h, λ h. h) }
@@ -102,11 +102,3 @@ commits_none old mid new first on second = record {
 pub looks_then_commits : (old mid new : StoreState) → old.is_ready → LooksOn old mid → CommitsNothing mid new → CommitsNothing old new
 looks_then_commits old mid new ready looks second =
     commits_none old mid new (looks_commit old mid ready looks) (looks_go_on old mid looks) second
-
--- a look leaves what is held
-pub looks_undo : (old new : StoreState) → LooksOn old new → Undoes old new
-looks_undo old new looks = λ honest undoes base h. looks.keeps base h
-
--- what failed after a look was taken back
-pub undone_after : (old mid new : StoreState) → LooksOn old mid → Undoes mid new → Undoes old new
-undone_after old mid new looks undone = λ honest undoes base h. undone honest (looks.same.undoes.1 undoes) base (looks.keeps base h)

@@ -1,5 +1,5 @@
 -- What becomes of a store, and what a crash leaves of it, where a command changes it and then commits.
-use Rattle.std.proofs.Common.{◌≤◌, ℕ, Bool, true, false, List, inl, inr, ⊎_elim, Result, Ok, Err, refl, arith, ◌∙◌}
+use Rattle.std.proofs.Common.{◌≤◌, ℕ, List, inl, inr, ⊎_elim, Result, Ok, Err, refl, arith, ◌∙◌}
 use Rattle.std.specs.Prelude.{IfErr, OnOk}
 use Rattle.echo_base.specs.Base.{Base}
 use Rattle.echo_disk.specs.Disk.{Files, Honestly}
@@ -14,7 +14,7 @@ use Rattle.echo_toss.specs.Stores.{LooksWhereRefused}
 use Rattle.echo_store_changing.specs.declared.stop.Stop.{Stop}
 use Rattle.echo_store_changing.specs.declared.stop.Stop.TheVariants.{Met, Store}
 use Rattle.echo_store_changing.specs.Stops.{IsOfStore, post_stop}
-use Rattle.echo_store_changing.specs.Answered.{CommitsNoneWhereMet, GoesOnFromEither, HasCommitted, LooksWhereMet, MayCommitWhereMet, MayMake, StandsForMade, StaysWhereMet}
+use Rattle.echo_store_changing.specs.Answered.{CommitsNoneWhereMet, GoesOnFromEither, HasCommitted, LooksWhereMet, MayCommitWhereMet, MayMake, StandsForMade}
 
 -- what stands beside the store through both
 pub kept_twice : (old mid new : StoreState) → IsSameStore old mid → KeepsBeside old mid → KeepsBeside mid new → KeepsBeside old new
@@ -129,13 +129,6 @@ pub may_after : {A : Type 0} (old mid new : StoreState) (result : Result A Stop)
 may_after old mid new (Ok value) may ready done looks = tt
 may_after old mid new (Err (Met fault)) may ready done looks = (may_then_none old mid new may ready looks, either_then old mid new done looks)
 may_after old mid new (Err (Store cause)) may ready done looks = tt
-
--- where a command met a fault, at most what was held before was committed, whichever command it is
-pub stays_may : {A : Type 0} (held : Bool) (old new : StoreState) (result : Result A Stop) → IfErr result (StaysWhereMet held old new) → IfErr result (MayCommitWhereMet old new)
-stays_may held old new (Ok value) stays = tt
-stays_may held old new (Err (Store cause)) stays = tt
-stays_may true old new (Err (Met fault)) stays = stays
-stays_may false old new (Err (Met fault)) stays = (none_may old new stays.0, record { ready = stays.1.ready; committed = λ honest. inl (stays.1.committed honest) })
 
 -- why a later call failed
 pub caused_after : {T : Type 0} (old mid new : StoreState) (before between now : ℕ) (r : Result T StoreError) → before ≤ between

@@ -1,5 +1,5 @@
 -- Postings into a store, with the serial of their words or with one that is looked for.
-use Rattle.std.proofs.Common.{◌≡◌, ℕ, ◌+◌, ◌-◌, ◌%◌, ◌^◌, ◌<◌, ◌≤◌, Bool, true, false, List, inl, inr, None, Some, Result, Err, refl, subst, arith}
+use Rattle.std.proofs.Common.{◌≡◌, ℕ, ◌+◌, ◌%◌, ◌^◌, ◌<◌, ◌≤◌, Bool, true, false, List, inl, inr, None, Some, Result, Err, refl, subst, arith}
 use Rattle.echo_base.specs.Base.{Base}
 use Rattle.echo_changing.specs.declared.posting.NewMessage.{NewMessage}
 use Rattle.echo_changing.specs.FreeSerial.{is_taken, serial_after, with_serial}
@@ -87,26 +87,6 @@ refused_on file new words draft serial base (post.Refused why) is unless =
       | inr found ↦ found
     ]
 refused_on file new words draft serial base (post.Store cause) is unless = tt
-
--- the last serial of all is taken, too, or the message is refused whatever its serial
-pub refused_last : (file : LinkFile) (old mid new : StoreState) (first now serial steps : ℕ) (words : NewMessage) (draft : Draft) (base : Base) (why : PostStop)
-    → HasLooked file old mid first now words.serial serial steps → steps ≡ 2 ^ 32 - 1 → mid.disk.is_honest → old.keeps base → IsPostStop file base.messages words.tag.now draft serial words.stamp why
-    → FilesAs true file base words draft (Err why) new
-refused_last file old mid new first now serial steps words draft base (post.Refused fault.KnownSerial) so all honest h is =
-    (serial, record { steps = steps; is = so.place; before = so.taken honest base h; ends = inr all }, is)
-refused_last file old mid new first now serial steps words draft base (post.Store cause) so all honest h is = tt
-refused_last file old mid new first now serial steps words draft base (post.Refused fault.NoArea) so all honest h is =
-    refused_on file new words draft serial base (post.Refused fault.NoArea) is (λ e. absurd (cc))
-refused_last file old mid new first now serial steps words draft base (post.Refused fault.ByteZero) so all honest h is =
-    refused_on file new words draft serial base (post.Refused fault.ByteZero) is (λ e. absurd (cc))
-refused_last file old mid new first now serial steps words draft base (post.Refused fault.FieldTooLong) so all honest h is =
-    refused_on file new words draft serial base (post.Refused fault.FieldTooLong) is (λ e. absurd (cc))
-refused_last file old mid new first now serial steps words draft base (post.Refused fault.BadStamp) so all honest h is =
-    refused_on file new words draft serial base (post.Refused fault.BadStamp) is (λ e. absurd (cc))
-refused_last file old mid new first now serial steps words draft base (post.Refused fault.BadReply) so all honest h is =
-    refused_on file new words draft serial base (post.Refused fault.BadReply) is (λ e. absurd (cc))
-refused_last file old mid new first now serial steps words draft base (post.Refused fault.Memory) so all honest h is =
-    refused_on file new words draft serial base (post.Refused fault.Memory) is (λ e. absurd (cc))
 
 -- a refusal after looks has changed nothing
 pub looks_where : (old mid new : StoreState) (why : PostStop) → LooksOn old mid → LooksWhereRefused mid new why → LooksWhereRefused old new why

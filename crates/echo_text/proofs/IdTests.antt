@@ -3,7 +3,7 @@ use Rattle.std.proofs.Common.{◌≡◌, ◌≢◌, ℕ, ◌+◌, ◌-◌, ◌<�
 use Rattle.std.specs.List.{AllPass, list_all, suffix_len}
 use Rattle.std.specs.Str.Parse.{AllDigits, digits_value}
 use Rattle.std.proofs.lemmas.Bool.{and_from, and_left, and_right, both_ways, le-ltb, lt-ltb, ne_eqb, not-true, not_from_false, or_left, or_parts, or_right}
-use Rattle.std.proofs.lemmas.List.{append_assoc, drop_at, get_or-append_right, get_or-drop, get_or-reverse, get_or_append_left, get_or_at, length-append, length-drop, length-reverse, length-take, length-take-le, take-append-drop, take_at}
+use Rattle.std.proofs.lemmas.List.{append_assoc, drop_at, get_or-append_right, get_or-drop, get_or-reverse, get_or_append_left, get_or_at, length-append, length-drop, length-reverse, length-take-le, take-append-drop, take_at}
 use Rattle.std.proofs.lemmas.List.Sums.{AllPass-from_list_all, list_all-from_AllPass, prefix_len_passes, suffix_len-le-length, suffix_len_is}
 use Rattle.echo_addr.specs.Entries.{is_blank}
 use Rattle.echo_text.specs.Ids.{Bare, IdParts, SpellsOrigin, before_serial, is_bare_origin, is_gap, is_hex_digit, is_id_trimmed, is_line_byte, is_quote, is_quoted_origin, without_gap}
@@ -23,29 +23,12 @@ is_origin id = is_quoted_origin (without_gap (before_serial id)) || is_bare_orig
 pub no_line : (id : List ℕ) → list_all is_line_byte id ≡ false → is_id_trimmed id ≡ false
 no_line id h = and_left (list_all is_line_byte id) _ h
 
-pub no_room : (id : List ℕ) → length id < 8 → is_id_trimmed id ≡ false
-no_room id short =
-    and_right (list_all is_line_byte id) _
-    (and_left (is_apart id) (is_serial id && is_origin id) (le-ltb _ _ (omega (arith, length-take (length id - 8) id))))
-
 pub no_gap : (id front : List ℕ) → front ≡ before_serial id → length (without_gap front) ≡ length front → is_id_trimmed id ≡ false
 no_gap id front is same =
     and_right (list_all is_line_byte id) _
     (and_left (is_apart id) (is_serial id && is_origin id)
     (let back : length (without_gap (before_serial id)) ≡ length (before_serial id) = subst (λ f. length (without_gap f) ≡ length f) is same in
     le-ltb _ _ (omega (arith, back))))
-
-pub no_serial : (id digits : List ℕ) → digits ≡ drop (length id - 8) id → list_all is_hex_digit digits ≡ false → is_id_trimmed id ≡ false
-no_serial id digits is h =
-    and_right (list_all is_line_byte id) _
-    (and_right (is_apart id) (is_serial id && is_origin id) (and_left (is_serial id) (is_origin id) (ap (list_all is_hex_digit) (sym is) ∙ h)))
-
-pub no_origin : (id spelled : List ℕ) → spelled ≡ without_gap (before_serial id) → (is_quoted_origin spelled || is_bare_origin spelled) ≡ false
-    → is_id_trimmed id ≡ false
-no_origin id spelled is h =
-    and_right (list_all is_line_byte id) _
-    (and_right (is_apart id) (is_serial id && is_origin id)
-    (and_right (is_serial id) (is_origin id) (ap (λ s. is_quoted_origin s || is_bare_origin s) (sym is) ∙ h)))
 
 -- the blanks 20 at the end
 gap_blanks : (front : List ℕ) → AllPass is_gap (drop (length front - suffix_len is_gap front) front)

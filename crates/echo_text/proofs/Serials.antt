@@ -18,9 +18,6 @@ pub record Valued (ds : List ℕ) (i value : ℕ) : Type 0 where
   pub each : AllDigits 16 (take i ds)
   pub value_is : digits_value 16 (take i ds) ≡ value
 
-pub valued_none : (ds : List ℕ) → Valued ds 0 0
-valued_none ds = record { each = tt; value_is = refl }
-
 pub valued_more : (ds : List ℕ) (i value digit : ℕ) → i < length ds → digit_value (get_or ds i 0) < 16 → digit ≡ digit_value (get_or ds i 0)
     → Valued ds i value → Valued ds (i + 1) (value * 16 + digit)
 valued_more ds i value digit within small is v = record {

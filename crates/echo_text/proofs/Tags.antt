@@ -7,7 +7,7 @@ use Rattle.std.proofs.lemmas.List.{length-map, take_all}
 use Rattle.std.proofs.lemmas.List.Elements.{All-head, All-weaker}
 use Rattle.std.proofs.lemmas.List.Folds.{list_all-map, map_fixed}
 use Rattle.std.proofs.lemmas.List.Sums.{AllPass-from_list_all, suffix_len_is}
-use Rattle.std.proofs.lemmas.Bool.{and_left, and_parts, and_right, and_from, cases_lt, cond-false, cond-true, le-leb, lt-leb, leb-true, lt-ltb, le-ltb, ne_eqb, not-true, or_from}
+use Rattle.std.proofs.lemmas.Bool.{and_parts, and_from, cases_lt, cond-false, cond-true, le-leb, leb-true, lt-ltb, le-ltb, ne_eqb, not-true, or_from}
 use Rattle.echo_addr.specs.Entries.{is_blank}
 use Rattle.echo_text.specs.Lines.{area_tag, area_word, is_return, is_tag, is_tag_byte, trimmed, without_back_blanks, without_front_blanks}
 use Rattle.echo_text.proofs.LineKinds.{after_area}
@@ -80,16 +80,6 @@ area_tag_back tag is =
     ap (λ s. map to_ascii_uppercase (trimmed s)) (after_area tag)
     ∙ ap (map to_ascii_uppercase) (trimmed_ink tag (All-weaker IsTagByte (λ b. is_blank b ≡ false) tag_byte_ink tag bytes))
     ∙ map_fixed to_ascii_uppercase tag (All-weaker IsTagByte (λ b. to_ascii_uppercase b ≡ b) tag_byte_upper tag bytes)
-
--- when bytes in upper case are a tag
-pub no_tag_empty : (bytes : List ℕ) → length bytes ≡ 0 → is_tag (map to_ascii_uppercase bytes) ≡ false
-no_tag_empty bytes none =
-    and_left _ _ (and_left _ _ (le-ltb 0 (length (map to_ascii_uppercase bytes)) (omega (arith, length-map bytes to_ascii_uppercase))))
-
-pub no_tag_long : (bytes : List ℕ) → 60 < length bytes → is_tag (map to_ascii_uppercase bytes) ≡ false
-no_tag_long bytes long =
-    and_left _ _ (and_right (nat_lt 0 (length (map to_ascii_uppercase bytes))) _
-    (lt-leb (length (map to_ascii_uppercase bytes)) 60 (omega (arith, length-map bytes to_ascii_uppercase))))
 
 pub tag_by_bytes : (bytes : List ℕ) → 0 < length bytes → length bytes ≤ 60
     → list_all (λ b. is_tag_byte (to_ascii_uppercase b)) bytes ≡ is_tag (map to_ascii_uppercase bytes)

@@ -1,10 +1,9 @@
 -- What goes out, message by message, is what a scan is to make.
-use Rattle.std.proofs.Common.{◌≡◌, ℕ, ◌+◌, ◌<◌, Bool, List, [], ◌∷◌, ◌++◌, map, length, drop, get_or, refl, sym, ap, ◌∙◌, Some, append_assoc, inl, inr, Result, Ok, Err, IfOk, Vec}
+use Rattle.std.proofs.Common.{◌≡◌, ℕ, ◌+◌, List, [], ◌∷◌, ◌++◌, map, drop, refl, sym, ap, ◌∙◌, Some, append_assoc, inl, inr, Result, Ok, Err, IfOk, Vec}
 use Rattle.std.specs.Prelude.{filter, slice_get}
 use Rattle.std.specs.List.{flat_map}
 use Rattle.std.proofs.lemmas.Bool.{cases_Bool, cond-false, cond-true}
-use Rattle.std.proofs.lemmas.List.{drop_more, map-append}
-use Rattle.std.proofs.lemmas.List.Elements.{filter-append}
+use Rattle.std.proofs.lemmas.List.{drop_more}
 use Rattle.std.proofs.lemmas.Option.{get_or_from_slice_get, slice_get_within}
 use Rattle.std.specs.declared.alloc.Global.{Global}
 use Rattle.echo_addr.specs.declared.address.Address.{Address}
@@ -35,16 +34,6 @@ next_waits f xs i x old new all is so_far grown =
     ap (λ l. l ++ map f (drop (i + 1) xs)) grown ∙ append_assoc old (f x ∷ []) (map f (drop (i + 1) xs))
     ∙ ap (λ l. old ++ l) (ap (λ y. f y ∷ map f (drop (i + 1) xs)) (sym here) ∙ ap (map f) (sym (drop_more xs i x within)))
     ∙ so_far
-
--- one more that may go to an address
-pub one_more_packed : {X Y : Type 0} (p : X → Bool) (f : X → Y) (xs : List X) (i : ℕ) (x : X) (old new all : List Y) → i < length xs → x ≡ get_or xs i x
-    → old ++ map f (filter p (drop i xs)) ≡ all → new ≡ old ++ map f (filter p (x ∷ [])) → new ++ map f (filter p (drop (i + 1) xs)) ≡ all
-one_more_packed p f xs i x old new all within is so_far grown =
-    let rest = drop (i + 1) xs in
-    let split : drop i xs ≡ (x ∷ []) ++ rest = drop_more xs i x within ∙ ap (λ y. y ∷ rest) (sym is) in
-    let both : map f (filter p (drop i xs)) ≡ map f (filter p (x ∷ [])) ++ map f (filter p rest) =
-    ap (λ l. map f (filter p l)) split ∙ ap (map f) (filter-append p (x ∷ []) rest) ∙ map-append f (filter p (x ∷ [])) (filter p rest) in
-    ap (λ l. l ++ map f (filter p rest)) grown ∙ append_assoc old (map f (filter p (x ∷ []))) (map f (filter p rest)) ∙ ap (λ l. old ++ l) (sym both) ∙ so_far
 
 same_targets : (file : LinkFile) (ms : List Filed) → flat_map (λ o. o.targets) (map (outgoing_of file) ms) ≡ flat_map (targets file) ms
 same_targets file [] = refl

@@ -1,5 +1,5 @@
 -- What becomes of a received message.
-use Rattle.std.proofs.Common.{◌≡◌, ℕ, Bool, true, false, List, [], ◌∷◌, ◌++◌, refl, sym, ap, subst, ◌∙◌, Option, Some, None, not, append-nil, if◌then◌else◌, Result, Ok, Err, IfOk, ◌⊎◌, inl, inr}
+use Rattle.std.proofs.Common.{◌≡◌, ℕ, Bool, true, false, List, [], refl, sym, ap, subst, ◌∙◌, Option, Some, None, not, if◌then◌else◌, Result, Ok, Err, IfOk, ◌⊎◌, inl, inr}
 use Rattle.echo_addr.specs.declared.address.Address.{Address}
 use Rattle.echo_packet.specs.Message.{Message}
 use Rattle.echo_text.specs.declared.fault.TextFault.{TextFault}
@@ -13,7 +13,6 @@ use Rattle.echo_filed.proofs.Texts.{says_accepted, says_one}
 use Rattle.echo_base.specs.Base.{is_known}
 use Rattle.echo_steps.specs.declared.outcome.Outcome.{Outcome}
 use Rattle.echo_steps.specs.declared.outcome.Outcome.TheVariants as outcome
-use Rattle.echo_steps.specs.SystemState.{SystemState, state_with}
 use Rattle.echo_steps.specs.Tossing.{IsOutcome, received, toss_outcome, tossing, where_filed}
 use Rattle.echo_steps.proofs.FirstRefusals.{outcome_is_first}
 use Rattle.echo_filed.specs.declared.key.Key.{Key}
@@ -75,15 +74,6 @@ wanted_area file sender packed e h =
     let both = accepted (has_area file e.tag) (is_link file e.tag sender) h.allowed in
     (subst A tag both.0, subst L tag both.1)
 
--- a state with nothing more
-pub state_same : (s : SystemState) → s ≡ state_with s None
-state_same s = let base = sym (append-nil s.base) in λ i. record { file = s.file; base = base i; cursor = s.cursor }
-
--- a message that changes nothing
-pub step_left : (s : SystemState) (sender : Address) (packed : Message) (o : Outcome) → (o ≡ toss_outcome s.file s.base sender packed) × (None ≡ tossing s.file s.base sender packed)
-    → (o ≡ toss_outcome s.file s.base sender packed) × (s ≡ state_with s (tossing s.file s.base sender packed))
-step_left s sender packed o h = (h.0, state_same s ∙ ap (state_with s) h.1)
-
 -- a message whose key is known
 pub known_left : (file : LinkFile) (base : List Filed) (sender : Address) (packed : Message) (e : EchoText) (key : Key) → IsWanted file sender packed e → key ≡ key_of (received sender packed)
     → is_known base key ≡ true → (outcome.Known ≡ toss_outcome file base sender packed) × (None ≡ tossing file base sender packed)
@@ -109,15 +99,6 @@ found_new file base sender packed e key m h is new made =
       own_key = is ∙ ap key_of (sym made);
       new = new;
     }
-
--- one more message is the last of the base
-pub state_grown : (s t : SystemState) (m : Filed) → t.file ≡ s.file → t.base ≡ s.base ++ m ∷ [] → t.cursor ≡ s.cursor → t ≡ state_with s (Some m)
-state_grown s t m file base cursor = λ i. record { file = file i; base = base i; cursor = cursor i }
-
-pub step_new : (s t : SystemState) (sender : Address) (packed : Message) (key : Key) (m : Filed) → IsNew s.file s.base sender packed key m
-    → t.file ≡ s.file → t.base ≡ s.base ++ m ∷ [] → t.cursor ≡ s.cursor
-    → (outcome.Filed ≡ toss_outcome s.file s.base sender packed) × (t ≡ state_with s (tossing s.file s.base sender packed))
-step_new s t sender packed key m h file base cursor = (h.answer, state_grown s t m file base cursor ∙ ap (state_with s) h.message)
 
 -- why a text is refused
 pub refused_text : (packed : Message) (bytes : List ℕ) (f : TextFault) → bytes ≡ packed.text → (f ≡ text.Memory → ⊥)

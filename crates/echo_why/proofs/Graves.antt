@@ -4,9 +4,7 @@ use Rattle.echo_addr.specs.declared.address.Address.{Address}
 use Rattle.echo_links.specs.Links.{LinkFile}
 use Rattle.echo_net.specs.declared.verdict.NetFault.{NetFault}
 use Rattle.echo_net.specs.declared.verdict.NetFault.TheVariants.{NoSuchArea, TwoFiles, SelfLink, Unknown, OneSided, SameNetNode, Apart, Loop}
-use Rattle.echo_net.specs.declared.verdict.Verdict.{Verdict}
-use Rattle.echo_net.specs.declared.verdict.Verdict.TheVariants.{Yes, No}
-use Rattle.echo_net.specs.Faults.{IfNo, IsFirstFault}
+use Rattle.echo_net.specs.Faults.{IsFirstFault}
 use Rattle.echo_run.specs.Tidy.{lists}
 use Rattle.echo_harm.specs.Grave as grave
 use Rattle.echo_harm.specs.Grave.{AllAreCarriers, GraveFault, HaveOwnAddresses}
@@ -35,8 +33,3 @@ own_link files tag a h = h.2.holds
 
 pub unknown_link : (files : List LinkFile) (tag : List ℕ) (a b : Address) → IsFirstFault files tag (Unknown a b) → IsTrue (lists files tag a b)
 unknown_link files tag a b h = h.3.holds.0
-
--- what holds of each fault holds of that of a no
-pub if_no : (v : Verdict) (P : NetFault → Type 0) → ((f : NetFault) → P f) → IfNo v P
-if_no (Yes systems links) P h = tt
-if_no (No fault) P h = h fault
