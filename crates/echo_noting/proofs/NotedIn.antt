@@ -38,5 +38,3 @@ begun_noted limits sender file old first before tally text failed room ready non
   later = omega arith;
   free = free;
 }
-
-unfolding tossing
