@@ -12,8 +12,8 @@ ghost use Rattle.echo_rules.specs.Orderly.{AreToldApart, Compares, IsMet, IsNeed
 /// posted. Where all was exported and all copies came, each system with the area filed each
 /// posting, with a content that compares with it.
 ///
-/// Addresses, net/nodes, keys and contents are of any types. `same` compares contents and is any
-/// reflexive and transitive relation.
+/// Addresses, net/nodes, keys and contents have any types. `same` compares contents and is any reflexive and
+/// transitive relation.
 pub fn every_run_by_the_rules_is_orderly<A, N, K, C>()
     ensures { AreToldApart A → AreToldApart K →
         (net : Net A N) → Tidy net → (same : C → C → Bool) → Compares (λ a b. IsTrue (same a b)) →

@@ -105,7 +105,7 @@ fn until_zero(bytes: &[u8]) -> &[u8]
     &bytes[..filled_len(bytes)]
 }
 
-// How many bytes that is.
+// The number of bytes before the first 00, or of all.
 fn filled_len(bytes: &[u8]) -> usize
     ensures exact { result ≡ length (take_while (λ b. not (b == 0)) bytes.now) }
     ensures within { result ≤ length bytes.now }
