@@ -59,7 +59,7 @@ fn refused_by(links: &LinkFile, tag: &[u8], sender: Address) -> Option<Outcome>
     None
 }
 
-/// The key of the message; `view` is its parsed text.
+/// The key of the message, of which `view` is what the text says.
 pub(crate) fn key_in(alloc: Global, packed: &Packed, view: &EchoView<'_>) -> Result<Key, AllocError>
     requires { view.now ≡ echo_of packed.now.text }
     ensures { IfOk result (λ key. (sender : System) → key ≡ key_of (received sender packed.now)) }
