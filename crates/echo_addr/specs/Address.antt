@@ -51,7 +51,7 @@ has_shape b =
     (count_by is_colon b == 1) && (count_by is_slash b == 1)
     && nat_lt (position_or_len is_colon b) (position_or_len is_slash b)
 
--- what stands before the colon, between colon and slash, and after the slash
+-- the bytes before the colon, between colon and slash, and after the slash
 abbrev pub zone_part : List ℕ → List ℕ
 zone_part b = before_first is_colon b
 

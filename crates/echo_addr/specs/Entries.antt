@@ -10,7 +10,7 @@ use Rattle.echo_addr.specs.Digits.{number_within}
 abbrev pub is_blank : ℕ → Bool
 is_blank b = (b == 32) || (b == 9) || (b == 10)
 
--- what stands between blanks, without the empty pieces
+-- the pieces between blanks, without the empty ones
 unfoldable pub tokens : List ℕ → List (List ℕ)
 tokens s = filter (λ t. nat_lt 0 (length t)) (slice_split is_blank s)
 
@@ -18,7 +18,7 @@ tokens s = filter (λ t. nat_lt 0 (length t)) (slice_split is_blank s)
 abbrev pub part_of : List ℕ → Option ℕ
 part_of digits = number_within 65535 digits
 
--- an entry of a net and a node, where both are there
+-- an entry of a net and a node, where both are known
 abbrev pub entry_from : Option ℕ → Option ℕ → Option NetNode
 entry_from None _ = None
 entry_from (Some net) None = None
@@ -28,7 +28,7 @@ entry_from (Some net) (Some node) = Some (record { net = net; node = node })
 unfoldable pub pair_of : List ℕ → Option NetNode
 pair_of token = entry_from (part_of (before_first is_slash token)) (part_of (after_first is_slash token))
 
--- the net of the nearest token `net/node`, where the nearest token stands first
+-- the net of the nearest token `net/node`; the list has the nearest token first
 abbrev pub nearest_net : List (List ℕ) → Option ℕ
 nearest_net [] = None
 nearest_net (token ∷ earlier) = option_or (option_map (λ e. e.net) (pair_of token)) (nearest_net earlier)
@@ -37,7 +37,7 @@ nearest_net (token ∷ earlier) = option_or (option_map (λ e. e.net) (pair_of t
 abbrev pub entry_of : List (List ℕ) → List ℕ → Option NetNode
 entry_of earlier token = option_or (pair_of token) (entry_from (nearest_net earlier) (part_of token))
 
--- the entry of each token, where those in front of the first are given, the nearest first
+-- the entry of each token; the first list has the tokens before them, the nearest first
 abbrev pub judged : List (List ℕ) → List (List ℕ) → List (Option NetNode)
 judged earlier [] = []
 judged earlier (token ∷ more) = entry_of earlier token ∷ judged (token ∷ earlier) more

@@ -21,7 +21,7 @@ abbrev pub shows_net : Option ℕ → ℕ → Bool
 shows_net None net = true
 shows_net (Some before) net = not (before == net)
 
--- an entry as it is written, where the net of the entry before it is given
+-- an entry as it is written after an entry with this net
 abbrev pub entry_token : Option ℕ → NetNode → List ℕ
 entry_token before e =
     if shows_net before e.net then net_node_text e else decimal e.node
@@ -30,7 +30,7 @@ entry_token before e =
 abbrev pub entry_text : Option ℕ → NetNode → List ℕ
 entry_text before e = 32 ∷ entry_token before e
 
--- entries one after the other, where the net of the entry before the first is given
+-- entries in a row; the first argument is the net of the entry before them
 abbrev pub entries_text : Option ℕ → List NetNode → List ℕ
 entries_text before [] = []
 entries_text before (e ∷ more) = entry_text before e ++ entries_text (Some e.net) more
@@ -43,12 +43,12 @@ line_front prefix run = prefix ++ entries_text None run
 abbrev pub line_of : List ℕ → List ℕ → List ℕ
 line_of prefix rest = prefix ++ (rest ++ 13 ∷ [])
 
--- with the first of the entries that follow, the line would be too long
+-- with the next entry the line would be too long
 abbrev pub IsFull : List ℕ → List NetNode → List NetNode → Type 0
 IsFull prefix run [] = ⊤
 IsFull prefix run (next ∷ more) = line_room < length (line_front prefix (run ++ next ∷ []))
 
--- the entries of one line: at least one, no more than have room, and as many as have room
+-- the entries of one line: at least one, and as many as fit
 pub record IsRun (prefix : List ℕ) (run after : List NetNode) : Type 0 where
   pub some : 0 < length run
   pub room : length (line_front prefix run) ≤ line_room

@@ -55,7 +55,7 @@ impl fmt::Display for NetNode {
 }
 
 impl Address {
-    /// The address that the bytes write as `zone:net/node`. Zeros may stand in front of a number.
+    /// The address that the bytes write as `zone:net/node`. Leading zeros are allowed.
     pub fn parse(bytes: &[u8]) -> Result<Address, AddrFault>
         ensures ok { (a : Address) → (result ≡ Ok a) ↔ AddressOf bytes.now a }
         ensures err { (f : AddrFault) → (result ≡ Err f) ↔ (refusal bytes.now ≡ Some f) }
@@ -104,7 +104,7 @@ fn numbers(zone: &[u8], net: &[u8], node: &[u8]) -> Option<(u32, u32, u32)>
     ))
 }
 
-/// What stands before the colon, between colon and slash, and after the slash.
+/// The bytes before the colon, between colon and slash, and after the slash.
 fn parts_of(bytes: &[u8]) -> Option<(&[u8], &[u8], &[u8])>
     ensures none { IsNone result ↔ (has_shape bytes.now ≡ false) }
     ensures zone { IfSome result (λ p. p.0.now ≡ zone_part bytes.now) }

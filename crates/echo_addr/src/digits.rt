@@ -2,8 +2,8 @@ ghost use Rattle.std.specs.Prelude.{◌≡◌, ◌<◌, ◌^◌, ◌↔◌, fals
 ghost use Rattle.std.specs.Str.Parse.{digits_value};
 ghost use Rattle.echo_addr.specs.Digits.{is_number};
 
-/// The number that decimal digits write, or `cap` for any greater one; nothing where a byte is no
-/// digit or there is none. Zeros may stand in front. Takes no memory.
+/// The number that decimal digits write, or `cap` for any greater one. `None` for no bytes, or a
+/// byte that is no digit. Leading zeros are allowed. Takes no memory.
 pub fn number(cap: u32, digits: &[u8]) -> Option<u32>
     requires { cap < 2 ^ 28 }
     ensures none { IsNone result ↔ (is_number digits.now ≡ false) }

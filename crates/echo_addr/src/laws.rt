@@ -1,5 +1,5 @@
-//! What holds of the definitions. Each law is the contract of a function that does nothing; that of the
-//! order, which is derived, of one that compares.
+//! Laws about the definitions. Each law is the contract of a function that does nothing. The law
+//! about the derived order is the contract of a function that compares.
 
 ghost use Rattle.std.specs.Prelude.{◌≡◌, ◌≤◌, ◌↔◌, ℕ, List, [], length, All};
 ghost use Rattle.std.specs.Ordering.{nat_cmp, ordering_then};
@@ -11,7 +11,7 @@ ghost use Rattle.echo_addr.specs.ShortLines.{IsNetNode, ReadBack, ShortLines};
 use crate::address::Address;
 use std::cmp::Ordering;
 
-/// What is written of an address in range writes that address.
+/// The written text of an address in range is read as that address.
 pub fn address_read_back()
     ensures { (a : Address) → IsAddress a → AddressOf (address_text a) a }
 {}

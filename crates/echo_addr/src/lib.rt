@@ -1,13 +1,13 @@
-//! Addresses of FidoNet systems, the shortened lists of SEEN-BY and PATH lines (FTS-0004), and what all
-//! formats share: decimal numbers, blanks, lists in ascending order, and the one small type for lists.
+//! Addresses of FidoNet systems and the shortened lists of SEEN-BY and PATH lines (FTS-0004). It
+//! also holds what all formats share: decimal numbers, blanks, sorted lists, and a small type for
+//! lists.
 //!
-//! The contract for the layers above: `read_list` of a written line gives its entries, none dropped
+//! Promise: `read_list` of a written line gives its entries, none dropped
 //! (`written_lines_read_back`).
 //!
-//! Modules in reading order: `fault` (why bytes are no address), `digits` (decimal numbers), `blanks`,
-//! `places` (where a byte stands), `address`, `listing` (reading lists), `shortening` (writing them),
-//! `laws` (what holds of the definitions); `items` (a list that no later call grows); `ascending`
-//! (values in ascending order, each once).
+//! Begin with `address`. `listing` reads lists, `shortening` writes them, `laws` states the
+//! promise. `fault` has the refusals; `digits`, `blanks` and `places` are small helpers. `items` is
+//! a list that no later call grows, `ascending` sorts.
 //!
 //! A caller:
 //!

@@ -15,9 +15,9 @@ const MOST: u32 = 65535;
 /// How many bytes most tokens have at least, each with its blank.
 const TOKEN_LEN: usize = 4;
 
-/// The entries of what follows the colon of a SEEN-BY or PATH line (FTS-0004), in order, and how
-/// many tokens were dropped. A token is `net/node`, or a node with the net of the nearest such token
-/// before it; each number is decimal and at most 65,535.
+/// The entries after the colon of a SEEN-BY or PATH line (FTS-0004), in order, and the number of
+/// dropped tokens. A token is `net/node`, or a node with the net of the nearest such token before
+/// it. Each number is decimal and at most 65,535.
 pub fn read_list(alloc: Global, bytes: &[u8]) -> Result<(Vec<NetNode>, usize), AllocError>
     ensures entries { IfOk result (λ r. r.0.items ≡ entries bytes.now) }
     ensures dropped { IfOk result (λ r. r.1 ≡ dropped bytes.now) }
@@ -66,7 +66,7 @@ fn add_entries(found: &mut Vec<NetNode>, bytes: &[u8]) -> Result<usize, AllocErr
     Ok(dropped)
 }
 
-/// The first token, and what stands after it. Takes no memory.
+/// The first token and the bytes after it. Takes no memory.
 pub fn next_token(bytes: &[u8]) -> Option<(&[u8], &[u8])>
     ensures token { MatchOption result (tokens bytes.now ≡ []) (λ r. tokens bytes.now ≡ r.0.now ∷ tokens r.1.now) }
     ensures after { IfSome result (λ r. r.1.now ≡ drop (length r.0.now) (drop (position_or_len (λ b. not (is_blank b)) bytes.now) bytes.now)) }
@@ -77,14 +77,13 @@ pub fn next_token(bytes: &[u8]) -> Option<(&[u8], &[u8])>
     Some(begun.split_at(end))
 }
 
-/// Where the first blank stands.
 fn first_blank(bytes: &[u8]) -> Option<usize>
     ensures { result ≡ position is_blank bytes.now }
 {
     bytes.iter().position(|b| is_blank(*b))
 }
 
-/// Where the first byte stands that is no blank.
+/// The index of the first byte that is no blank.
 fn first_other(bytes: &[u8]) -> Option<usize>
     ensures { result ≡ position (λ b. not (is_blank b)) bytes.now }
 {
@@ -102,7 +101,6 @@ fn entry(net: Option<u16>, token: &[u8]) -> Option<NetNode>
     }
 }
 
-/// The entry of a token `net/node`.
 fn pair(token: &[u8]) -> Option<NetNode>
     ensures { result ≡ pair_of token.now }
 {
@@ -112,7 +110,6 @@ fn pair(token: &[u8]) -> Option<NetNode>
     Some(NetNode { net, node })
 }
 
-/// The entry of a node alone.
 fn alone(net: Option<u16>, node: u16) -> Option<NetNode>
     ensures { result ≡ entry_from net (Some node) }
 {

@@ -7,7 +7,7 @@ pub(crate) fn count(bytes: &[u8], wanted: u8) -> usize
     bytes.iter().filter(|b| **b == wanted).count()
 }
 
-/// Where this byte stands first.
+/// The first index of this byte.
 pub(crate) fn place(bytes: &[u8], wanted: u8) -> Option<usize>
     ensures { result ≡ position (λ b. b == wanted) bytes.now }
 {

@@ -95,7 +95,6 @@ fn decimal_len(n: u16) -> usize
     }
 }
 
-/// Writes a line with its 0D.
 fn push_line(lines: &mut Vec<u8>, prefix: &[u8], run: &[NetNode]) -> Result<(), AllocError>
     ensures { OnOk result (lines.new.items ≡ lines.old.items ++ line_of prefix.now (entries_text None run.now)) }
 {
@@ -105,7 +104,6 @@ fn push_line(lines: &mut Vec<u8>, prefix: &[u8], run: &[NetNode]) -> Result<(), 
     Ok(())
 }
 
-/// Writes the entries of a line.
 fn push_run(line: &mut Vec<u8>, run: &[NetNode]) -> Result<(), AllocError>
     ensures { OnOk result (line.new.items ≡ line.old.items ++ entries_text None run.now) }
 {
@@ -117,7 +115,6 @@ fn push_run(line: &mut Vec<u8>, run: &[NetNode]) -> Result<(), AllocError>
     Ok(())
 }
 
-/// Writes an entry after a blank.
 fn push_entry(line: &mut Vec<u8>, before: Option<u16>, entry: NetNode) -> Result<(), AllocError>
     ensures { OnOk result (line.new.items ≡ line.old.items ++ entry_text before entry) }
 {
@@ -129,7 +126,6 @@ fn push_entry(line: &mut Vec<u8>, before: Option<u16>, entry: NetNode) -> Result
     push_number(line, entry.node)
 }
 
-/// Writes a number.
 #[tactic(auto, using(crate::proofs::Decimals::one_digit, crate::proofs::Decimals::two_digits, crate::proofs::Decimals::three_digits, crate::proofs::Decimals::four_digits, crate::proofs::Decimals::five_digits))]
 fn push_number(line: &mut Vec<u8>, n: u16) -> Result<(), AllocError>
     ensures { OnOk result (line.new.items ≡ line.old.items ++ decimal n) }
@@ -147,7 +143,6 @@ fn push_number(line: &mut Vec<u8>, n: u16) -> Result<(), AllocError>
     }
 }
 
-/// The last digit of a number.
 fn last_digit(n: u16) -> u8
     ensures { result ≡ 48 + n % 10 }
 {

@@ -14,7 +14,7 @@ use Rattle.echo_base.specs.declared.fault.BaseFault.{BaseFault}
 use Rattle.echo_base.specs.declared.fault.BaseFault.TheVariants as fault
 use Rattle.echo_base.specs.Base.{is_known}
 
--- what a base begins with
+-- the first bytes of a base
 abbrev pub magic : Version → List ℕ
 magic First = codes "ECHOBAS1"
 magic Second = codes "ECHOBAS2"
@@ -32,7 +32,7 @@ has_wrong_sender s = is_posted s.kind && not ((s.zone == 0) && ((s.net == 0) && 
 abbrev pub is_no_string : ℕ → List ℕ → Bool
 is_no_string most s = nat_lt most (length s) || list_any is_zero s
 
--- a name or the subject is no such string
+-- a name or the subject has 00 or is too long
 abbrev pub has_wrong_string : Stored → Bool
 has_wrong_string s = is_no_string max_name s.to_name || (is_no_string max_name s.from_name || is_no_string max_subject s.subject)
 
@@ -41,22 +41,22 @@ abbrev pub is_wrong_text : List ℕ → Bool
 is_wrong_text text =
     list_any is_zero text || (not (is_none (text_refusal text)) || not (bytes_eq (text_of (echo_of text)) text))
 
--- an id without a byte, with 00 or 0D, or with a blank at an end
+-- an empty id, or one with 00 or 0D, or with a blank at an end
 abbrev pub is_wrong_id : List ℕ → Bool
 is_wrong_id id = (length id == 0) || (not (list_all is_line_byte id) || not (bytes_eq (trimmed id) id))
 
--- what stands after the subject is not what a message has there
+-- the bytes after the subject are not right for a message
 abbrev pub has_wrong_last : Version → Stored → Bool
 has_wrong_last version s =
     if has_tag version s.kind then not (is_tag s.tag) || is_wrong_id s.last else is_wrong_text s.last
 
--- the message has the text where tag and id are to stand, or the other way round
+-- the message has the text where tag and id should be, or the other way round
 abbrev pub has_wrong_form : Version → ℕ → ℕ → Stored → Bool
 has_wrong_form version cursor place s =
     if has_tag version s.kind then not (is_short version cursor place (message_in version s))
     else is_short version cursor place (message_in version s)
 
--- the message is none that may stand in a base after the earlier ones
+-- the message must not come in a base after the earlier ones
 unfoldable pub is_damaged : Version → ℕ → List Filed → Stored → Bool
 is_damaged version cursor earlier s =
     is_other_kind version s.kind
@@ -65,7 +65,7 @@ is_damaged version cursor earlier s =
     || (has_wrong_last version s
     || (has_wrong_form version cursor (length earlier) s || is_known earlier (key_of (message_in version s))))))
 
--- each may stand after those before it
+-- each may come after those before it
 abbrev pub AreSound : Version → ℕ → List Filed → List Stored → Type 0
 AreSound version cursor earlier [] = ⊤
 AreSound version cursor earlier (s ∷ later) =
@@ -90,7 +90,7 @@ pub record BaseOf (base : List Filed) (cursor : ℕ) (bytes : List ℕ) : Type 0
   pub begins : Begins version cursor (length all) all [] bytes
   pub messages : base ≡ map (message_in version) all
 
--- the first eight bytes, or those that are there, are the front of a beginning
+-- the first eight bytes, or fewer if fewer came, begin a base file
 abbrev pub is_front : List ℕ → Bool
 is_front bytes = starts_with nat_eq (magic First) (take 8 bytes) || starts_with nat_eq (magic Second) (take 8 bytes)
 
@@ -98,7 +98,7 @@ is_front bytes = starts_with nat_eq (magic First) (take 8 bytes) || starts_with 
 abbrev pub IsNoBase : List ℕ → Type 0
 IsNoBase bytes = (is_front bytes ≡ false) ⊎ ((16 ≤ length bytes) × (long_at 12 bytes < long_at 8 bytes))
 
--- after so many whole messages, with more to come, the input ends inside one
+-- after this many whole messages more bytes come, and the input ends inside a message
 pub record EndsInside (n : ℕ) (bytes : List ℕ) : Type 0 where
   pub version : Version
   pub cursor : ℕ
@@ -114,7 +114,7 @@ pub record EndsInside (n : ℕ) (bytes : List ℕ) : Type 0 where
   pub some : 0 < length missing
   pub cut : stored_bytes version next ≡ rest ++ missing
 
--- after so many sound messages one stands that is not
+-- after this many sound messages comes one that is not
 pub record IsDamagedAt (n : ℕ) (bytes : List ℕ) : Type 0 where
   pub version : Version
   pub cursor : ℕ
@@ -136,7 +136,7 @@ BaseFaultOf bytes (fault.Truncated n) =
 BaseFaultOf bytes (fault.Damaged n) = IsDamagedAt n bytes
 BaseFaultOf bytes _ = ⊥
 
--- what a base file says: the messages, the cursor, and how many bytes these take
+-- the parts of a base file: the messages, the cursor, and their length in bytes
 abbrev pub Loaded : Type 0
 Loaded = List Filed × ℕ × ℕ
 
@@ -145,7 +145,7 @@ abbrev pub LoadOf : List ℕ → Result Loaded BaseFault → Type 0
 LoadOf bytes (Ok found) = (found.2 ≤ length bytes) × BaseOf found.0 found.1 (take found.2 bytes)
 LoadOf bytes (Err refused) = BaseFaultOf bytes refused
 
--- a message as it is stored at this place
+-- the stored form of a message at this place
 unfoldable pub stored_at : ℕ → ℕ → Filed → Stored
 stored_at cursor place m = stored_as (is_short Second cursor place m) m
 
@@ -154,7 +154,7 @@ abbrev pub stored_from : ℕ → ℕ → List Filed → List Stored
 stored_from cursor place [] = []
 stored_from cursor place (m ∷ later) = stored_at cursor place m ∷ stored_from cursor (place + 1) later
 
--- what is saved of a base
+-- the saved bytes of a base
 unfoldable pub saved_bytes : List Filed → ℕ → List ℕ
 saved_bytes base cursor =
     head_bytes Second cursor (length base) ++ flat_map (stored_bytes Second) (stored_from cursor 0 base)

@@ -13,12 +13,12 @@ use Rattle.echo_base.specs.Base.{IsBase}
 abbrev pub HasTagIn : List (List ℕ) → Filed → Type 0
 HasTagIn tags m = list_any (bytes_eq m.echo.tag) tags ≡ true
 
--- each key that is kept in order is one of the tags
+-- each key of the ordered list is one of the tags
 abbrev pub AreAmong : {K : Type 0} → (K → List ℕ) → List K → List K → Type 0
 AreAmong tag_of sorted tags =
     (tag : List ℕ) → list_any (λ k. is_eq (slice_cmp nat_cmp tag (tag_of k))) sorted ≡ true → list_any (bytes_eq tag) (map tag_of tags) ≡ true
 
--- so many messages from the front were scanned and are stubs
+-- this many messages from the front were scanned and are stubs
 pub record ArePurged (messages : List Filed) (cursor purged : ℕ) : Type 0 where
   pub within : purged ≤ cursor
   pub stubs : AllByRecursion (λ m. is_stub m ≡ true) (take purged messages)

@@ -26,21 +26,21 @@ abbrev pub UnlessWrong : {X : Type 0} → Bool → X → Option X → Type 0
 UnlessWrong wrong x None = wrong ≡ true
 UnlessWrong wrong x (Some found) = (wrong ≡ false) × (found ≡ x)
 
--- what stands after the subject is wrong, and what it says
+-- the bytes after the subject are wrong, and the tag and text in them
 abbrev pub wrong_last : Bool → List ℕ → List ℕ → Bool
 wrong_last with_tag tag last = if with_tag then not (is_tag tag) || is_wrong_id last else is_wrong_text last
 
 abbrev pub said_last : Bool → List ℕ → List ℕ → EchoText
 said_last with_tag tag last = if with_tag then bare tag last else echo_of last
 
--- the first byte, the sender or a string is wrong; or what stands after the subject, too
+-- the first byte, the sender or a string is wrong, or the bytes after the subject are
 abbrev pub has_wrong_front : Version → Stored → Bool
 has_wrong_front version s = is_other_kind version s.kind || (has_wrong_sender s || has_wrong_string s)
 
 abbrev pub has_wrong_field : Version → Stored → Bool
 has_wrong_field version s = has_wrong_front version s || has_wrong_last version s
 
--- tag and id do not stand where they are to stand, or stand elsewhere
+-- tag and id are not where they should be, or are where the text should be
 abbrev pub wrong_form : Version → ℕ → ℕ → Bool → Filed → Bool
 wrong_form version cursor place with_tag m =
     if with_tag then not (is_short version cursor place m) else is_short version cursor place m
@@ -49,7 +49,7 @@ wrong_form version cursor place with_tag m =
 abbrev pub is_wrong : Version → ℕ → ℕ → Stored → Bool
 is_wrong version cursor place s = has_wrong_field version s || has_wrong_form version cursor place s
 
--- tag and id stand in place of the text wherever the message was scanned
+-- a scanned message has tag and id instead of the text
 abbrev pub IsShortOnceScanned : Version → Filed → Type 0
 IsShortOnceScanned version m = (cursor place : ℕ) → is_short version cursor place m ≡ nat_lt place cursor
 
@@ -58,20 +58,21 @@ abbrev pub Judges : Bool → Filed → Option (Key × Filed) → Type 0
 Judges wrong m None = wrong ≡ true
 Judges wrong m (Some found) = (wrong ≡ false) × (found.0 ≡ key_of m) × (found.1 ≡ m)
 
--- the fault of a field that was not read, behind so many whole messages
+-- the fault of a field that was not read, after this many whole messages
 abbrev pub fault_behind : Broken → ℕ → BaseFault
 fault_behind broken.Cut messages = fault.Truncated messages
 fault_behind broken.Device messages = fault.Read
 fault_behind broken.Memory messages = fault.Memory
 
--- the version that the bytes are the beginning of, or why they are none
+-- the version that the bytes begin, or why there is none
 abbrev pub IsVersion : List ℕ → Result Version BaseFault → Type 0
 IsVersion front (Ok version) = front ≡ magic version
 IsVersion front (Err fault.NotBase) = is_front front ≡ false
 IsVersion front (Err (fault.Truncated n)) = (n ≡ 0) × (is_front front ≡ true) × (length front < 8)
 IsVersion front (Err _) = ⊥
 
--- the bytes that came before the device failed end before a base could: inside its first eight bytes, or as one that is cut
+-- the bytes that came before the device failed end too early for a base: inside its first eight bytes, or inside a
+-- message
 abbrev pub IsUnfinished : List ℕ → Type 0
 IsUnfinished came = (length came < 8) ⊎ ((n : ℕ) × BaseFaultOf came (fault.Truncated n))
 
@@ -81,17 +82,17 @@ LoadFault bytes fault.Read = Unit {0}
 LoadFault bytes fault.Memory = Unit {0}
 LoadFault bytes answered = BaseFaultOf bytes answered
 
--- why no base was read: a fault of the bytes, and where the device failed, what came before
+-- why no base was read: a fault of the bytes; where the device failed, of those that came before
 pub record FailsToLoad (old new : Option (List ℕ)) (answered : BaseFault) : Type 0 where
   pub wrong : IfSome old (λ bytes. LoadFault bytes answered)
   pub inside : answered ≡ fault.Read → Came old new IsUnfinished
 
--- the first bytes of a version were taken
+-- the first bytes of a version were consumed
 abbrev pub ReadsVersion : Option (List ℕ) → Option (List ℕ) → Result Version BaseFault → Type 0
 ReadsVersion old new (Ok version) = Consumes old new (magic version)
 ReadsVersion old new (Err answered) = FailsToLoad old new answered
 
--- the head of a base file was taken
+-- the head of a base file was consumed
 pub record TakesHead (head : Head) (old new : Option (List ℕ)) : Type 0 where
   pub number_fits : head.number < 2 ^ 32
   pub cursor_within : head.cursor ≤ head.number
@@ -101,7 +102,7 @@ abbrev pub ReadsHead : Option (List ℕ) → Option (List ℕ) → Result Head B
 ReadsHead old new (Ok head) = TakesHead head old new
 ReadsHead old new (Err answered) = FailsToLoad old new answered
 
--- a message came that may stand next, and was put at the end
+-- a message came that may be next, and was appended
 pub record TakesNextStored (version : Version) (cursor : ℕ) (base base' : List Filed) (old new : Option (List ℕ)) : Type 0 where
   pub next : Stored
   pub size : IsStored version next
@@ -116,7 +117,7 @@ pub record TakesDamaged (version : Version) (cursor : ℕ) (base : List Filed) (
   pub damaged : is_damaged version cursor base next ≡ true
   pub took : Consumes old new (stored_bytes version next)
 
--- what was taken behind the messages of the base
+-- the bytes consumed after the messages of the base
 abbrev pub TakesStored : {A : Type 0} → Version → ℕ → List Filed → List Filed → Option (List ℕ) → Option (List ℕ) → Result A BaseFault → Type 0
 TakesStored version cursor base base' old new (Ok _) = TakesNextStored version cursor base base' old new
 TakesStored version cursor base base' old new (Err (fault.Truncated n)) = (n ≡ length base) × Came old new (StopsIn version) × IsAtEnd new
@@ -125,7 +126,7 @@ TakesStored version cursor base base' old new (Err fault.Read) = Came old new (S
 TakesStored version cursor base base' old new (Err fault.Memory) = Unit {0}
 TakesStored version cursor base base' old new (Err _) = ⊥
 
--- behind the head of a base file all messages were taken, and they are the base's
+-- after the head of a base file all messages were consumed, and they are the base's
 pub record TakesAll (head : Head) (base : Base) (old new : Option (List ℕ)) : Type 0 where
   pub all : List Stored
   pub many : length all ≡ head.number
@@ -143,7 +144,7 @@ abbrev pub TakesMessages : {A : Type 0} → Head → Base → Option (List ℕ) 
 TakesMessages head base old new (Ok _) = TakesAll head base old new
 TakesMessages head base old new (Err answered) = FailsBehindHead head old new answered
 
--- just the bytes of this base were taken
+-- just the bytes of this base were consumed
 abbrev pub TakesBase : List Filed → ℕ → Option (List ℕ) → Option (List ℕ) → Type 0
 TakesBase messages cursor old new = Came old new (BaseOf messages cursor)
 

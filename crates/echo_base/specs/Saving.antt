@@ -5,11 +5,11 @@ use Rattle.echo_device.specs.Device.{Failed, counted}
 use Rattle.echo_base.specs.declared.fault.BaseFault.{BaseFault}
 use Rattle.echo_base.specs.declared.fault.BaseFault.TheVariants as fault
 
--- some first bytes went out, but not all
+-- some first bytes were sent, but not all
 abbrev pub SavesFront : Option (List ℕ) → Option (List ℕ) → List ℕ → (ℕ → Type 0) → Type 0
 SavesFront old new bytes P = (n : ℕ) × (n < length bytes) × Appends old new (take n bytes) × P n
 
--- all bytes went out; or some first ones, which a write fault counts; or none, where there were too many
+-- all bytes were sent; or some first ones, which a write fault counts; or none, where there were too many
 abbrev pub Saves : {A : Type 0} → Option (List ℕ) → Option (List ℕ) → Result A BaseFault → List ℕ → Type 0
 Saves old new (Ok _) bytes = Appends old new bytes
 Saves old new (Err (fault.Write count)) bytes = SavesFront old new bytes (λ n. count ≡ counted n)

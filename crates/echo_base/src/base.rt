@@ -26,7 +26,7 @@ pub struct Base<S: BuildHasher> {
     // Each tag of a message, once.
     tags: Tags,
     cursor: usize,
-    // So many messages from the front are known to be stubs.
+    // This many messages from the front are known to be stubs.
     purged: usize,
 }
 
@@ -87,7 +87,7 @@ impl<S: BuildHasher> Base<S> {
         self.entries.contains_key(key)
     }
 
-    /// Whether a message has the id, in any area. Looks once for each tag that messages have.
+    /// Whether a message has the id, in any area. It makes one look-up for each tag of the base.
     pub fn has_id(&self, msgid: &[u8]) -> Result<bool, AllocError>
         ensures { IfOk result (λ found. found ≡ list_any (has_id msgid.now) self.now.messages) }
     {
@@ -101,7 +101,7 @@ impl<S: BuildHasher> Base<S> {
         Ok(false)
     }
 
-    /// Puts a new message, with its key, at the end. The base stays as it was where a growth is refused.
+    /// Appends a new message with its key. If memory is refused, the base is unchanged.
     pub fn file(&mut self, key: Key, message: Filed) -> Result<(), AllocError>
         requires own { key ≡ key_of message }
         requires new { is_known self.old.messages key ≡ false }
@@ -113,8 +113,8 @@ impl<S: BuildHasher> Base<S> {
         Ok(())
     }
 
-    // Puts a message, with its key, at the end, unless one before it has the key, and answers whether it
-    // did. The base stays as it was where a growth is refused.
+    // Appends a message with its key, unless an earlier one has the key, and answers whether it
+    // did. If memory is refused, the base is unchanged.
     fn add(&mut self, key: Key, message: Filed) -> Result<bool, AllocError>
         requires own { key ≡ key_of message }
         ensures added { IfOk result (λ added. added ≡ not (is_known self.old.messages (key_of message))) }
@@ -137,9 +137,9 @@ impl<S: BuildHasher> Base<S> {
         self.cursor = self.entries.len();
     }
 
-    /// Leaves of each scanned message with an id nothing of its text but the id, and answers how many
-    /// messages changed. The base stays as it was where a growth is refused. Messages that an earlier
-    /// purge went over are not looked at again.
+    /// Replaces each scanned message that has an id by its stub, which keeps only the id, and
+    /// answers how many changed. If memory is refused, the base is unchanged. It skips messages of
+    /// an earlier purge.
     pub fn purge(&mut self) -> Result<u64, AllocError>
         ensures count { IfOk result (λ count. count ≡ count_by (λ m. not (is_stub m)) (take self.old.cursor self.old.messages)) }
         ensures messages { OnOk result (self.new.messages
@@ -178,8 +178,8 @@ fn push_new<S: BuildHasher>(
     }
 }
 
-// Puts the tag among the tags, if it is not there. Messages of one area often stand together, so that the
-// last one is looked at first.
+// Adds the tag to the tags if it is new. It looks at the last tag first: messages of one area often
+// follow each other.
 fn keep_tag<S: BuildHasher>(
     entries: &IndexMap<Key, Filed, S>,
     tags: &mut Tags,
@@ -197,7 +197,6 @@ fn keep_tag<S: BuildHasher>(
     tags.note(alloc, tag)
 }
 
-// Whether the last message has the tag.
 fn is_tag_of_last<S: BuildHasher>(entries: &IndexMap<Key, Filed, S>, tag: &[u8]) -> bool
     ensures { IsTrue result → list_any (λ m. bytes_eq tag.now m.echo.tag) (values_of entries.now.entries) ≡ true }
 {

@@ -4,16 +4,17 @@ ghost use Rattle.echo_base.specs.declared.fault.BaseFault.TheVariants as base;
 use std::alloc::{AllocError, AllocFailed};
 use thiserror::Error;
 
-/// Why a base was not saved or loaded. Messages are counted from 0; `bytes` counts bytes that went out.
+/// Why a base was not saved or loaded. Messages are counted from 0; `bytes` counts bytes that were
+/// sent.
 #[derive(Clone, Copy, Debug, PartialEq, Eq, Error)]
 pub enum BaseFault {
     /// The first eight bytes are no beginning of a base, or the cursor is past the number of messages.
     #[error("F1 NotBase")]
     NotBase,
-    /// The input ends after so many whole messages.
+    /// The input ends after this many whole messages.
     #[error("F2 Truncated record {messages}")]
     Truncated { messages: u64 },
-    /// The message of this number says what no message of a base says.
+    /// No base has a message like the one of this number.
     #[error("F3 Damaged record {message}")]
     Damaged { message: u64 },
     /// The reader failed.

@@ -1,4 +1,4 @@
-//! Whether a stored message may stand in a base, and which message it is.
+//! Decides whether a stored message may be in a base, and which message it is.
 ghost use Rattle.std.specs.Prelude.{◌≡◌, ◌||◌, not, bytes_eq, false, None, Some, if◌then◌else◌, IfOk, IsTrue};
 ghost use Rattle.std.specs.List.{list_all};
 ghost use Rattle.echo_text.specs.Lines.{is_tag};
@@ -35,7 +35,6 @@ fn is_posted(kind: u8) -> bool
     kind == 0 || kind == 2
 }
 
-// Whether a posted message has a sender.
 fn has_wrong_sender(stored: &StoredMessage) -> bool
     ensures { result ≡ has_wrong_sender stored.now }
 {
@@ -50,7 +49,7 @@ fn is_no_string(most: usize, bytes: &[u8]) -> bool
     bytes.len() > most || bytes.contains(&0)
 }
 
-// Whether a name or the subject is no such string.
+// Whether a name or the subject has 00 or is too long.
 fn has_wrong_string(stored: &StoredMessage) -> bool
     ensures { result ≡ has_wrong_string stored.now }
 {
@@ -59,14 +58,13 @@ fn has_wrong_string(stored: &StoredMessage) -> bool
         || is_no_string(MAX_SUBJECT, stored.subject.as_slice())
 }
 
-// Whether the bytes are no id: none at all, one of them 00 or 0D, or with a blank at an end.
+// Whether the bytes are no id: empty, with 00 or 0D, or with a blank at an end.
 fn is_wrong_id(id: &[u8]) -> bool
     ensures { result ≡ is_wrong_id id.now }
 {
     id.is_empty() || !has_line_bytes(id) || trimmed(id) != id
 }
 
-// Whether no byte is 00 or 0D.
 fn has_line_bytes(bytes: &[u8]) -> bool
     ensures { result ≡ list_all is_line_byte bytes.now }
 {
@@ -82,7 +80,7 @@ fn is_written(alloc: Global, echo: &Echo, text: &[u8]) -> Result<bool, AllocErro
     Ok(written.as_slice() == text)
 }
 
-// What the text says, unless it is none that is written so.
+// The echo of the text, unless it is written in another way.
 fn echo_of(alloc: Global, text: &[u8]) -> Result<Option<Echo>, AllocError>
     ensures { IfOk result (UnlessWrong (is_wrong_text text.now) (echo_of text.now)) }
 {
@@ -116,7 +114,7 @@ fn bare(alloc: Global, tag: Items<u8>, id: &[u8]) -> Result<Option<Echo>, AllocE
     }))
 }
 
-// What stands after the subject as a text, unless it is wrong.
+// The bytes after the subject as a text, unless they are wrong.
 fn echo_in(
     alloc: Global,
     with_tag: bool,
@@ -132,14 +130,13 @@ fn echo_in(
     }
 }
 
-// What the message says of its sender.
 fn sender_in(kind: u8, sender: Address) -> Option<Address>
     ensures { result ≡ (if is_posted kind then None else Some sender) }
 {
     if is_posted(kind) { None } else { Some(sender) }
 }
 
-// The message that is stored so, with what stands last, unless what stands after the subject is wrong.
+// The stored message with its `last`, unless the bytes after the subject are wrong.
 fn message_of(
     alloc: Global,
     version: Version,
@@ -172,7 +169,7 @@ fn has_wrong_front(version: Version, stored: &StoredMessage) -> bool
     is_other_kind(version, stored.kind) || has_wrong_sender(stored) || has_wrong_string(stored)
 }
 
-// The message that is stored so, with what stands last, unless a field of it is wrong.
+// The stored message with its `last`, unless a field of it is wrong.
 fn right_message(
     alloc: Global,
     version: Version,
@@ -187,7 +184,7 @@ fn right_message(
     message_of(alloc, version, stored)
 }
 
-// Whether the message has the text where tag and id are to stand, or the other way round.
+// Whether the message has the text where tag and id should be, or the other way round.
 fn has_wrong_form(
     version: Version,
     cursor: usize,
@@ -207,7 +204,7 @@ fn has_wrong_form(
     }
 }
 
-// The key of the message. Where it has tag and id in place of the text, the id stands last.
+// The key of the message. If it has tag and id instead of the text, `last` is the id.
 fn key_of(
     alloc: Global,
     with_tag: bool,
@@ -227,8 +224,8 @@ fn key_of(
     })
 }
 
-/// The message with its key, unless a field is wrong or it has not the form that it is to have at this
-/// place of a base.
+/// The message with its key, unless a field is wrong or it has another form than a message at this
+/// place should have.
 pub(crate) fn judged(
     alloc: Global,
     version: Version,

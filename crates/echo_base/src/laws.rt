@@ -1,4 +1,4 @@
-//! What holds of the definitions. Each law is the contract of a function that does nothing.
+//! Laws about the definitions. Each law is the contract of a function that does nothing.
 
 ghost use Rattle.std.specs.Prelude.{◌≡◌, ℕ, ◌≤◌, List, ◌++◌, length, take, Result, Ok, true};
 ghost use Rattle.echo_packet.specs.Header.{AreBytes};
@@ -8,16 +8,16 @@ ghost use Rattle.echo_base.specs.declared.fault.BaseFault.{BaseFault};
 ghost use Rattle.echo_base.specs.Base.{IsBase};
 ghost use Rattle.echo_base.specs.BaseFile.{BaseFaultOf, BaseOf, LoadOf, Loaded, is_countable, magic, saved_bytes};
 
-/// What is saved of a base is a base file of it, where four bytes count its messages and the bytes of
-/// each text and id; it is read back as this base, whatever follows it.
+/// The saved bytes of a base are a base file of it, if its counts fit into four bytes: its messages
+/// and the bytes of each text and id. It is read back as this base, whatever follows it.
 pub fn saved_base_law()
     ensures base { (base : List Filed) (cursor : ℕ) → IsBase base cursor → is_countable base cursor ≡ true → BaseOf base cursor (saved_bytes base cursor) }
     ensures read_back { (base : List Filed) (cursor : ℕ) (rest : List ℕ) → IsBase base cursor → is_countable base cursor ≡ true →
         LoadOf (saved_bytes base cursor ++ rest) (Ok (base, cursor, length (saved_bytes base cursor))) }
 {}
 
-/// What a base file of version 2 says is saved as the same bytes: four bytes count its messages and the
-/// bytes of each text and id.
+/// The base of a base file of version 2 is saved as the same bytes. Its counts fit into four bytes:
+/// its messages and the bytes of each text and id.
 pub fn saved_again_law()
     ensures countable { (base : List Filed) (cursor : ℕ) (bytes : List ℕ) → BaseOf base cursor bytes → take 8 bytes ≡ magic Second → is_countable base cursor ≡ true }
     ensures same { (base : List Filed) (cursor : ℕ) (bytes : List ℕ) → BaseOf base cursor bytes → take 8 bytes ≡ magic Second → saved_bytes base cursor ≡ bytes }
@@ -35,7 +35,7 @@ pub fn one_base_or_fault()
     ensures one_fault { (bytes : List ℕ) (refused other : BaseFault) → AreBytes bytes → BaseFaultOf bytes refused → BaseFaultOf bytes other → refused ≡ other }
 {}
 
-/// What a base file says is a base.
+/// A base file gives a base.
 pub fn loaded_base_law()
     ensures { (base : List Filed) (cursor : ℕ) (bytes : List ℕ) → BaseOf base cursor bytes → IsBase base cursor }
 {}

@@ -1,11 +1,10 @@
-//! What a system keeps: the base of its filed messages.
+//! The base of a system: its filed messages and a cursor, in memory, and its base file.
 //!
-//! The contract for the layers above: bytes are one base or one fault; what is saved of a base is read
-//! back as it.
+//! Promise: bytes are one base or have one fault. A saved base is read back unchanged.
 //!
-//! Modules in reading order: `base` (the messages by their keys; saved and loaded), `tags` (the tags that
-//! they have), `purging`, `judging` (whether a stored message may stand there), `fault`, and `laws` (what
-//! holds of the definitions).
+//! Begin with `base`: the messages by their keys, saved and loaded. `purging` makes stubs,
+//! `judging` refuses stored messages that no base may have, `tags` has the tags of all messages.
+//! `fault` lists the refusals, `laws` states the promise.
 #![tactic(auto)]
 
 mod base;

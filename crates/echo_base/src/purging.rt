@@ -1,4 +1,4 @@
-//! A purge: the messages of a base become their stubs, from those on that are not known to be stubs.
+//! A purge replaces messages by their stubs, beginning after those that are known to be stubs.
 ghost use Rattle.std.specs.Prelude.{◌≡◌, ◌<◌, ◌≤◌, map, take, drop, true, false, ◌++◌, slice_get, slice_set, IfOk, IfSome};
 ghost use Rattle.std.specs.List.{AllByRecursion};
 ghost use Rattle.echo_filed.specs.Stubs.{is_stub, lines_left, stub_of};

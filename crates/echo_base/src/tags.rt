@@ -6,8 +6,7 @@ use std::alloc::{AllocError, Global};
 use std::collections::BTreeSet;
 use std::marker::Model;
 
-/// Tags, each once. Whether one is there is known without going through the others, whatever tags there
-/// are.
+/// Tags, each once. A look-up does not go through the others, whatever tags there are.
 #[derive(Drop)]
 pub(crate) struct Tags {
     all: Vec<Vec<u8>>,
@@ -26,7 +25,6 @@ impl Model for Tags {
 }
 
 impl Tags {
-    /// No tags.
     pub(crate) fn new(alloc: Global) -> Tags
         ensures { result ≡ [] }
     {

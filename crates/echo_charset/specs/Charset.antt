@@ -35,7 +35,7 @@ charset_name Koi8R = codes "KOI8-R"
 charset_name Latin1 = codes "LATIN-1"
 charset_name Utf8 = codes "UTF-8"
 
--- the character of the byte that is so much above 80, by the published table; U+FFFD where there is none
+-- the character of the byte 80 plus this, by the published table; U+FFFD where there is none
 unfoldable pub upper_half : Charset → ℕ → ℕ
 upper_half Ascii above = 0xFFFD
 upper_half Cp437 above = slice_index CP437 above

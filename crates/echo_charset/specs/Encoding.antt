@@ -4,7 +4,7 @@ use Rattle.std.specs.Str.{chars}
 use Rattle.echo_charset.specs.declared.charset.Charset.{Charset}
 use Rattle.echo_charset.specs.Charset.{character, is_utf8}
 
--- no byte of a charset is the character; nor is one U+FFFD, which stands for what a charset does not have
+-- the character is no byte's of the charset; U+FFFD marks a missing character and is never encoded
 abbrev pub IsLacked : Charset → ℕ → Type 0
 IsLacked charset c = (c ≡ 0xFFFD) ⊎ ((byte : ℕ) → byte < 256 → character charset byte ≡ c → ⊥)
 

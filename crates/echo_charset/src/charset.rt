@@ -63,8 +63,9 @@ impl Charset {
         }
     }
 
-    /// The bytes as text: a U+FFFD stands for each byte that the charset does not have, and of UTF-8 for each
-    /// longest run of bytes that begins a character and does not end it, or begins none.
+    /// The bytes as text. A byte that the charset lacks becomes U+FFFD. In UTF-8 each longest run
+    /// of bytes that begins a character but does not complete it becomes one U+FFFD, and so does a
+    /// byte that begins none.
     #[tactic(auto, unfolding(crate::specs::Charset::decoded_text))]
     pub fn text(self, alloc: Global, bytes: &[u8]) -> Result<String, AllocError>
         ensures { IfOk result (λ text. string_bytes text ≡ decoded_text self bytes.now) }
@@ -85,7 +86,6 @@ impl Charset {
         }
     }
 
-    // The bytes one by one.
     fn characters(self, alloc: Global, bytes: &[u8]) -> Result<String, AllocError>
         ensures { IfOk result (λ text. string_bytes text ≡ characters self bytes.now) }
     {
@@ -107,7 +107,7 @@ impl Charset {
         }
     }
 
-    // The character of the byte that is so much above 80.
+    // The character of the byte 80 plus `above`.
     #[tactic(auto, unfolding(crate::specs::Charset::upper_half))]
     pub(crate) fn upper_half(self, above: u8) -> char
         requires { above < 128 }

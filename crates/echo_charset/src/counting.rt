@@ -2,7 +2,7 @@
 ghost use Rattle.std.specs.Prelude.{◌≡◌, ◌≤◌, length, slice_index};
 ghost use Rattle.echo_charset.specs.Losses.{begins_lost, lost};
 
-/// How many U+FFFD stand in a text of UTF-8.
+/// The number of U+FFFD in a text of UTF-8.
 pub fn lost(text: &[u8]) -> usize
     ensures count { result ≡ lost text.now }
     ensures few { result ≤ length text.now }
@@ -18,7 +18,7 @@ pub fn lost(text: &[u8]) -> usize
     count
 }
 
-// Whether the three bytes of U+FFFD stand in front.
+// Whether the bytes begin with the three bytes of U+FFFD.
 fn begins_lost(bytes: &[u8]) -> bool
     ensures { result ≡ begins_lost bytes.now }
 {

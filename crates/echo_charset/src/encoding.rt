@@ -1,4 +1,4 @@
-//! What a text is in the bytes of a charset.
+//! A text as the bytes of a charset.
 ghost use Rattle.std.specs.Prelude.{◌≡◌, ℕ, ◌+◌, ◌<◌, ◌≤◌, string_bytes, IfOk, MatchOption};
 ghost use Rattle.echo_charset.specs.Charset.{character as byte_char, characters, decoded_text};
 ghost use Rattle.echo_charset.specs.Encoding.{IsLacked, Lacks, LacksOne};
@@ -7,7 +7,7 @@ use crate::charset::Charset;
 use std::alloc::{AllocError, Global};
 
 impl Charset {
-    /// The bytes of this charset that say a text. There are none where it lacks a character of the text.
+    /// The text in the bytes of this charset, or `None` where the charset lacks a character of it.
     #[tactic(auto, unfolding(crate::specs::Charset::decoded_text))]
     pub fn bytes_of(self, alloc: Global, text: &str) -> Result<Option<Vec<u8>>, AllocError>
         ensures { IfOk result (λ found. MatchOption found (Lacks self text.now) (λ bytes. decoded_text self bytes.items ≡ text.now)) }

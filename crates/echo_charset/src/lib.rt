@@ -1,13 +1,12 @@
-//! Charsets of message texts: which one a name means, what bytes of it say as UTF-8, and in which bytes of it a
-//! text is said.
+//! Charsets of message texts: the charset of a name, its bytes as UTF-8, and a text as its bytes.
 //!
-//! The contract for the layers above: each byte of a charset of single bytes is its character in the published
-//! table, a byte below 80 that of ASCII, and bytes of UTF-8 are themselves; U+FFFD stands for what the charset
-//! does not have, and is counted. The bytes that say a text are decoded to it again, and there are none where the
-//! charset lacks a character of it.
+//! Promise: each byte of a single-byte charset decodes to its character in the published table, a
+//! byte below 80 to ASCII. Bytes of UTF-8 are unchanged. A byte without a character becomes U+FFFD,
+//! and these are counted. Encoded bytes decode to the same text; a text with a character that the
+//! charset lacks is not encoded.
 //!
-//! Modules in reading order: `tables` (the upper halves of the charsets), `charset` (a charset, its name, and the
-//! text of bytes), `encoding` (the bytes of a text), and `counting` (how many U+FFFD a text has).
+//! Begin with `charset`: a charset, its name, and the text of bytes. `tables` has the upper halves,
+//! `encoding` makes the bytes of a text, `counting` counts U+FFFD.
 #![tactic(auto)]
 
 mod charset;

@@ -1,6 +1,6 @@
-//! The characters of the bytes 80 to FF of each charset, from the mapping tables that the Unicode Consortium
-//! publishes (MAPPINGS/VENDORS: MICSFT/PC/CP437.TXT, CP850.TXT and CP866.TXT, MICSFT/WINDOWS/CP1251.TXT, and
-//! MISC/KOI8-R.TXT). U+FFFD stands for a byte that has none.
+//! The characters of the bytes 80 to FF of each charset, from the mapping tables of the Unicode
+//! Consortium. Its files (MAPPINGS/VENDORS) are MICSFT/PC/CP437.TXT, CP850.TXT and CP866.TXT,
+//! MICSFT/WINDOWS/CP1251.TXT, and MISC/KOI8-R.TXT. A byte without a character has U+FFFD.
 
 /// Of code page 437, of the IBM PC.
 pub(crate) static CP437: [char; 128] = [

@@ -7,10 +7,10 @@ use Rattle.echo_device.specs.declared.buffered.Buffered.{Buffered}
 abbrev pub buffered_source : {S : Type 0} → Buffered S → S
 buffered_source b = b.source
 
--- the bytes that are read and not yet taken
+-- the bytes that are read ahead
 abbrev pub buffered_held : {S : Type 0} → Buffered S → List ℕ
 buffered_held b = b.ahead
 
--- the buffer and then what is left of the source, where that is known
+-- the buffer and then the rest of the source, where that is known
 abbrev pub buffered_remaining : {S : Type 0} → (S → Option (List ℕ)) → Buffered S → Option (List ℕ)
 buffered_remaining remaining b = prepend_known b.ahead (remaining b.source)

@@ -1,4 +1,4 @@
-//! Bytes that were read and not yet taken.
+//! Bytes that were read ahead.
 ghost use Rattle.std.specs.Prelude.{◌≡◌, ◌↔◌, ℕ, ◌-◌, ◌<◌, ◌≤◌, List, [], length, drop, min, slice_range, vec_len, take, IsTrue, IfOk, OnOk, OnErr};
 ghost use Rattle.std.specs.Io.KnownBytes.{Keeps, IsAtEnd, prepend_known};
 ghost use Rattle.echo_device.specs.Device.{Failed};
@@ -8,7 +8,7 @@ use crate::source::Source;
 use std::alloc::{AllocError, Global};
 use std::marker::Model;
 
-/// A buffer of a fixed size, and the part of it that is read and not yet taken.
+/// A buffer of a fixed size, and the part of it that is read ahead.
 #[derive(Drop)]
 pub(crate) struct Ahead {
     bytes: Vec<u8>,

@@ -32,7 +32,7 @@ impl<S> Buffered<S> {
         Ok(Buffered { source, ahead })
     }
 
-    /// The source. What is in the buffer is lost.
+    /// The source. The bytes in the buffer are lost.
     pub fn into_inner(self) -> S
         ensures { result ≡ buffered_source self }
     {

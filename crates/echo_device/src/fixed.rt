@@ -56,8 +56,8 @@ pub fn are_bytes(bytes: &[u8])
     ensures { AreBytes bytes.now }
 {}
 
-/// Fills the field. It is `Cut` where fewer bytes are left than it has, and `Device` where the device
-/// failed; the bytes that came are then taken.
+/// Fills the field. `Cut`: fewer bytes are left than it has. `Device`: the device failed. Either
+/// way the bytes that came are consumed.
 pub fn read_fixed<R: Source>(reader: &mut R, field: &mut [u8]) -> Result<(), Broken>
     ensures bytes { AreBytes field.new }
     ensures taken { OnOk result (Consumes (R.remaining reader.old) (R.remaining reader.new) field.new) }

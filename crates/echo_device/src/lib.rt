@@ -1,11 +1,11 @@
 //! Devices that count their failures.
 //!
-//! The contract for the layers above: the bytes of a `Source` or a `Sink` are known, how often it
-//! failed, and what `fill`, `read_fixed` and `send` moved.
+//! Promise: contracts know the bytes of a `Source` or a `Sink`, how often it failed, and what
+//! `fill`, `read_fixed` and `send` moved.
 //!
-//! Modules in reading order: `failure`, `source` and `sink` (readers and writers that count their
-//! failures), `fixed` (fields of a fixed size), `watched` (makes a source or a sink of any reader or
-//! writer), `ahead` and `buffered` (a buffer in front of a source) and `trial` (a device for tests).
+//! Begin with `source` and `sink`, the traits; `failure` is their error. `watched` makes one of any
+//! reader or writer, `ahead` and `buffered` put a buffer in front of a source. `fixed` fills fields
+//! of a fixed size, `trial` is a device for tests.
 #![tactic(auto)]
 
 mod ahead;

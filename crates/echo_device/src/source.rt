@@ -25,8 +25,8 @@ pub trait Source: Read {
         ensures ok { OnOk result (failures self.new ≡ failures self.old) }
         ensures err { OnErr result (Failed (failures self.old) (failures self.new)) };
 
-    /// The bytes that are already there, without a read: of a slice all, of a buffered source those
-    /// in its buffer, of any other none.
+    /// The bytes that need no read: all of a slice, the buffer of a buffered source, and no bytes
+    /// of any other.
     fn held(&self) -> &[u8]
         ensures held { result.now ≡ held self.now }
         ensures front { IfSome (Self.remaining self.now) (λ bytes. StartsWith bytes (held self.now)) };

@@ -10,8 +10,8 @@ use std::io::{ErrorKind, Read, Write};
 /// A reader or a writer that works badly, for tests of those that use it.
 ///
 /// A call moves at most `piece` bytes. Before each call that moves some it is interrupted `again`
-/// times, and once `left` bytes went each call fails. A writer with pieces of 0 bytes takes none; a
-/// reader with these answers an error, since `Read` allows it none only at the end.
+/// times, and after `left` bytes each call fails. With pieces of 0 bytes a writer takes nothing,
+/// and a reader answers an error.
 #[derive(Drop)]
 pub struct Trial<D> {
     device: D,

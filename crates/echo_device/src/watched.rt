@@ -15,10 +15,10 @@ use std::io::{ErrorKind, Read, Write};
 /// How many interruptions in a row are a failure.
 const TRIES: u32 = 16;
 
-/// A reader or a writer whose failures are counted.
+/// A reader or writer that counts its failures.
 ///
-/// After an interruption it tries again. One failure is any other error, sixteen interruptions in a
-/// row, or a write that takes none of some bytes. The count stays at the greatest `u64`.
+/// It retries after an interruption. A failure is any other error, sixteen interruptions in a row,
+/// or a write of some bytes that takes none. The count stops at the greatest `u64`.
 #[derive(Drop)]
 pub struct Watched<D> {
     device: D,

@@ -5,7 +5,7 @@ use Rattle.echo_disk.specs.Disk.{Files, DiskState}
 use Rattle.echo_disk.specs.declared.disk_error.DiskError.{DiskError}
 use Rattle.echo_disk.specs.declared.disk_error.DiskError.TheVariants.{Device}
 
--- what a crash might leave at this state, after a step more
+-- the files that a crash might leave in this state, after one more step
 abbrev pub OneStepOn : (Files → Files → Type 0) → DiskState → Files → Type 0
 OneStepOn step old c = (d : Files) × old.may_leave d × step d c
 
@@ -13,33 +13,33 @@ OneStepOn step old c = (d : Files) × old.may_leave d × step d c
 abbrev pub LeavesOneStepOn : (Files → Files → Type 0) → DiskState → DiskState → Type 0
 LeavesOneStepOn step old new = (c : Files) → new.may_leave c → OneStepOn step old c
 
--- the paths that were named stay so, but for these
+-- the paths that were named stay so, except these
 abbrev pub KeepsNamed : (List ℕ → Type 0) → DiskState → DiskState → Type 0
 KeepsNamed but old new = (m : List ℕ) → (but m → ⊥) → old.is_named m → new.is_named m
 
--- the files that had all bytes on the disk have them, but for these
+-- the files that had all bytes on the disk have them, except these
 abbrev pub KeepsFlushed : (List ℕ → Type 0) → DiskState → DiskState → Type 0
 KeepsFlushed but old new = (m : List ℕ) → (but m → ⊥) → old.is_flushed m → new.is_flushed m
 
--- the files to which one path led have no other, but for these
+-- the files with one path get no other, except these
 abbrev pub KeepsAlone : (List ℕ → Type 0) → DiskState → DiskState → Type 0
 KeepsAlone but old new = (m : List ℕ) → (but m → ⊥) → old.is_alone m → new.is_alone m
 
--- Time goes on: a crash since t might have left what it might have left before, or what it may leave now.
+-- Time passes: a crash since t might have left what it might have left before, or what it may leave now.
 pub record Elapses (old new : DiskState) : Type 0 where
   pub later : old.moment ≤ new.moment
   pub nothing_else : (t : ℕ) (c : Files) → t ≤ old.moment → new.left_since t c → old.left_since t c ⊎ new.may_leave c
   pub keeps : (t : ℕ) (c : Files) → t ≤ old.moment → old.left_since t c → new.left_since t c
   pub honest : new.is_honest → old.is_honest
 
--- A crash at any moment of a run leaves files that have P.
+-- A crash at any time of a run leaves files that have P.
 pub record LeavesOnly (old new : DiskState) (P : Files → Type 0) : Type 0 where
   pub later : old.moment ≤ new.moment
   pub each : (c : Files) → new.left_since old.moment c → P c
   -- for a run that began earlier
   pub before : (t : ℕ) (c : Files) → t ≤ old.moment → new.left_since t c → old.left_since t c ⊎ P c
 
--- A call, or a run of calls, that changes nothing: it reads, or puts on the disk what was written.
+-- A call, or a run of calls, that changes nothing: it reads or syncs.
 pub record ChangesNothing (old new : DiskState) : Type 0 where
   pub seen : (m : List ℕ) → new.seen m ≡ old.seen m
   pub no_more : (c : Files) → new.may_leave c → old.may_leave c

@@ -1,12 +1,13 @@
--- What one call does to one file, in what is seen and in what a crash leaves.
+-- What one call does to one file, as it is seen and after a crash.
 use Rattle.std.specs.Prelude.{◌≡◌, ◌≢◌, ◌≤◌, ◌⊎◌, ℕ, ◌+◌, max, min, List, [], ◌++◌, length, take, drop, Option, Some, None, IsSome}
 use Rattle.echo_disk.specs.Disk.{Files, DiskState, bytes_in}
 
--- these bytes stand at this offset, over what was there and past its end
+-- these bytes are written at this offset, over the old bytes and past their end
 abbrev pub IsWrittenAt : List ℕ → ℕ → List ℕ → List ℕ → Type 0
 IsWrittenAt old at bytes new = new ≡ take at old ++ bytes ++ drop (at + length bytes) old
 
--- A write of so many bytes that a crash cuts short: what stood before it and behind it is there, and nothing is past its end.
+-- A write of this many bytes that a crash cuts short: the bytes before and after it are unchanged, and nothing is
+-- past its end.
 pub record TornWrite (at count : ℕ) (old new : Option (List ℕ)) : Type 0 where
   pub there : IsSome old → IsSome new
   pub before : take (min at (length (bytes_in old))) (bytes_in new) ≡ take at (bytes_in old)
@@ -20,7 +21,7 @@ pub record TornCut (len : ℕ) (old new : Option (List ℕ)) : Type 0 where
   pub no_shorter : min len (length (bytes_in old)) ≤ length (bytes_in new)
   pub front : take (length (bytes_in new)) (bytes_in old) ≡ bytes_in new
 
--- a file made in the place of another: that one, none, or the new one, which is empty
+-- a file made instead of another: a crash leaves the old one, none, or the new one, which is empty
 abbrev pub TornMaking : Option (List ℕ) → Option (List ℕ) → Type 0
 TornMaking old new = (new ≡ old) ⊎ ((new ≡ None) ⊎ (new ≡ Some []))
 
@@ -28,21 +29,21 @@ TornMaking old new = (new ≡ old) ⊎ ((new ≡ None) ⊎ (new ≡ Some []))
 abbrev pub TornRemoval : Option (List ℕ) → Option (List ℕ) → Type 0
 TornRemoval old new = (new ≡ old) ⊎ (new ≡ None)
 
--- a path that was given this file, or was not
+-- a path that got this file, or did not
 abbrev pub TornNaming : Option (List ℕ) → Option (List ℕ) → Option (List ℕ) → Type 0
 TornNaming file old new = (new ≡ old) ⊎ (new ≡ file)
 
--- the other paths lead to what they led to
+-- the other paths lead to the same files
 abbrev pub SameBeside : List ℕ → Files → Files → Type 0
 SameBeside path old new = (m : List ℕ) → m ≢ path → new m ≡ old m
 
--- What a crash leaves after a step at one path. Where neither that path nor another one is named, nothing is said of the
--- other: the two may lead to one file on the disk.
+-- A crash after a step at one path. If neither that path nor another one is named, the other may have any file: both
+-- may lead to one file on the disk.
 pub record ChangesFile (old : DiskState) (path : List ℕ) (step : Option (List ℕ) → Option (List ℕ) → Type 0) (before after : Files) : Type 0 where
   pub beside : (m : List ℕ) → m ≢ path → old.is_named path ⊎ old.is_named m → after m ≡ before m
   pub within : old.is_named path → step (before path) (after path)
 
--- What a crash leaves after a renaming that is not on the disk: it happened, or it did not.
+-- A crash after a rename that is not synced: it happened, or it did not.
 pub record RenamesFile (old : DiskState) (from to : List ℕ) (before after : Files) : Type 0 where
   pub beside : (m : List ℕ) → m ≢ from → m ≢ to → (old.is_named from × old.is_named to) ⊎ old.is_named m → after m ≡ before m
   pub target : old.is_named to → (after to ≡ before to) ⊎ (after to ≡ old.seen from)

@@ -1,4 +1,4 @@
-//! What a disk owes to those that keep files on it.
+//! What a disk promises to those that use it.
 ghost use Rattle.std.specs.Prelude.{◌≡◌, ◌≢◌, ◌≤◌, ◌<◌, ◌⊎◌, ◌↔◌, ℕ, List, [], length, take, drop, true, false, IsTrue, IfOk, OnOk, IsSome, Some, None};
 ghost use Rattle.echo_disk.specs.Disk.{DiskState, Honestly, bytes_in, IsFolder, IsIn};
 ghost use Rattle.echo_disk.specs.Steps.{IsWrittenAt, TornWrite, TornCut, TornMaking, TornRemoval, TornNaming, SameBeside, ChangesFile, RenamesFile};
@@ -8,13 +8,15 @@ use crate::disk_error::DiskError;
 
 /// Files by their paths, which a crash may cut short.
 ///
-/// A path has its folder's path before it, which ends in a slash or is empty. A fault of the device is answered
-/// only where `failures` rose. After a failed call nothing is known but what a crash may leave.
+/// A path begins with its folder's path, which ends in a slash or is empty. A fault of the device
+/// is answered only where `failures` rose. After a failed call only what a crash may leave is
+/// known.
 ///
-/// Files that others change too may answer anything. So what an answer says of the files is known only where the
-/// disk was honest up to then, and what a call asks of them is asked only of a disk that was.
+/// Files that others change too may answer anything. So an answer says something about the files
+/// only if the disk was honest until then. The preconditions about files assume an honest disk,
+/// too.
 pub trait Disk {
-    // What the disk shows, and what a crash may leave of it.
+    // The files that the disk shows, and those that a crash may leave.
     ghost state: { Self → DiskState };
 
     // How often the device failed: a count that stays at 2^64 - 1.
@@ -43,8 +45,8 @@ pub trait Disk {
         ensures quiet { ChangesNothing (state self.old) (state self.new) }
         ensures cause { HasCause (failures self.old) (failures self.new) result };
 
-    /// Writes over what is there, and past the end. Until the file is synced, a crash may leave any bytes in the
-    /// range that is written.
+    /// Writes over old bytes, and past the end. Until the file is synced, a crash may leave any
+    /// bytes in the written range.
     fn write_at(&mut self, path: &[u8], at: usize, bytes: &[u8]) -> Result<(), DiskError>
         requires there { Honestly (state self.old) (IsSome ((state self.old).seen path.now)) }
         requires within { Honestly (state self.old) (at ≤ length (bytes_in ((state self.old).seen path.now))) }
@@ -74,7 +76,7 @@ pub trait Disk {
         ensures time { Elapses (state self.old) (state self.new) }
         ensures cause { HasCause (failures self.old) (failures self.new) result };
 
-    /// Makes an empty file of its own, in the place of one that is there: what other paths lead to stays.
+    /// Makes an empty new file instead of the present one. Other paths keep their files.
     fn create(&mut self, path: &[u8]) -> Result<(), DiskError>
         ensures made { OnOk result ((state self.new).seen path.now ≡ Some []) }
         ensures own { OnOk result ((state self.new).is_alone path.now) }
@@ -102,8 +104,8 @@ pub trait Disk {
         ensures time { Elapses (state self.old) (state self.new) }
         ensures cause { HasCause (failures self.old) (failures self.new) result };
 
-    /// Gives a file a second path, and answers `false` where that path has a file already. The file's bytes have to
-    /// be on the disk. Neither path may be written to while both are there.
+    /// Gives a file a second path, or answers `false` where that path has a file already. The
+    /// file's bytes have to be on the disk. Neither path may be written to while both exist.
     fn link(&mut self, from: &[u8], to: &[u8]) -> Result<bool, DiskError>
         requires there { Honestly (state self.old) (IsSome ((state self.old).seen from.now)) }
         requires durable { Honestly (state self.old) ((state self.old).is_flushed from.now) }
@@ -138,7 +140,7 @@ pub trait Disk {
         ensures quiet { ChangesNothing (state self.old) (state self.new) }
         ensures cause { HasCause (failures self.old) (failures self.new) result };
 
-    /// After it each path in the folder leads on the disk to what it leads to now, or to no file where there is none now.
+    /// Syncs the folder. Each path in it then leads on the disk to its present file, or to none.
     fn sync_folder(&mut self, folder: &[u8]) -> Result<(), DiskError>
         requires { IsFolder folder.now }
         ensures durable { OnOk result ((m : List ℕ) → IsIn folder.now m → (state self.new).is_named m) }

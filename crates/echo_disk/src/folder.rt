@@ -18,8 +18,8 @@ pub fn folder_of(path: &[u8]) -> &[u8]
     &path[..end]
 }
 
-/// Syncs the folder of a path. After it that path, and each that begins with it and has no slash behind it, leads on the disk
-/// to what it leads to now.
+/// Syncs the folder of a path. That path, and each other one in the folder, then leads on the disk
+/// to its present file.
 pub fn sync_folder_of<D: Disk>(disk: &mut D, path: &[u8]) -> Result<(), DiskError>
     ensures durable { OnOk result ((m : List ℕ) → IsIn path.now m → (D.state disk.new).is_named m) }
     ensures gone { OnOk result ((m : List ℕ) → IsIn path.now m → (D.state disk.new).seen m ≡ None → (D.state disk.new).is_flushed m) }

@@ -1,10 +1,12 @@
-//! A disk whose files a crash may cut short.
+//! The trait `Disk`: files that a crash may cut short.
 //!
-//! The contract for the layers above: what reads return, what a crash at any moment may leave, and what a
-//! sync puts on the disk for good. What is not synced may be torn anywhere; what is not named may be lost.
+//! Promise: the trait states what reads return, what a crash may leave at any time, and what a sync
+//! makes permanent. Bytes that are not synced may be torn anywhere; a path that is not synced may
+//! be lost.
 //!
-//! Modules in reading order: `disk_error`, `disk` (the trait), `synced` (changes of one file, each followed
-//! by a sync), `folder` (the folder of a path), `part` (bytes read from the middle of a file) and `whole` (a file read whole).
+//! Begin with `disk` (the trait); `disk_error` is its error. `synced` changes one file and syncs
+//! it, `folder` gives the folder of a path, `part` reads bytes from the middle of a file, `whole`
+//! reads a whole file.
 #![tactic(auto)]
 
 mod disk;

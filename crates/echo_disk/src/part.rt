@@ -1,4 +1,4 @@
-//! A part of a file, read by itself.
+//! Reads a part of a file.
 ghost use Rattle.std.specs.Prelude.{◌≡◌, ◌≤◌, ◌<◌, ◌+◌, ◌^◌, length, take, drop, IfOk, OnOk, IsSome};
 ghost use Rattle.echo_disk.specs.Disk.{Honestly, bytes_in};
 ghost use Rattle.echo_disk.specs.Runs.{ChangesNothing, HasCause};
@@ -7,7 +7,7 @@ use crate::disk::Disk;
 use crate::disk_error::DiskError;
 use std::alloc::Global;
 
-// One read behind the first bytes of the part, which are there; answers how many are there then.
+// One read after the first bytes of the part, which were read before; answers their new number.
 fn read_more<D: Disk>(
     disk: &mut D,
     path: &[u8],

@@ -8,7 +8,7 @@ ghost use Rattle.echo_disk.specs.Synced.{IsOnDisk, KeepsOthers};
 use crate::disk::Disk;
 use crate::disk_error::DiskError;
 
-/// Writes over what is there, and past the end. At `Ok` it is on the disk.
+/// Writes over old bytes, and past the end. At `Ok` it is on the disk.
 pub fn write_synced<D: Disk>(
     disk: &mut D,
     path: &[u8],

@@ -1,4 +1,4 @@
-//! A file read whole.
+//! Reads a whole file.
 ghost use Rattle.std.specs.Prelude.{◌≡◌, IfOk, IsSome};
 ghost use Rattle.echo_disk.specs.Disk.{Honestly, bytes_in};
 ghost use Rattle.echo_disk.specs.Runs.{ChangesNothing, HasCause};

@@ -3,7 +3,7 @@ use Rattle.std.specs.Prelude.{ℕ, ◌/◌, ◌%◌, List, [], ◌∷◌, ◌++�
 use Rattle.std.specs.List.{flat_map}
 use Rattle.hex.specs.Hex.{lower_digits}
 
--- a byte that is printed as it is: 20 to 7E, but for the backslash
+-- a byte that is printed unchanged: 20 to 7E, except the backslash
 abbrev pub is_plain : ℕ → Bool
 is_plain b = nat_le 32 b && (nat_le b 126 && not (b == 92))
 
@@ -11,7 +11,7 @@ is_plain b = nat_le 32 b && (nat_le b 126 && not (b == 92))
 abbrev pub hexed : ℕ → List ℕ
 hexed b = codes "\\x" ++ (slice_index lower_digits (b / 16) ∷ slice_index lower_digits (b % 16) ∷ [])
 
--- a byte as it is printed: as it is, the backslash twice, every other one by two digits
+-- a printed byte: unchanged, the backslash twice, every other one as two digits
 abbrev pub escaped_byte : ℕ → List ℕ
 escaped_byte b =
     if is_plain b then b ∷ []

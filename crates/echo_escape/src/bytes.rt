@@ -16,7 +16,7 @@ pub(crate) fn push_hexed(line: &mut Vec<u8>, byte: u8) -> Result<(), AllocError>
     line.extend_from_slice(&[b'\\', b'x', high, low])
 }
 
-// A byte that is printed as it is, the backslash twice, and another one as `\x` and two digits.
+// Adds a byte: unchanged, the backslash twice, any other one as `\x` and two digits.
 fn push_byte(line: &mut Vec<u8>, byte: u8) -> Result<(), AllocError>
     ensures { OnOk result (line.new.items ≡ line.old.items ++ escaped_byte byte) }
 {
@@ -37,8 +37,8 @@ fn push_bytes(line: &mut Vec<u8>, bytes: &[u8]) -> Result<(), AllocError>
     Ok(())
 }
 
-/// Adds the line of a word, a blank and the bytes, of which those from 20 to 7E are printed as they are (the
-/// backslash twice), and every other one as `\x` and two digits.
+/// Adds a line: a word, a blank and the bytes. Bytes 20 to 7E are unchanged, except that a
+/// backslash is doubled. Every other byte is `\x` and two digits.
 pub fn push_escaped(lines: &mut Vec<u8>, word: &[u8], bytes: &[u8]) -> Result<(), AllocError>
     ensures { OnOk result (lines.new.items ≡ lines.old.items ++ escaped_line word.now bytes.now) }
 {

@@ -1,11 +1,10 @@
-//! Bytes and words as they are printed.
+//! Escapes bytes and words for printing, so that no byte of a message steers a terminal.
 //!
-//! The contract for the layers above: a call that ends well added just what the definitions in specs/ give,
-//! behind what stood in the text; one that ran out of memory may have added a part of it.
+//! Promise: a call that succeeds appends exactly what the definitions in specs/ give. A call that
+//! runs out of memory may append a part of it.
 //!
-//! Modules in reading order: `bytes` (bytes of messages, of which only visible ASCII is printed as it is),
-//! `word` (words of the command line, whose letters of any script stay, and which cannot steer a terminal), and
-//! `formatting` (lines that are written by a format).
+//! Begin with `bytes`: of a message only visible ASCII is printed unchanged. `word` prints words of
+//! the command line; they keep letters of any script. `formatting` writes lines by a format.
 #![tactic(auto)]
 
 mod bytes;

@@ -19,7 +19,7 @@ fn is_one(a: u8) -> bool
     32 <= a && a <= 126
 }
 
-// One of two bytes, but for the controls C2 80 to C2 9F.
+// One of two bytes, except the controls C2 80 to C2 9F.
 fn is_two(a: u8, b: u8) -> bool
     ensures { result ≡ is_two a b }
 {
@@ -44,7 +44,7 @@ fn begins_three(a: u8, b: u8) -> bool
         || (((225 <= a && a <= 236) || (238 <= a && a <= 239)) && follows(b))
 }
 
-// A character of three bytes, but for the marks of direction.
+// A character of three bytes, except the marks of direction.
 fn is_three(a: u8, b: u8, c: u8) -> bool
     ensures { result ≡ is_three a b c }
 {
@@ -60,14 +60,13 @@ fn begins_four(a: u8, b: u8) -> bool
         || (241 <= a && a <= 243 && follows(b))
 }
 
-// A character of four bytes.
 fn is_four(a: u8, b: u8, c: u8, d: u8) -> bool
     ensures { result ≡ is_four a b c d }
 {
     begins_four(a, b) && follows(c) && follows(d)
 }
 
-// How many bytes the visible character takes that these bytes begin with, 0 where they begin with none.
+// The length in bytes of the visible character at the front, 0 where there is none.
 fn visible_of(a: u8, b: u8, c: u8, d: u8) -> usize
     ensures { result ≡ visible_of a b c d }
 {
@@ -107,7 +106,7 @@ fn visible_at(word: &[u8], i: usize) -> usize
     )
 }
 
-// Whether the byte at an index belongs to a visible character that begins so many bytes before it.
+// Whether the byte at an index belongs to a visible character that begins `before` bytes before it.
 fn is_covered(word: &[u8], i: usize, before: usize) -> bool
     requires { i < length word.now }
     ensures { result ≡ is_covered word.now i before }
@@ -115,7 +114,7 @@ fn is_covered(word: &[u8], i: usize, before: usize) -> bool
     before <= i && before < visible_at(word, i - before)
 }
 
-/// Whether the byte at an index belongs to a character that is printed as it is.
+/// Whether the byte at an index belongs to a visible character.
 pub fn is_shown(word: &[u8], i: usize) -> bool
     requires { i < length word.now }
     ensures { result ≡ is_shown word.now i }
@@ -137,7 +136,7 @@ pub fn are_shown(word: &[u8]) -> bool
     all
 }
 
-// Adds a byte as it is, the backslash twice.
+// Adds a byte unchanged, the backslash twice.
 fn push_doubled(text: &mut Vec<u8>, byte: u8) -> Result<(), AllocError>
     ensures { OnOk result (text.new.items ≡ text.old.items ++ doubled byte) }
 {
@@ -160,7 +159,6 @@ fn push_spelled_at(text: &mut Vec<u8>, word: &[u8], i: usize) -> Result<(), Allo
     }
 }
 
-// Adds a word that has a hidden byte.
 fn push_spelled(text: &mut Vec<u8>, word: &[u8]) -> Result<(), AllocError>
     ensures { OnOk result (text.new.items ≡ text.old.items ++ spelled word.now (length word.now)) }
 {
@@ -170,9 +168,9 @@ fn push_spelled(text: &mut Vec<u8>, word: &[u8]) -> Result<(), AllocError>
     Ok(())
 }
 
-/// Adds a word of the command line: as it stands where a terminal shows all of it. Else each byte of a control
-/// (below 20, 7F, 80 to 9F as characters), of a mark that turns the direction of a text and of what is no UTF-8
-/// is written `\x` and two digits, and a backslash twice.
+/// Adds a word of the command line, unchanged if a terminal shows all of it. Otherwise hidden bytes
+/// become `\x` and two digits, and a backslash is doubled. Hidden are controls (below 20, 7F, the
+/// characters 80 to 9F), marks that turn the direction of a text, and bytes that are no UTF-8.
 pub fn push_word(text: &mut Vec<u8>, word: &[u8]) -> Result<(), AllocError>
     ensures { OnOk result (text.new.items ≡ text.old.items ++ printed_word word.now) }
 {

@@ -1,4 +1,4 @@
--- The forms in which other programs are given messages.
+-- The forms of messages for other programs.
 use Rattle.std.specs.Prelude.{ℕ, List}
 use Rattle.echo_charset.specs.Losses.{lost}
 use Rattle.echo_filed.specs.Filed.{Filed}
@@ -13,7 +13,7 @@ abbrev pub message_text : Form → ℕ → State → Filed → List ℕ
 message_text Mailbox i state m = mail_text m
 message_text Json i state m = json_line i state m
 
--- how many U+FFFD stand in it
+-- the number of U+FFFD in it
 abbrev pub message_lost : Form → ℕ → State → Filed → ℕ
 message_lost Mailbox i state m = mail_lost m
 message_lost Json i state m = lost (json_line i state m)

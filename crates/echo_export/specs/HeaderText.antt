@@ -7,12 +7,12 @@ use Rattle.echo_charset.specs.declared.charset.Charset.{Charset}
 use Rattle.echo_charset.specs.Charset.{decoded_text}
 use Rattle.echo_text.specs.Lines.{trimmed}
 
--- bytes of a message in its mail: UTF-8, or as they stand where the program does not know the charset
+-- bytes of a message in its mail: UTF-8, or unchanged where the program does not know the charset
 abbrev pub mail_bytes : Option Charset → List ℕ → List ℕ
 mail_bytes None bytes = bytes
 mail_bytes (Some charset) bytes = decoded_text charset bytes
 
--- what the mail calls their charset (RFC 1428 has the second name)
+-- the mail's name of their charset (RFC 1428 has the second name)
 abbrev pub mail_charset : Option Charset → List ℕ
 mail_charset None = codes "unknown-8bit"
 mail_charset (Some charset) = codes "UTF-8"
@@ -21,15 +21,15 @@ mail_charset (Some charset) = codes "UTF-8"
 abbrev pub is_alphanumeric : ℕ → Bool
 is_alphanumeric b = is_in_range 48 57 b || (is_in_range 65 90 b || is_in_range 97 122 b)
 
--- what a field may have as it stands: visible ASCII but for `=`, which begins encoded words, and blanks
+-- the bytes that a field may have unchanged: blanks, and visible ASCII except `=`, which begins encoded words
 abbrev pub is_field_byte : ℕ → Bool
 is_field_byte b = is_in_range 32 126 b && not (b == 61)
 
--- what a name may have so between quotes
+-- the bytes that a quoted name may have unchanged
 abbrev pub is_name_byte : ℕ → Bool
 is_name_byte b = is_field_byte b && (not (b == 34) && not (b == 92))
 
--- whether bytes may stand as they are: all of this kind, and no blank at an end
+-- whether bytes may stay unchanged: all of this kind, and no blank at an end
 abbrev pub is_plain_text : (ℕ → Bool) → List ℕ → Bool
 is_plain_text is_byte bytes = list_all is_byte bytes && bytes_eq (trimmed bytes) bytes
 
@@ -54,11 +54,11 @@ is_following (Some charset) b = is_in_range 128 191 b
 abbrev pub q_size : ℕ → ℕ
 q_size b = if is_alphanumeric b || b == 32 then 1 else 3
 
--- between its marks a word has at most so many, and so a line of names at most 76 (RFC 2047)
+-- the most bytes of a word between its marks, so that a line of names has at most 76 (RFC 2047)
 abbrev pub word_room : ℕ
 word_room = 30
 
--- whether a byte stands in the word before it, which has room for so many: the whole of its character has to
+-- whether the word before a byte, with this much room, takes it: the whole of its character has to fit
 abbrev pub is_within_word : Option Charset → ℕ → ℕ → Bool
 is_within_word charset room b = is_following charset b || nat_le 12 room
 
@@ -66,12 +66,12 @@ is_within_word charset room b = is_following charset b || nat_le 12 room
 abbrev pub next_room : Option Charset → ℕ → ℕ → ℕ
 next_room charset room b = (if is_within_word charset room b then room else word_room) - q_size b
 
--- what a byte adds to a word that has room for so many
+-- the text that a byte adds to a word with this much room
 abbrev pub next_text : Option Charset → ℕ → ℕ → List ℕ
 next_text charset room b =
     if is_within_word charset room b then q_byte b else codes "?=\n " ++ (q_front charset ++ q_byte b)
 
--- bytes in words of which the first has room for so many
+-- bytes in words; the first has this much room
 abbrev pub q_text : Option Charset → ℕ → List ℕ → List ℕ
 q_text charset room [] = []
 q_text charset room (b ∷ rest) = next_text charset room b ++ q_text charset (next_room charset room b) rest
@@ -80,11 +80,11 @@ q_text charset room (b ∷ rest) = next_text charset room b ++ q_text charset (n
 abbrev pub encoded_words : Option Charset → List ℕ → List ℕ
 encoded_words charset bytes = q_front charset ++ (q_text charset word_room (mail_bytes charset bytes) ++ codes "?=")
 
--- bytes of a message in a header line: as they stand where that may be, else as encoded words
+-- bytes of a message in a header line: unchanged if allowed, else as encoded words
 abbrev pub header_text : Option Charset → List ℕ → List ℕ
 header_text charset bytes = if is_plain_text is_field_byte bytes then bytes else encoded_words charset bytes
 
--- a name in a header line, likewise: between quotes where that may be
+-- a name in a header line: in quotes if allowed, else as encoded words
 abbrev pub name_text : Option Charset → List ℕ → List ℕ
 name_text charset name =
     if is_plain_text is_name_byte name then codes "\"" ++ (name ++ codes "\"") else encoded_words charset name
@@ -97,12 +97,12 @@ name_line field charset name = field ++ (codes ": " ++ (name_text charset name +
 abbrev pub field_line : List ℕ → Option Charset → List ℕ → List ℕ
 field_line field charset bytes = field ++ (codes ": " ++ (header_text charset bytes ++ codes "\n"))
 
--- the same of what may be absent, without blanks at both ends
+-- the same for an optional value, without blanks at both ends
 abbrev pub found_line : List ℕ → Option Charset → Option (List ℕ) → List ℕ
 found_line field charset None = []
 found_line field charset (Some bytes) = field_line field charset (trimmed bytes)
 
--- the line of a message id made of one of FTS-0009: its bytes in hexadecimal digits, so that it can be had back
+-- the message id made of one of FTS-0009: its bytes in hexadecimal digits, so that it can be recovered
 abbrev pub id_line : List ℕ → Option (List ℕ) → List ℕ
 id_line field None = []
 id_line field (Some id) = field ++ (codes ": <" ++ (encode_lower id ++ codes "@fido.invalid>\n"))

@@ -15,7 +15,7 @@ use Rattle.echo_export.specs.declared.json_line.State.{State}
 use Rattle.echo_export.specs.declared.json_line.State.TheVariants.{Purged, Scanned, Waiting}
 use Rattle.echo_export.specs.Label.{charset_for, label_of, text_as, without_zeros}
 
--- a string, or null where there is none
+-- a string, or null without one
 abbrev pub string_or_null : Option (List ℕ) → Token
 string_or_null None = null
 string_or_null (Some text) = string text
@@ -32,7 +32,7 @@ text_member charset name bytes = member_of name (string (text_as charset bytes))
 abbrev pub found_member : Option Charset → List ℕ → Option (List ℕ) → List Token
 found_member charset name found = member_of name (string_or_null (option_map (text_as charset) found))
 
--- what has become of a message here
+-- the state of a message here
 abbrev pub state_word : State → List ℕ
 state_word Scanned = codes "scanned"
 state_word Waiting = codes "waiting"
@@ -42,7 +42,7 @@ state_word Purged = codes "purged"
 abbrev pub area_member : EchoText → List Token
 area_member e = text_member (Some Ascii) (codes "area") e.tag
 
--- its number in the base, where it stands, and which system sent it; it was posted here where none did
+-- its number in the base, its state, and the system that sent it; a posting of this system has none
 abbrev pub place_members : ℕ → State → Filed → List Token
 place_members i state m =
     member_of (codes "number") (number (decimal i))
@@ -57,7 +57,7 @@ name_members charset m =
     ++ (text_member charset (codes "to") m.to_name
     ++ (text_member charset (codes "subject") m.subject ++ text_member charset (codes "date") (without_zeros m.date)))
 
--- the charset of its strings, null where each of their characters is a byte; and what its CHRS line says
+-- the charset of its strings, null where each byte is one character; and the value of its CHRS line
 abbrev pub charset_members : Option (List ℕ) → List Token
 charset_members label =
     found_member (Some Ascii) (codes "charset") (option_map charset_name (charset_for label))
@@ -81,7 +81,7 @@ list_members charset e =
     ++ (key (codes "path") ∷ array_of (flat_map (λ entry. string (net_node_text entry) ∷ []) e.path)
     ++ key (codes "lines") ∷ array_of (flat_map (λ line. string (text_as charset line) ∷ []) e.kept))
 
--- what its text says
+-- the parts of its text
 abbrev pub echo_members : Option Charset → EchoText → List Token
 echo_members charset e = found_members charset e.kept ++ list_members charset e
 

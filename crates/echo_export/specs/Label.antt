@@ -7,7 +7,7 @@ use Rattle.echo_charset.specs.declared.charset.Charset.TheVariants.{Cp437, Latin
 use Rattle.echo_charset.specs.Charset.{decoded_text, named}
 use Rattle.echo_text.specs.Lines.{trimmed}
 
--- what the line of a charset begins with
+-- the beginning of a charset's line
 abbrev pub charset_word : List ℕ
 charset_word = 1 ∷ codes "CHRS:"
 
@@ -15,11 +15,11 @@ charset_word = 1 ∷ codes "CHRS:"
 abbrev pub names_charset : List ℕ → Bool
 names_charset line = starts_with nat_eq (trimmed line) charset_word
 
--- what it says behind the colon
+-- the bytes after the colon
 abbrev pub named_in : List ℕ → List ℕ
 named_in line = trimmed (drop (length charset_word) (trimmed line))
 
--- what the first such line says
+-- the value of the first such line
 abbrev pub label_of : List (List ℕ) → Option (List ℕ)
 label_of [] = None
 label_of (line ∷ later) = if names_charset line then Some (named_in line) else label_of later
@@ -28,7 +28,7 @@ label_of (line ∷ later) = if names_charset line then Some (named_in line) else
 abbrev pub name_in : List ℕ → List ℕ
 name_in label = take (prefix_len (λ b. not (is_blank b)) label) label
 
--- the charset of a label, none where that is another one; without a label it is CP437
+-- the charset of a label, none if it is unknown; without a label it is CP437
 abbrev pub charset_for : Option (List ℕ) → Option Charset
 charset_for None = Some Cp437
 charset_for (Some label) = named (name_in label)

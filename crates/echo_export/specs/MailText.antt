@@ -12,7 +12,7 @@ use Rattle.echo_text.specs.Echo.{EchoText, msgid_of, origin_of, reply_of, tear_o
 use Rattle.echo_export.specs.HeaderText.{field_line, found_line, id_line, mail_bytes, mail_charset, name_line}
 use Rattle.echo_export.specs.Label.{charset_for, label_of, without_zeros}
 
--- whether a digit stands at an index
+-- whether an index has a digit
 abbrev pub is_digit_at : List ℕ → ℕ → Bool
 is_digit_at date i = is_in_range 48 57 (slice_index date i)
 
@@ -20,7 +20,7 @@ is_digit_at date i = is_in_range 48 57 (slice_index date i)
 abbrev pub are_digits_at : List ℕ → ℕ → Bool
 are_digits_at date i = is_digit_at date i && is_digit_at date (i + 1)
 
--- whether this byte stands at an index
+-- whether an index has this byte
 abbrev pub is_byte_at : List ℕ → ℕ → ℕ → Bool
 is_byte_at date i b = slice_index date i == b
 
@@ -28,7 +28,7 @@ is_byte_at date i b = slice_index date i == b
 abbrev pub pair_at : List ℕ → ℕ → ℕ
 pair_at date i = 10 * (slice_index date i - 48) + (slice_index date (i + 1) - 48)
 
--- whether two digits stand at an index, of a number in this range
+-- whether an index has two digits, of a number in this range
 abbrev pub is_pair_at : List ℕ → ℕ → ℕ → ℕ → Bool
 is_pair_at date i low high = are_digits_at date i && is_in_range low high (pair_at date i)
 
@@ -68,12 +68,12 @@ abbrev pub customary_line : List ℕ → List ℕ
 customary_line date =
     codes "Date: " ++ (take 7 date ++ (century date ++ (slice_range date 7 9 ++ (codes " " ++ (slice_range date 11 19 ++ codes " -0000\n")))))
 
--- the line of a date, by the form that a mail has; of a DateTime of another form as it stands
+-- the line of a date, in the form of a mail; a DateTime of another form stays unchanged
 abbrev pub date_line : Option Charset → List ℕ → List ℕ
 date_line charset date =
     if is_customary date then customary_line date else field_line (codes "X-FTN-Date") charset (without_zeros date)
 
--- the line that a message of a mailbox begins with, of no author and no moment
+-- the first line of a message in a mailbox, without author and date
 abbrev pub mailbox_line : List ℕ
 mailbox_line = codes "From fido@fido.invalid Thu Jan  1 00:00:00 1970\n"
 
@@ -89,7 +89,7 @@ abbrev pub id_lines : List (List ℕ) → List ℕ
 id_lines kept =
     id_line (codes "Message-ID") (msgid_of kept) ++ (id_line (codes "In-Reply-To") (reply_of kept) ++ id_line (codes "References") (reply_of kept))
 
--- the lines of what FidoNet says
+-- the lines with FidoNet's own values
 abbrev pub found_lines : Option Charset → List (List ℕ) → List ℕ
 found_lines charset kept =
     found_line (codes "X-FTN-MSGID") charset (msgid_of kept)
@@ -104,11 +104,11 @@ written_path path = flat_map (λ entry. codes " " ++ net_node_text entry) path
 abbrev pub seen_line : ℕ → List ℕ
 seen_line seen = codes "\nX-FTN-SEEN-BY: " ++ (decimal seen ++ codes "\nX-FTN-PATH:")
 
--- a byte of a tag in a newsgroup: a comma, which would end that, by its digits
+-- a byte of a tag in a newsgroup; a comma would end it, so it is written by its digits
 abbrev pub group_byte : ℕ → List ℕ
 group_byte b = if b == 44 then codes "%2C" else b ∷ []
 
--- the newsgroup of an area, and where that is not its tag the tag as it stands
+-- the newsgroup of an area, and its tag if that differs
 abbrev pub tag_line : List ℕ → List ℕ
 tag_line tag = if list_any (λ b. b == 44) tag then codes "\nX-FTN-Area: " ++ tag else []
 
@@ -119,12 +119,12 @@ area_text tag = flat_map group_byte tag ++ tag_line tag
 abbrev pub way_lines : EchoText → List ℕ
 way_lines e = codes "Newsgroups: " ++ (area_text e.tag ++ (seen_line (length e.seen) ++ (written_path e.path ++ codes "\n")))
 
--- the lines that say what the body is, and the empty line behind them
+-- the lines that describe the body, and the empty line after them
 abbrev pub form_lines : Option Charset → List ℕ
 form_lines charset =
     codes "MIME-Version: 1.0\nContent-Type: text/plain; charset=" ++ (mail_charset charset ++ codes "\nContent-Transfer-Encoding: 8bit\n\n")
 
--- what a line of a mailbox may not begin with
+-- the word that no line of a mailbox may begin with
 abbrev pub from_word : List ℕ
 from_word = codes "From "
 
@@ -134,7 +134,7 @@ quoted_body first [] = []
 quoted_body first (b ∷ rest) =
     (if first && starts_with nat_eq (b ∷ rest) from_word then codes ">" else []) ++ b ∷ quoted_body (b == 10) rest
 
--- a line of the body, without the line feeds at its front; a control line is none
+-- a line of the body, without the line feeds at its front; control lines are left out
 abbrev pub body_line : Option Charset → List ℕ → List ℕ
 body_line charset line =
     if is_control line then [] else quoted_body true (mail_bytes charset (after_feeds line)) ++ codes "\n"
@@ -143,11 +143,11 @@ body_line charset line =
 abbrev pub body_text : Option Charset → List (List ℕ) → List ℕ
 body_text charset kept = flat_map (body_line charset) kept
 
--- the lines of what the text says
+-- the lines with the parts of the text
 abbrev pub echo_head : Option Charset → EchoText → List ℕ
 echo_head charset e = id_lines e.kept ++ (way_lines e ++ found_lines charset e.kept)
 
--- the lines before the body of a message whose CHRS line says this
+-- the lines before the body of a message with this CHRS line
 abbrev pub head_text : Option (List ℕ) → Filed → List ℕ
 head_text label m =
     mailbox_line
@@ -167,7 +167,7 @@ name_bytes charset m = mail_bytes charset m.from_name ++ (mail_bytes charset m.t
 abbrev pub all_bytes : Option Charset → Filed → List ℕ → List ℕ
 all_bytes charset m body = name_bytes charset m ++ body
 
--- how many U+FFFD stand in names, subject and body
+-- the number of U+FFFD in names, subject and body
 abbrev pub mail_lost : Filed → ℕ
 mail_lost m =
     lost (all_bytes (charset_for (label_of m.echo.kept)) m (body_text (charset_for (label_of m.echo.kept)) m.echo.kept))

@@ -8,7 +8,7 @@ use echo_charset::Charset;
 use echo_text::split_line;
 use std::alloc::{AllocError, Global};
 
-/// What a line of a mailbox may not begin with.
+/// The word that no line of a mailbox may begin with.
 const FROM: &[u8] = b"From ";
 
 /// Adds the lines of a text that are no control lines.
@@ -62,7 +62,6 @@ fn push_quoted(mail: &mut Vec<u8>, text: &[u8]) -> Result<(), AllocError>
     Ok(())
 }
 
-// Adds the mark, where one is wanted.
 fn push_mark(mail: &mut Vec<u8>, wanted: bool) -> Result<(), AllocError>
     ensures { OnOk result (mail.new.items ≡ mail.old.items ++ (if wanted then codes ">" else [])) }
 {
@@ -73,7 +72,6 @@ fn push_mark(mail: &mut Vec<u8>, wanted: bool) -> Result<(), AllocError>
     }
 }
 
-// Whether the line is a control line.
 #[tactic(auto, unfolding(echo_text::specs::Lines::begins))]
 fn is_control(line: &[u8]) -> bool
     ensures { result ≡ is_control line.now }
@@ -88,7 +86,6 @@ fn after_feeds(line: &[u8]) -> &[u8]
     &line[feed_count(line)..]
 }
 
-// How many line feeds stand at the front.
 fn feed_count(line: &[u8]) -> usize
     ensures exact { result ≡ length (take_while is_feed line.now) }
     ensures within { result ≤ length line.now }

@@ -1,4 +1,4 @@
-//! The forms in which other programs are given messages.
+//! The forms of messages for other programs.
 ghost use Rattle.std.specs.Prelude.{◌≡◌, ◌++◌, IfOk, OnOk};
 ghost use Rattle.echo_export.specs.Forms.{message_lost, message_text};
 
@@ -14,7 +14,7 @@ pub enum Form {
     Json,
 }
 
-/// Adds the message of this number in this form. The answer is how many U+FFFD stand in it, for what the message's
+/// Adds the message of this number in this form. Answers how many U+FFFD replace characters that the message's
 /// charset does not have.
 pub fn push_message(
     alloc: Global,

@@ -17,14 +17,13 @@ const WORD: u8 = 30;
 /// How many a character takes there at most.
 const CHARACTER: u8 = 12;
 
-/// Adds bytes as they stand.
 pub(crate) fn push_bytes(mail: &mut Vec<u8>, bytes: &[u8]) -> Result<(), AllocError>
     ensures { OnOk result (mail.new.items ≡ mail.old.items ++ bytes.now) }
 {
     mail.extend_from_slice(bytes)
 }
 
-/// Adds the line of a name, whose mail address is none.
+/// Adds the line of a name, with an invalid mail address.
 pub(crate) fn push_name(
     mail: &mut Vec<u8>,
     alloc: Global,
@@ -56,7 +55,7 @@ pub(crate) fn push_field(
     push_bytes(mail, b"\n")
 }
 
-/// Adds the same of what was found, if anything was.
+/// Adds the same for an optional value.
 pub(crate) fn push_found(
     mail: &mut Vec<u8>,
     alloc: Global,
@@ -100,7 +99,7 @@ fn push_id_digits(mail: &mut Vec<u8>, field: &[u8], digits: &[u8]) -> Result<(),
     push_bytes(mail, b"@fido.invalid>\n")
 }
 
-// Adds bytes as they stand, or as encoded words.
+// Adds bytes unchanged, or as encoded words.
 fn push_text(
     mail: &mut Vec<u8>,
     alloc: Global,
@@ -134,7 +133,6 @@ fn push_name_text(
     }
 }
 
-// Adds bytes as encoded words.
 fn push_encoded(
     mail: &mut Vec<u8>,
     alloc: Global,
@@ -163,7 +161,7 @@ pub(crate) fn mail_bytes(
     }
 }
 
-/// What the mail calls its charset.
+/// The mail's name of the charset.
 pub(crate) fn mail_charset(charset: Option<Charset>) -> &'static [u8]
     ensures { result.now ≡ mail_charset charset }
 {
@@ -182,7 +180,7 @@ fn push_front(mail: &mut Vec<u8>, charset: Option<Charset>) -> Result<(), AllocE
     push_bytes(mail, b"?Q?")
 }
 
-// Adds the characters of a text, none of them in two words.
+// Adds the characters of a text, each within one word.
 fn push_words(mail: &mut Vec<u8>, charset: Option<Charset>, text: &[u8]) -> Result<(), AllocError>
     ensures { OnOk result (mail.new.items ≡ mail.old.items ++ q_text charset word_room text.now) }
 {
@@ -197,7 +195,7 @@ fn push_words(mail: &mut Vec<u8>, charset: Option<Charset>, text: &[u8]) -> Resu
     Ok(())
 }
 
-// Adds a byte of a text behind a word that has room for so many bytes more.
+// Adds a byte of a text after a word with room for `room` bytes more.
 fn push_next(
     mail: &mut Vec<u8>,
     charset: Option<Charset>,
@@ -215,7 +213,7 @@ fn push_next(
     }
 }
 
-// Whether a byte stands in the word before it.
+// Whether the word before a byte takes it.
 fn is_within_word(charset: Option<Charset>, room: u8, byte: u8) -> bool
     ensures { result ≡ is_within_word charset room byte }
 {
@@ -245,7 +243,6 @@ fn q_size(byte: u8) -> u8
     }
 }
 
-// Adds a byte by the encoding Q.
 fn push_q(mail: &mut Vec<u8>, byte: u8) -> Result<(), AllocError>
     ensures { OnOk result (mail.new.items ≡ mail.old.items ++ q_byte byte) }
 {
@@ -267,14 +264,12 @@ fn push_digits(mail: &mut Vec<u8>, byte: u8) -> Result<(), AllocError>
     push_bytes(mail, &[b'=', high, low])
 }
 
-// Whether a name may stand as it is.
 fn is_plain_name(name: &[u8]) -> bool
     ensures { result ≡ is_plain_text is_name_byte name.now }
 {
     are_name_bytes(name) && is_trimmed(name)
 }
 
-// Whether another field may.
 fn is_plain_field(bytes: &[u8]) -> bool
     ensures { result ≡ is_plain_text is_field_byte bytes.now }
 {
@@ -293,7 +288,6 @@ fn are_field_bytes(bytes: &[u8]) -> bool
     bytes.iter().all(|b| is_field_byte(*b))
 }
 
-// Whether no blank stands at an end.
 fn is_trimmed(bytes: &[u8]) -> bool
     ensures { result ≡ bytes_eq (text_lines.trimmed bytes.now) bytes.now }
 {

@@ -13,7 +13,7 @@ use echo_text::Echo;
 use json::Writer;
 use std::alloc::{AllocError, Global};
 
-/// What has become of a message of a base: it waits for a scan, it was scanned, or a purge left its id alone.
+/// The state of a message of a base: it waits for a scan, it was scanned, or it is a stub.
 #[derive(Clone, Copy, Debug, PartialEq, Eq)]
 pub enum State {
     Scanned,
@@ -21,8 +21,8 @@ pub enum State {
     Purged,
 }
 
-/// Adds the message of this number as a line of JSON (RFC 8259): one object, in UTF-8. The answer is how many
-/// U+FFFD stand in it, for what the message's charset does not have.
+/// Adds the message of this number as a line of JSON (RFC 8259): one object, in UTF-8. Answers how many U+FFFD
+/// replace characters that the message's charset does not have.
 pub(crate) fn push_json(
     alloc: Global,
     lines: &mut Vec<u8>,
@@ -39,7 +39,6 @@ pub(crate) fn push_json(
     Ok(lost(&line))
 }
 
-// The message as an object.
 fn object_of(alloc: Global, i: usize, state: State, message: &Filed) -> Result<Vec<u8>, AllocError>
     ensures { IfOk result (λ line. line.items ≡ print (message_object i state message.now)) }
 {
@@ -50,7 +49,6 @@ fn object_of(alloc: Global, i: usize, state: State, message: &Filed) -> Result<V
     Ok(writer.into_inner())
 }
 
-// Writes all members of the message.
 fn write_members(
     writer: &mut Writer,
     alloc: Global,
@@ -69,7 +67,7 @@ fn write_members(
     write_echo(writer, alloc, charset, message)
 }
 
-// Writes the number, the area, what has become of the message, and who sent it.
+// Writes the number, the area, the state and the sender.
 fn write_place(
     writer: &mut Writer,
     alloc: Global,
@@ -86,7 +84,6 @@ fn write_place(
     write_address(writer, alloc, "sender", message.sender)
 }
 
-// Writes the area.
 fn write_area(writer: &mut Writer, alloc: Global, echo: &Echo) -> Result<(), AllocError>
     ensures tokens { OnOk result (writer.new.tokens ≡ writer.old.tokens ++ area_member echo.now) }
     ensures before { OnOk result (writer.new.before ≡ writer.old.before) }
@@ -100,7 +97,6 @@ fn write_area(writer: &mut Writer, alloc: Global, echo: &Echo) -> Result<(), All
     )
 }
 
-// Writes what the text says.
 fn write_echo(
     writer: &mut Writer,
     alloc: Global,
@@ -115,7 +111,6 @@ fn write_echo(
     write_lists(writer, alloc, charset, echo)
 }
 
-// The word for it.
 fn state_word(state: State) -> &'static str
     ensures { result.now ≡ state_word state }
 {
@@ -126,7 +121,6 @@ fn state_word(state: State) -> &'static str
     }
 }
 
-// Writes the names, the subject and the DateTime.
 fn write_names(
     writer: &mut Writer,
     alloc: Global,
@@ -148,7 +142,6 @@ fn write_names(
     write_text(writer, alloc, "date", charset, without_zeros(&message.date))
 }
 
-// Writes the charset, and what names it.
 fn write_charset(writer: &mut Writer, alloc: Global, label: Option<&[u8]>) -> Result<(), AllocError>
     ensures tokens { OnOk result (writer.new.tokens ≡ writer.old.tokens ++ charset_members (option_copied label.entry)) }
     ensures before { OnOk result (writer.new.before ≡ writer.old.before) }

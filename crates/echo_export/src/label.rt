@@ -10,17 +10,17 @@ use echo_filed::Filed;
 use echo_text::{split_line, trimmed};
 use std::alloc::{AllocError, Global};
 
-// What the line of a charset begins with.
+// The beginning of a charset's line.
 const CHRS: &[u8] = b"\x01CHRS:";
 
-/// What the CHRS line of a message says behind its colon.
+/// The value of the CHRS line of a message.
 pub(crate) fn label_in(message: &Filed) -> Option<&[u8]>
     ensures { option_copied result ≡ label_of message.now.echo.kept }
 {
     label(message.echo.kept.as_text())
 }
 
-// What the first CHRS line of these lines says.
+// The value of the first CHRS line of these lines.
 fn label(kept: &[u8]) -> Option<&[u8]>
     ensures { option_copied result ≡ label_of (lines kept.now) }
 {
@@ -36,7 +36,6 @@ fn label(kept: &[u8]) -> Option<&[u8]>
     None
 }
 
-/// The charset of a label.
 pub(crate) fn charset_for(label: Option<&[u8]>) -> Option<Charset>
     ensures { result ≡ charset_for (option_copied label.entry) }
 {
@@ -46,14 +45,12 @@ pub(crate) fn charset_for(label: Option<&[u8]>) -> Option<Charset>
     }
 }
 
-// The name at the front of a label.
 fn name_in(label: &[u8]) -> &[u8]
     ensures { result.now ≡ name_in label.now }
 {
     &label[..name_len(label)]
 }
 
-// How many bytes it has.
 fn name_len(label: &[u8]) -> usize
     ensures exact { result ≡ length (take_while (λ b. not (is_blank b)) label.now) }
     ensures within { result ≤ length label.now }
@@ -61,7 +58,6 @@ fn name_len(label: &[u8]) -> usize
     label.iter().take_while(|b| !is_blank(**b)).count()
 }
 
-/// The bytes as text.
 pub(crate) fn text_as(
     alloc: Global,
     charset: Option<Charset>,
@@ -72,14 +68,12 @@ pub(crate) fn text_as(
     charset.unwrap_or(Charset::Latin1).text(alloc, bytes)
 }
 
-/// The bytes without the 00 at their end.
 pub(crate) fn without_zeros(bytes: &[u8]) -> &[u8]
     ensures { result.now ≡ without_zeros bytes.now }
 {
     &bytes[..bytes.len() - back_zeros(bytes)]
 }
 
-// How many 00 stand at the end.
 fn back_zeros(bytes: &[u8]) -> usize
     ensures exact { result ≡ length (take_while (λ b. b == 0) (reverse bytes.now)) }
     ensures within { result ≤ length bytes.now }

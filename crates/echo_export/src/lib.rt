@@ -1,12 +1,10 @@
-//! Messages of a base for the programs that people read with.
+//! Exports messages of a base in the forms that other programs read: mailbox and JSON.
 //!
-//! The contract for the layers above: a call that ends well added just the text that the definitions in specs/
-//! give for the message, behind what stood there, and answers how many U+FFFD stand in it for what the charset
-//! does not have.
+//! Promise: a call that succeeds appends just the text that the definitions in specs/ give for the message. It
+//! answers how many U+FFFD replace characters that the charset does not have.
 //!
-//! Modules in reading order: `label` (the charset that a message names); `members` (members of an object of
-//! JSON), `lists` (lists in it) and `json_line` (a message as one object, on one line); and `header` (header
-//! lines of a mail), `body` (its body) and `mail` (a message as a mail); and `form` (a message in one of these forms).
+//! Begin with `form` (a message in one of these forms). `json_line` writes a message as one object on one line,
+//! with `members` and `lists`. `mail` writes it as a mail, with `header` and `body`. `label` finds its charset.
 #![tactic(auto)]
 
 mod body;

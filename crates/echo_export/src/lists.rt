@@ -41,7 +41,6 @@ fn write_path(writer: &mut Writer, alloc: Global, path: &[NetNode]) -> Result<()
     writer.end_array()
 }
 
-// Writes the entries.
 fn write_entries(writer: &mut Writer, alloc: Global, path: &[NetNode]) -> Result<(), AllocError>
     ensures tokens { OnOk result (writer.new.tokens ≡ writer.old.tokens ++ flat_map (λ entry. string (net_node_text entry) ∷ []) path.now) }
     ensures before { OnOk result (writer.new.before ≡ writer.old.before) }
@@ -69,7 +68,6 @@ fn write_lines(
     writer.end_array()
 }
 
-// Writes the lines.
 fn write_each_line(
     writer: &mut Writer,
     alloc: Global,

@@ -17,8 +17,8 @@ use echo_text::Echo;
 use std::alloc::{AllocError, Global};
 use std::io::Write;
 
-/// Adds the message as one of a mailbox (RFC 4155). The answer is how many U+FFFD stand in its names, its
-/// subject and its body, for what its charset does not have.
+/// Adds the message as one of a mailbox (RFC 4155). Answers how many U+FFFD in its names, subject and body
+/// replace characters that its charset does not have.
 pub(crate) fn push_mail(
     alloc: Global,
     mail: &mut Vec<u8>,
@@ -68,7 +68,6 @@ fn push_names(
     push_date(mail, alloc, charset, &message.date)
 }
 
-// Adds the line of a date.
 fn push_date(
     mail: &mut Vec<u8>,
     alloc: Global,
@@ -141,7 +140,6 @@ fn has_late_month(date: &[u8]) -> bool
         || is_month(date, b"Dec")
 }
 
-// Whether this is the month.
 fn is_month(date: &[u8], name: &[u8]) -> bool
     requires { length date.now ≡ 20 }
     ensures { result ≡ is_month date.now name.now }
@@ -159,7 +157,7 @@ fn has_time(date: &[u8]) -> bool
         && is_pair_at(date, 17, 0, 59)
 }
 
-// Whether two digits stand at an index, of a number in this range.
+// Whether an index has two digits, of a number in this range.
 fn is_pair_at(date: &[u8], i: usize, low: u16, high: u16) -> bool
     requires { i < 100 }
     ensures { result ≡ is_pair_at date.now i low high }
@@ -171,7 +169,6 @@ fn is_pair_at(date: &[u8], i: usize, low: u16, high: u16) -> bool
     low <= pair && pair <= high
 }
 
-// The number of two digits.
 fn pair_at(date: &[u8], i: usize) -> u16
     requires { i < 100 }
     ensures { result ≡ pair_at date.now i }
@@ -181,7 +178,6 @@ fn pair_at(date: &[u8], i: usize) -> u16
     10 * u16::from(tens) + u16::from(ones)
 }
 
-// Whether two digits stand at an index.
 fn are_digits_at(date: &[u8], i: usize) -> bool
     requires { i < 100 }
     ensures { result ≡ are_digits_at date.now i }
@@ -212,7 +208,6 @@ fn byte_at(bytes: &[u8], i: usize) -> u8
     }
 }
 
-// The century of the year.
 fn century(date: &[u8]) -> &'static [u8]
     ensures { result.now ≡ century date.now }
 {
@@ -223,7 +218,6 @@ fn century(date: &[u8]) -> &'static [u8]
     }
 }
 
-// Adds the lines of what the text says.
 fn push_echo(
     mail: &mut Vec<u8>,
     alloc: Global,
@@ -238,7 +232,6 @@ fn push_echo(
     push_kept(mail, alloc, charset, echo)
 }
 
-// Adds the lines of ids.
 fn push_ids(mail: &mut Vec<u8>, alloc: Global, echo: &Echo) -> Result<(), AllocError>
     ensures { OnOk result (mail.new.items ≡ mail.old.items ++ id_lines echo.now.kept) }
 {
@@ -258,7 +251,7 @@ fn push_way(mail: &mut Vec<u8>, echo: &Echo) -> Result<(), AllocError>
     push_bytes(mail, b"\n")
 }
 
-// Adds the newsgroup of an area, and where that is not its tag the tag as it stands.
+// Adds the newsgroup of an area, and its tag if that differs.
 fn push_area(mail: &mut Vec<u8>, tag: &[u8]) -> Result<(), AllocError>
     ensures { OnOk result (mail.new.items ≡ mail.old.items ++ area_text tag.now) }
 {
@@ -266,7 +259,6 @@ fn push_area(mail: &mut Vec<u8>, tag: &[u8]) -> Result<(), AllocError>
     push_tag(mail, tag)
 }
 
-// Adds the newsgroup.
 fn push_group(mail: &mut Vec<u8>, tag: &[u8]) -> Result<(), AllocError>
     ensures { OnOk result (mail.new.items ≡ mail.old.items ++ flat_map group_byte tag.now) }
 {
@@ -276,7 +268,7 @@ fn push_group(mail: &mut Vec<u8>, tag: &[u8]) -> Result<(), AllocError>
     Ok(())
 }
 
-// Adds a byte of it: a comma, which would end a newsgroup, by its digits.
+// Adds a byte of it; a comma would end a newsgroup, so it is written by its digits.
 fn push_group_byte(mail: &mut Vec<u8>, byte: u8) -> Result<(), AllocError>
     ensures { OnOk result (mail.new.items ≡ mail.old.items ++ group_byte byte) }
 {
@@ -318,7 +310,6 @@ fn push_seen(mail: &mut Vec<u8>, seen: usize) -> Result<(), AllocError>
     written(write!(mail, "\nX-FTN-SEEN-BY: {seen}\nX-FTN-PATH:"))
 }
 
-// Adds the entries of a PATH.
 fn push_path(mail: &mut Vec<u8>, path: &[NetNode]) -> Result<(), AllocError>
     ensures { OnOk result (mail.new.items ≡ mail.old.items ++ written_path path.now) }
 {
@@ -328,7 +319,7 @@ fn push_path(mail: &mut Vec<u8>, path: &[NetNode]) -> Result<(), AllocError>
     Ok(())
 }
 
-// Adds the lines of ids as they stand, of the tear and of the origin line.
+// Adds the lines of ids, the tear line and the origin line, unchanged.
 fn push_kept(
     mail: &mut Vec<u8>,
     alloc: Global,
@@ -343,7 +334,7 @@ fn push_kept(
     push_found(mail, alloc, b"X-FTN-Origin", charset, echo.origin())
 }
 
-// Adds what the body is, and the empty line before it.
+// Adds the description of the body, and the empty line before the body.
 fn push_form(mail: &mut Vec<u8>, charset: Option<Charset>) -> Result<(), AllocError>
     ensures { OnOk result (mail.new.items ≡ mail.old.items ++ form_lines charset) }
 {
@@ -355,7 +346,6 @@ fn push_form(mail: &mut Vec<u8>, charset: Option<Charset>) -> Result<(), AllocEr
     push_bytes(mail, b"\nContent-Transfer-Encoding: 8bit\n\n")
 }
 
-// The body of the message.
 fn body_of(alloc: Global, charset: Option<Charset>, message: &Filed) -> Result<Vec<u8>, AllocError>
     ensures { IfOk result (λ body. body.items ≡ body_text charset message.now.echo.kept) }
 {
@@ -364,7 +354,7 @@ fn body_of(alloc: Global, charset: Option<Charset>, message: &Filed) -> Result<V
     Ok(body)
 }
 
-// How many U+FFFD stand in names, subject and body.
+// The number of U+FFFD in names, subject and body.
 fn lost_with(
     alloc: Global,
     charset: Option<Charset>,

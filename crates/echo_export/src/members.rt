@@ -10,7 +10,6 @@ use echo_charset::Charset;
 use json::Writer;
 use std::alloc::{AllocError, Global};
 
-/// Writes a member that is a string.
 pub(crate) fn write_string(writer: &mut Writer, name: &str, text: &str) -> Result<(), AllocError>
     ensures tokens { OnOk result (writer.new.tokens ≡ writer.old.tokens ++ member_of name.now (string text.now)) }
     ensures before { OnOk result (writer.new.before ≡ writer.old.before) }
@@ -19,7 +18,6 @@ pub(crate) fn write_string(writer: &mut Writer, name: &str, text: &str) -> Resul
     writer.string(text)
 }
 
-/// Writes a member that is a number.
 pub(crate) fn write_number(writer: &mut Writer, name: &str, n: u64) -> Result<(), AllocError>
     ensures tokens { OnOk result (writer.new.tokens ≡ writer.old.tokens ++ member_of name.now (number (decimal n))) }
     ensures before { OnOk result (writer.new.before ≡ writer.old.before) }
@@ -43,7 +41,7 @@ pub(crate) fn write_text(
     write_string(writer, name, text.as_str())
 }
 
-/// Writes a member that is such bytes, or null where there are none.
+/// Writes a member with these bytes, or null without them.
 pub(crate) fn write_found(
     writer: &mut Writer,
     alloc: Global,
@@ -60,7 +58,6 @@ pub(crate) fn write_found(
     }
 }
 
-// Writes a member that is null.
 fn write_null(writer: &mut Writer, name: &str) -> Result<(), AllocError>
     ensures tokens { OnOk result (writer.new.tokens ≡ writer.old.tokens ++ member_of name.now null) }
     ensures before { OnOk result (writer.new.before ≡ writer.old.before) }
@@ -69,7 +66,7 @@ fn write_null(writer: &mut Writer, name: &str) -> Result<(), AllocError>
     writer.null()
 }
 
-/// Writes a member that is an address, or null where there is none.
+/// Writes a member with an address, or null without one.
 pub(crate) fn write_address(
     writer: &mut Writer,
     alloc: Global,

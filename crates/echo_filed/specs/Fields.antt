@@ -22,7 +22,7 @@ Breaks X Fits write old new broken.Cut = Came old new (EndsIn X Fits write) × I
 Breaks X Fits write old new broken.Device = Came old new (EndsIn X Fits write)
 Breaks X Fits write old new broken.Memory = Unit {0}
 
--- a value of the field was read, and just its bytes were taken
+-- a value of the field was read, and just its bytes were consumed
 abbrev pub Reads : {X : Type 0} → (X → Type 0) → (X → List ℕ) → Option (List ℕ) → Option (List ℕ) → Result X Broken → Type 0
 Reads Fits write old new (Ok x) = Fits x × Consumes old new (write x)
 Reads {X} Fits write old new (Err e) = Breaks X Fits write old new e
@@ -59,7 +59,7 @@ HasLength n s = length s ≡ n
 abbrev pub itself : List ℕ → List ℕ
 itself s = s
 
--- a string whose length one byte gives, or four bytes
+-- a string with a length of one byte, or of four bytes
 abbrev pub IsShortString : List ℕ → Type 0
 IsShortString s = IsByte (length s)
 
@@ -75,7 +75,7 @@ pub record IsSmall (a : Address) : Type 0 where
 abbrev pub address_bytes : Address → List ℕ
 address_bytes a = word a.zone ++ (word a.net ++ word a.node)
 
--- what stands after the subject: tag and id, or the text alone
+-- the fields after the subject: tag and id, or the text alone
 abbrev pub LastFits : Bool → List ℕ × List ℕ → Type 0
 LastFits true p = (length p.0 < 2 ^ 8) × (length p.1 < 2 ^ 32)
 LastFits false p = (p.0 ≡ []) × (length p.1 < 2 ^ 32)
@@ -83,6 +83,6 @@ LastFits false p = (p.0 ≡ []) × (length p.1 < 2 ^ 32)
 abbrev pub last_of : Bool → List ℕ × List ℕ → List ℕ
 last_of with_tag p = if with_tag then after_length p.0 ++ after_long_length p.1 else after_long_length p.1
 
--- the bytes that came end inside the message that is next
+-- the bytes that came end inside the next message
 abbrev pub StopsIn : Version → List ℕ → Type 0
 StopsIn version = EndsIn Stored (IsStored version) (stored_bytes version)

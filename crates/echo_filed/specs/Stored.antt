@@ -1,4 +1,4 @@
--- A message as it stands in a base file. Numbers of several bytes have the low byte first.
+-- The bytes of a message in a base file. Numbers of several bytes have the low byte first.
 use Rattle.std.specs.Prelude.{◌≡◌, ℕ, ◌+◌, ◌*◌, ◌/◌, ◌%◌, ◌^◌, ◌<◌, ◌==◌, ◌||◌, ◌&&◌, nat_lt, Bool, false, List, [], ◌∷◌, ◌++◌, length, if◌then◌else◌, Option, Some, None, is_some, unwrap_or}
 use Rattle.echo_addr.specs.declared.address.Address.{Address}
 use Rattle.echo_packet.specs.Header.{number_at, word}
@@ -25,7 +25,7 @@ after_length s = length s ∷ s
 abbrev pub after_long_length : List ℕ → List ℕ
 after_long_length s = long (length s) ++ s
 
--- a message as it stands in a base; `last` is its text, or its id where it has the tag in place of the text
+-- a stored message; `last` is its text, or its id where it has the tag instead of the text
 pub record Stored : Type 0 where
   pub kind : ℕ
   pub zone : ℕ
@@ -38,12 +38,12 @@ pub record Stored : Type 0 where
   pub tag : List ℕ
   pub last : List ℕ
 
--- 02 and 03 of the second version have tag and id in place of the text
+-- 02 and 03 of the second version have tag and id instead of the text
 abbrev pub has_tag : Version → ℕ → Bool
 has_tag First kind = false
 has_tag Second kind = (kind == 2) || (kind == 3)
 
--- what stands after the subject
+-- the bytes after the subject
 abbrev pub last_bytes : Version → Stored → List ℕ
 last_bytes version s =
     if has_tag version s.kind then after_length s.tag ++ after_long_length s.last else after_long_length s.last
@@ -54,7 +54,7 @@ stored_bytes version s =
     s.kind ∷ (word s.zone ++ (word s.net ++ (word s.node ++ (s.date
     ++ (after_length s.to_name ++ (after_length s.from_name ++ (after_length s.subject ++ last_bytes version s)))))))
 
--- each field is of a size that its place has
+-- each field fits its place
 pub record IsStored (version : Version) (s : Stored) : Type 0 where
   pub kind : s.kind < 2 ^ 8
   pub zone : s.zone < 2 ^ 16
@@ -72,7 +72,7 @@ pub record IsStored (version : Version) (s : Stored) : Type 0 where
 abbrev pub is_posted : ℕ → Bool
 is_posted kind = (kind == 0) || (kind == 2)
 
--- what the message says of its sender
+-- the sender of the message
 abbrev pub sender_in : Stored → Option Address
 sender_in s = if is_posted s.kind then None else Some (record { zone = s.zone; net = s.net; node = s.node })
 
@@ -91,8 +91,8 @@ message_in version s = record {
   echo = echo_in version s;
 }
 
--- tag and id stand in place of the text just where a message of the second version was scanned, has an
--- id, and has no more than a purge leaves
+-- a message has tag and id instead of the text exactly if it is of the second version, was scanned, has an id and is
+-- a stub
 abbrev pub is_short : Version → ℕ → ℕ → Filed → Bool
 is_short First cursor place m = false
 is_short Second cursor place m = nat_lt place cursor && (is_some (msgid_of m.echo.kept) && is_stub m)
@@ -107,7 +107,7 @@ abbrev pub sender_or_zeros : Option Address → Address
 sender_or_zeros None = record { zone = 0; net = 0; node = 0 }
 sender_or_zeros (Some sender) = sender
 
--- a message as it is stored, in short or not
+-- the stored form of a message, short or not
 abbrev pub stored_as : Bool → Filed → Stored
 stored_as short m = record {
   kind = kind_of short m.sender;

@@ -21,7 +21,7 @@ echo_of_lines all = record {
 unfoldable pub echo_of : List ℕ → EchoText
 echo_of text = echo_of_lines (lines text)
 
--- entries cut into the runs of their lines, where the line that is begun has the given ones
+-- entries cut into the runs of their lines; the first list has the entries of the line so far
 abbrev pub runs_after : List ℕ → List NetNode → List NetNode → List (List NetNode)
 runs_after prefix run [] = run ∷ []
 runs_after prefix run (next ∷ more) =

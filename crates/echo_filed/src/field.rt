@@ -16,7 +16,6 @@ const STEP: usize = 4096;
 // The most bytes of a string that is read in one part.
 const PART: usize = 65_536;
 
-// One byte.
 pub(crate) fn read_byte<R: Source>(reader: &mut R) -> Result<u8, Broken>
     ensures read { Reads IsByte one_byte (R.remaining reader.old) (R.remaining reader.new) result }
     ensures device { CountsBreak result (R.failures reader.old) (R.failures reader.new) }
@@ -36,7 +35,6 @@ pub fn read_long<R: Source>(reader: &mut R) -> Result<u32, Broken>
     Ok(long_of(bytes))
 }
 
-/// Zone, net and node.
 pub(crate) fn read_address<R: Source>(reader: &mut R) -> Result<Address, Broken>
     ensures read { Reads IsSmall address_bytes (R.remaining reader.old) (R.remaining reader.new) result }
     ensures device { CountsBreak result (R.failures reader.old) (R.failures reader.new) }
@@ -50,7 +48,6 @@ pub(crate) fn read_address<R: Source>(reader: &mut R) -> Result<Address, Broken>
     })
 }
 
-/// A DateTime.
 pub(crate) fn read_date<R: Source>(reader: &mut R) -> Result<[u8; 20], Broken>
     ensures read { Reads (HasLength 20) itself (R.remaining reader.old) (R.remaining reader.new) result }
     ensures device { CountsBreak result (R.failures reader.old) (R.failures reader.new) }
@@ -60,7 +57,7 @@ pub(crate) fn read_date<R: Source>(reader: &mut R) -> Result<[u8; 20], Broken>
     Ok(date)
 }
 
-// One more piece of a string that is to have so many bytes.
+// One more piece of a string of `size` bytes.
 fn take_piece<R: Source>(reader: &mut R, string: &mut Vec<u8>, size: usize) -> Result<(), Broken>
     requires { length string.old.items < size }
     ensures step { StepsSized size string.old.items string.new.items (R.remaining reader.old) (R.remaining reader.new) result }
@@ -77,7 +74,7 @@ fn take_piece<R: Source>(reader: &mut R, string: &mut Vec<u8>, size: usize) -> R
     Ok(())
 }
 
-// So many bytes. Room grows with those that come.
+// `size` bytes. Room grows with the bytes that come.
 fn read_part<R: Source>(alloc: Global, reader: &mut R, size: usize) -> Result<Items<u8>, Broken>
     ensures read { Reads (HasLength size) itself (R.remaining reader.old) (R.remaining reader.new) result }
     ensures device { CountsBreak result (R.failures reader.old) (R.failures reader.new) }
@@ -89,7 +86,7 @@ fn read_part<R: Source>(alloc: Global, reader: &mut R, size: usize) -> Result<It
     Ok(Items::new(string))
 }
 
-// The parts behind one another, which have so many bytes together.
+// The parts in a row, `size` bytes together.
 fn joined(alloc: Global, parts: &[Items<u8>], size: usize) -> Result<Items<u8>, AllocError>
     ensures { IfOk result (λ string. string ≡ flat_map itself parts.now) }
 {
@@ -100,8 +97,8 @@ fn joined(alloc: Global, parts: &[Items<u8>], size: usize) -> Result<Items<u8>, 
     Ok(Items::new(string))
 }
 
-// So many bytes, in parts that are put together once all came: a long string that grew would be moved
-// with each step.
+// `size` bytes, in parts that are joined when all have come: growing a long string would move it at
+// each step.
 fn read_long_string<R: Source>(
     alloc: Global,
     reader: &mut R,
@@ -121,7 +118,6 @@ fn read_long_string<R: Source>(
     Ok(joined(alloc, parts.as_slice(), size)?)
 }
 
-// So many bytes.
 fn read_string<R: Source>(alloc: Global, reader: &mut R, size: usize) -> Result<Items<u8>, Broken>
     ensures read { Reads (HasLength size) itself (R.remaining reader.old) (R.remaining reader.new) result }
     ensures device { CountsBreak result (R.failures reader.old) (R.failures reader.new) }
@@ -150,7 +146,7 @@ fn read_text<R: Source>(alloc: Global, reader: &mut R) -> Result<Items<u8>, Brok
     read_string(alloc, reader, size as usize)
 }
 
-/// What stands after the subject: the tag and the id, or no tag and the text.
+/// The fields after the subject: the tag and the id, or no tag and the text.
 pub(crate) fn read_last<R: Source>(
     alloc: Global,
     reader: &mut R,

@@ -80,7 +80,6 @@ pub fn by_id(alloc: Global, tag: &[u8], msgid: &[u8]) -> Result<Key, AllocError>
     Ok(Key::ById { tag, msgid })
 }
 
-// The key of a message without an id.
 fn by_content(
     alloc: Global,
     tag: &[u8],

@@ -1,4 +1,4 @@
-//! What holds of the definitions. Each law is the contract of a function that does nothing.
+//! Laws about the definitions. Each law is the contract of a function that does nothing.
 
 ghost use Rattle.std.specs.Prelude.{◌≡◌, ◌↔◌, ℕ, List, None, true};
 ghost use Rattle.echo_addr.specs.declared.address.NetNode.{NetNode};
@@ -15,8 +15,8 @@ pub fn key_law()
     ensures { (k l : Key) → (same_key k l ≡ true) ↔ (k ≡ l) }
 {}
 
-/// A purge keeps keys, a second purge leaves what the first one left, and the test of stubs passes
-/// exactly where a purge leaves the message as it is.
+/// A purge keeps keys, and a second purge changes nothing. The test of stubs passes exactly where a
+/// purge leaves the message unchanged.
 pub fn stub_laws()
     ensures keep_keys { (m : Filed) → key_of (stub_of m) ≡ key_of m }
     ensures stay { (m : Filed) → stub_of (stub_of m) ≡ stub_of m }
@@ -28,8 +28,8 @@ pub fn set_law()
     ensures { (all : List NetNode) → IsSetOf (entry_set all) all }
 {}
 
-/// What an echomail text says, and what is written, are the functions that the definitions of texts
-/// describe; what is written is read back, no token dropped.
+/// Reading and writing an echomail text are functions that agree with the definitions of texts. A
+/// written text is read back, no token dropped.
 pub fn text_laws()
     ensures said { (text : List ℕ) → text_refusal text ≡ None → (dropped : ℕ) × EchoOf text (echo_of text) dropped }
     ensures only_said { (text : List ℕ) (e : EchoText) (dropped : ℕ) → EchoOf text e dropped → (text_refusal text ≡ None) × (echo_of text ≡ e) }

@@ -1,13 +1,12 @@
-//! A filed message: what makes two messages one, what a purge leaves, and how a message stands in a
-//! base file.
+//! A filed message: its key, which makes two messages one, its stub, which a purge leaves, and its
+//! bytes in a base file.
 //!
-//! The contract for the layers above: keys are the same exactly where their tests say so, a purge keeps
-//! them, a written text is read back, and a stored message is taken from a source and sent to a sink as
-//! just its bytes.
+//! Promise: two keys are equal exactly where their test says so. A purge keeps keys. A written text
+//! is read back. Just the bytes of a stored message are read from a source and sent to a sink.
 //!
-//! Modules in reading order: `filed` (a message of a base), `boxed` (a list behind one pointer), `key`
-//! (what makes two messages one), `stub` (what a purge leaves), `numbers`, `field` and `stored` (a message
-//! from a source), `sending` (a message to a sink), and `laws` (what holds of the definitions).
+//! Begin with `filed` (a message of a base) and `key`. `stub` makes stubs, `stored` and `field`
+//! read a message from a source, `sending` writes one to a sink. `boxed` (a list behind one
+//! pointer) and `numbers` are helpers; `laws` states the promise.
 #![tactic(auto)]
 
 mod boxed;

@@ -1,4 +1,4 @@
-//! A message as it is stored in version 2 of a base, written to a sink. A failed call wrote a beginning
+//! A message in the form of version 2 of a base, written to a sink. A failed call wrote a beginning
 //! of its bytes and nothing else.
 ghost use Rattle.std.specs.Prelude.{◌≡◌, [], ◌^◌, ◌<◌, ◌++◌, ◌≤◌, length, unwrap_or, IsTrue, IfOk, OnOk, OnErr, true};
 ghost use Rattle.std.specs.List.{flat_map};
@@ -47,18 +47,18 @@ impl From<AllocError> for Unsent {
     }
 }
 
-// How many bytes of a stored message stand before its strings.
+// The number of bytes of a stored message before its strings.
 const FRONT_BYTES: usize = 27;
 
 // The most bytes that four bytes count.
 const MOST: usize = 0xffff_ffff;
 
-// So many entries of SEEN-BY or PATH, and so many bytes of kept lines, are little beside that.
+// With at most this many entries, and `LITTLE` bytes of kept lines, four bytes count the text.
 const FEW: usize = 0x0100_0000;
 
 const LITTLE: usize = 0x4000_0000;
 
-/// Whether the message has tag and id in place of the text at this place.
+/// Whether the message at this place has tag and id instead of the text.
 pub fn is_short(message: &Filed, place: usize, cursor: usize) -> bool
     ensures { result ≡ is_short Second cursor place message.now }
 {
@@ -77,7 +77,6 @@ fn kind_of(short: bool, sender: Option<Address>) -> u8
     }
 }
 
-// The sender as it is stored.
 fn sender_or_zeros(sender: Option<Address>) -> Address
     ensures { result ≡ sender_or_zeros sender }
 {
@@ -91,7 +90,6 @@ fn sender_or_zeros(sender: Option<Address>) -> Address
     }
 }
 
-// The bytes up to the DateTime.
 fn front_bytes(message: &Filed, short: bool) -> [u8; FRONT_BYTES]
     ensures { result ≡ front_bytes (stored_as short message.now) }
 {
@@ -127,7 +125,6 @@ fn send_long<W: Sink>(writer: &mut W, bytes: &[u8], sent: &mut u64) -> Result<()
     send(writer, bytes, sent)
 }
 
-// The names and the subject.
 fn send_strings<W: Sink>(writer: &mut W, message: &Filed, sent: &mut u64) -> Result<(), Failure>
     ensures bytes { Sends (W.contents writer.old) (W.contents writer.new) result (strings_bytes message.now.to_name message.now.from_name message.now.subject) sent.old sent.new }
     ensures ok { OnOk result (W.failures writer.new ≡ W.failures writer.old) }
@@ -138,7 +135,6 @@ fn send_strings<W: Sink>(writer: &mut W, message: &Filed, sent: &mut u64) -> Res
     send_string(writer, message.subject.as_slice(), sent)
 }
 
-// The tag, and the id after it.
 fn send_id<W: Sink>(writer: &mut W, echo: &Echo, sent: &mut u64) -> Result<(), Failure>
     requires { length (unwrap_or (msgid_of echo.now.kept) []) < 2 ^ 32 }
     ensures bytes { Sends (W.contents writer.old) (W.contents writer.new) result (after_length echo.now.tag ++ after_long_length (unwrap_or (msgid_of echo.now.kept) [])) sent.old sent.new }
@@ -150,14 +146,12 @@ fn send_id<W: Sink>(writer: &mut W, echo: &Echo, sent: &mut u64) -> Result<(), F
     send_long(writer, id, sent)
 }
 
-// The id, without a byte where there is none.
 fn id_of(echo: &Echo) -> &[u8]
     ensures { result.now ≡ unwrap_or (msgid_of echo.now.kept) [] }
 {
     echo.msgid().unwrap_or(&[])
 }
 
-// The text that is written for the message.
 fn text_of(alloc: Global, message: &Filed) -> Result<Vec<u8>, AllocError>
     ensures { IfOk result (λ text. text.items ≡ text_of message.now.echo) }
 {
@@ -181,7 +175,7 @@ fn send_text<W: Sink>(
     Ok(())
 }
 
-/// Writes the message as it is stored, in short or not. Adds to `sent` how many bytes went out.
+/// Writes the stored form of the message, short or not. Adds to `sent` how many bytes went out.
 pub fn send_message<W: Sink>(
     alloc: Global,
     writer: &mut W,

@@ -1,4 +1,4 @@
-//! A message as it stands in a base file, taken from a source.
+//! A message of a base file, read from a source.
 ghost use Rattle.std.specs.Prelude.{◌≡◌};
 ghost use Rattle.echo_filed.specs.Stored.{IsStored, has_tag, sender_in, stored_bytes};
 ghost use Rattle.echo_device.specs.Fixed.{CountsBreak};
@@ -17,8 +17,7 @@ pub enum Version {
     Second,
 }
 
-/// A message as it stands there; `last` is its text, or its id where it has the tag in place of the
-/// text.
+/// A stored message; `last` is its text, or its id where it has the tag instead of the text.
 #[derive(Drop)]
 pub struct StoredMessage {
     pub kind: u8,
@@ -50,7 +49,7 @@ impl Model for StoredMessage {
     } };
 }
 
-/// Whether messages of this first byte have tag and id in place of the text.
+/// Whether messages of this first byte have tag and id instead of the text.
 pub fn has_tag(version: Version, kind: u8) -> bool
     ensures { result ≡ has_tag version kind }
 {
@@ -60,7 +59,7 @@ pub fn has_tag(version: Version, kind: u8) -> bool
     }
 }
 
-/// The message that stands next.
+/// The next message.
 pub fn read_stored<R: Source>(
     alloc: Global,
     reader: &mut R,

@@ -11,7 +11,7 @@ use echo_addr::{Items, NetNode};
 use echo_text::{Lines, push_line, split_line};
 use std::alloc::{AllocError, Global};
 
-// What the line of an id begins with (FTS-0009).
+// The beginning of an id's line (FTS-0009).
 const ID_LINE: &[u8] = b"\x01MSGID: ";
 
 // Whether the line is the one that carries the id.
@@ -36,7 +36,7 @@ fn is_alone(kept: &Lines, id: &[u8]) -> bool
     is_id_line(line, id)
 }
 
-// Whether there is nothing beside the line that carries the id.
+// Whether there is nothing but the line of the id.
 fn is_bare(id: &[u8], kept: &Lines, seen: &[NetNode], path: &[NetNode]) -> bool
     ensures { result ≡ (pointwise bytes_eq kept.now (id_line msgid_word id.now ∷ [])
         && ((length seen.now == 0) && (length path.now == 0))) }
@@ -44,7 +44,7 @@ fn is_bare(id: &[u8], kept: &Lines, seen: &[NetNode], path: &[NetNode]) -> bool
     is_alone(kept, id) && seen.is_empty() && path.is_empty()
 }
 
-/// Whether a purge leaves the message as it is.
+/// Whether a purge leaves the message unchanged.
 pub fn is_stub(message: &Filed) -> bool
     ensures { result ≡ is_stub message.now }
 {
@@ -66,7 +66,7 @@ pub fn lines_of_id(alloc: Global, id: &[u8]) -> Result<Lines, AllocError>
     Ok(Lines::of_text(text))
 }
 
-/// The kept lines of what a purge leaves of a message with an id.
+/// The kept lines of the stub of a message with an id.
 pub fn stub_lines(alloc: Global, message: &Filed) -> Result<Lines, AllocError>
     requires { is_stub message.now ≡ false }
     ensures { IfOk result (λ lines. lines ≡ (stub_of message.now).echo.kept) }

@@ -1,4 +1,4 @@
--- Members that stand on every walk.
+-- Members that are on every walk.
 use Rattle.std.specs.Prelude.{◌≡◌, ◌≢◌, Bool, IsTrue, List, ◌∷◌}
 use Rattle.echo_graph.specs.Walk.{Among, Walk}
 

@@ -15,7 +15,7 @@ pub record IsForest (linked : ℕ → ℕ → Bool) (members upto : ℕ) (levels
 abbrev pub parent_of : List (Option ℕ) → ℕ → Option ℕ
 parent_of parents member = slice_index_or parents member None
 
--- this parent belongs to a member of this level: above level 0 a link one level lower, else none
+-- the parent of a member of this level: above level 0 a link one level lower, otherwise none
 abbrev pub IsParentAt : (ℕ → ℕ → Bool) → List (Option ℕ) → ℕ → Option ℕ → Type 0
 IsParentAt linked levels a None = (m : ℕ) → level_of levels a ≢ Some (suc m)
 IsParentAt linked levels a (Some p) = (m : ℕ) × (level_of levels a ≡ Some (suc m)) × IsTrue (linked a p) × (level_of levels p ≡ Some m)
@@ -41,7 +41,7 @@ pub record FirstSibling (linked : ℕ → ℕ → Bool) (parents : List (Option 
 abbrev pub Covers : (ℕ → ℕ → Bool) → List (Option ℕ) → ℕ → ℕ → Type 0
 Covers linked parents a r = (b : ℕ) → LinkedSiblings linked parents a b → b ≢ r → IsTrue (linked r b)
 
--- the first sibling that a is linked with, if it stands before a, is linked with the same siblings
+-- the first sibling that a is linked with, if it comes before a, is linked with the same siblings
 abbrev pub AgreesWithFirst : (ℕ → ℕ → Bool) → List (Option ℕ) → ℕ → Type 0
 AgreesWithFirst linked parents a =
     (r : ℕ) → FirstSibling linked parents a r → r < a → Covers linked parents a r × Covers linked parents r a

@@ -12,7 +12,7 @@ pub record Distance {A : Type 0} (linked : A → A → Bool) (x a b : A) (links 
   pub reached : (rest : List A) × Walk linked a rest b × ¬ Among x (a ∷ rest) × (length rest ≡ links)
   pub fewest : (rest : List A) → Walk linked a rest b → ¬ Among x (a ∷ rest) → links ≤ length rest
 
--- the level of each member is its distance from the root, and none has one that no walk reaches
+-- the level of each member is its distance from the root; a member that no walk reaches has none
 abbrev pub AreLevels : (ℕ → ℕ → Bool) → ℕ → ℕ → List (Option ℕ) → Type 0
 AreLevels linked x root levels =
     (b : ℕ) → MatchOption (level_of levels b) (¬ Around linked x root b) (Distance linked x root b)

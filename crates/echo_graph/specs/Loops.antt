@@ -22,8 +22,7 @@ pub record FirstWalkBy {A : Type 0} (Before : A → A → Type 0) (linked : A �
 abbrev pub turned : {A : Type 0} → ℕ → List A → List A
 turned k ring = drop k ring ++ take k ring
 
--- the loop goes round the ring from its first member in the order, and on to the earlier of that one's
--- neighbours
+-- the loop begins at the first member of the ring in the order, and goes to the earlier of its neighbours
 pub record IsWrittenBy {A : Type 0} (Before : A → A → Type 0) (ring loop : List A) : Type 0 where
   pub goes_round : (k : ℕ) × ((loop ≡ turned k ring) ⊎ (loop ≡ reverse (turned k ring)))
   pub smallest : (first x : A) → IsAt loop 0 first → Among x ring → NotAfter Before first x
@@ -39,7 +38,7 @@ IsFirstRing {A} Before linked ring =
     (b : A) × (a : A) × (c : A) × (rest : List A) ×
     FirstPinchBy Before linked b a c × FirstWalkBy Before linked b a c rest × (ring ≡ b ∷ a ∷ rest)
 
--- a cycle with two members that are not linked, the one that is named of all, as it is written
+-- a cycle with two members that are not linked: the chosen one of all, as it is written
 pub record NamedLoopBy {A : Type 0} (Before : A → A → Type 0) (linked : A → A → Bool) (loop : List A) : Type 0 where
   pub cycle : IsCycle linked loop
   pub unlinked : HasUnlinked linked loop

@@ -1,5 +1,4 @@
--- Members two of whose links are joined around them though not linked, and the first of these in an order
--- of the members.
+-- Members with two links that are joined around them though not linked, and the first of these in an order.
 use Rattle.std.specs.Prelude.{◌≡◌, ◌<◌, ◌⊎◌, ℕ, Bool, IsTrue}
 use Rattle.echo_graph.specs.Beyond.{Around}
 
@@ -15,7 +14,7 @@ pub record IsPinchBy {A : Type 0} (Before : A → A → Type 0) (linked : A → 
   pub not_linked : ¬ IsTrue (linked a c)
   pub around : Around linked b a c
 
--- no pinch stands before b, a, c: none with an earlier b, nor with this b and an earlier a, and so on
+-- no pinch comes before b, a, c: none with an earlier b, nor with this b and an earlier a, and so on
 pub record FirstPinchBy {A : Type 0} (Before : A → A → Type 0) (linked : A → A → Bool) (b a c : A) : Type 0 where
   pub pinch : IsPinchBy Before linked b a c
   pub first : (e d f : A) → IsPinchBy Before linked e d f →

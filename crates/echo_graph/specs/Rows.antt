@@ -14,14 +14,14 @@ linked rows a b = list_any (λ link. link == b) (links_at rows a)
 abbrev pub IsAscending : List ℕ → Type 0
 IsAscending links = (i j : ℕ) → i < j → j < length links → slice_index links i < slice_index links j
 
--- links lead to members, stand at both of their ends, in order, and none joins a member with itself
+-- rows ascend, links lead to members and are in the rows of both, and no member has a link to itself
 pub record IsGraph (rows : List (List ℕ)) : Type 0 where
   pub within : (a b : ℕ) → IsTrue (linked rows a b) → b < length rows
   pub both_ways : (a b : ℕ) → IsTrue (linked rows a b) → IsTrue (linked rows b a)
   pub no_self : (a : ℕ) → ¬ IsTrue (linked rows a a)
   pub ascending : (a : ℕ) → IsAscending (links_at rows a)
 
--- the link from a to b leads to another member, whose row has it too
+-- the link from a to b leads to another member, and its row has the link too
 abbrev pub Answered : List (List ℕ) → ℕ → ℕ → Type 0
 Answered rows a b = (b < length rows) × (b ≢ a) × IsTrue (linked rows b a)
 

@@ -11,11 +11,11 @@ abbrev pub Among : {A : Type 0} → A → List A → Type 0
 Among x [] = ⊥
 Among x (y ∷ ys) = (x ≡ y) ⊎ Among x ys
 
--- this member stands at this place
+-- this member is at this index
 abbrev pub IsAt : {A : Type 0} → List A → ℕ → A → Type 0
 IsAt xs i x = (i < length xs) × (slice_index_or xs i x ≡ x)
 
--- no member stands twice
+-- no member comes twice
 abbrev pub Different : {A : Type 0} → List A → Type 0
 Different [] = Unit {0}
 Different (x ∷ xs) = ¬ Among x xs × Different xs

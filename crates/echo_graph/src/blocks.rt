@@ -13,8 +13,8 @@ pub struct Blocks {
     pub tops: Vec<usize>,
     /// The rank of each member, greater than that of its top; past the end its index.
     pub ranks: Vec<usize>,
-    /// Of which blocks, by number, it is known that all members are linked with each other and with
-    /// the top; past the end of none.
+    /// By block number: whether all its members are known to be linked with each other and with the
+    /// top. Past the end no block is.
     pub full: Vec<bool>,
 }
 

@@ -8,7 +8,7 @@ use std::alloc::{AllocError, Global};
 /// What the search keeps.
 #[derive(Drop)]
 struct Search {
-    /// What was found. Ranks are the order of visits from 1 on, and 0 for members not visited.
+    /// The blocks found. Ranks count visits from 1, and are 0 for members not visited.
     found: Blocks,
     /// From where each member was reached; a root from itself.
     parents: Vec<usize>,
@@ -22,7 +22,7 @@ struct Search {
     visited: usize,
 }
 
-/// The blocks of the graph, none of them marked as full.
+/// The blocks of the graph, not one marked as full.
 pub fn blocks_in_depth(alloc: Global, graph: &Graph) -> Result<Blocks, AllocError> {
     let members = graph.len();
     let mut search = Search {
@@ -48,7 +48,6 @@ pub fn blocks_in_depth(alloc: Global, graph: &Graph) -> Result<Blocks, AllocErro
 }
 
 impl Search {
-    /// Visits what the root reaches.
     fn search_from(&mut self, graph: &Graph, root: usize) -> Result<(), AllocError> {
         let mut member = root;
         for _ in 0..usize::MAX {
@@ -60,7 +59,8 @@ impl Search {
         Ok(())
     }
 
-    /// Follows the next link of the member, or goes back. Answers where the search is then.
+    /// Follows the next link of the member, or goes back. Answers the member where the search now
+    /// is.
     fn step(&mut self, graph: &Graph, member: usize) -> Result<Option<usize>, AllocError> {
         let Some(other) = self.follow(graph, member) else {
             return Ok(self.leave(member));
@@ -96,8 +96,8 @@ impl Search {
         graph.links(member).get(place).copied()
     }
 
-    /// Goes back to where the member was reached from, and closes the block below that, where no link
-    /// leads further up.
+    /// Goes back to the previous member, and closes the block below that, where no link leads
+    /// further up.
     fn leave(&mut self, member: usize) -> Option<usize> {
         let parent = value_or(&self.parents, member, member);
         if parent == member {

@@ -1,4 +1,4 @@
-//! The full blocks of a graph: those whose members are all linked with each other and with the top.
+//! The full blocks of a graph: all members are linked with each other and with the top.
 
 ghost use Rattle.std.specs.Prelude.{◌≡◌, ◌<◌, ℕ, false, IfOk, IsTrue, None, length, vec_len, slice_index_or};
 ghost use Rattle.echo_graph.specs.Rows.{linked, IsGraph};
@@ -25,7 +25,7 @@ pub fn full_blocks(alloc: Global, graph: &Graph, blocks: &Blocks) -> Result<Vec<
     Ok(full)
 }
 
-/// The last member before each one in its block. Blocks whose number is no member's are left out.
+/// The last member before each one in its block. It skips blocks with a number that is no member's.
 fn previous_in_block(
     alloc: Global,
     members: usize,

@@ -34,8 +34,8 @@ impl Links {
     }
 }
 
-/// A graph of members 0, 1, 2 and so on, each with its links. A link stands at both of its ends, and
-/// no member is linked with itself.
+/// A graph of members 0, 1, 2 and so on, each with its links. A link is in the rows of both its
+/// ends, and no member is linked with itself.
 #[derive(Drop)]
 pub struct Graph {
     rows: Vec<Links>,

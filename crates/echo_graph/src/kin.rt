@@ -56,7 +56,7 @@ fn links_are_kin(graph: &Graph, parents: &[Option<usize>], member: usize) -> boo
     true
 }
 
-/// Is the first sibling that the member is linked with, if it stands before it, linked with the same
+/// Is the first sibling that the member is linked with, if it comes before it, linked with the same
 /// siblings?
 fn agrees_with_first(graph: &Graph, parents: &[Option<usize>], member: usize) -> bool
     requires inside { member < length graph.now }
@@ -118,7 +118,6 @@ fn is_kin(parents: &[Option<usize>], one: usize, other: usize) -> bool
         || are_siblings(parents, one, other)
 }
 
-/// Have both the same parent?
 fn are_siblings(parents: &[Option<usize>], one: usize, other: usize) -> bool
     requires one { one < length parents.now }
     requires other { other < length parents.now }
@@ -130,7 +129,6 @@ fn are_siblings(parents: &[Option<usize>], one: usize, other: usize) -> bool
     }
 }
 
-/// Is `parent` the parent of the member?
 fn is_parent(parents: &[Option<usize>], parent: usize, member: usize) -> bool
     requires { member < length parents.now }
     ensures { IsTrue result ↔ (parent_of parents.now member ≡ Some parent) }

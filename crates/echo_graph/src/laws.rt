@@ -1,4 +1,4 @@
-//! What holds of the definitions. Each law is the contract of a function that does nothing.
+//! Laws about the definitions. Each law is the contract of a function that does nothing.
 
 ghost use Rattle.std.specs.Prelude.{◌≡◌, ◌≢◌, ◌↔◌, ℕ, ◌<◌, Bool, IsTrue, List, ◌++◌, length, map, reverse};
 ghost use Rattle.echo_graph.specs.Walk.{Simple, Walk, Reaches};
@@ -15,8 +15,8 @@ pub fn polygons_where_parted()
     ensures forest { (linked : ℕ → ℕ → Bool) → Simple linked → (NoCycle linked ↔ AllParted linked) }
 {}
 
-/// On a walk from x to another member there are a link of x and a shorter walk from it, past no
-/// other link of x and never past x. Where links are parted, x lies beyond that link.
+/// A walk from x to another member gives a link of x and a shorter walk from it. That walk passes
+/// neither x nor another link of x. Where links are parted, x lies beyond that link.
 pub fn first_step()
     ensures there { (linked : ℕ → ℕ → Bool) → Simple linked →
         (f x : ℕ) (rest : List ℕ) → x ≢ f → Walk linked x rest f →
@@ -25,8 +25,8 @@ pub fn first_step()
         (f x step : ℕ) (part : List ℕ) → FirstStep linked f x step part → Beyond linked step f x }
 {}
 
-/// Where links are parted, each member y that reaches another member f has one link u that all its
-/// walks to f pass. Of its other links, those lie beyond y that are no links of u, and no others.
+/// Where links are parted, each member y that reaches another member f has one link u on all its
+/// walks to f. The other links of y that lie beyond y are those that are no links of u.
 pub fn one_way()
     ensures there { (linked : ℕ → ℕ → Bool) → Simple linked → Parted linked →
         (f y : ℕ) → y ≢ f → Reaches linked y f → HasOneWay linked f y }
@@ -37,8 +37,8 @@ pub fn one_way()
         (f y u : ℕ) → Reaches linked y f → IsWay linked f y u → ¬ Beyond linked y f u }
 {}
 
-/// What lies beyond a member that lies beyond x lies beyond x. What lies beyond a link c of y that
-/// lies beyond y is, but for c, neither y nor a link of y.
+/// What lies beyond a member that lies beyond x, lies beyond x. Let c be a link of y that lies
+/// beyond y. What lies beyond c, other than c, is neither y nor a link of y.
 pub fn further_out()
     ensures in_turn { (linked : ℕ → ℕ → Bool) (x y f c : ℕ) → Beyond linked y f c → Beyond linked x f y → Beyond linked x f c }
     ensures no_link { (linked : ℕ → ℕ → Bool) → Simple linked →
@@ -46,7 +46,8 @@ pub fn further_out()
         (d ≢ y) × (¬ IsTrue (linked y d)) }
 {}
 
-/// What is true of f, and of each member whose way to f it is true of, is true of all that reach f.
+/// What is true of f, and holds for each member if it holds for the way from it to f, is true of
+/// all members that reach f.
 pub fn along_ways()
     ensures { (linked : ℕ → ℕ → Bool) → Simple linked → Parted linked →
         (f : ℕ) (test : ℕ → Bool) → IsTrue (test f) →
@@ -54,9 +55,9 @@ pub fn along_ways()
         (y : ℕ) → Reaches linked y f → IsTrue (test y) }
 {}
 
-/// Where a search by levels gave each member a parent, links are parted exactly where each joins a
-/// member with its parent or with a child of the same parent, and of the children of one parent
-/// those linked with one are linked with each other.
+/// Let a search by levels give each member a parent. Links are parted exactly where two things
+/// hold: each link joins a member with its parent or a sibling, and siblings that are linked with
+/// one sibling are linked with each other.
 pub fn family_of_levels()
     ensures { (linked : ℕ → ℕ → Bool) (level parent : ℕ → ℕ) → Simple linked → IsFamily linked level parent →
         (Parted linked ↔ KeepsToFamily linked level parent) }

@@ -1,4 +1,4 @@
-//! A search by levels: how many links a member is away from where the search began.
+//! A search by levels: the number of links between a member and the start.
 
 ghost use Rattle.std.specs.Prelude.{◌≡◌, ◌<◌, ◌≢◌, ℕ, IfOk, None, OnOk, length, vec_len};
 ghost use Rattle.echo_graph.specs.Rows.{links_at, linked, IsGraph};
@@ -10,7 +10,8 @@ use crate::graph::Graph;
 use std::alloc::{AllocError, Global};
 
 /// The level of each member that a walk from `root` reaches without passing `without`: the fewest
-/// links of such a walk. `None` for each other member. An index past the last member leaves out none.
+/// links of such a walk. `None` for each other member. An index past the last member for `without`
+/// leaves out none.
 pub fn levels_around(
     alloc: Global,
     graph: &Graph,

@@ -1,21 +1,20 @@
-//! Graphs: members joined by links that go both ways, none of them from a member to itself.
+//! Graphs: members joined by links that go both ways, with no link from a member to itself.
 //!
-//! The contract for the layer above is in `laws`: every cycle is fully linked exactly where any two
-//! links of a member that are not linked with each other are parted by it, and in such a graph each
-//! member has one way to any other. And it is in two questions about a graph of members 0, 1, 2 and so
-//! on: `unreached` answers the first member that no walk reaches, or that a walk joins any two;
-//! `loop_of` answers a cycle with two members that are not linked, or that there is none.
+//! Promise, for graphs of members 0, 1, 2 and so on: `unreached` answers the first member that no
+//! walk reaches, or that a walk joins any two. `loop_of` answers a cycle with two members that are
+//! not linked, or that there is none. `laws` says what this gives. Every cycle is fully linked
+//! exactly where a member parts any two of its links that are not linked with each other. In such a
+//! graph each member has one way to any other.
 //!
-//! Modules in reading order: `laws`, `graph` (members and their rows of links), `sound` (what rows must
-//! be), `levels` (a search by levels), `reach`, `polygons` (the answer), `forest` and `kin` (the quick
-//! test whether links are parted), `pinching` (where they are not), by `blocks`, `division` (what tests
-//! them), `depth` (what finds them) and `fullness`; `ring` and `writing` (the cycle of such a place, and
-//! how it is written).
+//! Begin with `laws`. `graph` holds members and their rows of links, `sound` tests rows, `levels`
+//! searches by levels, `reach` and `polygons` answer the two questions. `forest` and `kin` are the
+//! quick test for cycles. `pinching` finds the first bad place by `blocks`; `depth` finds these,
+//! `division` and `fullness` test them. `ring` and `writing` give its cycle.
 //!
-//! The definitions stand in specs/: `Walk` (walks, and what a graph is), `Cycle`, `Beyond` (what stands
-//! on every walk), `Family` (what a search by levels gives) and `Renaming`; `Rows` (a graph as rows of
-//! links), `Reach` and `Loops` (the two answers), and what single functions promise. The lemmas in
-//! proofs/ on walks, cycles and families hold of members of any type whose equality is decided.
+//! Of specs/ read `Walk` (walks and graphs), `Cycle`, `Beyond` (members on every walk), `Family`
+//! (what a search by levels gives) and `Renaming`. Then read `Rows` (a graph as rows of links),
+//! `Reach` and `Loops` (the two answers). The lemmas in proofs/ on walks, cycles and families hold
+//! for any type with a decided equality.
 //!
 //! A caller, with the rows of members 0, 1 and so on, each an ascending list of links:
 //!

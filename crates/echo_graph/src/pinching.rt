@@ -1,4 +1,4 @@
-//! Members two of whose links are joined around them though not linked.
+//! Members with two links that are joined around them though not linked.
 
 ghost use Rattle.std.specs.Prelude.{◌≡◌, ◌≢◌, ◌<◌, ◌↔◌, ℕ, IsTrue, IfOk, MatchOption, None, length};
 ghost use Rattle.echo_graph.specs.Rows.{linked, IsGraph};
@@ -44,8 +44,8 @@ pub fn first_pinch(alloc: Global, graph: &Graph) -> Result<Option<Pinch>, AllocE
     Ok(None)
 }
 
-/// The first pinch at this member. Where one of its links before it covers its links in one block, these
-/// have none: it would be a pinch of that link too.
+/// The first pinch at this member. It skips a link that is covered in one block by an earlier link:
+/// a pinch there would be one of the earlier link too.
 fn first_pinch_at(
     alloc: Global,
     graph: &Graph,

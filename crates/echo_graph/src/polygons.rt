@@ -12,14 +12,14 @@ use crate::ring::ring_of;
 use crate::writing::written;
 use std::alloc::{AllocError, Global};
 
-/// `None` exactly where any two members of a cycle are linked; else a cycle with two members that
-/// are not linked. Fails only when out of memory. `None` takes about the time of one search, and the
-/// cycle that of a few; only at a member whose links lie in many blocks that have such cycles may it take
-/// the square of that member's links.
+/// `None` exactly where any two members of a cycle are linked; otherwise a cycle with two members
+/// that are not linked. Fails only when out of memory. `None` takes about the time of one search, a
+/// cycle that of a few. It can take the square of a member's links if they lie in many blocks with
+/// such cycles.
 ///
-/// Of all members b with links a < c that are not linked, though a walk from a to c does not pass b,
-/// it takes the smallest b, then the smallest a, then the smallest c; of those walks it takes one with
-/// the fewest members, and of these the least, compared member by member. The cycle is b and this
+/// It chooses among members b with links a < c that are not linked, though a walk from a to c
+/// avoids b. It takes the smallest b, then the smallest a, then the smallest c. Of the walks it
+/// takes the shortest, and of these the least, compared member by member. The cycle is b and this
 /// walk, written from its smallest member, first to the smaller of that member's two neighbours.
 pub fn loop_of(alloc: Global, graph: &Graph) -> Result<Option<Vec<usize>>, AllocError>
     ensures { IfOk result (λ found. MatchOption found

@@ -24,7 +24,6 @@ pub fn unreached(alloc: Global, graph: &Graph) -> Result<Option<usize>, AllocErr
     Ok(first_without_level(&levels))
 }
 
-/// The first member that has no level.
 fn first_without_level(levels: &[Option<usize>]) -> Option<usize>
     ensures { MatchOption result
         ((k : ℕ) → k < length levels.now → level_of levels.now k ≢ None)

@@ -5,15 +5,14 @@ ghost use Rattle.echo_graph.specs.Rows.{links_at, linked, IsAscending, IsGraph, 
 
 use crate::graph::{Links, has_link};
 
-/// Are these rows a graph: does each row ascend, and does each link lead to another member whose row
-/// has it too?
+/// Are these rows a graph: does each row ascend, and does each link lead to another member with
+/// that link in its row?
 pub fn is_graph(rows: &[Links]) -> bool
     ensures { IsTrue result ↔ IsGraph rows.now }
 {
     rows_ascend(rows) && links_are_answered(rows)
 }
 
-/// Does each row ascend?
 fn rows_ascend(rows: &[Links]) -> bool
     ensures { IsTrue result ↔ ((a : ℕ) → a < length rows.now → IsAscending (links_at rows.now a)) }
 {
@@ -25,7 +24,6 @@ fn rows_ascend(rows: &[Links]) -> bool
     true
 }
 
-/// Is each number below the next?
 fn is_ascending(links: &[usize]) -> bool
     ensures { IsTrue result ↔ IsAscending links.now }
 {
@@ -37,7 +35,7 @@ fn is_ascending(links: &[usize]) -> bool
     true
 }
 
-/// Does each link lead to another member whose row has it too?
+/// Does each link lead to another member with that link in its row?
 fn links_are_answered(rows: &[Links]) -> bool
     requires { (a : ℕ) → a < length rows.now → IsAscending (links_at rows.now a) }
     ensures { IsTrue result ↔ ((a : ℕ) → a < length rows.now → EachAnswered rows.now a) }
@@ -50,7 +48,7 @@ fn links_are_answered(rows: &[Links]) -> bool
     true
 }
 
-/// Does each link of this member lead to another one whose row has it too?
+/// Does each link of this member lead to another one with that link in its row?
 fn row_is_answered(rows: &[Links], member: usize) -> bool
     requires inside { member < length rows.now }
     requires ascending { (a : ℕ) → a < length rows.now → IsAscending (links_at rows.now a) }
@@ -64,7 +62,7 @@ fn row_is_answered(rows: &[Links], member: usize) -> bool
     true
 }
 
-/// Is the link to another member, whose row has it too?
+/// Does the link lead to another member with that link in its row?
 fn is_answered(rows: &[Links], member: usize, other: usize) -> bool
     requires { (a : ℕ) → a < length rows.now → IsAscending (links_at rows.now a) }
     ensures { IsTrue result ↔ Answered rows.now member other }
@@ -75,7 +73,6 @@ fn is_answered(rows: &[Links], member: usize, other: usize) -> bool
     has_link(row_of(rows, other), member)
 }
 
-/// The links of this member.
 fn row_of(rows: &[Links], member: usize) -> &[usize]
     requires { member < length rows.now }
     ensures { result.now ≡ links_at rows.now member }

@@ -33,7 +33,6 @@ fn turn(alloc: Global, ring: &[usize], start: usize) -> Result<Vec<usize>, Alloc
     Ok(round)
 }
 
-/// The place of the smallest member.
 fn smallest_place(ring: &[usize]) -> usize
     requires { 0 < length ring.now }
     ensures within { result < length ring.now }

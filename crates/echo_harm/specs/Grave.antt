@@ -1,4 +1,4 @@
--- Which faults of an area are grave: where they stand, some run breaks the promise.
+-- The grave faults of an area: with one of them, some run breaks the promise.
 use Rattle.std.specs.Prelude.{◌≡◌, ◌≢◌, ◌<◌, ◌⊎◌, ℕ, IsTrue, List, map, Some}
 use Rattle.echo_addr.specs.declared.address.Address.{Address}
 use Rattle.echo_addr.specs.Address.{net_node_of}
@@ -17,7 +17,7 @@ HaveOwnAddresses files = Different (map (λ file. file.system) files)
 abbrev pub AllAreCarriers : List LinkFile → List ℕ → Type 0
 AllAreCarriers files tag = (a b : Address) → IsTrue (lists files tag a b) → Carries files tag b
 
--- two carriers are of one net and node
+-- two carriers have the same net and node
 pub record AreTwins (files : List LinkFile) (tag : List ℕ) (a b : Address) : Type 0 where
   pub first : Carries files tag a
   pub second : Carries files tag b
@@ -31,19 +31,19 @@ pub record IsListedAlone (files : List LinkFile) (tag : List ℕ) (a b : Address
   pub lists_it : IsTrue (lists files tag by a)
   pub not_the_other : ¬ IsTrue (lists files tag by b)
 
--- the pair is taken for one: neither lists the other, or some third system lists just one of them
+-- the two look like one system: neither lists the other, or some third system lists just one of them
 abbrev pub AreTakenForOne : List LinkFile → List ℕ → Address → Address → Type 0
 AreTakenForOne files tag a b =
     ((¬ IsTrue (lists files tag a b)) × (¬ IsTrue (lists files tag b a)))
     ⊎ (IsListedAlone files tag a b ⊎ IsListedAlone files tag b a)
 
--- a fault of an area whose links are carriers, each with a file of its own
+-- a fault of an area with links that are carriers, each with its own file
 pub data GraveFault (files : List LinkFile) (tag : List ℕ) : Type 0 where
   -- V3: a carrier lists itself
   SelfLink : (a : Address) → IsTrue (lists files tag a a) → GraveFault files tag
   -- V5: a lists b, and b does not list a
   OneSided : (a b : Address) → IsTrue (lists files tag a b) → ¬ IsTrue (lists files tag b a) → GraveFault files tag
-  -- V6: twins that are taken for one
+  -- V6: twins that look like one system
   SameNetNode : (a b : Address) → AreTwins files tag a b → AreTakenForOne files tag a b → GraveFault files tag
   -- V7: no walk leads from one carrier to another
   Apart : (a b : Address) → Carries files tag a → Carries files tag b → ¬ Reaches (lists files tag) a b → GraveFault files tag

@@ -1,4 +1,4 @@
--- What is known of runs on link files that were read.
+-- Laws about runs on link files that were read.
 use Rattle.std.specs.Prelude.{◌≡◌, ◌↔◌, ◌≤◌, ℕ, ◌++◌, List, map, take, drop, None, Some}
 use Rattle.echo_addr.specs.declared.address.Address.{Address}
 use Rattle.echo_graph.specs.Walk.{Among}
@@ -19,7 +19,7 @@ use Rattle.echo_run.specs.Orderly.{copies, count, origin, sent_count}
 use Rattle.echo_run.specs.Exports.{Export, IsSentCopy, exports, sent_by}
 use Rattle.echo_run.specs.Fits.{FilesFit}
 
--- what stands in the public laws of runs and steps
+-- the public laws of runs and steps
 pub record LawsOfRuns (files : List LinkFile) : Type 0 where
   pub fit : FilesFit files
   pub stays : (events later : List RunEvent) (i : ℕ) (s : System) → nth i (run_of files events).systems ≡ Some s →

@@ -1,4 +1,4 @@
--- One posting, and what happens until it has come to rest.
+-- One posting, and the events until the area is at rest.
 use Rattle.std.specs.Prelude.{ℕ, List, [], ◌∷◌, codes}
 use Rattle.std.specs.List.{AllByRecursion}
 use Rattle.echo_steps.specs.declared.draft.Draft.{Draft}
@@ -8,7 +8,7 @@ use Rattle.echo_run.specs.Event.{RunEvent, Posting, Scanning, Delivery, PartDeli
 use Rattle.echo_run.specs.Run.{run_of}
 use Rattle.echo_run.specs.Orderly.{Settled}
 
--- an event that brings messages further: a scan, or a packet that comes whole
+-- an event that moves messages on: a scan, or a whole packet that arrives
 abbrev pub IsMove : RunEvent → Type 0
 IsMove (Scanning system stamp) = Unit {0}
 IsMove (Delivery packet) = Unit {0}
@@ -28,7 +28,7 @@ trial_moment = record { year = 2000; month = 1; day = 1; hour = 0; minute = 0; s
 abbrev pub trial_posting : ℕ → List ℕ → RunEvent
 trial_posting i tag = Posting i tag trial_draft 1 trial_moment
 
--- it posts so, and scans at the same moment
+-- it posts in this way, and scans with the same stamp
 abbrev pub post_and_scan : ℕ → List ℕ → List RunEvent
 post_and_scan i tag = trial_posting i tag ∷ (Scanning i trial_moment ∷ [])
 

@@ -5,16 +5,16 @@ use Rattle.echo_run.specs.Event.{RunEvent, Delivery, Scanning}
 use Rattle.echo_run.specs.Run.{run_of}
 use Rattle.echo_harm.specs.Postings.{trial_moment}
 
--- so many systems scan, from the first on
+-- this many systems scan, from the first on
 abbrev pub scans : ℕ → List RunEvent
 scans zero = []
 scans (suc n) = scans n ++ Scanning n trial_moment ∷ []
 
--- so many packets come, from the first on
+-- this many packets arrive, from the first on
 abbrev pub deliveries : ℕ → List RunEvent
 deliveries zero = []
 deliveries (suc n) = deliveries n ++ Delivery n ∷ []
 
--- the round that follows these events: all packets come that stand there once all systems have scanned
+-- the round that follows these events: all systems scan, then all packets arrive
 abbrev pub round_after : List LinkFile → List RunEvent → List RunEvent
 round_after files events = scans (length files) ++ deliveries (length (run_of files (events ++ scans (length files))).packets)

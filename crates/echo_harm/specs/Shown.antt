@@ -1,4 +1,4 @@
--- Whose posting shows what is wrong.
+-- The system that shows a fault by its posting.
 use Rattle.std.specs.Prelude.{◌≡◌, ◌≢◌, ℕ, IsTrue, List, ◌∷◌, Some}
 use Rattle.echo_addr.specs.declared.address.Address.{Address}
 use Rattle.echo_graph.specs.Beyond.{Around}
@@ -9,7 +9,7 @@ use Rattle.echo_run.specs.Tidy.{lists}
 use Rattle.echo_harm.specs.Harms.{Harm}
 use Rattle.echo_harm.specs.Postings.{ComesToRest, trial_posting}
 
--- a posting of the system of this address, and what followed until all had come to rest
+-- a posting of the system of this address, and the events until the area was at rest
 pub record Trial (files : List LinkFile) (tag : List ℕ) (a : Address) : Type 0 where
   pub index : ℕ
   pub file : LinkFile

@@ -1,4 +1,4 @@
-//! What holds of nets that are not tidy. Each law is the contract of a function that does nothing.
+//! Laws about nets that are not tidy. Each law is the contract of a function that does nothing.
 
 ghost use Rattle.std.specs.Prelude.{◌⊎◌, ◌↔◌, ◌∷◌, ◌++◌, ℕ, IsTrue, List};
 ghost use Rattle.std.specs.List.{AllByRecursion, list_any};
@@ -23,7 +23,7 @@ use echo_run::{
 };
 use echo_steps::{posting_refusals, toss_law};
 
-/// The laws of runs and steps that the laws below rest on, of all runs on link files that were read.
+/// The laws of runs and steps that the laws below use, for all runs on link files that were read.
 pub fn runs_are_known()
     ensures { (files : List LinkFile) → FilesFit files → LawsOfRuns files }
 {
@@ -38,9 +38,8 @@ pub fn runs_are_known()
     toss_law();
 }
 
-/// Where every link of a carrier is a carrier, any run is brought to rest in the area by scans and
-/// deliveries alone: whatever happened, no message of the area waits then, and each packet that holds one
-/// came.
+/// Where every link of a carrier is a carrier, scans and deliveries alone bring any run to rest in the area.
+/// Then no message of the area waits, and each packet with one came.
 pub fn runs_settle()
     ensures { (files : List LinkFile) (tag : List ℕ) → FilesFit files → AllAreCarriers files tag → (events : List RunEvent) →
         (more : List RunEvent) × AllByRecursion IsMove more × Settled (run_of files (events ++ more)) tag }
@@ -53,10 +52,10 @@ pub fn harms_break_the_promise()
     ensures { (run : Run) (tag : List ℕ) → Harm run tag → ¬ Orderly run tag }
 {}
 
-/// Where a fault is grave, some run does harm, and so breaks the promise: a system lists itself; and, where
-/// no two files have one address and every link of a carrier is a carrier, a link stands in one file alone,
-/// two systems of one net and node are taken for one, no walk leads from one carrier to another, or two
-/// systems of a cycle are not linked though all else is in order.
+/// With a grave fault, some run does harm and breaks the promise. One grave fault is a system that lists
+/// itself. The others assume that no two files have one address, and that every link of a carrier is a carrier.
+/// They are: a link in one file only; two systems of one net and node that look like one; no walk between two
+/// carriers. The last is a cycle with two systems that are not linked, though all else is in order.
 pub fn grave_faults_break()
     ensures self_link { (files : List LinkFile) (tag : List ℕ) → FilesFit files → (a : Address) → IsTrue (lists files tag a a) → IsHarmed files tag }
     ensures harm { (files : List LinkFile) (tag : List ℕ) → FilesFit files → HaveOwnAddresses files → AllAreCarriers files tag →
@@ -67,7 +66,7 @@ pub fn grave_faults_break()
     runs_are_known();
 }
 
-/// A system that lists itself is sent its own: it posts and scans, and the packet to itself stands there,
+/// A system that lists itself is sent its own posting: it posts and scans, and there is a packet to itself,
 /// whatever else is wrong with the net.
 pub fn own_links_show_at_once()
     ensures { (files : List LinkFile) (tag : List ℕ) → FilesFit files → (a : Address) → IsTrue (lists files tag a a) →
@@ -76,9 +75,8 @@ pub fn own_links_show_at_once()
     runs_are_known();
 }
 
-/// However messages move: let each system in turn post one message on a net where nothing happened yet, and
-/// let it come to rest by whatever scans and deliveries. Where a fault is grave, one of these postings does
-/// harm.
+/// However messages move, one posting shows a grave fault. Let each system in turn post one message on a new
+/// net, and let any scans and deliveries bring the area to rest. One of these postings does harm.
 pub fn one_posting_shows_the_harm()
     ensures { (files : List LinkFile) (tag : List ℕ) → FilesFit files → HaveOwnAddresses files → AllAreCarriers files tag → GraveFault files tag →
         (moves : ℕ → List RunEvent) → ((i : ℕ) → ComesToRest files tag i (moves i)) →
@@ -87,9 +85,9 @@ pub fn one_posting_shows_the_harm()
     runs_are_known();
 }
 
-/// No area is refused in vain. Where some file has the area, no two files have one address, every link of a
-/// carrier is a carrier, and each pair of one net and node is taken for one, the area is tidy exactly where
-/// every run is orderly; and where it is not tidy, some run does harm.
+/// No area is refused without reason. Premises: some file has the area, no two files have one address, and
+/// every link of a carrier is a carrier. Each pair with one net and node looks like one system. Then the area
+/// is tidy exactly where every run is orderly. If it is not tidy, some run does harm.
 pub fn no_area_is_refused_in_vain()
     ensures exact { (files : List LinkFile) (tag : List ℕ) → FilesFit files → IsTrue (list_any (λ file. has_area file tag) files) →
         HaveOwnAddresses files → AllAreCarriers files tag → ((a b : Address) → AreTwins files tag a b → AreTakenForOne files tag a b) →
@@ -108,28 +106,27 @@ pub fn areas_of_nobody_are_orderly()
         (events : List RunEvent) → Orderly (run_of files events) tag }
 {}
 
-/// Packets go to the first file of an address: where a file that has the area is not the first of its
-/// address, and some other file has the area too, some run does harm. Every link of a carrier is a carrier
-/// here.
+/// Packets go to the first file of an address. If a file with the area is not the first of its address, and
+/// some other file has the area too, some run does harm. Here every link of a carrier is a carrier.
 pub fn second_files_are_not_served()
     ensures { (files : List LinkFile) (tag : List ℕ) → FilesFit files → AllAreCarriers files tag → HasSecondCarrier files tag → IsHarmed files tag }
 {
     runs_are_known();
 }
 
-/// Where a system lists an address in the area that no file has, the area never comes to rest after some
-/// events, whatever happens then.
+/// If a system lists an address in the area that no file has, some events leave the area so that it never comes
+/// to rest.
 pub fn links_to_nobody_never_rest()
     ensures { (files : List LinkFile) (tag : List ℕ) → FilesFit files → ListsNobody files tag → NeverRests files tag }
 {
     runs_are_known();
 }
 
-/// Which posting shows a fault, however messages move then, where no two files have one address and every
-/// link of a carrier is a carrier: that of a system that lists itself, of one that lists another that does
-/// not list it, of a carrier from which no walk leads to another, of a twin that does not list the other, of
-/// a third system that lists one of twins alone, and of two systems one: where b lists a and c, which are not
-/// linked though a walk joins them around b, that of b or that of a.
+/// Which posting shows a fault, however messages move. Premises: no two files have one address, and every link
+/// of a carrier is a carrier. It is the posting of a system that lists itself, or that lists another that does
+/// not list it. It is that of a carrier from which no walk leads to another. For twins, it is the posting of a
+/// twin that does not list the other, or of a third system that lists just one. For a cycle, b lists a and c,
+/// which are not linked though a walk joins them around b. Then it is the posting of b or of a.
 pub fn whose_posting_shows_it()
     ensures self_link { (files : List LinkFile) (tag : List ℕ) → FilesFit files → HaveOwnAddresses files → AllAreCarriers files tag →
         (a : Address) → IsTrue (lists files tag a a) → (trial : Trial files tag a) → ShowsHarm files tag a trial }

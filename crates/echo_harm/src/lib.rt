@@ -1,10 +1,9 @@
-//! What goes wrong in areas that are not tidy, and that no net is refused in vain.
+//! Laws about areas that are not tidy: what goes wrong in them, and that `check` refuses no area without
+//! reason.
 //!
-//! The definitions stand in specs/: `Harms` (what goes wrong in a run), `Postings` (one posting, and what
-//! happens until it has come to rest), `Grave` (the faults that do harm wherever they stand), `Shown` (whose
-//! posting shows them) and `LawsOfRuns` (the laws of echo_run and echo_steps that the proofs rest on).
-//!
-//! `laws` states what holds.
+//! The promise is in `laws`. Begin with specs/: `Harms` (what goes wrong in a run) and `Grave` (the faults that
+//! always do harm). `Postings` has one posting and the events until the area is at rest, `Shown` says which
+//! posting shows a fault. `LawsOfRuns` has the laws of echo_run and echo_steps that the proofs use.
 #![tactic(auto)]
 
 mod laws;

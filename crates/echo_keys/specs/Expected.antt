@@ -11,12 +11,12 @@ are_set low high digest = slice_index_or low (digest % 65536) false && slice_ind
 abbrev pub is_expected : Expected → ℕ → Bool
 is_expected expected digest = are_set expected.low.items expected.high.items digest
 
--- of so many of the first messages of the keys, those with an expected digest are at hand
+-- of this many first messages, those with an expected digest are listed
 pub record AreFound (keys : List ℕ) (expected : Expected) : Type 0 where
   pub within : expected.passed ≤ length keys / 16
   pub each : (j : ℕ) → j < expected.passed → is_expected expected (digest_at keys j) ≡ true → Contains expected.places.items j
 
--- of the first so many places, the greatest that is below and has the digest: counted from 1, and 0 where none has
+-- of this many first places, the greatest below the bound that has the digest: counted from 1, and 0 where none has
 pub record IsLastSeen (keys places : List ℕ) (digest below i last : ℕ) : Type 0 where
   pub within : last ≤ below
   pub has : (k : ℕ) → last ≡ k + 1 → digest_at keys k ≡ digest

@@ -4,11 +4,11 @@ use Rattle.echo_keys.specs.Expected.{AreFound}
 use Rattle.echo_keys.specs.Keys.{digest_at}
 use Rattle.echo_keys.specs.declared.index.Index.{Index}
 
--- under which of so many heads a digest stands
+-- the head of a digest, of this many
 abbrev pub head_of : ℕ → ℕ → ℕ
 head_of heads digest = bit_and digest (heads - 1)
 
--- the last of the first n messages whose digest stands under this head, counted from 1, or 0 where none does
+-- the last of the first n messages with a digest of this head, counted from 1, or 0 for none
 pub record IsLastUnder (keys : List ℕ) (heads head n last : ℕ) : Type 0 where
   pub within : last ≤ n
   pub has : (i : ℕ) → last ≡ i + 1 → head_of heads (digest_at keys i) ≡ head
@@ -25,7 +25,7 @@ pub record AreChains (keys heads before : List ℕ) : Type 0 where
 abbrev pub count_of : Index → ℕ
 count_of index = length index.before.items
 
--- it has so many of the first messages of the keys, and those among them that were expected
+-- it has this many of the first messages of the keys, and those among them that were expected
 pub record IsIndexOf (keys : List ℕ) (index : Index) : Type 0 where
   pub chains : AreChains keys index.heads.items index.before.items
   pub found : AreFound keys index.expected

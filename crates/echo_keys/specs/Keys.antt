@@ -11,7 +11,7 @@ use Rattle.echo_filed.specs.declared.stored.Version.TheVariants.{Second}
 use Rattle.echo_base.specs.Base.{IsBase}
 use Rattle.echo_base.specs.BaseFile.{is_damaged}
 
--- what a digest is taken of: the id, which is the same in every area, or else what the whole key is made of
+-- the digested bytes: the id, which is the same in every area, or else the parts of the whole key
 abbrev pub digested_with : Filed → Option (List ℕ) → List ℕ
 digested_with m (Some id) = id
 digested_with m None = m.echo.tag ++ (m.date ++ (m.to_name ++ (m.from_name ++ (m.subject ++ flat_map ended m.echo.kept))))
@@ -33,7 +33,7 @@ abbrev pub keys_from : (List ℕ → ℕ) → ℕ → List Stored → List ℕ
 keys_from digest place [] = []
 keys_from digest place (s ∷ later) = entry place (digest (digested (message_in Second s))) ++ keys_from digest (place + length (stored_bytes Second s)) later
 
--- the cursor of a base file that has this message alone: it was scanned where it has tag and id in place of the text
+-- the cursor of a base file with this message alone: it was scanned if it has tag and id instead of the text
 abbrev pub cursor_alone : Stored → ℕ
 cursor_alone s = if has_tag Second s.kind then 1 else 0
 
@@ -65,17 +65,17 @@ digest_at keys i = from_le_bytes w64 (take 8 (drop (16 * i + 8) keys))
 abbrev pub TellsEach : (List ℕ → ℕ) → List Filed → List ℕ → Type 0
 TellsEach digest base keys = (i : ℕ) (d : Filed) → i < length base → digest_at keys i ≡ digest (digested (slice_index_or base i d))
 
--- where the message behind it begins, or the messages end
+-- the place where the next message begins, or the messages end
 abbrev pub place_behind : List ℕ → List ℕ → ℕ → ℕ
 place_behind messages keys i = if nat_lt (i + 1) (length keys / 16) then place_at keys (i + 1) else length messages
 
--- the bytes of a message stand where its entry tells, up to the next one's
+-- the bytes of a message lie from the place in its entry to the next one's
 pub record HasBytesOf (messages keys : List ℕ) (i : ℕ) (s : Stored) : Type 0 where
   pub begins : place_at keys i ≤ place_behind messages keys i
   pub ends : place_behind messages keys i ≤ length messages
   pub bytes : drop (place_at keys i) (take (place_behind messages keys i) messages) ≡ stored_bytes Second s
 
--- the message of this number, as it is stored
+-- the message of this number, in its stored form
 pub record StandsAt (base : List Filed) (messages keys : List ℕ) (i : ℕ) : Type 0 where
   pub s : Stored
   pub size : IsStored Second s
@@ -83,7 +83,7 @@ pub record StandsAt (base : List Filed) (messages keys : List ℕ) (i : ℕ) : T
   pub is : (d : Filed) → slice_index_or base i d ≡ message_in Second s
   pub bytes : HasBytesOf messages keys i s
 
--- each message stands where its entry tells
+-- each message is at the place in its entry
 pub record StandWhereTold (base : List Filed) (messages keys : List ℕ) : Type 0 where
   pub many : length keys ≡ 16 * length base
   pub each : (i : ℕ) → i < length base → StandsAt base messages keys i

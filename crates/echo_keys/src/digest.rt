@@ -1,4 +1,4 @@
-//! What a digest is taken of, and a digest of it.
+//! The digested bytes of a key, and their digest.
 ghost use Rattle.std.specs.Prelude.{◌≡◌, ◌<◌, ◌^◌, ℕ, List, IfOk};
 ghost use Rattle.echo_keys.specs.Keys.{digested_key};
 
@@ -24,7 +24,8 @@ pub trait Digest: Drop {
     ghost fits: { (first second : ℕ) (bytes : List ℕ) → keyed first second bytes < 2 ^ 64 };
 }
 
-/// What the digest of a message with this key is taken of: the id, whatever the area, or else all that the key has.
+/// The digested bytes of a message with this key: the id, whatever the area, or else the parts of
+/// the whole key.
 pub fn bytes_of_key(alloc: Global, key: &Key) -> Result<Vec<u8>, AllocError>
     ensures { IfOk result (λ bytes. bytes.items ≡ digested_key key.now) }
 {

@@ -39,7 +39,8 @@ pub fn digest_of(keys: &[u8], number: usize) -> u64
     number_at(keys, ENTRY * number + 8)
 }
 
-/// Where the message of this number ends: where the next one begins, or where all messages end.
+/// The place where the message of this number ends: where the next one begins, or where all
+/// messages end.
 pub fn end_of(keys: &[u8], number: usize, all: u64) -> u64
     requires { number < length keys.now / 16 }
     ensures { (messages : List ℕ) → length messages ≡ all → result ≡ place_behind messages keys.now number }
@@ -71,7 +72,7 @@ pub(crate) fn has_digest(keys: &[u8], digest: u64, place: usize, below: usize) -
     place < below && digest_of(keys, place) == digest
 }
 
-// The last message from that number on, and below the other, whose entry has the digest.
+// The last message from number `from` on and below `below` with the digest.
 pub(crate) fn last_from(keys: &[u8], digest: u64, from: usize, below: usize) -> Option<usize>
     requires { below ≤ length keys.now / 16 }
     ensures found { IfSome result (λ i. (from ≤ i) × (i < below) × (digest_at keys.now i ≡ digest)) }

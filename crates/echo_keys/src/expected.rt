@@ -9,24 +9,24 @@ use std::alloc::{AllocError, Global};
 /// How many flags are in a table: one for each number of sixteen bits.
 const FLAGS: usize = 65_536;
 
-/// How many digests are expected at most. With more of them the flags tell too little apart.
+/// The most digests that are expected. With more of them the flags distinguish too little.
 const MOST: usize = 2_048;
 
-/// Flags for digests that are expected, and the messages that have such digests, of so many of the first ones of the
-/// keys. A digest whose bits are those of an expected one is taken for one: that costs time and never an answer.
+/// Flags for expected digests, and the messages that have such digests, among the first ones of the
+/// keys. A digest with the bits of an expected one counts as expected: that costs time and never a
+/// wrong answer.
 #[derive(Drop)]
 pub struct Expected {
     // A flag for the low sixteen bits of a digest, and one for the sixteen above them.
     low: Vec<bool>,
     high: Vec<bool>,
-    // How many digests were told.
+    // The number of expected digests.
     digests: usize,
     places: Vec<usize>,
     // How many messages were gone over.
     passed: usize,
 }
 
-// Whether the flag of this number is set.
 fn is_set(flags: &[bool], number: usize) -> bool
     ensures { result ≡ slice_index_or flags.now number false }
 {
@@ -36,14 +36,13 @@ fn is_set(flags: &[bool], number: usize) -> bool
     }
 }
 
-// Whether both flags of the digest are set.
 fn are_set(low: &[bool], high: &[bool], digest: u64) -> bool
     ensures { result ≡ are_set low.now high.now digest }
 {
     is_set(low, (digest % 65_536) as usize) && is_set(high, (digest / 65_536 % 65_536) as usize)
 }
 
-// Adds to the places those of the messages from that number on whose digests have their flags set.
+// Adds the places of messages from that number on with digests that have their flags set.
 fn find_all(
     low: &[bool],
     high: &[bool],
@@ -71,7 +70,6 @@ fn is_later(keys: &[u8], digest: u64, place: usize, from: usize, below: usize) -
 }
 
 impl Expected {
-    /// None are expected.
     pub(crate) fn new(alloc: Global) -> Expected
         ensures { (keys : List ℕ) → AreFound keys result }
     {
@@ -84,7 +82,6 @@ impl Expected {
         }
     }
 
-    /// Whether a digest with these bits is expected.
     pub(crate) fn has(&self, digest: u64) -> bool
         ensures { result ≡ is_expected self.now digest }
     {
@@ -98,8 +95,8 @@ impl Expected {
         self.passed
     }
 
-    /// The digest is expected too, and no message was gone over. Where memory is refused, or where very many are told,
-    /// some are not expected.
+    /// Expects this digest too, and forgets the pass over the keys. If memory is refused, or very
+    /// many are added, some are not expected.
     pub(crate) fn add(&mut self, alloc: Global, digest: u64)
         ensures { (keys : List ℕ) → AreFound keys self.new }
     {
@@ -113,7 +110,6 @@ impl Expected {
         let _set = self.set_flags(alloc, digest);
     }
 
-    // Sets both flags of the digest.
     fn set_flags(&mut self, alloc: Global, digest: u64) -> Result<(), AllocError>
         ensures passed { self.new.passed ≡ self.old.passed }
     {
@@ -128,7 +124,7 @@ impl Expected {
         Ok(())
     }
 
-    /// Goes over the messages of the keys that it has not gone over yet. Where memory is refused, it is to do so again.
+    /// Goes over the new messages of the keys. If memory is refused, the next call repeats it.
     pub(crate) fn go_over(&mut self, keys: &[u8])
         ensures found { AreFound keys.now self.old → AreFound keys.now self.new }
     {
@@ -138,8 +134,8 @@ impl Expected {
         }
     }
 
-    // Of the places through that number, the greatest that is below and has the digest, counted from 1, where that of
-    // the places before it is known.
+    // One step of `find_below`: of the places through number `i`, the greatest below the bound with
+    // the digest, counted from 1. `last` is that of the places before it.
     #[tactic(auto, using(crate::proofs::Found::seen_more, crate::proofs::Found::seen_same))]
     fn seen_next(&self, keys: &[u8], digest: u64, below: usize, i: usize, last: usize) -> usize
         requires within { below ≤ length keys.now / 16 }
@@ -153,8 +149,8 @@ impl Expected {
         last
     }
 
-    /// The last message that was gone over, below that number, whose entry has the digest. All of the places are looked
-    /// at: they are few.
+    /// The last message below that number with the digest, of those gone over. It looks at all
+    /// places: they are few.
     #[tactic(auto, using(crate::proofs::Found::beyond))]
     pub(crate) fn find_below(&self, keys: &[u8], digest: u64, below: usize) -> Option<usize>
         requires { below ≤ length keys.now / 16 }

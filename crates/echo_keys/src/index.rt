@@ -1,4 +1,4 @@
-//! An index of the keys, by which a look-up goes to the messages with a digest and not over all of them.
+//! An index of the keys: a look-up goes only to the messages with a digest.
 ghost use Rattle.std.specs.Prelude.{◌≡◌, ◌≢◌, ◌<◌, ◌≤◌, ◌+◌, ◌/◌, ◌⊎◌, ℕ, true, List, length, min, slice_index, IfSome, IfNone, OnOk};
 ghost use Rattle.echo_keys.specs.Expected.{is_expected};
 ghost use Rattle.echo_keys.specs.Keys.{digest_at};
@@ -14,10 +14,11 @@ const MOST: usize = 4_294_967_294;
 /// How many look-ups pass over the keys before an index is made of them: a posting has no more.
 const PASSES: u8 = 2;
 
-/// For the low bits of digests the last message with them, and for each message the last one before it with the same:
-/// counted from 1, and 0 where there is none. What was added to the keys since it last followed them, it has not; a
-/// look-up goes over that. Digests that were told before they are looked up need no index: one pass finds the messages
-/// that have them.
+/// For the low bits of digests the last message with them, and for each message the previous one
+/// with the same bits: counted from 1, and 0 for none.
+///
+/// Keys added since the last update are not indexed; a look-up goes over them. Expected digests
+/// need no index: one pass finds the messages that have them.
 #[derive(Drop)]
 pub struct Index {
     heads: Vec<u32>,
@@ -27,7 +28,6 @@ pub struct Index {
     passes: u8,
 }
 
-// Under which of so many heads a digest stands.
 fn head_of(heads: usize, digest: u64) -> usize
     requires { 0 < heads }
     ensures head { result ≡ head_of heads digest }
@@ -57,7 +57,7 @@ impl Index {
         self.expected.add(alloc, digest);
     }
 
-    // Makes it anew with more heads, and no message, where it has few for so many messages.
+    // Makes a new index with more heads and no message, if it has too few for this many messages.
     fn make_room(&mut self, alloc: Global, all: usize) -> Result<(), AllocError>
         ensures index { (keys : List ℕ) → IsIndexOf keys self.old → IsIndexOf keys self.new }
         ensures expected { self.new.expected ≡ self.old.expected }
@@ -103,9 +103,9 @@ impl Index {
         Ok(())
     }
 
-    /// To be called before each look-up of a digest. Where that was expected, what was added to the keys is gone over
-    /// for all that were; of the others it is taken in from the third look-up on. Where memory is refused for that,
-    /// look-ups pass over what it has not.
+    /// Call it before each look-up of a digest. New keys are searched at once for all expected
+    /// digests. For other digests they are indexed from the third look-up on. If memory is refused,
+    /// look-ups go over the keys that are not indexed.
     pub fn prepare(&mut self, alloc: Global, keys: &[u8], digest: u64)
         ensures { IsIndexOf keys.now self.old → IsIndexOf keys.now self.new }
     {
@@ -130,7 +130,7 @@ impl Index {
         Some((place, (self.before[place] as usize).min(place)))
     }
 
-    // The last message below that number which the index has and whose entry has the digest.
+    // The last indexed message below that number with the digest.
     fn find_indexed(&self, keys: &[u8], digest: u64, below: usize) -> Option<usize>
         requires { below ≤ length keys.now / 16 }
         ensures found { IfSome result (λ i. (i < below) × (digest_at keys.now i ≡ digest)) }
@@ -150,8 +150,8 @@ impl Index {
         None
     }
 
-    /// The last message below that number whose entry has the digest, among all of the keys. Its key may yet be
-    /// another: compare whole keys.
+    /// The last message below that number with the digest, among all of the keys. Its key may
+    /// differ: compare whole keys.
     pub fn find_below(&self, keys: &[u8], digest: u64, below: usize) -> Option<usize>
         ensures found { IfSome result (λ i. (i < below) × (i < length keys.now / 16) × (digest_at keys.now i ≡ digest)) }
         ensures last { IsIndexOf keys.now self.now → IfSome result (λ i. (j : ℕ) → i < j → j < below → j < length keys.now / 16 → digest_at keys.now j ≢ digest) }

@@ -1,4 +1,4 @@
-//! What holds of the definitions. Each law is the contract of a function that does nothing.
+//! Laws about the definitions. Each law is the contract of a function that does nothing.
 ghost use Rattle.std.specs.Prelude.{◌≡◌, ◌++◌, ℕ, List};
 ghost use Rattle.echo_filed.specs.Filed.{Filed, key_of};
 ghost use Rattle.echo_keys.specs.Index.{IsIndexOf};
@@ -11,12 +11,13 @@ pub fn each_message_has_its_entry()
         → FolderStandsFor digest base cursor messages keys → TellsEach digest base keys }
 {}
 
-/// What a message's digest is taken of follows from its key, so that messages with one key have one digest.
+/// The digested bytes of a message follow from its key, so messages with one key have one digest.
 pub fn equal_keys_have_one_digest()
     ensures { (m : Filed) → digested m ≡ digested_key (key_of m) }
 {}
 
-/// In a base folder each message begins where its entry tells, and ends where the next one begins.
+/// In a base folder each message begins at the place in its entry, and ends where the next one
+/// begins.
 pub fn each_message_stands_where_told()
     ensures { (digest : List ℕ → ℕ) (base : List Filed) (cursor : ℕ) (messages keys : List ℕ)
         → FolderStandsFor digest base cursor messages keys → StandWhereTold base messages keys }

@@ -1,11 +1,11 @@
-//! The keys of a base folder: for each message where it begins, and a digest of what makes it one.
+//! The keys of a base folder: for each message its place, and a digest that finds it by its key.
 //!
-//! A look-up goes over the digests, or by an index of them, and reads only messages whose digest is the one that is
-//! sought, so that a digest of two messages costs time and never an answer.
+//! Promise: a look-up finds the messages with a digest, in one pass or by an index. The caller
+//! compares whole keys, so two messages with one digest cost time and never a wrong answer.
 //!
-//! Modules in reading order: `entries` (what stands for a message, and a digest found), `expected` (those found
-//! that are told before they are looked up), `index` (many digests found), `digest` (what it is taken of), `sip` (SipHash as
-//! a digest) and `laws`.
+//! Begin with `entries` (the entry of a message, and look-ups by digest). `index` is for many
+//! look-ups, `expected` for digests that are known in advance. `digest` says which bytes are
+//! digested, `sip` is SipHash as a digest, `laws` states the promise.
 #![tactic(auto)]
 
 mod digest;

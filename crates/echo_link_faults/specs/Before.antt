@@ -1,4 +1,4 @@
--- What is known of the good lines before a line, and what judging the line says.
+-- What the good lines before a line say, and how the line is judged.
 use Rattle.std.specs.Prelude.{◌≡◌, ◌||◌, not, Bool, ℕ, List, [], ◌∷◌, map, if◌then◌else◌, Option, Some, None, MatchOption, bytes_eq, filter}
 use Rattle.std.specs.List.{list_any}
 use Rattle.echo_text.specs.Lines.{is_tag}
@@ -26,7 +26,7 @@ pub record IsBefore (earlier : List (List ℕ)) (b : SaidBefore) : Type 0 where
 abbrev pub HasTagAdded : List (List ℕ) → List ℕ → List (List ℕ) → Type 0
 HasTagAdded old tag new = (t : List ℕ) → list_any (bytes_eq t) new ≡ (bytes_eq t tag || list_any (bytes_eq t) old)
 
--- the refusal of an AREA line, of the words after the first, where these tags stand before it
+-- the refusal of an AREA line by its words after the first, after these tags
 abbrev pub area_refused : List (List ℕ) → ℕ → List (List ℕ) → Option LinkFault
 area_refused tags number words =
     if not (is_tag (upper (first_of words))) then Some (fault.BadTag number)
@@ -55,12 +55,12 @@ area_says words (fault.BadAddress number) = no_address (after_first_of words)
 area_says words (fault.RepeatedLink number) = link_again [] (after_first_of words)
 area_says words _ = first_of words
 
--- a refusal is told with the word that these say, and where there is none this holds
+-- a refusal gives a fault with this word; without a refusal this holds
 abbrev pub Tells : Option LinkFault → (LinkFault → List ℕ) → Type 0 → Type 0 → Option Wrong → Type 0
 Tells refusal say Good Bad found =
     MatchOption found ((refusal ≡ None) × Good) (λ wrong. (refusal ≡ Some wrong.fault) × (wrong.word.now ≡ say wrong.fault) × Bad)
 
--- what judging a line says, where these good lines stand before it, and what is known then
+-- the judgement on a line after these good lines, and what is known then
 abbrev pub JudgesLine : List (List ℕ) → ℕ → List ℕ → SaidBefore → Option Wrong → Type 0
 JudgesLine earlier number line new found =
     Tells (line_fault earlier number line) (λ fault. wrong_word fault line) (IsBefore (line ∷ earlier) new) (IsBefore earlier new) found

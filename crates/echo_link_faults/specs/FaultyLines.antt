@@ -14,11 +14,11 @@ abbrev pub word_with_control : List (List ℕ) → List ℕ
 word_with_control [] = []
 word_with_control (word ∷ more) = if list_any is_control_byte word then word else word_with_control more
 
--- the word that is none of the three first words, or that has a control byte
+-- the word that is no keyword, or that has a control byte
 abbrev pub unknown_word : List ℕ → List ℕ
 unknown_word line = if list_any is_control_byte line then word_with_control (tokens line) else first_of (words line)
 
--- of the words behind SYSTEM: the first where it is no address, else the one behind it; nothing where there is none
+-- of the words after SYSTEM: the first if it is no address, else the second; nothing where there is no such word
 abbrev pub not_one_address : List (List ℕ) → List ℕ
 not_one_address [] = []
 not_one_address (word ∷ more) = if is_err (outcome word) then word else first_of more
@@ -28,7 +28,7 @@ abbrev pub no_address : List (List ℕ) → List ℕ
 no_address [] = []
 no_address (word ∷ more) = if is_err (outcome word) then word else no_address more
 
--- the first address that stands among those before it
+-- the first address that repeats one of those before it
 abbrev pub link_again : List (List ℕ) → List (List ℕ) → List ℕ
 link_again before [] = []
 link_again before (word ∷ more) =
@@ -64,7 +64,8 @@ abbrev pub told_with : Option LinkFault → List ℕ → List FaultyLine → Lis
 told_with None line later = later
 told_with (Some fault) line later = faulty_line fault line ∷ later
 
--- The faulty lines among these, the first of which has this number, where these good lines stand before them. A line is judged by the good lines before it.
+-- The faulty lines among these. The first has this number, and comes after these good lines. A line is judged by the
+-- good lines before it.
 abbrev pub faulty_among : List (List ℕ) → ℕ → List (List ℕ) → List FaultyLine
 faulty_among earlier number [] = []
 faulty_among earlier number (line ∷ later) =
@@ -79,7 +80,7 @@ abbrev pub is_homeless : LinkFault → Bool
 is_homeless (fault.NoSystem number) = true
 is_homeless _ = false
 
--- what is told of a file with this fault: that no line has the own address, where that is all, else each faulty line
+-- the reported lines of a file with this fault: only that no line has the own address, or each faulty line
 abbrev pub told_of : List ℕ → Option LinkFault → List FaultyLine
 told_of bytes None = []
 told_of bytes (Some why) = if is_homeless why then record { fault = why; word = [] } ∷ [] else faulty_lines bytes

@@ -27,7 +27,7 @@ const AREA: &[u8] = b"AREA";
 /// The most bytes of a name.
 const MOST: usize = 40;
 
-/// What the good lines so far say, as far as a later line is judged by it.
+/// What a later line is judged by: the own address and the tags of the good lines so far.
 #[derive(Drop)]
 struct Before {
     system: bool,
@@ -75,7 +75,7 @@ impl Before {
         }
     }
 
-    // Judges a SYSTEM line, of which `rest` stands after that word.
+    // Judges a SYSTEM line; `rest` comes after that word.
     fn take_system<'a>(&mut self, number: u64, word: &'a [u8], rest: &'a [u8]) -> Option<Wrong<'a>>
         ensures { let words = tokens rest.now in Tells (system_refusal self.old.system number words) (system_says word.now words) (self.new ≡ record self.old { system = true }) (self.new ≡ self.old) result }
     {
@@ -91,7 +91,7 @@ impl Before {
         None
     }
 
-    // Judges a NAME line, of which `rest` stands after that word.
+    // Judges a NAME line; `rest` comes after that word.
     fn take_name<'a>(&mut self, number: u64, word: &'a [u8], rest: &'a [u8]) -> Option<Wrong<'a>>
         ensures { let name = trimmed rest.now in Tells (name_refusal self.old.name number name) (name_says word.now name) (self.new ≡ record self.old { name = true }) (self.new ≡ self.old) result }
     {
@@ -108,7 +108,7 @@ impl Before {
         None
     }
 
-    // Judges an AREA line, of which `rest` stands after that word.
+    // Judges an AREA line; `rest` comes after that word.
     fn take_area<'a>(
         &mut self,
         alloc: Global,

@@ -13,7 +13,6 @@ pub struct FaultyLine {
 }
 
 impl FaultyLine {
-    /// A line with this fault and this word.
     pub(crate) fn new(
         alloc: Global,
         fault: LinkFault,

@@ -9,12 +9,12 @@ use echo_addr::Items;
 use echo_links::{LinkFault, LinkFile};
 use std::alloc::{AllocError, Global};
 
-/// A link file, or what is wrong with it.
+/// A link file, or its faults.
 #[derive(Debug, Drop)]
 pub enum Judged {
     /// What the file says.
     Good(LinkFile),
-    /// Its faulty lines in order; or, where each line is good and none has the own address, that alone.
+    /// Its faulty lines in order. If each line is good but no line has the own address, that alone.
     Faulty(Items<FaultyLine>),
 }
 
@@ -29,7 +29,7 @@ pub fn judge(alloc: Global, bytes: &[u8]) -> Result<Judged, AllocError>
     }
 }
 
-// What is told of a file with this fault.
+// The reported lines of a file with this fault.
 fn told_of(alloc: Global, bytes: &[u8], why: LinkFault) -> Result<Vec<FaultyLine>, AllocError>
     ensures told { IfOk result (λ told. told.items ≡ told_of bytes.now (Some why)) }
     ensures memory { IfOk result (λ told. is_memory why ≡ false) }

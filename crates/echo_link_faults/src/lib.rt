@@ -1,12 +1,12 @@
-//! All that is wrong with a link file: each faulty line, with the word that is wrong in it.
+//! Lists all that is wrong with a link file: each faulty line, with the faulty word in it.
 //!
-//! The contract for the layers above: bytes are judged as a link file that says just this, or as one with
-//! just these faulty lines; the first of them is the fault that a reader of link files names. A line is
-//! judged by the good lines before it, so that what one line lacks is not told again for the next.
+//! Promise: bytes are judged as a link file with just these parts, or as one with just these faulty
+//! lines. The first of them is the fault that a reader of link files names. A line is judged by the
+//! good lines before it, so one mistake gives one message.
 //!
-//! Modules in reading order: `judged` (the whole), `before` (the lines one by one), `words` (the word
-//! that is wrong in a line), `tags` (the tags that stand before a line), `faulty` (a faulty line), and
-//! `laws` (what holds of the definitions).
+//! Begin with `judged` (the whole file). `before` judges the lines one by one, `words` finds the
+//! faulty word, `tags` has the tags of earlier lines, `faulty` is a faulty line. `laws` states the
+//! promise.
 #![tactic(auto)]
 
 mod before;

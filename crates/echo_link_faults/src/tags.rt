@@ -22,7 +22,6 @@ impl Model for Tags {
 }
 
 impl Tags {
-    /// No tags.
     pub(crate) fn new(alloc: Global) -> Tags
         ensures { result ≡ [] }
     {
@@ -31,14 +30,12 @@ impl Tags {
         }
     }
 
-    /// Whether the tag is one of them.
     pub(crate) fn has(&self, tag: &[u8]) -> bool
         ensures { result ≡ list_any (bytes_eq tag.now) self.now }
     {
         self.sorted.contains(tag)
     }
 
-    /// Adds a tag.
     pub(crate) fn add(&mut self, tag: Vec<u8>) -> Result<(), AllocError>
         ensures { OnOk result (HasTagAdded self.old tag.items self.new) }
     {

@@ -32,14 +32,13 @@ pub(crate) fn word_with_control(line: &[u8]) -> &[u8]
     b""
 }
 
-// The address that the word writes.
 fn address(word: &[u8]) -> Option<Address>
     ensures { IsWordOf word.now result }
 {
     Address::parse(word).ok()
 }
 
-/// Of what stands behind SYSTEM, the word that is wrong: none where just one address stands there.
+/// The faulty word after SYSTEM: none where just one address follows.
 pub(crate) fn wrong_system_word(rest: &[u8]) -> Option<&[u8]>
     ensures { MatchOption result (is_one_address (tokens rest.now) ≡ true)
         (λ word. (is_one_address (tokens rest.now) ≡ false) × (word.now ≡ not_one_address (tokens rest.now))) }
@@ -54,7 +53,8 @@ pub(crate) fn wrong_system_word(rest: &[u8]) -> Option<&[u8]>
     Some(second)
 }
 
-/// The first fault of the links of an AREA line, by what stands after its tag in the line of this number.
+/// The first fault of the links of an AREA line, read from the bytes after its tag. `number` is the
+/// line's.
 pub(crate) fn wrong_link<'a>(
     alloc: Global,
     number: u64,

@@ -1,4 +1,4 @@
--- Look-ups in what is kept in order, beside the lists that they look up in.
+-- Look-ups in ordered lists, compared with the plain lists.
 use Rattle.std.specs.Prelude.{◌≡◌, ◌<◌, ℕ, List, length, Option, None, MatchOption, bytes_eq, find, slice_get}
 use Rattle.std.specs.declared.cmp.Ordering.{Ordering}
 use Rattle.std.specs.Ordering.{is_eq, nat_cmp, ordering_then}
@@ -16,7 +16,7 @@ address_order a b = ordering_then (nat_cmp a.zone b.zone) (ordering_then (nat_cm
 abbrev pub HaveTheSame : List Address → List Address → Type 0
 HaveTheSame sorted links = (a : Address) → list_any (λ b. is_eq (address_order a b)) sorted ≡ list_any (same_address a) links
 
--- the number that was found is that of the area with this tag; none was found, and there is none
+-- the found number is that of the area with this tag; no number means that no area has it
 abbrev pub IsNumberOf : List Area → List ℕ → Option ℕ → Type 0
 IsNumberOf areas tag found =
     MatchOption found (find (λ area. bytes_eq area.tag tag) areas ≡ None)

@@ -9,11 +9,11 @@ use Rattle.echo_links.specs.declared.fault.LinkFault.{LinkFault}
 use Rattle.echo_links.specs.declared.fault.LinkFault.TheVariants as fault
 use Rattle.echo_links.specs.Links.{Area, LinkFile, same_address, upper}
 
--- a line without the 0D that may stand before its 0A
+-- a line without the 0D before its 0A
 abbrev pub without_return : List ℕ → List ℕ
 without_return line = if ends_with nat_eq line (13 ∷ []) then take (length line - 1) line else line
 
--- pieces that 0A ended, but for the last, which nothing ended and which is no line where it is empty
+-- the pieces that 0A ended, and the last one unless it is empty
 abbrev pub ended_pieces : List (List ℕ) → List (List ℕ)
 ended_pieces [] = []
 ended_pieces (piece ∷ []) = if length piece == 0 then [] else piece ∷ []
@@ -35,7 +35,7 @@ is_skipped line = list_all is_space_or_tab line || starts_with nat_eq line (code
 abbrev pub is_control_byte : ℕ → Bool
 is_control_byte b = nat_lt b 32 && not (b == 9)
 
--- what stands between blanks
+-- the pieces between blanks
 unfoldable pub words : List ℕ → List (List ℕ)
 words line = filter (λ word. nat_lt 0 (length word)) (slice_split is_space_or_tab line)
 
@@ -100,7 +100,7 @@ is_one_address [] = false
 is_one_address (word ∷ []) = is_ok (outcome word)
 is_one_address (word ∷ (next ∷ more)) = false
 
--- the first refusal that applies to a SYSTEM line, where these lines stand before it
+-- the first refusal that applies to a SYSTEM line after these lines
 abbrev pub system_fault : List (List ℕ) → ℕ → List ℕ → Option LinkFault
 system_fault earlier number line =
     if list_any is_system_line earlier then Some (fault.RepeatedSystem number)
@@ -114,7 +114,7 @@ name_fault earlier number line =
     else if nat_lt 40 (length (name_in line)) then Some (fault.NameTooLong number)
     else None
 
--- of the links of an AREA line one by one, where these words stand before them
+-- the first fault of the links of an AREA line, one by one; the list has the words before them
 abbrev pub links_fault : ℕ → List (List ℕ) → List (List ℕ) → Option LinkFault
 links_fault number before [] = None
 links_fault number before (word ∷ more) =
@@ -139,7 +139,7 @@ line_fault earlier number line =
     else if is_area_line line then area_fault earlier number line
     else Some (fault.UnknownWord number)
 
--- of the first faulty line, where the first of the lines has this number and these stand before it
+-- the fault of the first faulty line; the first line has this number and comes after the others
 abbrev pub first_fault : List (List ℕ) → ℕ → List (List ℕ) → Option LinkFault
 first_fault earlier number [] = None
 first_fault earlier number (line ∷ later) =
@@ -149,7 +149,7 @@ first_fault earlier number (line ∷ later) =
 abbrev pub read_lines : List ℕ → List (List ℕ)
 read_lines bytes = filter (λ line. not (is_skipped line)) (file_lines bytes)
 
--- what is wrong with a link file
+-- the fault of a link file
 unfoldable pub file_fault : List ℕ → Option LinkFault
 file_fault bytes =
     option_or (first_fault [] 1 (file_lines bytes))
@@ -167,7 +167,7 @@ file_of bytes = record {
   areas = map area_in (filter is_area_line (read_lines bytes));
 }
 
--- what reading a link file is to answer: what it says where no line is faulty, else the first fault
+-- the answer of reading a link file: its parts where no line is faulty, else the first fault
 abbrev pub LinksOf : List ℕ → Result LinkFile LinkFault → Type 0
 LinksOf bytes (Ok file) = (file_fault bytes ≡ None) × (file ≡ file_of bytes)
 LinksOf bytes (Err refused) = file_fault bytes ≡ Some refused

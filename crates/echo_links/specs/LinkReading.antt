@@ -1,4 +1,4 @@
--- What is known of a link file, line by line.
+-- What a reader knows of a link file, line by line.
 use Rattle.std.specs.Prelude.{◌≡◌, ◌⊎◌, ℕ, ◌++◌, nat_lt, not, Bool, true, false, is_err, is_ok, List, [], ◌∷◌, length, map, if◌then◌else◌, Option, Some, None, option_map, is_some, Result, Ok, Err, bytes_eq, filter, find}
 use Rattle.std.specs.Option.{option_or}
 use Rattle.std.specs.List.{list_any}
@@ -11,12 +11,12 @@ use Rattle.echo_links.specs.declared.link_file.reading.Reading.{Reading}
 use Rattle.echo_links.specs.Links.{Area, upper}
 use Rattle.echo_links.specs.LinkLines.{after_first_of, area_in, file_lines, first_fault, first_of, is_area_line, is_name_line, is_one_address, is_skipped, is_system_line, line_fault, links_fault, name_in, system_in, tag_in}
 
--- a word's address, or none where it writes none
+-- a word's address, or none where the word is no address
 abbrev pub IsWordOf : List ℕ → Option Address → Type 0
 IsWordOf word None = (is_ok (outcome word) ≡ false) × (is_err (outcome word) ≡ true)
 IsWordOf word (Some a) = (is_ok (outcome word) ≡ true) × (is_err (outcome word) ≡ false) × (a ≡ address_in word)
 
--- the refusal of a SYSTEM line, of the words after the first, where there was such a line or not
+-- the refusal of a SYSTEM line by its words after the first; the flag says whether such a line came before
 abbrev pub system_refusal : Bool → ℕ → List (List ℕ) → Option LinkFault
 system_refusal repeated number words =
     if repeated then Some (fault.RepeatedSystem number)
@@ -34,7 +34,7 @@ name_refusal repeated number name =
 abbrev pub is_area_known : List Area → List ℕ → Bool
 is_area_known areas tag = is_some (find (λ area. bytes_eq area.tag tag) areas)
 
--- of an AREA line, of the words after the first, where these areas stand before it
+-- the refusal of an AREA line by its words after the first, after these areas
 abbrev pub area_refusal : List Area → ℕ → List (List ℕ) → Option LinkFault
 area_refusal areas number words =
     if not (is_tag (upper (first_of words))) then Some (fault.BadTag number)
@@ -55,7 +55,7 @@ name_of lines = option_map name_in (find is_name_line (kept lines))
 unfoldable pub areas_of : List (List ℕ) → List Area
 areas_of lines = map area_in (filter is_area_line (kept lines))
 
--- what a reader holds shows which lines stood before
+-- a reader holds exactly what these earlier lines say
 pub record Knows (earlier : List (List ℕ)) (r : Reading) : Type 0 where
   pub system : list_any is_system_line earlier ≡ is_some r.system
   pub name : list_any is_name_line earlier ≡ is_some r.name

@@ -1,4 +1,4 @@
--- Addresses told apart, and what a link file says.
+-- How addresses are compared, and what a link file says.
 use Rattle.std.specs.Prelude.{map, ◌≡◌, ◌≢◌, ◌≤◌, ℕ, ◌==◌, ◌&&◌, AllPairs, length, Bool, true, List, [], Option, option_map, unwrap_or, is_some, bytes_eq, find}
 use Rattle.std.specs.Char.{to_ascii_uppercase}
 use Rattle.std.specs.List.{AllByRecursion, list_any}
@@ -26,7 +26,7 @@ pub record LinkFile : Type 0 where
   pub name : List ℕ
   pub areas : List Area
 
--- what holds of the areas of a link file that was read: the tag of a text, and links in range, each once
+-- an area of a link file that was read: the tag of a text, and links in range, each once
 pub record IsArea (area : Area) : Type 0 where
   pub tag_bytes : is_tag area.tag ≡ true
   pub addresses : AllByRecursion IsAddress area.links

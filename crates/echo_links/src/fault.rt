@@ -8,7 +8,7 @@ use thiserror::Error;
 /// all lines `NoSystem`, with line 0.
 #[derive(Clone, Copy, Debug, PartialEq, Eq, Error)]
 pub enum LinkFault {
-    /// The first word is none of SYSTEM, NAME and AREA, or a byte is below 20 and not 09.
+    /// The first word is neither SYSTEM, NAME nor AREA, or a byte is below 20 and not 09.
     #[error("L1 UnknownWord line {line}")]
     UnknownWord { line: u64 },
     /// The one address of SYSTEM or a link of AREA is missing, bad or followed by a word.

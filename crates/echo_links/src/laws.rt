@@ -1,4 +1,4 @@
-//! What holds of the definitions. Each law is the contract of a function that does nothing.
+//! Laws about the definitions. Each law is the contract of a function that does nothing.
 
 ghost use Rattle.std.specs.Prelude.{◌≡◌, ℕ, List, Result, Ok, Err};
 ghost use Rattle.echo_links.specs.declared.fault.LinkFault.{LinkFault};
@@ -14,8 +14,8 @@ pub fn one_link_file_or_fault()
     ensures no_memory { (bytes : List ℕ) → LinksOf bytes (Err link.Memory) → ⊥ }
 {}
 
-/// A link file that is read says a system in range, a name of one line, areas each once, and in each
-/// area links in range, each once.
+/// A link file that was read has a system in range and a name of one line. Each area comes once,
+/// and has links in range, each once.
 pub fn link_file_law()
     ensures { (bytes : List ℕ) (file : LinkFile) → LinksOf bytes (Ok file) → IsFile file }
 {}

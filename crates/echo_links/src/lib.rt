@@ -1,10 +1,10 @@
-//! What a system is linked to: its link file.
+//! Link files: the address and name of a system, its areas and their links.
 //!
-//! The contract for the layers above: bytes are one link file or one fault, and what is read has its
-//! system in range, and each area and each link once.
+//! Promise: bytes are one link file or have one fault. A link file that was read has its system in
+//! range, and each area and each link once.
 //!
-//! Modules in reading order: `link_file` (the system and its areas), `fault`, and `laws` (what holds of
-//! the definitions).
+//! Begin with `link_file` (the system and its areas). `fault` lists the refusals, `laws` states the
+//! promise.
 #![tactic(auto)]
 
 mod fault;

@@ -1,5 +1,5 @@
-//! What a link file says, and reading it: `lines` cuts the bytes, `reading` takes line by line, `addresses`
-//! the words behind the first, and `areas` and `links` hold what was found.
+//! A link file, and reading it. `lines` cuts the bytes, `reading` takes line by line, `addresses`
+//! reads the words after the first, `areas` and `links` hold the result.
 ghost use Rattle.std.specs.Prelude.{◌≡◌, ◌⊎◌, length, slice_get, option_copied, option_map, unwrap_or, codes, Result, Err, IfOk};
 ghost use Rattle.echo_links.specs.declared.fault.LinkFault.{LinkFault};
 ghost use Rattle.echo_links.specs.declared.fault.LinkFault.TheVariants as link;
@@ -21,9 +21,9 @@ use reading::read_lines;
 use std::alloc::{AllocError, Global};
 use std::marker::Model;
 
-/// What a link file says: the own address, the name, and the areas with their links, in order. A
-/// name has at most 40 bytes of one line, a tag 1 to 60 bytes from `!` to `~` without small letters.
-/// Each area stands once, and each link once in it.
+/// A link file: the own address, the name, and the areas with their links, in order. A name has at
+/// most 40 bytes of one line, a tag 1 to 60 bytes from `!` to `~` without small letters. Each area
+/// comes once, and each link once in it.
 #[derive(Debug, Drop)]
 pub struct LinkFile {
     system: Address,
@@ -60,7 +60,6 @@ fn judged(alloc: Global, bytes: &[u8]) -> Result<LinkFile, LinkFault>
     })
 }
 
-/// The name that a line gave, or the one where none did.
 fn name_or_default(alloc: Global, given: Option<Items<u8>>) -> Result<Items<u8>, AllocError>
     ensures { IfOk result (λ name. name ≡ unwrap_or given (codes "echonet")) }
 {
@@ -71,12 +70,12 @@ fn name_or_default(alloc: Global, given: Option<Items<u8>>) -> Result<Items<u8>,
 }
 
 impl LinkFile {
-    /// What the bytes say as a link file. A fault is that of the first faulty line, and only `Memory`
-    /// may come in place of the answer.
+    /// Reads a link file. A fault is that of the first faulty line. `Memory` is the only other
+    /// answer.
     pub fn read(alloc: Global, bytes: &[u8]) -> Result<LinkFile, LinkFault>
-        // What it answers is so of the bytes.
+        // Each answer is right for the bytes.
         ensures judged { (result ≡ Err link.Memory) ⊎ LinksOf bytes.now result }
-        // What is so of the bytes, it answers.
+        // The right answer is the only one.
         ensures only { (other : Result model.LinkFile LinkFault) → LinksOf bytes.now other → (result ≡ Err link.Memory) ⊎ (result ≡ other) }
     {
         judged(alloc, bytes)

@@ -18,11 +18,11 @@ value_in fields name = option_map (λ f. f.value) (find (λ f. is_called f.name 
 abbrev pub body_charset : Mail → Result Charset MailFault
 body_charset mail = charset_of (value_in mail.fields (codes "Content-Type"))
 
--- the bytes that a body stands for
+-- the decoded bytes of a body
 abbrev pub body_bytes : Mail → Result (List ℕ) MailFault
 body_bytes mail = transferred (value_in mail.fields (codes "Content-Transfer-Encoding")) mail.body
 
--- bytes as text, whose lines end in 0D
+-- bytes as text, with lines that end in 0D
 abbrev pub text_with : Charset → List ℕ → List ℕ
 text_with charset bytes = decoded_text charset (returned false bytes)
 

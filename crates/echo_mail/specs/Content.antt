@@ -1,4 +1,4 @@
--- What a body is (RFC 2045, 5).
+-- The type and charset of a body (RFC 2045, 5).
 use Rattle.std.specs.Prelude.{ℕ, ◌==◌, ◌&&◌, not, Bool, List, [], ◌∷◌, codes, drop, slice_index, take, Option, Some, None, Result, Ok, Err, if◌then◌else◌}
 use Rattle.std.specs.List.{before_first, list_any, prefix_len}
 use Rattle.std.specs.Int.{is_in_range}
@@ -9,7 +9,7 @@ use Rattle.echo_text.specs.Lines.{trimmed}
 use Rattle.echo_mail.specs.declared.fault.MailFault.{MailFault}
 use Rattle.echo_mail.specs.declared.fault.MailFault.TheVariants.{Multipart, NotText, UnknownCharset}
 
--- what stands before each parameter
+-- the byte before each parameter
 abbrev pub is_semicolon : ℕ → Bool
 is_semicolon b = b == 59
 
@@ -17,11 +17,11 @@ is_semicolon b = b == 59
 abbrev pub media_type : List ℕ → List ℕ
 media_type value = trimmed (before_first is_semicolon value)
 
--- a byte of a word: visible ASCII, and none of the special ones
+-- a byte of a word: visible ASCII without the special characters
 abbrev pub is_token_byte : ℕ → Bool
 is_token_byte b = is_in_range 33 126 b && not (list_any (λ y. y == b) (codes "()<>@,;:\\\"/[]?="))
 
--- a word at the front, and what stands before a quotation mark
+-- a word at the front, and the bytes before a quotation mark
 abbrev pub token_value : List ℕ → List ℕ
 token_value value = take (prefix_len is_token_byte value) value
 
@@ -49,7 +49,7 @@ known_charset name =
     else if is_called name (codes "windows-1251") then Some Cp1251
     else named name
 
--- the charset, or the fault where it is none that the program knows
+-- the charset, or the fault if the program does not know it
 abbrev pub charset_or_fault : Option Charset → Result Charset MailFault
 charset_or_fault None = Err UnknownCharset
 charset_or_fault (Some charset) = Ok charset

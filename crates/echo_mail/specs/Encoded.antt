@@ -17,7 +17,7 @@ use Rattle.echo_mail.specs.Quoted.{unescaped}
 abbrev pub space_for : ℕ → ℕ
 space_for b = if b == 95 then 32 else b
 
--- the bytes that a text stands for in the encoding Q
+-- the decoded bytes of a text in the encoding Q
 abbrev pub q_bytes : List ℕ → Option (List ℕ)
 q_bytes text = Some (unescaped 0 (map space_for text))
 
@@ -39,18 +39,18 @@ abbrev pub text_by : Option Charset → Option (List ℕ) → Option (List ℕ)
 text_by None bytes = None
 text_by (Some charset) bytes = text_in charset bytes
 
--- what stands before a byte, and behind it
+-- the bytes before a byte, and after it
 abbrev pub before_byte : ℕ → List ℕ → List ℕ
 before_byte byte text = before_first (λ b. b == byte) text
 
 abbrev pub after_byte : ℕ → List ℕ → List ℕ
 after_byte byte text = after_first (λ b. b == byte) text
 
--- what a text stands for in a charset, of which a language may stand behind `*`, and an encoding
+-- the decoded text, by charset and encoding; a language may follow the charset after `*`
 abbrev pub coded : List ℕ → List ℕ → List ℕ → Option (List ℕ)
 coded charset encoding text = text_by (known_charset (before_byte 42 charset)) (word_bytes encoding text)
 
--- what an encoded word stands for, by its charset, its encoding and what follows: a text, `?` and `=`
+-- the decoded text of an encoded word, by its charset, its encoding and the rest: a text, `?` and `=`
 abbrev pub ended_text : List ℕ → List ℕ → List ℕ → Option (List ℕ)
 ended_text charset encoding rest = if bytes_eq (after_byte 63 rest) (codes "=") then coded charset encoding (before_byte 63 rest) else None
 
@@ -61,7 +61,7 @@ typed_text charset rest = ended_text charset (before_byte 63 rest) (after_byte 6
 unfoldable pub inner_text : List ℕ → Option (List ℕ)
 inner_text inner = typed_text (before_byte 63 inner) (after_byte 63 inner)
 
--- what a word stands for, where it is an encoded one
+-- the decoded text of a word, where it is an encoded one
 unfoldable pub word_text : List ℕ → Option (List ℕ)
 word_text word = if starts_with nat_eq word (codes "=?") then inner_text (drop 2 word) else None
 
@@ -71,11 +71,11 @@ gap Nothing joins = []
 gap Word joins = 32 ∷ []
 gap Encoded joins = if joins then [] else 32 ∷ []
 
--- a word, or what it stands for, and the blank before it
+-- a word, decoded if it is encoded, and the blank before it
 abbrev pub next_text : Before → List ℕ → Option (List ℕ) → List ℕ
 next_text before word found = gap before (is_some found || (length word == 0)) ++ unwrap_or found word
 
--- what stands before the next word; one without bytes, between two blanks, counts for nothing
+-- what comes before the next word; an empty word between two blanks changes nothing
 abbrev pub next_before : Before → List ℕ → Option (List ℕ) → Before
 next_before before word None = if length word == 0 then before else Word
 next_before before word (Some said) = Encoded
@@ -93,6 +93,6 @@ return_for b = if is_blank b then 13 else b
 abbrev pub cut_at_blanks : List ℕ → List ℕ
 cut_at_blanks value = map return_for value
 
--- the value of a field as text, with what encoded words stand for in their place
+-- the value of a field as text, with its encoded words decoded
 unfoldable pub decoded_words : List ℕ → List ℕ
 decoded_words value = decoded_text Utf8 (words_text Nothing (lines (cut_at_blanks value)))

@@ -4,11 +4,11 @@ use Rattle.std.specs.List.{ends_with}
 use Rattle.std.specs.Result.{result_ok}
 use Rattle.hex.specs.Hex.{decode_of, encode_lower}
 
--- what stands behind the digits
+-- the bytes after the digits
 abbrev pub id_back : List ℕ
 id_back = codes "@fido.invalid>"
 
--- what a mail has for the id of a message: its bytes in hexadecimal digits
+-- the message id that a mail has for the id of a message: its bytes in hexadecimal digits
 abbrev pub written_id : List ℕ → List ℕ
 written_id id = codes "<" ++ (encode_lower id ++ id_back)
 

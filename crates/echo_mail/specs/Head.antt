@@ -6,7 +6,7 @@ use Rattle.echo_addr.specs.Entries.{is_blank}
 use Rattle.echo_text.specs.Lines.{trimmed}
 use Rattle.echo_mail.specs.declared.head.Field.{Field}
 
--- how many bytes stand before the first empty line; whether a line begins with the first of them
+-- the number of bytes before the first empty line; the flag says whether a line begins with the first of them
 abbrev pub head_len : Bool → List ℕ → ℕ
 head_len first [] = 0
 head_len first (b ∷ rest) = if (b == 13) && first then 0 else 1 + head_len (b == 13) rest
@@ -24,7 +24,7 @@ unfolded (b ∷ rest) = (if is_folded b rest then [] else b ∷ []) ++ unfolded 
 abbrev pub is_name_byte : ℕ → Bool
 is_name_byte b = is_in_range 33 126 b && not (b == 58)
 
--- how many of them stand in front
+-- the number of such bytes at the front
 abbrev pub name_len : List ℕ → ℕ
 name_len line = prefix_len is_name_byte line
 
@@ -32,6 +32,6 @@ name_len line = prefix_len is_name_byte line
 abbrev pub is_field : List ℕ → Bool
 is_field line = nat_lt 0 (name_len line) && (slice_index line (name_len line) == 58)
 
--- the name, and what stands behind the colon without the blanks at both ends
+-- the name, and the bytes after the colon without the blanks at both ends
 abbrev pub field_of : List ℕ → Field
 field_of line = record { name = take (name_len line) line; value = trimmed (drop (name_len line + 1) line) }

@@ -1,4 +1,4 @@
--- A mail taken apart (RFC 5322).
+-- A parsed mail (RFC 5322).
 use Rattle.std.specs.Prelude.{ℕ, ◌≡◌, ◌+◌, ◌⊎◌, nat_eq, true, false, List, codes, drop, map, take, if◌then◌else◌, Result, Ok, Err}
 use Rattle.std.specs.List.{list_all, position_or_len, starts_with}
 use Rattle.echo_text.specs.Lines.{is_return, lines}
@@ -8,7 +8,7 @@ use Rattle.echo_mail.specs.declared.mail.Mail.{Mail}
 use Rattle.echo_mail.specs.Ends.{returned}
 use Rattle.echo_mail.specs.Head.{field_of, head_len, is_field, unfolded}
 
--- an answer is what is expected, unless memory was refused
+-- an answer is the expected one, unless memory was refused
 abbrev pub Gives : {A : Type 0} → Result A MailFault → Result A MailFault → Type 0
 Gives answer expected = (answer ≡ Err Memory) ⊎ (answer ≡ expected)
 
@@ -24,15 +24,15 @@ without_from text = if starts_with nat_eq text from_word then drop (position_or_
 abbrev pub head_lines : List ℕ → List (List ℕ)
 head_lines text = lines (unfolded (take (head_len true text) text))
 
--- what stands behind the first empty line
+-- the bytes after the first empty line
 abbrev pub body_of : List ℕ → List ℕ
 body_of text = drop (head_len true text + 1) text
 
--- a text whose lines end in 0D, taken apart
+-- a parsed text with lines that end in 0D
 unfoldable pub mail_of : List ℕ → Result Mail MailFault
 mail_of text =
     if list_all is_field (head_lines text) then Ok (record { fields = map field_of (head_lines text); body = body_of text }) else Err BadField
 
--- bytes taken apart
+-- parsed bytes
 abbrev pub mail_in : List ℕ → Result Mail MailFault
 mail_in bytes = mail_of (without_from (returned false bytes))

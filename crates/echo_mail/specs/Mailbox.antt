@@ -5,15 +5,15 @@ use Rattle.echo_text.specs.Lines.{trimmed}
 use Rattle.echo_mail.specs.declared.mailbox.Place.{Place}
 use Rattle.echo_mail.specs.Encoded.{decoded_words}
 
--- the first byte stands in no comment and no quoted string
+-- the first byte is in no comment and no quoted string
 abbrev pub start : Place
 start = record { depth = 0; quoted = false; escaped = false }
 
--- whether a byte stands in a quoted string or a comment
+-- whether a byte is in a quoted string or a comment
 abbrev pub is_open : Place → Bool
 is_open p = p.quoted || nat_lt 0 p.depth
 
--- where the byte behind one stands. Comments nest, and a backslash makes the next byte one like any other
+-- the place of the byte after another one. Comments nest, and a backslash makes the next byte an ordinary one
 abbrev pub next_depth : Place → ℕ → ℕ
 next_depth p b =
     if p.escaped || p.quoted then p.depth else if b == 40 then p.depth + 1 else if b == 41 then p.depth - 1 else p.depth
@@ -31,12 +31,12 @@ next_place p b = record { depth = next_depth p b; quoted = next_quoted p b; esca
 abbrev pub ends_name : Place → ℕ → Bool
 ends_name p b = not (is_open p) && ((b == 60) || (b == 44))
 
--- how many bytes stand before the first of these
+-- the number of bytes before the first of these
 abbrev pub name_len : Place → List ℕ → ℕ
 name_len p [] = 0
 name_len p (b ∷ rest) = if ends_name p b then 0 else 1 + name_len (next_place p b) rest
 
--- whether a byte is one of the name: none of a comment, and no mark of a quoted string
+-- whether a byte is part of the name: in no comment, and no mark of a quoted string
 abbrev pub is_name_part : Place → ℕ → Bool
 is_name_part p b =
     if nat_lt 0 p.depth then false
@@ -49,7 +49,7 @@ abbrev pub bare_name : Place → List ℕ → List ℕ
 bare_name p [] = []
 bare_name p (b ∷ rest) = (if is_name_part p b then b ∷ [] else []) ++ bare_name (next_place p b) rest
 
--- what stands before the `@` of an address, or before its end
+-- the bytes before the `@` of an address, or before its end
 abbrev pub is_at : ℕ → Bool
 is_at b = (b == 64) || (b == 62)
 
@@ -67,6 +67,6 @@ mailbox_name value =
     else if slice_index value (name_len start value) == 60 then phrase value
     else local_part (phrase value)
 
--- the same as text, with what encoded words stand for in their place
+-- the same as text, with its encoded words decoded
 abbrev pub person_name : List ℕ → List ℕ
 person_name value = decoded_words (mailbox_name value)

@@ -10,12 +10,12 @@ byte_of None low = None
 byte_of (Some high) None = None
 byte_of (Some high) (Some low) = Some (16 * high + low)
 
--- the byte that `=` and two digits in front stand for
+-- the byte that `=` and two digits at the front encode
 abbrev pub escaped : List ℕ → Option ℕ
 escaped bytes =
     if slice_index bytes 0 == 61 then byte_of (hex_digit_value (slice_index bytes 1)) (hex_digit_value (slice_index bytes 2)) else None
 
--- what is added at a byte: the byte, or what it and two digits stand for; nothing at a digit of one that was added
+-- the bytes added at a byte: the byte, or the one that it and two digits encode; nothing at a digit of an added one
 abbrev pub next_byte : ℕ → ℕ → Option ℕ → List ℕ
 next_byte skip b None = if nat_lt 0 skip then [] else b ∷ []
 next_byte skip b (Some said) = if nat_lt 0 skip then [] else said ∷ []
@@ -25,24 +25,24 @@ abbrev pub next_skip : ℕ → Option ℕ → ℕ
 next_skip skip None = skip - 1
 next_skip skip (Some said) = if nat_lt 0 skip then skip - 1 else 2
 
--- the bytes that these stand for, of which so many are digits of one before them. A `=` without digits is itself
+-- the decoded bytes; this many at the front are digits of an earlier one. A `=` without digits is itself
 abbrev pub unescaped : ℕ → List ℕ → List ℕ
 unescaped skip [] = []
 unescaped skip (b ∷ rest) =
     next_byte skip b (escaped (b ∷ rest)) ++ unescaped (next_skip skip (escaped (b ∷ rest))) rest
 
--- whether `=` stands last
+-- whether `=` is last
 abbrev pub is_soft : List ℕ → Bool
 is_soft line = slice_index line (length line - 1) == 61
 
--- what a line without blanks at its end stands for: it does not end where `=` stands last
+-- the decoded bytes of a line without blanks at its end: the line continues if `=` is last
 unfoldable pub quoted_bare : List ℕ → List ℕ
 quoted_bare line = if is_soft line then unescaped 0 (take (length line - 1) line) else unescaped 0 line ++ 13 ∷ []
 
--- what a line stands for
+-- the decoded bytes of a line
 abbrev pub quoted_line : List ℕ → List ℕ
 quoted_line line = quoted_bare (without_back_blanks line)
 
--- what a body stands for
+-- the decoded bytes of a body
 abbrev pub quoted_printable : List ℕ → List ℕ
 quoted_printable body = flat_map quoted_line (lines body)

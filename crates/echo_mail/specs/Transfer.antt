@@ -24,16 +24,16 @@ abbrev pub is_base64_byte : ℕ → Bool
 is_base64_byte b =
     (is_in_range 48 57 b || (is_in_range 65 90 b || is_in_range 97 122 b)) || ((b == 43) || ((b == 47) || (b == 61)))
 
--- decoded bytes, or the fault where there are none
+-- decoded bytes, or the fault
 abbrev pub bytes_or_fault : Option (List ℕ) → Result (List ℕ) MailFault
 bytes_or_fault None = Err BadBase64
 bytes_or_fault (Some bytes) = Ok bytes
 
--- what a body in base64 stands for
+-- the decoded bytes of a body in base64
 abbrev pub base64_body : List ℕ → Result (List ℕ) MailFault
 base64_body body = bytes_or_fault (decoded_of standard (filter is_base64_byte body))
 
--- what a body of an encoding stands for
+-- the decoded bytes of a body of an encoding
 abbrev pub encoded_body : Encoding → List ℕ → Result (List ℕ) MailFault
 encoded_body Plain body = Ok body
 encoded_body QuotedPrintable body = Ok (quoted_printable body)
@@ -44,6 +44,6 @@ abbrev pub by_encoding : Option Encoding → List ℕ → Result (List ℕ) Mail
 by_encoding None body = Err UnknownEncoding
 by_encoding (Some encoding) body = encoded_body encoding body
 
--- the bytes that a body stands for, by the value of its Content-Transfer-Encoding
+-- the decoded bytes of a body, by the value of its Content-Transfer-Encoding
 abbrev pub transferred : Option (List ℕ) → List ℕ → Result (List ℕ) MailFault
 transferred word body = by_encoding (encoding_of word) body

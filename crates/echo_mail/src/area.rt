@@ -6,8 +6,7 @@ use crate::body::value_in;
 use crate::head::Field;
 use echo_text::trimmed;
 
-/// The area that the header of a mail names: the value of X-FTN-Area, or where there is no such field the first
-/// newsgroup.
+/// The area that the header of a mail names: the value of X-FTN-Area, or else the first newsgroup.
 pub fn area_in(fields: &[Field]) -> Option<&[u8]>
     ensures { option_copied result ≡ area_in fields.now }
 {

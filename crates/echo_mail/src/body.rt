@@ -24,14 +24,12 @@ pub fn body_text(alloc: Global, mail: &Mail) -> Result<String, MailFault>
     }
 }
 
-// The charset of the body.
 fn body_charset(mail: &Mail) -> Result<Charset, MailFault>
     ensures { result ≡ body_charset mail.now }
 {
     charset_of(value_in(mail.fields.as_slice(), b"Content-Type"))
 }
 
-// The text of the body in this charset.
 fn text_or_fault(alloc: Global, charset: Charset, mail: &Mail) -> Result<String, MailFault>
     ensures { MatchResult result (λ text. text_or_fault charset (body_bytes mail.now) ≡ Ok (string_bytes text)) (λ fault. (fault ≡ Memory) ⊎ (text_or_fault charset (body_bytes mail.now) ≡ Err fault)) }
 {
@@ -41,7 +39,6 @@ fn text_or_fault(alloc: Global, charset: Charset, mail: &Mail) -> Result<String,
     }
 }
 
-// The bytes that the body stands for.
 fn body_bytes(alloc: Global, mail: &Mail) -> Result<Items<u8>, MailFault>
     ensures { Gives result (body_bytes mail.now) }
 {
@@ -49,7 +46,6 @@ fn body_bytes(alloc: Global, mail: &Mail) -> Result<Items<u8>, MailFault>
     transferred(alloc, word, mail.body.as_slice())
 }
 
-// The bytes as text.
 fn text_with(alloc: Global, charset: Charset, bytes: &[u8]) -> Result<String, MailFault>
     ensures { MatchResult result (λ text. string_bytes text ≡ text_with charset bytes.now) (λ fault. fault ≡ Memory) }
 {

@@ -1,4 +1,4 @@
-//! What a body is (RFC 2045, 5).
+//! The type and charset of a body (RFC 2045, 5).
 ghost use Rattle.std.specs.Prelude.{◌≡◌, ◌==◌, ◌≤◌, drop, if◌then◌else◌, length, not, option_copied, take, take_while};
 ghost use Rattle.echo_mail.specs.Content.{charset_in, charset_of, charset_param, is_semicolon, is_token_byte, known_charset, media_type, param_value, quoted_value, token_value};
 
@@ -69,14 +69,14 @@ pub(crate) fn known_charset(name: &[u8]) -> Option<Charset>
     }
 }
 
-// The type and subtype: what stands before the first semicolon.
+// The type and subtype: the bytes before the first semicolon.
 fn media_type(value: &[u8]) -> &[u8]
     ensures { result.now ≡ media_type value.now }
 {
     trimmed(&value[..media_len(value)])
 }
 
-// How many bytes stand before it.
+// The number of bytes before it.
 fn media_len(value: &[u8]) -> usize
     ensures exact { result ≡ length (take_while (λ b. not (is_semicolon b)) value.now) }
     ensures within { result ≤ length value.now }
@@ -84,7 +84,6 @@ fn media_len(value: &[u8]) -> usize
     value.iter().take_while(|b| **b != b';').count()
 }
 
-// So many bytes at the front, or all.
 fn front(bytes: &[u8], count: usize) -> &[u8]
     ensures { result.now ≡ take count bytes.now }
 {
@@ -95,7 +94,6 @@ fn front(bytes: &[u8], count: usize) -> &[u8]
     }
 }
 
-// The value of the first parameter `charset`.
 fn charset_param(value: &[u8]) -> Option<&[u8]>
     ensures { option_copied result ≡ charset_param value.now }
 {
@@ -124,7 +122,6 @@ fn param_value(word: &[u8]) -> &[u8]
     }
 }
 
-// A word at the front.
 fn token_value(value: &[u8]) -> &[u8]
     ensures { result.now ≡ token_value value.now }
 {
@@ -138,7 +135,7 @@ fn token_len(value: &[u8]) -> usize
     value.iter().take_while(|b| is_token_byte(**b)).count()
 }
 
-// What stands before a quotation mark.
+// The bytes before a quotation mark.
 fn quoted_value(value: &[u8]) -> &[u8]
     ensures { result.now ≡ quoted_value value.now }
 {
@@ -152,7 +149,7 @@ fn quoted_len(value: &[u8]) -> usize
     value.iter().take_while(|b| **b != b'"').count()
 }
 
-// A byte of a word: visible ASCII, and none of the special ones.
+// A byte of a word: visible ASCII without the special characters.
 fn is_token_byte(byte: u8) -> bool
     ensures { result ≡ is_token_byte byte }
 {

@@ -14,7 +14,7 @@ use echo_charset::Charset;
 use echo_text::split_line;
 use std::alloc::{AllocError, Global};
 
-/// What stands before a word of a field.
+/// The text before a word of a field.
 #[derive(Clone, Copy, Debug, PartialEq, Eq)]
 pub(crate) enum Before {
     Nothing,
@@ -22,7 +22,7 @@ pub(crate) enum Before {
     Encoded,
 }
 
-/// The value of a header field as text, with what encoded words stand for in their place.
+/// The value of a header field as text, with its encoded words decoded.
 #[tactic(auto, unfolding(crate::specs::Encoded::decoded_words))]
 pub fn decoded_words(alloc: Global, value: &[u8]) -> Result<String, AllocError>
     ensures { IfOk result (λ text. string_bytes text ≡ decoded_words value.now) }
@@ -62,7 +62,7 @@ fn push_words(text: &mut Vec<u8>, alloc: Global, words: &[u8]) -> Result<(), All
     Ok(())
 }
 
-// Adds a word, or what it stands for, and the blank before it.
+// Adds a word, decoded if it is encoded, and the blank before it.
 fn push_next(
     text: &mut Vec<u8>,
     before: Before,
@@ -78,7 +78,7 @@ fn push_next(
     }
 }
 
-// The blank before a word. `joins` says that it is an encoded one, or empty.
+// The blank before a word. `joins`: the word is an encoded one, or empty.
 fn gap(before: Before, joins: bool) -> &'static [u8]
     ensures { result.now ≡ gap before joins }
 {
@@ -89,7 +89,7 @@ fn gap(before: Before, joins: bool) -> &'static [u8]
     }
 }
 
-// What stands before the next word.
+// The text before the next word.
 fn next_before(before: Before, word: &[u8], found: &Option<Items<u8>>) -> Before
     ensures { result ≡ next_before before word.now found.now }
 {
@@ -105,7 +105,7 @@ fn next_before(before: Before, word: &[u8], found: &Option<Items<u8>>) -> Before
     }
 }
 
-// What a word stands for, where it is an encoded one.
+// The decoded text of a word, where it is an encoded one.
 #[tactic(auto, unfolding(crate::specs::Encoded::word_text))]
 fn word_text(alloc: Global, word: &[u8]) -> Result<Option<Items<u8>>, AllocError>
     ensures { IfOk result (λ text. text ≡ word_text word.now) }
@@ -117,7 +117,7 @@ fn word_text(alloc: Global, word: &[u8]) -> Result<Option<Items<u8>>, AllocError
     }
 }
 
-// What an encoded word stands for, by what follows its first two bytes.
+// The decoded text of an encoded word, by the bytes after its first two.
 #[tactic(auto, unfolding(crate::specs::Encoded::inner_text))]
 fn inner_text(alloc: Global, inner: &[u8]) -> Result<Option<Items<u8>>, AllocError>
     ensures { IfOk result (λ text. text ≡ inner_text inner.now) }
@@ -132,7 +132,7 @@ fn inner_text(alloc: Global, inner: &[u8]) -> Result<Option<Items<u8>>, AllocErr
     }
 }
 
-// What stands before the first of these bytes, and behind it.
+// The bytes before and after the first of these bytes.
 fn cut(byte: u8, text: &[u8]) -> (&[u8], &[u8])
     ensures front { result.0.now ≡ before_first (λ b. b == byte) text.now }
     ensures back { result.1.now ≡ after_first (λ b. b == byte) text.now }
@@ -148,7 +148,7 @@ fn place_of(byte: u8, text: &[u8]) -> usize
     text.iter().take_while(|b| **b != byte).count()
 }
 
-// What a text stands for in an encoding and a charset, where they are known.
+// The decoded text, if encoding and charset are known.
 fn coded(
     alloc: Global,
     charset: &[u8],
@@ -178,7 +178,7 @@ fn encoded_text(
     Ok(Some(Items::new(text.into_bytes())))
 }
 
-// The bytes that a text stands for in an encoding.
+// The decoded bytes of a text in an encoding.
 #[tactic(auto, unfolding(crate::specs::Encoded::word_bytes))]
 fn word_bytes(alloc: Global, encoding: &[u8], text: &[u8]) -> Result<Option<Items<u8>>, AllocError>
     ensures { IfOk result (λ bytes. bytes ≡ word_bytes encoding.now text.now) }

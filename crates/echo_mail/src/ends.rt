@@ -4,7 +4,7 @@ ghost use Rattle.echo_mail.specs.Ends.{end_or_byte, returned};
 
 use std::alloc::{AllocError, Global};
 
-/// The bytes with 0D in place of each CRLF and each 0A.
+/// The bytes with 0D instead of each CRLF and each 0A.
 pub(crate) fn returned(alloc: Global, bytes: &[u8]) -> Result<Vec<u8>, AllocError>
     ensures { IfOk result (λ text. text.items ≡ returned false bytes.now) }
 {
@@ -20,7 +20,7 @@ pub(crate) fn returned(alloc: Global, bytes: &[u8]) -> Result<Vec<u8>, AllocErro
     Ok(text)
 }
 
-// Adds a byte, or a 0D for an 0A. `after` says whether a 0D stands before it.
+// Adds a byte, or a 0D for an 0A. `after` says whether a 0D comes before it.
 fn push_end_or_byte(text: &mut Vec<u8>, after: bool, byte: u8) -> Result<(), AllocError>
     ensures { OnOk result (text.new.items ≡ text.old.items ++ end_or_byte after byte) }
 {
@@ -33,7 +33,6 @@ fn push_end_or_byte(text: &mut Vec<u8>, after: bool, byte: u8) -> Result<(), All
     }
 }
 
-/// What stands behind the byte at an index.
 pub(crate) fn behind(bytes: &[u8], at: usize) -> &[u8]
     requires { at ≤ length bytes.now }
     ensures { result.now ≡ drop (at + 1) bytes.now }

@@ -8,19 +8,19 @@ use thiserror::Error;
 /// Why a mail was not read.
 #[derive(Clone, Copy, Debug, PartialEq, Eq, Error)]
 pub enum MailFault {
-    /// A line of the header is no field and continues none.
+    /// A line of the header neither is a field nor continues one.
     #[error("bad header field")]
     BadField,
     /// The body has several parts.
     #[error("multipart")]
     Multipart,
-    /// The body is of another type than text/plain.
+    /// The body is not of type text/plain.
     #[error("not text/plain")]
     NotText,
-    /// The charset of the body is none that the program knows.
+    /// The program does not know the charset of the body.
     #[error("unknown charset")]
     UnknownCharset,
-    /// The encoding of the body is none that the standard has.
+    /// The standard does not have the encoding of the body.
     #[error("unknown encoding")]
     UnknownEncoding,
     /// The body is no base64.

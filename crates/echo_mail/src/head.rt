@@ -17,7 +17,7 @@ pub struct Field {
     pub value: Items<u8>,
 }
 
-/// How many bytes stand before the first empty line.
+/// The number of bytes before the first empty line.
 pub(crate) fn head_len(text: &[u8]) -> usize
     ensures exact { result ≡ head_len true text.now }
     ensures within { result ≤ length text.now }
@@ -37,7 +37,7 @@ pub(crate) fn head_len(text: &[u8]) -> usize
     count
 }
 
-/// The header with each field on one line: a line end before a blank is taken out (RFC 5322, 2.2.3).
+/// The header with each field on one line: a line end before a blank is removed (RFC 5322, 2.2.3).
 pub(crate) fn unfolded(alloc: Global, head: &[u8]) -> Result<Vec<u8>, AllocError>
     ensures { IfOk result (λ text. text.items ≡ unfolded head.now) }
 {
@@ -75,7 +75,6 @@ pub(crate) fn are_fields(text: &[u8]) -> bool
     true
 }
 
-/// What the lines say as header fields.
 pub(crate) fn fields_of(alloc: Global, text: &[u8]) -> Result<Vec<Field>, AllocError>
     ensures { IfOk result (λ fields. fields.items ≡ map field_of (lines text.now)) }
 {
@@ -110,7 +109,7 @@ fn field_of(alloc: Global, line: &[u8]) -> Result<Field, AllocError>
     })
 }
 
-// How many bytes of a name stand in front.
+// The number of bytes of a name at the front.
 fn name_len(line: &[u8]) -> usize
     ensures exact { result ≡ name_len line.now }
     ensures within { result ≤ length line.now }

@@ -1,12 +1,12 @@
-//! Mail messages (RFC 5322), read for posting what they say.
+//! Mail messages (RFC 5322), read for posting.
 //!
-//! The contract for the layers above: what `read_mail` and `body_text` answer is what the definitions in specs/
-//! give for the bytes, or the fault that applies.
+//! Promise: `read_mail` and `body_text` answer what the definitions in specs/ give for the bytes,
+//! or the fault that applies.
 //!
-//! Modules in reading order: `fault` (why a mail is not read), `ends` (the ends of lines), `head` (the header
-//! fields) and `mail` (a mail taken apart); `quoted` (quoted-printable), `transfer` (the encodings of bodies),
-//! `content` (what a body is) and `body` (its text); `encoded` (encoded words) and `mailbox` (the name in a list
-//! of mailboxes); and `msgid` (ids of messages that mails have) and `area` (the area that a mail names).
+//! Begin with `mail` (a parsed mail) and `body` (its text). `head` reads the header fields, `ends`
+//! line ends, `fault` lists the refusals. `content`, `transfer` and `quoted` decode bodies,
+//! `encoded` decodes header words. `mailbox` finds a name, `msgid` an id, `area` the area of a
+//! mail.
 #![tactic(auto)]
 
 mod area;

@@ -1,4 +1,4 @@
-//! A mail taken apart.
+//! A parsed mail.
 ghost use Rattle.std.specs.Prelude.{◌≡◌, ◌≤◌, if◌then◌else◌, length, take_while, not};
 ghost use Rattle.echo_text.specs.Lines.{is_return};
 ghost use Rattle.echo_mail.specs.Mail.{Gives, from_word, mail_in, mail_of, without_from};
@@ -12,7 +12,8 @@ use std::alloc::Global;
 /// How the line begins that a mailbox has before a mail (RFC 4155).
 const FROM: &[u8] = b"From ";
 
-/// A mail (RFC 5322): the fields of its header, and the bytes of its body, whose lines end in 0D.
+/// A mail (RFC 5322): the fields of its header, and the bytes of its body, with lines that end in
+/// 0D.
 #[derive(Debug, Drop, PartialEq, Eq)]
 pub struct Mail {
     pub fields: Items<Field>,
@@ -38,7 +39,6 @@ fn without_from(text: &[u8]) -> &[u8]
     }
 }
 
-// How many bytes the first line has.
 fn line_len(text: &[u8]) -> usize
     ensures exact { result ≡ length (take_while (λ b. not (is_return b)) text.now) }
     ensures within { result ≤ length text.now }
@@ -46,7 +46,6 @@ fn line_len(text: &[u8]) -> usize
     text.iter().take_while(|b| **b != b'\r').count()
 }
 
-// Takes a text apart.
 #[tactic(auto, unfolding(crate::specs::Mail::mail_of))]
 fn mail_of(alloc: Global, text: &[u8]) -> Result<Mail, MailFault>
     ensures { Gives result (mail_of text.now) }

@@ -7,7 +7,8 @@ use crate::ends::behind;
 use echo_text::trimmed;
 use std::alloc::{AllocError, Global};
 
-/// Where a byte stands: how deep in comments, whether in a quoted string, and whether behind a backslash there.
+/// The place of a byte: how deep in comments, whether in a quoted string, and whether after a
+/// backslash there.
 #[derive(Clone, Copy, Debug, PartialEq, Eq)]
 pub(crate) struct Place {
     pub depth: usize,
@@ -15,8 +16,8 @@ pub(crate) struct Place {
     pub escaped: bool,
 }
 
-/// The name that the value of From or To has for the first mailbox; where it has none, what stands before the
-/// `@` of its address.
+/// The name of the first mailbox in the value of From or To. Without a name it is the part before
+/// the `@` of the address.
 pub fn person_name(alloc: Global, value: &[u8]) -> Result<String, AllocError>
     ensures { IfOk result (λ name. string_bytes name ≡ person_name value.now) }
 {
@@ -41,7 +42,7 @@ fn mailbox_name(alloc: Global, value: &[u8]) -> Result<Vec<u8>, AllocError>
     }
 }
 
-// How many bytes stand before the address or the next mailbox.
+// The number of bytes before the address or the next mailbox.
 fn name_len(value: &[u8]) -> usize
     ensures exact { result ≡ name_len start value.now }
     ensures within { result ≤ length value.now }
@@ -87,7 +88,6 @@ fn bare_name(alloc: Global, value: &[u8]) -> Result<Vec<u8>, AllocError>
     Ok(name)
 }
 
-// Where the next byte stands.
 fn next_place(place: Place, byte: u8) -> Place
     requires { place.depth + 1 < 2 ^ 64 }
     ensures { result ≡ next_place place byte }
@@ -124,7 +124,7 @@ fn next_quoted(place: Place, byte: u8) -> bool
     }
 }
 
-// Whether a byte stands in a quoted string or a comment.
+// Whether a byte is in a quoted string or a comment.
 fn is_open(place: Place) -> bool
     ensures { result ≡ is_open place }
 {
@@ -138,7 +138,6 @@ fn ends_name(place: Place, byte: u8) -> bool
     !is_open(place) && (byte == b'<' || byte == b',')
 }
 
-// Whether a byte is one of the name.
 fn is_name_part(place: Place, byte: u8) -> bool
     ensures { result ≡ is_name_part place byte }
 {
@@ -153,7 +152,7 @@ fn is_name_part(place: Place, byte: u8) -> bool
     }
 }
 
-// What stands before the `@` of an address, or before its end.
+// The bytes before the `@` of an address, or before its end.
 fn local_part(address: &[u8]) -> &[u8]
     ensures { result.now ≡ local_part address.now }
 {

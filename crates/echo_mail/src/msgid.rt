@@ -1,4 +1,4 @@
-//! Message ids that were made of ids of messages, turned back.
+//! Message ids that export made of ids of messages, decoded again.
 ghost use Rattle.std.specs.Prelude.{◌≡◌, ℕ, List, IfOk};
 ghost use Rattle.hex.specs.Hex.{IsBytes};
 ghost use Rattle.echo_mail.specs.Exported.{exported_id, is_exported, written_id};
@@ -7,7 +7,6 @@ use echo_addr::Items;
 use hex::FromHexError;
 use std::alloc::{AllocError, Global};
 
-/// What stands behind the digits.
 const BACK: &[u8] = b"@fido.invalid>";
 
 /// The id of the message that a message id of a mail was made of, where it was made of one.
@@ -32,7 +31,7 @@ fn is_exported(value: &[u8]) -> bool
     value.len() > BACK.len() && value[0] == b'<' && value.ends_with(BACK)
 }
 
-/// What was made of an id is turned back into it, byte for byte.
+/// A message id made of an id is decoded to it, byte for byte.
 pub fn written_ids_turned_back()
     ensures { (id : List ℕ) → IsBytes id → exported_id (written_id id) ≡ Some id }
 {}

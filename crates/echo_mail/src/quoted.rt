@@ -9,7 +9,7 @@ use echo_addr::is_blank;
 use echo_text::split_line;
 use std::alloc::{AllocError, Global};
 
-/// The bytes that a body in this encoding stands for.
+/// The decoded bytes of a body in this encoding.
 pub(crate) fn quoted_printable(alloc: Global, body: &[u8]) -> Result<Vec<u8>, AllocError>
     ensures { IfOk result (λ text. text.items ≡ quoted_printable body.now) }
 {
@@ -23,14 +23,14 @@ pub(crate) fn quoted_printable(alloc: Global, body: &[u8]) -> Result<Vec<u8>, Al
     Ok(text)
 }
 
-// Adds what a line stands for. Blanks at its end count for nothing.
+// Adds the decoded bytes of a line. Blanks at its end are ignored.
 fn push_quoted_line(text: &mut Vec<u8>, line: &[u8]) -> Result<(), AllocError>
     ensures { OnOk result (text.new.items ≡ text.old.items ++ quoted_line line.now) }
 {
     push_quoted_bare(text, without_back_blanks(line))
 }
 
-// Adds what a line without them stands for: it does not end at a `=` that stands last.
+// Adds the decoded bytes of a line without them. The line continues if `=` is last.
 #[tactic(auto, unfolding(crate::specs::Quoted::quoted_bare))]
 fn push_quoted_bare(text: &mut Vec<u8>, line: &[u8]) -> Result<(), AllocError>
     ensures { OnOk result (text.new.items ≡ text.old.items ++ quoted_bare line.now) }
@@ -43,7 +43,6 @@ fn push_quoted_bare(text: &mut Vec<u8>, line: &[u8]) -> Result<(), AllocError>
     }
 }
 
-// Whether a `=` stands last.
 fn is_soft(line: &[u8]) -> bool
     ensures exact { result ≡ is_soft line.now }
     ensures some { result ≡ true → 0 < length line.now }
@@ -51,14 +50,12 @@ fn is_soft(line: &[u8]) -> bool
     !line.is_empty() && line[line.len() - 1] == b'='
 }
 
-// The line without the blanks at its end.
 fn without_back_blanks(line: &[u8]) -> &[u8]
     ensures { result.now ≡ text_lines.without_back_blanks line.now }
 {
     &line[..line.len() - back_blanks(line)]
 }
 
-// How many blanks stand at the end.
 fn back_blanks(line: &[u8]) -> usize
     ensures exact { result ≡ length (take_while blanks.is_blank (reverse line.now)) }
     ensures within { result ≤ length line.now }
@@ -66,7 +63,7 @@ fn back_blanks(line: &[u8]) -> usize
     line.iter().rev().take_while(|b| is_blank(**b)).count()
 }
 
-/// Adds the bytes that these stand for: `=` and two hexadecimal digits stand for one.
+/// Adds the decoded bytes: `=` and two hexadecimal digits encode one.
 pub(crate) fn push_unescaped(text: &mut Vec<u8>, bytes: &[u8]) -> Result<(), AllocError>
     ensures { OnOk result (text.new.items ≡ text.old.items ++ unescaped 0 bytes.now) }
 {
@@ -81,7 +78,7 @@ pub(crate) fn push_unescaped(text: &mut Vec<u8>, bytes: &[u8]) -> Result<(), All
     Ok(())
 }
 
-// Adds a byte, or the one that is said by it and the two behind it, unless it is a digit of one that was added.
+// Adds a byte, or the one that it and the next two encode, unless it is a digit of an added one.
 fn push_next(text: &mut Vec<u8>, skip: u8, byte: u8, said: Option<u8>) -> Result<(), AllocError>
     ensures { OnOk result (text.new.items ≡ text.old.items ++ next_byte skip byte said) }
 {
@@ -108,7 +105,7 @@ fn next_skip(skip: u8, said: Option<u8>) -> u8
     }
 }
 
-// The byte that `=` and two digits in front stand for.
+// The byte that `=` and two digits at the front encode.
 fn escaped(bytes: &[u8]) -> Option<u8>
     ensures { result ≡ escaped bytes.now }
 {

@@ -14,7 +14,6 @@ use base64::engine::general_purpose::STANDARD;
 use echo_addr::Items;
 use std::alloc::{AllocError, Global};
 
-/// An encoding of bodies.
 #[derive(Clone, Copy, Debug, PartialEq, Eq)]
 pub(crate) enum Encoding {
     /// The bytes as they are: 7bit, 8bit and binary.
@@ -23,7 +22,7 @@ pub(crate) enum Encoding {
     Base64,
 }
 
-/// The bytes that a body stands for, by the value of its Content-Transfer-Encoding.
+/// The decoded bytes of a body, by the value of its Content-Transfer-Encoding.
 pub(crate) fn transferred(
     alloc: Global,
     word: Option<&[u8]>,
@@ -37,7 +36,6 @@ pub(crate) fn transferred(
     }
 }
 
-// The encoding of this name.
 #[tactic(auto, unfolding(crate::specs::Transfer::encoding_of))]
 fn encoding_of(word: Option<&[u8]>) -> Option<Encoding>
     ensures { result ≡ encoding_of (option_copied word.entry) }
@@ -56,7 +54,7 @@ fn encoding_of(word: Option<&[u8]>) -> Option<Encoding>
     }
 }
 
-// The bytes that a body of this encoding stands for.
+// The decoded bytes of a body of this encoding.
 fn encoded_body(alloc: Global, encoding: Encoding, body: &[u8]) -> Result<Items<u8>, MailFault>
     ensures { Gives result (encoded_body encoding body.now) }
 {
@@ -67,7 +65,7 @@ fn encoded_body(alloc: Global, encoding: Encoding, body: &[u8]) -> Result<Items<
     }
 }
 
-// The bytes that the digits of a body stand for; its other bytes count for nothing.
+// The decoded bytes of a body's digits; its other bytes are ignored.
 fn base64_body(alloc: Global, body: &[u8]) -> Result<Items<u8>, MailFault>
     ensures { Gives result (base64_body body.now) }
 {
@@ -78,7 +76,6 @@ fn base64_body(alloc: Global, body: &[u8]) -> Result<Items<u8>, MailFault>
     }
 }
 
-/// The bytes that these stand for in base64.
 pub(crate) fn from_base64(alloc: Global, digits: &[u8]) -> Result<Option<Items<u8>>, AllocError>
     ensures { IfOk result (λ bytes. bytes ≡ decoded_of standard digits.now) }
 {
@@ -89,7 +86,6 @@ pub(crate) fn from_base64(alloc: Global, digits: &[u8]) -> Result<Option<Items<u
     }
 }
 
-// The digits of a body.
 fn base64_digits(alloc: Global, body: &[u8]) -> Result<Vec<u8>, AllocError>
     ensures { IfOk result (λ digits. digits.items ≡ filter is_base64_byte body.now) }
 {

@@ -29,7 +29,7 @@ abbrev pub IsWhy : List Line → Address → Option Absence → Type 0
 IsWhy lines a found =
     MatchOption found ((why : Absence) → ¬ IsAbsent lines a why) (λ why. IsAbsent lines a why × ((other : Absence) → IsAbsent lines a other → other ≡ why))
 
--- the system with what says why it is absent, nothing where nothing does
+-- the system with the reason of its absence; without a reason nothing
 abbrev pub absent_as : Address → Option Absence → List (Address × Absence)
 absent_as a None = []
 absent_as a (Some why) = (a, why) ∷ []

@@ -1,4 +1,4 @@
--- An area as it is drawn: its systems and links, and what is wrong with them.
+-- The drawing of an area: its systems and links, and their faults.
 use Rattle.std.specs.Prelude.{◌≡◌, ◌<◌, ◌-◌, ◌&&◌, ◌↔◌, ◌⊎◌, ℕ, Bool, true, false, IsTrue, if◌then◌else◌, List, [], ◌∷◌, Contains, length, map, slice_index_or}
 use Rattle.std.specs.List.{list_any}
 use Rattle.echo_addr.specs.declared.address.Address.{Address}
@@ -46,7 +46,7 @@ abbrev pub loop_named : Verdict → List Address
 loop_named (No (Loop round)) = round
 loop_named _ = []
 
--- the other systems that a verdict names for what is wrong with them
+-- the other systems that a verdict names as faulty
 abbrev pub systems_named : Verdict → List Address
 systems_named (No (TwoFiles a)) = a ∷ []
 systems_named (No (SelfLink a)) = a ∷ []
@@ -67,7 +67,7 @@ loop_links round = steps_from (system_at round (length round - 1)) round
 abbrev pub mark_of : List Address → List Address → Address → Mark
 mark_of round named a = if has_address round a then OnLoop else if has_address named a then Named else Plain
 
--- which ends of a link list it
+-- the ends of a link that list it
 abbrev pub sides_of : Bool → Bool → Sides
 sides_of true true = Both
 sides_of true false = First
@@ -88,12 +88,12 @@ pub record AreLinksInOrder (IsMember : Link → Type 0) (all : List Link) : Type
       pair_before (slice_index_or all i d).from (slice_index_or all i d).to (slice_index_or all j d).from (slice_index_or all j d).to ≡ true
   pub members : (l : Link) → Contains all l ↔ IsMember l
 
--- a system as it is drawn
+-- the drawn system
 abbrev pub system_drawn : List LinkFile → List ℕ → Verdict → Address → DrawnSystem
 system_drawn files tag verdict a =
     record { system = a; carries = carries files tag a; mark = mark_of (loop_named verdict) (systems_named verdict) a }
 
--- a pair of systems as it is drawn
+-- the drawn pair of systems
 abbrev pub link_drawn : List LinkFile → List ℕ → Verdict → Link → DrawnLink
 link_drawn files tag verdict l = record {
   one = l.from;
@@ -115,7 +115,7 @@ link_from links steps l = record {
   on_loop = has_link steps l;
 }
 
--- the systems and the links of the area, ascending, each once, with what is wrong with them
+-- the systems and the links of the area, ascending, each once, with their faults
 pub record IsDrawing (files : List LinkFile) (tag : List ℕ) (verdict : Verdict) (drawing : Drawing) : Type 0 where
   pub addresses : List Address
   pub addresses_in_order : AreInOrder (IsDrawn files tag) addresses

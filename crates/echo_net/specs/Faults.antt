@@ -1,4 +1,4 @@
--- What is wrong with an area of a net: the first clause that fails, and where.
+-- The fault of an area of a net: the first clause that fails, and where.
 use Rattle.std.specs.Prelude.{◌≡◌, ◌<◌, ◌&&◌, ◌↔◌, ⊤, nat_lt, ℕ, Bool, true, IsTrue, List, Option, MatchOption, Contains, length}
 use Rattle.std.specs.List.{list_any}
 use Rattle.echo_addr.specs.declared.address.Address.{Address}
@@ -24,7 +24,7 @@ IsCarried files tag = IsTrue (list_any (λ file. has_area file tag) files)
 abbrev pub HaveOneFileEach : List LinkFile → Type 0
 HaveOneFileEach files = Different (systems files)
 
--- the smallest address that two files have, and none where each has its own
+-- the smallest address that two files have, or none
 abbrev pub IsSharedSystem : List LinkFile → Option Address → Type 0
 IsSharedSystem files shared = MatchOption shared (HaveOneFileEach files) (IsSmallest (StandsTwice (systems files)))
 
@@ -32,11 +32,11 @@ IsSharedSystem files shared = MatchOption shared (HaveOneFileEach files) (IsSmal
 abbrev pub NoneListsItself : List LinkFile → List ℕ → Type 0
 NoneListsItself files tag = (a : Address) → ¬ IsTrue (lists files tag a a)
 
--- what is listed carries the area
+-- all links are carriers of the area
 abbrev pub AllAreKnown : List LinkFile → List ℕ → Type 0
 AllAreKnown files tag = (a b : Address) → IsTrue (lists files tag a b) → Carries files tag b
 
--- every link stands in both files
+-- every link is in both files
 abbrev pub AllAreAnswered : List LinkFile → List ℕ → Type 0
 AllAreAnswered files tag = (a b : Address) → IsTrue (lists files tag a b) → IsTrue (lists files tag b a)
 
@@ -62,8 +62,8 @@ pub record AreInOrder (IsMember : Address → Type 0) (all : List Address) : Typ
 abbrev pub numbered : List Address → (Address → Address → Bool) → ℕ → ℕ → Bool
 numbered all linked i j = (nat_lt i (length all) && nat_lt j (length all)) && linked (system_at all i) (system_at all j)
 
--- the loop that is named: a cycle with two systems that are not linked, the first of these as addresses
--- ascend, as it is written
+-- the loop of the verdict: a cycle with two systems that are not linked, the first of these by address, as it is
+-- written
 abbrev pub IsNamedLoop : List LinkFile → List ℕ → List Address → Type 0
 IsNamedLoop files tag loop = NamedLoopBy (λ a b. address_before a b ≡ true) (lists files tag) loop
 

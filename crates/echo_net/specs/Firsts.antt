@@ -7,7 +7,7 @@ use Rattle.echo_filed.specs.Sets.{address_before}
 use Rattle.echo_graph.specs.Walk.{IsAt}
 use Rattle.echo_net.specs.declared.link.Link.{Link}
 
--- it holds of this address, and of none that comes before it
+-- the smallest address for which it holds
 pub record IsSmallest (Holds : Address → Type 0) (a : Address) : Type 0 where
   pub holds : Holds a
   pub first : (b : Address) → Holds b → address_before b a ≡ false
@@ -16,12 +16,12 @@ pub record IsSmallest (Holds : Address → Type 0) (a : Address) : Type 0 where
 abbrev pub pair_before : Address → Address → Address → Address → Bool
 pair_before a b c d = address_before a c || (same_address a c && address_before b d)
 
--- it holds of this pair, and of none that comes before it
+-- the smallest pair for which it holds
 pub record IsSmallestPair (Holds : Address → Address → Type 0) (a b : Address) : Type 0 where
   pub holds : Holds a b
   pub first : (c d : Address) → Holds c d → pair_before c d a b ≡ false
 
--- it stands at two places
+-- it is at two places
 abbrev pub StandsTwice : {X : Type 0} → List X → X → Type 0
 StandsTwice xs x = (i : ℕ) × (j : ℕ) × (i < j) × IsAt xs i x × IsAt xs j x
 

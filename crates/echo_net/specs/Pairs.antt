@@ -1,4 +1,4 @@
--- Items of a list that stand next to each other.
+-- Items next to each other in a list.
 use Rattle.std.specs.Prelude.{◌≡◌, ◌≢◌, ◌<◌, ◌+◌, ℕ, List, length, slice_index_or}
 use Rattle.echo_addr.specs.declared.address.Address.{Address}
 use Rattle.echo_addr.specs.Address.{net_node_of}
@@ -19,7 +19,7 @@ pub record FirstPair (owners : List Owner) (a : Address) : Type 0 where
   pub next : (d : Owner) → (slice_index_or owners (place + 1) d).system ≡ a
   pub first : (k : ℕ) (d : Owner) → k < place → (slice_index_or owners k d).system ≢ (slice_index_or owners (k + 1) d).system
 
--- a system beside its net and node
+-- a system with its net and node
 abbrev pub neighbour_of : Address → Neighbour
 neighbour_of a = record { net_node = net_node_of a; system = a }
 

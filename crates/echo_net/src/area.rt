@@ -1,4 +1,4 @@
-//! What the link files say of an area, each looked up once.
+//! An area in the link files, each looked up once.
 
 ghost use Rattle.std.specs.Prelude.{◌≡◌, ◌++◌, ◌∷◌, [], ◌↔◌, IsTrue, IfOk, OnOk, Contains};
 ghost use Rattle.std.specs.List.{All, count_by};
@@ -16,8 +16,8 @@ use echo_addr::{Address, put_in_order};
 use echo_links::LinkFile;
 use std::alloc::{AllocError, Global};
 
-/// The carriers of an area and its links, ascending, each once, and how many carriers and pairs of linked
-/// systems the files have.
+/// The carriers of an area and its links, ascending, each once, and the numbers of carriers and of pairs of
+/// linked systems.
 #[derive(Drop)]
 pub struct Area {
     pub carriers: Vec<Address>,
@@ -26,7 +26,7 @@ pub struct Area {
     pub pairs: usize,
 }
 
-/// What the files say of the area.
+/// The area of the files.
 pub fn area_of(alloc: Global, files: &[LinkFile], tag: &[u8]) -> Result<Area, AllocError>
     ensures carriers { IfOk result (λ area. IsStrictlySortedBy ⟦<Address as Ord>⟧.cmp area.carriers.items) }
     ensures links { IfOk result (λ area. IsStrictlySortedBy ⟦<Link as Ord>⟧.cmp area.links.items) }

@@ -70,7 +70,6 @@ fn listed_links(alloc: Global, files: &[LinkFile], tag: &[u8]) -> Result<Vec<Lin
     Ok(all)
 }
 
-/// Appends the links of the file.
 fn push_links(all: &mut Vec<Link>, file: &LinkFile, tag: &[u8]) -> Result<(), AllocError>
     ensures links { OnOk result (all.new.items ≡ all.old.items ++ net.links_from_file tag.now file.now) }
     ensures fits { IsFile file.now }

@@ -24,11 +24,12 @@ use std::alloc::{AllocError, Global};
 /// Is the area of this tag in order, on the net of these link files (FTS-0004)? Tags are compared byte
 /// for byte. Fails only when out of memory.
 ///
-/// Where the answer is `Yes`, each run on these files is orderly: after any postings, scans,
-/// deliveries, stopped tosses and purges, with losses and repeats and in any order, each carrier was
-/// sent each message at most once and never one of its own, has filed it at most once, and, once
-/// nothing waits for a scan and every packet came, has filed every message exactly once, unchanged.
-/// A `No` says the first thing that is wrong, in the order of `NetFault`, with the smallest addresses.
+/// At `Yes` each run on these files is orderly: after any postings, scans, deliveries, stopped tosses and
+/// purges, with losses and repeats and in any order. Each carrier filed each message at most once. It was sent
+/// it at most once, and never one that it posted. When nothing waits for a scan and every packet came, it has
+/// filed every message exactly once, unchanged.
+///
+/// A `No` has the first fault in the order of `NetFault`, with the smallest addresses.
 ///
 /// Takes about the time of sorting the links, and where the only fault is a loop that of a few searches of the net.
 pub fn check(alloc: Global, files: &[LinkFile], tag: &[u8]) -> Result<Verdict, AllocError>
@@ -51,8 +52,8 @@ pub fn shared_system(alloc: Global, files: &[LinkFile]) -> Result<Option<Address
     shared_address(alloc, &systems)
 }
 
-/// What `check` answers, where it is known which address two of the files have: for many areas that is found
-/// out once.
+/// The answer of `check`, where the address that two of the files share is known: for many areas it is found
+/// only once.
 pub fn check_area(
     alloc: Global,
     files: &[LinkFile],
@@ -83,7 +84,7 @@ pub fn check_area(
     match wrong_graph {
         Some(fault) => Ok(Verdict::No(fault)),
         None => {
-            // The law that the clause on runs rests on.
+            // The law for the clause on runs.
             every_run_of_a_tidy_area_is_orderly();
             Ok(Verdict::Yes {
                 systems,

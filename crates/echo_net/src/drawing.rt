@@ -1,4 +1,4 @@
-//! An area as it is drawn: its systems and links, and what is wrong with them.
+//! The drawing of an area: its systems and links, and their faults.
 
 ghost use Rattle.std.specs.Prelude.{◌≡◌, ◌++◌, ◌↔◌, IfOk, OnOk, Contains, map};
 ghost use Rattle.std.specs.List.Sorted.{IsStrictlySortedBy};
@@ -20,7 +20,7 @@ use std::alloc::{AllocError, Global};
 pub enum Mark {
     /// Nothing is wrong with it.
     Plain,
-    /// The verdict names it for what is wrong with it.
+    /// The verdict names it as faulty.
     Named,
     /// It is on the loop that the verdict names.
     OnLoop,
@@ -34,7 +34,7 @@ pub enum Sides {
     Second,
 }
 
-/// A system as it is drawn.
+/// A drawn system.
 #[derive(Clone, Copy, Debug, PartialEq, Eq)]
 pub struct DrawnSystem {
     pub system: Address,
@@ -43,13 +43,13 @@ pub struct DrawnSystem {
     pub mark: Mark,
 }
 
-/// A link as it is drawn, its smaller end first.
+/// A drawn link, its smaller end first.
 #[derive(Clone, Copy, Debug, PartialEq, Eq)]
 pub struct DrawnLink {
     pub one: Address,
     pub other: Address,
     pub sides: Sides,
-    /// Whether it is of the loop that the verdict names.
+    /// Whether it is on the loop that the verdict names.
     pub on_loop: bool,
 }
 
@@ -60,7 +60,7 @@ pub struct Drawing {
     pub links: Items<DrawnLink>,
 }
 
-/// A message that crosses a link: at which step, from whom, and to whom.
+/// A message that crosses a link: its step, the sender and the receiver.
 #[derive(Clone, Copy, Debug, PartialEq, Eq)]
 pub struct Crossing {
     pub step: usize,
@@ -68,8 +68,8 @@ pub struct Crossing {
     pub to: Address,
 }
 
-/// The area as it is drawn, with what this verdict names marked. Any link files will do, tidy or not.
-/// Fails only when out of memory.
+/// The drawing of the area, with the faults of this verdict marked. It draws any link files, tidy or not. Fails
+/// only when out of memory.
 pub fn draw(
     alloc: Global,
     files: &[LinkFile],
@@ -93,7 +93,7 @@ pub fn draw(
     })
 }
 
-/// The carriers and what they list, ascending, each once.
+/// The carriers and their links, ascending, each once.
 fn addresses(
     alloc: Global,
     carriers: &[Address],
@@ -174,7 +174,7 @@ fn loop_of(verdict: &Verdict) -> &[Address]
     }
 }
 
-/// The other systems that the verdict names for what is wrong with them.
+/// The other systems that the verdict names as faulty.
 fn named_by(alloc: Global, verdict: &Verdict) -> Result<Vec<Address>, AllocError>
     ensures { IfOk result (λ all. all.items ≡ systems_named verdict.now) }
 {
@@ -262,7 +262,7 @@ fn mark_for(round: &[Address], named: &[Address], system: Address) -> Mark
     Mark::Plain
 }
 
-/// Which ends list the link, of these that are listed.
+/// Which ends list the link, of these links.
 fn sides_listing(links: &[Link], link: Link) -> Sides
     requires { IsStrictlySortedBy ⟦<Link as Ord>⟧.cmp links.now }
     ensures { result ≡ sides_of (drawn.has_link links.now link) (drawn.has_link links.now (back link)) }
@@ -276,7 +276,7 @@ fn sides_listing(links: &[Link], link: Link) -> Sides
     Sides::First
 }
 
-/// Each of these addresses as it is drawn.
+/// These addresses, drawn.
 fn draw_systems(
     alloc: Global,
     addresses: &[Address],
@@ -299,7 +299,7 @@ fn draw_systems(
     Ok(all)
 }
 
-/// Each of these pairs as it is drawn.
+/// These pairs, drawn.
 fn draw_links(
     alloc: Global,
     pairs: &[Link],

@@ -1,4 +1,4 @@
-//! The first link with which something is wrong.
+//! The first faulty link.
 
 ghost use Rattle.std.specs.Prelude.{◌≡◌, IfOk, MatchOption, Contains};
 ghost use Rattle.std.specs.List.Sorted.{IsStrictlySortedBy};
@@ -45,7 +45,7 @@ pub fn unknown_link(links: &[Link], carriers: &[Address]) -> Option<Link>
     None
 }
 
-/// The first link that stands at one of its ends only. The systems are looked up among the carriers.
+/// The first link that only one of its ends lists. The systems are looked up among the carriers.
 pub fn one_sided_link(
     alloc: Global,
     links: &[Link],
@@ -57,7 +57,7 @@ pub fn one_sided_link(
         ((l : Link) → Contains links.now l → Contains links.now (link l.to l.from))
         (IsFirstLink links.now (λ l. ¬ Contains links.now (link l.to l.from)))) }
 {
-    // The links back from one carrier come one after another, so the next may stand behind the last.
+    // The links back from one carrier follow each other, so the next search starts after the last hit.
     let mut behind = vec![in alloc; 0usize; carriers.len()]?;
     let mut carrier = 0usize;
     'links: for link in links {

@@ -1,4 +1,4 @@
-//! What is wrong with the graph of an area: systems apart, and cycles that are not fully linked.
+//! The faults of an area's graph: systems apart, and cycles that are not fully linked.
 
 ghost use Rattle.std.specs.Prelude.{◌≡◌, ◌<◌, ◌↔◌, IsTrue, IfOk, MatchOption, Contains, length, map};
 ghost use Rattle.std.specs.List.{All};

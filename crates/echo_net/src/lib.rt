@@ -1,15 +1,12 @@
-//! Nets of systems that exchange echomail (FTS-0004): is an area of them in order?
+//! Checks an area of a net of systems that exchange echomail (FTS-0004): is it in order?
 //!
-//! The contract for the layers above is that of `check`: the answer is yes exactly where the area is
-//! tidy, and then every run on these files is orderly; a no names the first thing that is wrong. And
-//! that of `listed`: just the carriers that a nodelist does not hold.
+//! Promise: `check` answers yes exactly where the area is tidy; then every run on these files is orderly. A no
+//! names the first fault. `listed` answers just the carriers that a nodelist does not hold.
 //!
-//! Modules in reading order: `verdict` (the answer and the faults), `link`, `searching` (where a
-//! value stands among values that ascend), `carriers` (the systems of an area and their links), `area` (both at once),
-//! `owners`, `first_links` and
-//! `same_net_node` (what sorted addresses decide), `link_faults` (the first of those faults), `rows` (the
-//! net as a graph), `graph_faults` (systems apart, and loops), `checker` (the whole), `presence` (carriers
-//! beside a nodelist), and `drawing` (an area as it is drawn).
+//! Begin with `checker` (the whole) and `verdict` (the answer and the faults). `area` has the systems and links
+//! of an area, by `carriers`, `link` and `searching`. `owners`, `first_links` and `same_net_node` decide by
+//! sorted addresses, `link_faults` takes the first of their faults. `rows` and `graph_faults` check the net as
+//! a graph. `presence` compares carriers with a nodelist, `drawing` draws an area.
 #![tactic(auto)]
 
 mod area;

@@ -1,4 +1,4 @@
-//! What is wrong with the files and the links of an area: the clauses before those on the graph.
+//! The faults of the files and the links of an area: the clauses before those on the graph.
 
 ghost use Rattle.std.specs.Prelude.{◌↔◌, IsTrue, IfOk, MatchOption, Contains};
 ghost use Rattle.std.specs.List.Sorted.{IsStrictlySortedBy};

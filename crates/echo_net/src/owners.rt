@@ -1,4 +1,4 @@
-//! The smallest address that stands twice.
+//! The smallest address that comes twice.
 
 ghost use Rattle.std.specs.Prelude.{◌≡◌, ◌<◌, ◌↔◌, IfOk, MatchOption, Contains};
 ghost use Rattle.std.specs.List.Sorted.{IsStrictlySortedBy};
@@ -26,7 +26,6 @@ pub fn shared_address(alloc: Global, systems: &[Address]) -> Result<Option<Addre
     Ok(first_shared(&owners))
 }
 
-/// Each system with its place.
 fn owners(alloc: Global, systems: &[Address]) -> Result<Vec<Owner>, AllocError>
     ensures { IfOk result (λ all. (o : Owner) → Contains all.items o ↔ IsAt systems.now o.file o.system) }
 {

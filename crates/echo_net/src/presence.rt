@@ -44,7 +44,7 @@ pub fn listed(
     Ok(all)
 }
 
-/// Appends the system, where something says why it is absent.
+/// Appends the system, if there is a reason for its absence.
 fn push_absent(
     all: &mut Vec<(Address, Absence)>,
     system: Address,

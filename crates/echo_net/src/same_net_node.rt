@@ -30,7 +30,6 @@ pub fn same_net_node(alloc: Global, systems: &[Address]) -> Result<Option<Link>,
     Ok(twins.first().copied())
 }
 
-/// Each system beside its net and node.
 fn neighbours(alloc: Global, systems: &[Address]) -> Result<Vec<Neighbour>, AllocError>
     ensures { IfOk result (λ all. all.items ≡ map neighbour_of systems.now) }
 {
@@ -40,7 +39,6 @@ fn neighbours(alloc: Global, systems: &[Address]) -> Result<Vec<Neighbour>, Allo
         .collect(alloc)
 }
 
-/// The system beside its net and node.
 fn neighbour_at(system: Address) -> Neighbour
     ensures { result ≡ neighbour_of system }
 {

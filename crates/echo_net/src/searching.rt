@@ -1,4 +1,4 @@
-//! Where a value stands among values that ascend.
+//! The place of a value among ascending values.
 
 ghost use Rattle.std.specs.Prelude.{◌≡◌, ◌<◌, ◌↔◌, true, IsTrue, MatchOption, Contains, length, slice_index_or};
 ghost use Rattle.std.specs.List.Sorted.{IsStrictlySortedBy};

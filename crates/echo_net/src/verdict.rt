@@ -4,7 +4,7 @@ use std::fmt;
 /// Whether an area of a net is in order.
 #[derive(Debug, Drop)]
 pub enum Verdict {
-    /// It is, with so many systems and so many pairs of linked systems.
+    /// It is, with this many systems and pairs of linked systems.
     Yes { systems: usize, links: u128 },
     /// It is not, for this reason.
     No(NetFault),

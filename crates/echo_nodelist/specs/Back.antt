@@ -22,7 +22,7 @@ net_back (Entry k n fields ∷ earlier) = if begins_net k then Some n else net_b
 abbrev pub node_of : Keyword → ℕ → ℕ
 node_of k n = if begins_net k then 0 else n
 
--- the address of these parts, where both are there
+-- the address of these parts, where both are known
 abbrev pub address_from : Option ℕ → Option ℕ → ℕ → Option Address
 address_from (Some zone) (Some net) node = Some (record { zone = zone; net = net; node = node })
 address_from _ _ node = None
@@ -47,7 +47,7 @@ hub_back [] = None
 hub_back (Note text ∷ earlier) = None
 hub_back (Entry k n fields ∷ earlier) = if begins_net k then None else if is_hub k then None else nearest_hub earlier
 
--- whether a hub may stand over a line: an entry that is neither Zone, Region, Host nor Hub
+-- whether a line may have a hub: an entry that is neither Zone, Region, Host nor Hub
 abbrev pub is_below_hub : Line → Bool
 is_below_hub (Note text) = false
 is_below_hub (Entry k n fields) = not (begins_net k) && not (is_hub k)
@@ -72,7 +72,7 @@ pub record IsFirstAt (lines : List Line) (a : Address) (i : ℕ) : Type 0 where
 abbrev pub Finds : List Line → Address → Option ℕ → Type 0
 Finds lines a found = MatchOption found ((i : ℕ) → address_at lines i ≢ Some a) (IsFirstAt lines a)
 
--- what is found of each line by looking back from it; the lines have the nearest first, the answers are in their order
+-- the answer for each line by looking back from it; the lines have the nearest first, the answers are in their order
 abbrev pub each_back : (List Line → Option Address) → List Line → List (Option Address)
 each_back f [] = []
 each_back f (line ∷ earlier) = each_back f earlier ++ f (line ∷ earlier) ∷ []

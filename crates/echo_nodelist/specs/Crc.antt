@@ -3,7 +3,7 @@ use Rattle.std.specs.Prelude.{ℕ, zero, suc, ◌+◌, ◌-◌, ◌^◌, ◌==�
 use Rattle.std.specs.List.{flat_map}
 use Rattle.std.specs.Int.{bit_at}
 
--- the lowest bits of a number, so many, the highest first
+-- this many lowest bits of a number, the highest first
 abbrev pub bits_of : ℕ → ℕ → List Bool
 bits_of zero n = []
 bits_of (suc k) n = (bit_at n k == 1) ∷ bits_of k n
@@ -13,7 +13,7 @@ abbrev pub bits_value : List Bool → ℕ
 bits_value [] = 0
 bits_value (b ∷ rest) = (if b then 2 ^ length rest else 0) + bits_value rest
 
--- so many 0 bits
+-- this many 0 bits
 abbrev pub zeros : ℕ → List Bool
 zeros zero = []
 zeros (suc n) = false ∷ zeros n
@@ -39,7 +39,7 @@ stepped [] = []
 stepped (false ∷ rest) = rest
 stepped (true ∷ rest) = drop 1 (added divisor (true ∷ rest))
 
--- so many steps
+-- this many steps
 abbrev pub steps : ℕ → List Bool → List Bool
 steps zero bits = bits
 steps (suc n) bits = steps n (stepped bits)

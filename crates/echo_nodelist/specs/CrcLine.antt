@@ -19,7 +19,7 @@ later_bytes text = after_first is_feed text
 abbrev pub is_space : ℕ → Bool
 is_space b = b == 32
 
--- the last five bytes of a line, what stands before them, and that without the blanks 20 at its end
+-- the last five bytes of a line, the bytes before them, and these without the blanks 20 at their end
 abbrev pub last_five : List ℕ → List ℕ
 last_five line = drop (length line - 5) line
 
@@ -38,7 +38,7 @@ states_crc line =
 abbrev pub stated_crc : List ℕ → ℕ
 stated_crc line = digits_value 10 (last_five line)
 
--- a stated number beside the computed one
+-- a stated number compared with the computed one
 abbrev pub compared : ℕ → ℕ → CrcLine
 compared stated computed = if stated == computed then Match stated else Mismatch stated computed
 

@@ -46,15 +46,15 @@ abbrev pub is_hub : Keyword → Bool
 is_hub Hub = true
 is_hub _ = false
 
--- the least number beside a keyword: nets are counted from 1, other systems from 0
+-- the least number of a keyword: nets are counted from 1, other systems from 0
 abbrev pub least_of : Keyword → ℕ
 least_of k = if begins_net k then 1 else 0
 
--- whether a number may stand beside a keyword
+-- whether a keyword may have this number
 abbrev pub is_fit : Keyword → ℕ → Bool
 is_fit k n = is_in_range (least_of k) 32767 n
 
--- the number that digits write, where it may stand beside the keyword
+-- the number that digits write, where the keyword may have it
 abbrev pub number_of : Keyword → List ℕ → Option ℕ
 number_of k digits = if is_number digits && is_fit k (digits_value 10 digits) then Some (digits_value 10 digits) else None
 

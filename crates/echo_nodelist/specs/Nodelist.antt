@@ -11,7 +11,7 @@ use Rattle.echo_nodelist.specs.Raw.{is_comma, is_end, is_feed, node_lines}
 use Rattle.echo_nodelist.specs.Line.{is_fit, is_note, line_in}
 use Rattle.echo_nodelist.specs.Back.{address_back, each_back, zone_back}
 
--- an entry, where a Zone line stands at or before it
+-- an entry, where a Zone line is at or before it
 abbrev pub in_zone : ℕ → Option ℕ → Line → Result Line NodeFault
 in_zone at None line = Err (NoZone at)
 in_zone at (Some zone) line = Ok line
@@ -55,11 +55,11 @@ abbrev pub NodelistAnswered : List ℕ → Result (List Line) NodeFault → Type
 NodelistAnswered bytes (Ok lines) = NodelistOf bytes lines
 NodelistAnswered bytes (Err fault) = NodelistFaultOf bytes fault ⊎ (fault ≡ Memory)
 
--- what was to be answered, or out of memory
+-- this answer, or out of memory
 abbrev pub Gives : {A : Type 0} → Result A NodeFault → Result A NodeFault → Type 0
 Gives answer expected = (answer ≡ Err Memory) ⊎ (answer ≡ expected)
 
--- a byte that may stand in a line: neither 1A nor 0A; one of a field is no comma either
+-- a byte that a line may have: neither 1A nor 0A; a field has no comma either
 abbrev pub is_inner : ℕ → Bool
 is_inner b = not (is_end b) && not (is_feed b)
 
@@ -86,7 +86,7 @@ AreLines (line ∷ earlier) = IsGoodLine earlier line × AreLines earlier
 abbrev pub IsNodelist : List Line → Type 0
 IsNodelist lines = AreLines (reverse lines)
 
--- what a `Nodelist` keeps beside its lines: the address of each
+-- a `Nodelist` keeps the address of each line
 pub record IsIndexed (lines : List Line) (addresses : List (Option Address)) : Type 0 where
   pub whole : IsNodelist lines
   pub address_each : addresses ≡ each_back address_back (reverse lines)

@@ -1,4 +1,4 @@
--- What is known of the lines before a line. Lists of lines have the nearest first.
+-- What the earlier lines say about the next line. Lists of lines have the nearest first.
 use Rattle.std.specs.Prelude.{◌≡◌, ℕ, List, ◌∷◌, reverse, Option, Some, None, Result, Ok, Err}
 use Rattle.echo_addr.specs.declared.address.Address.{Address}
 use Rattle.echo_nodelist.specs.declared.place.Place.{Place}
@@ -8,12 +8,12 @@ use Rattle.echo_nodelist.specs.declared.fault.NodeFault.{NodeFault}
 use Rattle.echo_nodelist.specs.Back.{address_back, each_back, net_back, zone_back}
 use Rattle.echo_nodelist.specs.Nodelist.{placed}
 
--- the place after these lines: none where no Zone line is among them
+-- the place after these lines: none before the first Zone line
 abbrev pub IsPlaceAfter : List Line → Option Place → Type 0
 IsPlaceAfter earlier None = zone_back earlier ≡ None
 IsPlaceAfter earlier (Some here) = (zone_back earlier ≡ Some here.zone) × (net_back earlier ≡ Some here.net)
 
--- what is found of a line after earlier ones: its address and the place after it
+-- the address of a line after earlier ones, and the place after it
 pub record IsLocated (earlier : List Line) (line : Line) (located : Located) : Type 0 where
   pub place : IsPlaceAfter (line ∷ earlier) located.place
   pub address : address_back (line ∷ earlier) ≡ located.address

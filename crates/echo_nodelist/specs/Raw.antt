@@ -12,7 +12,7 @@ is_end b = b == 26
 abbrev pub is_comma : ℕ → Bool
 is_comma b = b == 44
 
--- what stands before the first 1A
+-- the bytes before the first 1A
 abbrev pub before_end : List ℕ → List ℕ
 before_end bytes = before_first is_end bytes
 

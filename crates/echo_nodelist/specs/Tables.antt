@@ -3,7 +3,7 @@ use Rattle.std.specs.Prelude.{◌≡◌, ℕ, ◌<◌, List, ◌∷◌, replicat
 use Rattle.echo_nodelist.specs.declared.crc.Tables.{Tables}
 use Rattle.echo_nodelist.specs.Crc.{crc}
 
--- each entry is the checksum of its place, as a byte with so many bytes 00 after it
+-- each entry is the checksum of its index, as a byte with this many bytes 00 after it
 abbrev pub IsTable : ℕ → List ℕ → Type 0
 IsTable zeros table = (byte : ℕ) → byte < 256 → slice_index table byte ≡ crc (byte ∷ replicate zeros 0)
 

@@ -1,4 +1,4 @@
--- What is written of a nodelist.
+-- The bytes that are written for a nodelist.
 use Rattle.std.specs.Prelude.{◌≡◌, ℕ, ◌<◌, List, [], ◌∷◌, ◌++◌, length, take, decimal, Option, Result, Ok, Err}
 use Rattle.std.specs.List.{flat_map, join_with_byte}
 use Rattle.std.specs.Io.KnownBytes.{Appends}
@@ -22,8 +22,8 @@ line_and_end line = line_text line ++ 13 ∷ (10 ∷ [])
 unfoldable pub nodelist_text : List Line → List ℕ
 nodelist_text lines = flat_map line_and_end lines ++ 26 ∷ []
 
--- What a call did that had these bytes to write. Ok: all of them went out. A write fault: the device failed, and so
--- many bytes went out, a beginning that lacks some. Out of memory: nothing went out.
+-- The result of a call that had these bytes to write. Ok: all of them were sent. A write fault: the device failed,
+-- and this many bytes were sent, a beginning that is not complete. Out of memory: nothing was sent.
 abbrev pub WritesOut : {A : Type 0} → Option (List ℕ) → Option (List ℕ) → ℕ → ℕ → List ℕ → Result A NodeFault → Type 0
 WritesOut old new before after bytes (Ok done) = Appends old new bytes × (after ≡ before)
 WritesOut old new before after bytes (Err (Write n)) =

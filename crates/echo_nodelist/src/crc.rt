@@ -16,7 +16,7 @@ struct Tables {
     seven: [u16; 256],
 }
 
-/// The checksum of the bytes: polynomial x^16 + x^12 + x^5 + 1, begun at 0, the most significant
+/// The checksum of the bytes: polynomial x^16 + x^12 + x^5 + 1, initial value 0, most significant
 /// bit first, no final change.
 pub fn crc16(bytes: &[u8]) -> u16
     ensures { result ≡ crc bytes.now }
@@ -81,7 +81,6 @@ fn tables_of_zeros() -> Tables
     }
 }
 
-/// The table for one byte 00 more.
 fn after_zero(table: &[u16; 256]) -> [u16; 256]
     ensures { (zeros : ℕ) → IsTable zeros table.now → IsTable (suc zeros) result }
 {
@@ -99,7 +98,6 @@ fn with_byte(register: u16, byte: u8) -> u16
     of_byte((register >> 8) as u8 ^ byte) ^ (register << 8)
 }
 
-/// The checksum of one byte.
 fn of_byte(byte: u8) -> u16
     ensures { result ≡ crc (byte ∷ []) }
 {

@@ -5,10 +5,9 @@ ghost use Rattle.echo_nodelist.specs.Raw.{lines_of, before_end};
 
 use memchr::memchr;
 
-/// What ends the file.
 const END: u8 = 0x1a;
 
-/// What stands before the first of these bytes, and after it.
+/// The pieces before and after the first of these bytes.
 pub(crate) fn cut(byte: u8, text: &[u8]) -> Option<(&[u8], &[u8])>
     ensures none { IsNone result → position_or_len (λ b. b == byte) text.now ≡ length text.now }
     ensures found { IfSome result (λ p. position_or_len (λ b. b == byte) text.now < length text.now) }
@@ -20,7 +19,6 @@ pub(crate) fn cut(byte: u8, text: &[u8]) -> Option<(&[u8], &[u8])>
     Some((&text[..place], &text[place + 1..]))
 }
 
-/// What stands before the first 1A.
 pub(crate) fn before_end(bytes: &[u8]) -> &[u8]
     ensures { result.now ≡ before_end bytes.now }
 {
@@ -30,7 +28,6 @@ pub(crate) fn before_end(bytes: &[u8]) -> &[u8]
     }
 }
 
-/// The line without one 0D at its end.
 pub(crate) fn without_return(line: &[u8]) -> &[u8]
     ensures value { result.now ≡ strip_last 13 line.now }
     ensures room { length result.now ≤ length line.now }

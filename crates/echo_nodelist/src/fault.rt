@@ -6,7 +6,8 @@ use std::fmt;
 use thiserror::Error;
 
 /// Why a nodelist was not read or written. `line` is the number of the first faulty line, counted
-/// from 1; of its faults the first in this order. `bytes` counts bytes that went out.
+/// from 1. If it has several faults, the first in this order is reported. `bytes` counts bytes that
+/// were sent.
 #[derive(Clone, Copy, Debug, PartialEq, Eq, Error)]
 pub enum NodeFault {
     /// An entry of fewer than seven fields.
@@ -15,7 +16,7 @@ pub enum NodeFault {
     /// The first field is no keyword.
     #[error("N2 BadKeyword line {line}")]
     BadKeyword { line: usize },
-    /// The second field is no number, or one that is too great, or 0 beside Zone, Region or Host.
+    /// The second field is no number, or too great, or 0 for Zone, Region or Host.
     #[error("N3 BadNumber line {line}")]
     BadNumber { line: usize },
     /// An entry before any Zone line.

@@ -17,7 +17,7 @@ pub(crate) fn hub_at(lines: &[Line], addresses: &[Option<Address>], i: usize) ->
     }
 }
 
-/// Whether a hub may stand over the line: an entry that is neither Zone, Region, Host nor Hub.
+/// Whether the line may have a hub: an entry that is neither Zone, Region, Host nor Hub.
 fn is_below_hub(line: &Line) -> bool
     ensures { result ≡ is_below_hub line.now }
 {

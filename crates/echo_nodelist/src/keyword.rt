@@ -14,7 +14,6 @@ pub enum Keyword {
     Node,
 }
 
-/// All keywords.
 const KEYWORDS: [Keyword; 8] = [
     Keyword::Zone,
     Keyword::Region,
@@ -53,7 +52,6 @@ impl Keyword {
             .find(|keyword| bytes.eq_ignore_ascii_case(keyword.text()))
     }
 
-    /// Whether the line is a Zone.
     pub(crate) fn is_zone(self) -> bool
         ensures { result ≡ is_zone self }
     {
@@ -67,7 +65,6 @@ impl Keyword {
         matches!(self, Keyword::Zone | Keyword::Region | Keyword::Host)
     }
 
-    /// Whether the line is a Hub.
     pub(crate) fn is_hub(self) -> bool
         ensures { result ≡ is_hub self }
     {

@@ -1,4 +1,4 @@
-//! What holds of the definitions. Each law is the contract of a function that does nothing.
+//! Laws about the definitions. Each law is the contract of a function that does nothing.
 
 ghost use Rattle.std.specs.Prelude.{◌≡◌, ℕ, List};
 ghost use Rattle.echo_nodelist.specs.declared.fault.NodeFault.{NodeFault};
@@ -6,7 +6,7 @@ ghost use Rattle.echo_nodelist.specs.declared.line.Line.{Line};
 ghost use Rattle.echo_nodelist.specs.Nodelist.{NodelistFaultOf, IsNodelist, NodelistOf};
 ghost use Rattle.echo_nodelist.specs.Written.{nodelist_text};
 
-/// What is written of a nodelist is that nodelist, and bytes that were read keep the rules.
+/// The written bytes of a nodelist are that nodelist, and a nodelist that was read keeps the rules.
 pub fn written_nodelist_read_back()
     ensures again { (lines : List Line) → IsNodelist lines → NodelistOf (nodelist_text lines) lines }
     ensures whole { (bytes : List ℕ) (lines : List Line) → NodelistOf bytes lines → IsNodelist lines }

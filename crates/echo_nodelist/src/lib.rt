@@ -1,13 +1,13 @@
 //! Nodelists (FTS-5000) and their checksum.
 //!
-//! The contract for the layers above: what `write` wrote of a nodelist is read as that nodelist
-//! (`written_nodelist_read_back`); `find` gives the first line with an address, and addresses are
-//! those found by looking back from a line.
+//! Promise: what `write` wrote of a nodelist is read as that nodelist
+//! (`written_nodelist_read_back`). `find` gives the first line with an address. The address of a
+//! line follows from the lines before it.
 //!
-//! Modules in reading order: `fault` (why a nodelist is not read or written), `crc_table` and `crc`
-//! (the checksum), `cutting` (pieces of a text), `stated` (the checksum that the first line states),
-//! `keyword`, `line` (what a line says), `place` (where it stands), `hub` (the hub over it), `reading`, `writing`, `nodelist`,
-//! and `laws` (what holds of the definitions).
+//! Begin with `nodelist`, then `line` (one line), `place` (its zone and net) and `hub` (its hub).
+//! `reading` and `writing` do the files, `stated` compares the checksum of the first line, `fault`
+//! lists the refusals, `laws` states the promise. `crc_table`, `crc`, `cutting` and `keyword` are
+//! helpers.
 //!
 //! A caller:
 //!

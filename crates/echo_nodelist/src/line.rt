@@ -15,8 +15,8 @@ use std::alloc::{AllocError, Global};
 pub enum Line {
     /// An empty line, or one that begins with `;`.
     Note(Items<u8>),
-    /// A system: the number is at most 32,767, and at least 1 beside Zone, Region and Host. `fields`
-    /// are those after the number, five or more: name, location, sysop, phone, baud rate and flags.
+    /// A system: the number is at most 32,767, and at least 1 for Zone, Region and Host. `fields`
+    /// are the five or more after the number: name, location, sysop, phone, baud rate and flags.
     Entry {
         keyword: Keyword,
         number: u16,
@@ -48,7 +48,6 @@ fn is_note(bytes: &[u8]) -> bool
     bytes.is_empty() || bytes[0] == b';'
 }
 
-/// What the bytes of an entry say.
 fn read_entry(alloc: Global, line: usize, bytes: &[u8]) -> Result<Line, NodeFault>
     ensures { Gives result (entry_in line (slice_split is_comma bytes.now)) }
 {
@@ -75,7 +74,6 @@ fn read_entry(alloc: Global, line: usize, bytes: &[u8]) -> Result<Line, NodeFaul
     })
 }
 
-/// The fields between commas.
 fn fields_of(alloc: Global, text: &[u8]) -> Result<Vec<Items<u8>>, AllocError>
     ensures { IfOk result (λ v. v.items ≡ slice_split is_comma text.now) }
 {
@@ -89,7 +87,7 @@ fn fields_of(alloc: Global, text: &[u8]) -> Result<Vec<Items<u8>>, AllocError>
     Ok(fields)
 }
 
-/// The number that the digits write, where it may stand beside the keyword.
+/// The number that the digits write, where the keyword may have it.
 fn number_of(keyword: Keyword, digits: &[u8]) -> Option<u16>
     ensures { result ≡ number_of keyword digits.now }
 {

@@ -11,7 +11,7 @@ use echo_device::{Failure, Sink, send};
 use std::alloc::Global;
 use std::marker::Model;
 
-/// A nodelist (FTS-5000): its lines, and beside them the address of each line.
+/// A nodelist (FTS-5000): its lines, and the address of each line.
 #[derive(Debug, Drop)]
 pub struct Nodelist {
     lines: Vec<Line>,
@@ -48,8 +48,8 @@ impl Nodelist {
         })
     }
 
-    /// Writes each line with 0D 0A, then 1A. A fault is `Write` with the number of bytes that went
-    /// out, or `Memory`, where none did.
+    /// Writes each line with 0D 0A, then 1A. Faults: `Write` with the number of bytes that were
+    /// sent, or `Memory` before any was sent.
     pub fn write<W: Sink>(&self, alloc: Global, writer: &mut W) -> Result<(), NodeFault>
         ensures { WritesOut (W.contents writer.old) (W.contents writer.new) (W.failures writer.old) (W.failures writer.new) (nodelist_text self.now) result }
     {
@@ -76,9 +76,9 @@ impl Nodelist {
         kept_at(&self.addresses, i)
     }
 
-    /// The address of the Hub over the line at an index, from 0: for an entry with the keyword Pvt,
-    /// Hold, Down or none, that of the nearest Hub line before it with no Zone, Region or Host line
-    /// between them. It goes back from the line, as far as its net.
+    /// The address of the Hub over the line at an index, from 0. Only an entry with the keyword
+    /// Pvt, Hold, Down or none has one: the nearest Hub line before it with no Zone, Region or Host
+    /// line between them. The search goes back to the start of its net.
     pub fn hub_of(&self, i: usize) -> Option<Address>
         ensures { result ≡ hub_at self.now i }
     {
@@ -94,7 +94,7 @@ impl Nodelist {
     }
 }
 
-/// What is kept at an index; nothing past the end.
+/// The address at an index; nothing past the end.
 fn kept_at(kept: &[Option<Address>], i: usize) -> Option<Address>
     ensures { result ≡ slice_index_or kept.now i None }
 {
@@ -104,7 +104,6 @@ fn kept_at(kept: &[Option<Address>], i: usize) -> Option<Address>
     }
 }
 
-/// Where the address stands first.
 fn first_at(addresses: &[Option<Address>], wanted: Address) -> Option<usize>
     ensures { MatchOption result
         ((i : ℕ) → slice_index_or addresses.now i None ≢ Some wanted)
@@ -118,7 +117,6 @@ fn first_at(addresses: &[Option<Address>], wanted: Address) -> Option<usize>
     None
 }
 
-/// Whether the address is the one that is wanted.
 fn is_at(found: Option<Address>, wanted: Address) -> bool
     ensures { IsTrue result ↔ (found ≡ Some wanted) }
 {

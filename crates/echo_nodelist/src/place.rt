@@ -9,21 +9,21 @@ use crate::keyword::Keyword;
 use crate::line::Line;
 use echo_addr::Address;
 
-/// Where a line stands, by the lines up to it: zone and net.
+/// The zone and net of a line, by the lines up to it.
 #[derive(Clone, Copy)]
 pub(crate) struct Place {
     zone: u16,
     net: u16,
 }
 
-/// What the lines up to a line say of it: its address, and the place after it.
+/// The address of a line, and the place after it.
 #[derive(Clone, Copy)]
 pub(crate) struct Located {
     pub(crate) address: Option<Address>,
     pub(crate) place: Option<Place>,
 }
 
-/// What is known of a line after a place. `number` is the line's.
+/// The address of a line after a place. `number` is the line's.
 pub(crate) fn locate(place: Option<Place>, number: usize, line: &Line) -> Result<Located, NodeFault>
     ensures { (earlier : List Line) → IsPlaceAfter earlier place → Locates number earlier line.now result }
 {

@@ -36,7 +36,6 @@ impl Reading {
     }
 }
 
-/// The lines of the text.
 pub(crate) fn read_lines(alloc: Global, text: &[u8]) -> Result<Reading, NodeFault>
     ensures { ReadsLines (lines_of text.now) result }
 {

@@ -23,8 +23,8 @@ const DIGITS: usize = 5;
 /// A number above each that those digits write.
 const TOO_LARGE: u32 = 100_000;
 
-/// What the first line states, beside the checksum of the bytes from the second line on, up to the
-/// first 1A.
+/// Compares the checksum that the first line states with that of the bytes from the second line on,
+/// up to the first 1A.
 pub fn crc_line(bytes: &[u8]) -> CrcLine
     ensures { result ≡ crc_line_of bytes.now }
 {
@@ -41,7 +41,6 @@ pub fn crc_line(bytes: &[u8]) -> CrcLine
     }
 }
 
-/// What stands before the first 0A, and after it.
 fn first_piece(text: &[u8]) -> (&[u8], &[u8])
     ensures before { result.0.now ≡ before_first is_feed text.now }
     ensures after { result.1.now ≡ after_first is_feed text.now }
@@ -52,7 +51,6 @@ fn first_piece(text: &[u8]) -> (&[u8], &[u8])
     }
 }
 
-/// The number that the line states.
 fn stated_number(line: &[u8]) -> Option<u32>
     ensures none { IsNone result ↔ (states_crc line.now ≡ false) }
     ensures value { IfSome result (λ n. n ≡ stated_crc line.now) }
@@ -72,7 +70,6 @@ fn without_spaces(bytes: &[u8]) -> &[u8]
     &bytes[..bytes.len() - spaces(bytes)]
 }
 
-/// How many blanks 20 stand at the end.
 fn spaces(bytes: &[u8]) -> usize
     ensures exact { result ≡ suffix_len is_space bytes.now }
     ensures within { result ≤ length bytes.now }

@@ -19,7 +19,6 @@ pub(crate) fn nodelist_text(alloc: Global, lines: &[Line]) -> Result<Vec<u8>, Al
     Ok(text)
 }
 
-/// Writes a line.
 fn push_line(alloc: Global, text: &mut Vec<u8>, line: &Line) -> Result<(), AllocError>
     ensures { OnOk result (text.new.items ≡ text.old.items ++ line_text line.now) }
 {
@@ -38,7 +37,6 @@ fn push_line(alloc: Global, text: &mut Vec<u8>, line: &Line) -> Result<(), Alloc
     }
 }
 
-/// Writes a number in decimal.
 fn push_number(alloc: Global, text: &mut Vec<u8>, number: u16) -> Result<(), AllocError>
     ensures { OnOk result (text.new.items ≡ text.old.items ++ decimal number) }
 {

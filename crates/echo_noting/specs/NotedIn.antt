@@ -13,8 +13,8 @@ use Rattle.echo_toss.specs.PacketSteps.{PacketStep}
 use Rattle.echo_toss.specs.PacketsIn.{HoldsUnlessFailed, messages_answer, packet_answer, state_in, stop_in}
 use Rattle.echo_noting.specs.NotedPacket.{NotesPacket, NotesTaken}
 
--- The packet at the front of a reader's bytes is tossed, from this base to the one that the store holds then; the notes on its
--- messages stand behind the text.
+-- The packet at the front of a reader's bytes is tossed, from this base to the one that the store then holds. The
+-- notes on its messages follow the text.
 pub record NotesPacketIn (limits : Limits) (file : LinkFile) (base : Base) (before after : Option (List ℕ)) (text noted : List ℕ) (old : StoreState) (result : Result Tally StoppedToss) (new : StoreState) : Type 0 where
   pub next : Base
   pub step : PacketStep limits (state_in file base) before after (packet_answer result) (state_in file next)

@@ -32,7 +32,7 @@ id_said None = codes "\n"
 abbrev pub area_said : EchoText → List ℕ
 area_said e = codes " area " ++ (e.tag ++ id_said (msgid_of e.kept))
 
--- the same of a text, which says them if nothing keeps it from being echomail
+-- the same for a text, if it is echomail
 abbrev pub said_unless : Option TextFault → EchoText → List ℕ
 said_unless None e = area_said e
 said_unless (Some refused) e = codes "\n"
@@ -50,7 +50,8 @@ abbrev pub note_of : ℕ → ℕ → Outcome → Message → List ℕ
 note_of number place Filed m = []
 note_of number place other m = note_line number place other m
 
--- the notes on messages of one sender that are tossed in order, of which the first has this number and begins behind so many bytes
+-- the notes on messages of one sender that are tossed in order; the first has this number and begins after this many
+-- bytes
 abbrev pub notes_of : LinkFile → List FiledMessage → Address → ℕ → ℕ → List Message → List ℕ
 notes_of file base sender number start [] = []
 notes_of file base sender number start (m ∷ later) =

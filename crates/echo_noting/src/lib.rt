@@ -1,9 +1,9 @@
-//! Packets that are tossed with a note on each of their messages that is not filed.
+//! The report of a toss: a line for each message of a packet that is not filed.
 //!
-//! The contract for the layer above: a packet is tossed as `toss_packet_in` does it, and just the notes on its
-//! messages that were not filed, in order, are added to a text.
+//! Promise: a packet is tossed as `toss_packet_in` does it. Just the lines of its messages that were not filed
+//! are appended to a text, in order.
 //!
-//! Modules in reading order: `note` (the line of one message) and `storing` (a packet, tossed into a store).
+//! Begin with `storing` (a packet, tossed into a store). `note` is the line of one message.
 #![tactic(auto)]
 
 mod note;

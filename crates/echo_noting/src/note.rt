@@ -27,7 +27,6 @@ pub(crate) fn note_line(
     Ok(line)
 }
 
-// The word of an outcome.
 fn outcome_word(outcome: Outcome) -> &'static [u8]
     ensures { result.now ≡ outcome_word outcome }
 {
@@ -41,7 +40,7 @@ fn outcome_word(outcome: Outcome) -> &'static [u8]
     }
 }
 
-// Adds the area and the id that the text says, if it is echomail, and the end of the line.
+// Adds the area and the id of the text, if it is echomail, and the end of the line.
 fn push_said(alloc: Global, line: &mut Vec<u8>, text: &[u8]) -> Result<(), AllocError>
     requires { HasNoZero text.now }
     ensures { OnOk result (line.new.items ≡ line.old.items ++ text_said text.now) }
@@ -54,7 +53,6 @@ fn push_said(alloc: Global, line: &mut Vec<u8>, text: &[u8]) -> Result<(), Alloc
     }
 }
 
-// Adds the area and the id.
 fn push_area(line: &mut Vec<u8>, echo: &EchoView) -> Result<(), AllocError>
     ensures { OnOk result (line.new.items ≡ line.old.items ++ area_said echo.now) }
 {
@@ -63,7 +61,6 @@ fn push_area(line: &mut Vec<u8>, echo: &EchoView) -> Result<(), AllocError>
     push_id(line, echo.msgid())
 }
 
-// Adds the id, if there is one.
 fn push_id(line: &mut Vec<u8>, id: Option<&[u8]>) -> Result<(), AllocError>
     ensures { OnOk result (line.new.items ≡ line.old.items ++ id_said (option_copied id.entry)) }
 {
@@ -73,7 +70,6 @@ fn push_id(line: &mut Vec<u8>, id: Option<&[u8]>) -> Result<(), AllocError>
     }
 }
 
-// Ends the line.
 fn push_end(line: &mut Vec<u8>) -> Result<(), AllocError>
     ensures { OnOk result (line.new.items ≡ line.old.items ++ codes "\n") }
 {

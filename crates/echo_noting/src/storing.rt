@@ -1,4 +1,4 @@
-//! A packet is tossed into a store, and what was not filed is noted.
+//! Tosses a packet into a store, and notes the messages that were not filed.
 ghost use Rattle.std.specs.Prelude.{◌≡◌, ◌+◌, ◌<◌, ◌≤◌, ◌^◌, ◌≢◌, [], ◌++◌, IfErr, IsErr, OnErr, OnOk, vec_capacity, vec_len};
 ghost use Rattle.echo_base.specs.Base.{Base};
 ghost use Rattle.echo_disk.specs.Disk.{Honestly};
@@ -22,10 +22,11 @@ use echo_store::Store;
 use echo_toss::{Outcome, StoppedToss, Tally, TossCause, TossStop, opened, toss_in};
 use std::alloc::{AllocError, Global};
 
-/// Tosses the packet at the front of what the reader has into the store, as `toss_packet_in` does, and adds to the text a
-/// line for each of its messages that was not filed. `room` more bytes stay free behind the text. Nothing is committed.
+/// Tosses the packet at the front of the reader into the store, as `toss_packet_in` does. It appends to the
+/// text a line for each of its messages that was not filed, and keeps room for `room` more bytes. Nothing is
+/// committed.
 ///
-/// A message for whose line there is no memory is not counted either.
+/// A message without memory for its line is not counted either.
 pub fn toss_noting_in<T: Store, R: Source>(
     alloc: Global,
     links: &LinkFile,
@@ -62,7 +63,7 @@ pub fn toss_noting_in<T: Store, R: Source>(
     }
 }
 
-// Tosses the messages up to the terminator, and notes what was not filed.
+// Tosses the messages up to the terminator, and notes those that were not filed.
 #[allow(clippy::too_many_arguments)]
 fn note_messages_in<T: Store, R: Source>(
     alloc: Global,

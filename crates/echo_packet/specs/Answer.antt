@@ -17,7 +17,7 @@ Found = Header × List Message × ℕ
 abbrev pub Answer : Type 0
 Answer = Result Found PacketFault
 
--- what a call answered, its vector as a list
+-- the answer of a call, with its vector as a list
 abbrev pub answered : Result (Header × Vec Message Global × ℕ) PacketFault → Answer
 answered (Ok r) = Ok (r.0, r.1.items, r.2)
 answered (Err f) = Err f

@@ -1,4 +1,4 @@
--- What is wrong with bytes that are no packet, and at which place.
+-- Faults of bytes that are no packet, and their places.
 use Rattle.std.specs.Prelude.{◌≡◌, ◌≢◌, ℕ, ◌+◌, ◌-◌, ◌^◌, ◌<◌, ◌≤◌, ◌⊎◌, min, List, [], ◌++◌, length, take}
 use Rattle.echo_packet.specs.declared.header.Header.{Header}
 use Rattle.echo_packet.specs.declared.limits.Limits.{Limits}
@@ -14,7 +14,7 @@ IsCut limits Numbers r = length r < 12
 IsCut limits DateTime r = length r < 20
 IsCut limits field r = HasNoZero r × (length r ≤ most_of limits.text field)
 
--- one byte more than a string may have is there, and none of these is 00
+-- a string is longer than allowed: one more byte came, and no byte is 00
 abbrev pub IsTooLong : ℕ → List ℕ → Type 0
 IsTooLong most r = (most < length r) × HasNoZero (take (most + 1) r)
 
@@ -29,11 +29,11 @@ IsLongField _ r = ⊥
 abbrev pub IsLongText : Limits → Part → List ℕ → Type 0
 IsLongText limits field r = (field ≡ Text) × IsTooLong limits.text r
 
--- a number stands where a message or the terminator begins, and it is neither 2 nor 0
+-- the number where a message or the terminator begins is neither 2 nor 0
 abbrev pub IsOtherNumber : Part → List ℕ → Type 0
 IsOtherNumber field r = (field ≡ Number) × (2 ≤ length r) × (number_at 0 r ≢ 2) × (number_at 0 r ≢ 0)
 
--- a message begins though as many as allowed were given before it
+-- a message begins though the allowed number came before it
 abbrev pub IsOneTooMany : Limits → ℕ → Part → List ℕ → Type 0
 IsOneTooMany limits given field r =
     (field ≡ Number) × (2 ≤ length r) × (number_at 0 r ≡ 2) × (given ≡ limits.messages)

@@ -19,27 +19,27 @@ use Rattle.echo_packet.specs.Fault.{IsTooLong, place_of}
 abbrev pub Came : Option (List ℕ) → Option (List ℕ) → (List ℕ → Type 0) → Type 0
 Came old new P = (came : List ℕ) × Consumes old new came × P came
 
--- the bytes end inside a string of at most so many bytes
+-- the bytes end inside a string of at most this many bytes
 abbrev pub IsOpen : ℕ → List ℕ → Type 0
 IsOpen most bs = HasNoZero bs × (length bs ≤ most)
 
--- the bytes are one more than a string may have, and none of them is 00
+-- the bytes are one more than a string may have, and no byte is 00
 abbrev pub IsPast : ℕ → List ℕ → Type 0
 IsPast most bs = HasNoZero bs × (length bs ≡ most + 1)
 
--- the bytes without 00 of a string that came, of which so many have room
+-- the bytes of a string that came without its 00; this many fit
 abbrev pub BreaksString : ℕ → Option (List ℕ) → Option (List ℕ) → Broken → Type 0
 BreaksString room old new broken.Cut = Came old new (IsOpen room) × IsAtEnd new
 BreaksString room old new broken.Device = Came old new (IsOpen room)
 BreaksString room old new broken.Memory = Came old new (IsOpen room)
 
--- where the 00 of a string stands in the bytes, of which so many have room before it
+-- the index of the 00 of a string in the bytes; this many fit before it
 abbrev pub IsPiece : ℕ → List ℕ → Piece → Type 0
 IsPiece room bs (piece.Whole n) = (n < length bs) × (n ≤ room) × HasNoZero (take n bs) × (slice_index bs n ≡ 0)
 IsPiece room bs piece.Open = HasNoZero bs × (length bs ≤ room)
 IsPiece room bs piece.TooLong = IsTooLong room bs
 
--- one step of reading a string put some bytes behind those that it had, or its last ones and took its 00 too, or came past its room
+-- one step of reading a string appended some bytes, or its last ones and consumed its 00 too, or came past its room
 abbrev pub StepsString : ℕ → List ℕ → List ℕ → Option (List ℕ) → Option (List ℕ) → Result Taken Broken → Type 0
 StepsString room had has old new (Ok taken.Part) =
     (t : List ℕ) × (has ≡ had ++ t) × Consumes old new t × HasNoZero t × (0 < length t) × (length t ≤ room)
@@ -48,7 +48,7 @@ StepsString room had has old new (Ok taken.Whole) =
 StepsString room had has old new (Ok taken.TooLong) = Came old new (IsPast room)
 StepsString room had has old new (Err b) = BreaksString room old new b
 
--- the fault of a field that begins at the place, by what is so of the bytes from there on
+-- the fault of a field that begins at the place, by the bytes from there on
 abbrev pub FieldFault : (List ℕ → Type 0) → (List ℕ → Type 0) → (List ℕ → Type 0) → ℕ → List ℕ → PacketFault → Type 0
 FieldFault Cut Long LongText place bs (fault.Truncated at) = (at ≡ place) × Cut bs
 FieldFault Cut Long LongText place bs (fault.FieldTooLong at) = (at ≡ place) × Long bs
@@ -57,7 +57,8 @@ FieldFault Cut Long LongText place bs (fault.Read at) = Unit {0}
 FieldFault Cut Long LongText place bs fault.Memory = Unit {0}
 FieldFault Cut Long LongText place bs _ = ⊥
 
--- At a fault the source lost nothing behind the field that begins at the place: the bytes that came end inside it, or show that it is too long.
+-- At a fault the source lost nothing after the field that begins at the place. The bytes that came end inside it, or
+-- show that it is too long.
 abbrev pub FailsInField : (List ℕ → Type 0) → (List ℕ → Type 0) → (List ℕ → Type 0) → ℕ → Option (List ℕ) → Option (List ℕ) → PacketFault → Type 0
 FailsInField Cut Past PastText place old new (fault.Truncated at) = (at ≡ place) × Came old new Cut
 FailsInField Cut Past PastText place old new (fault.Read at) = (at ≡ place) × Came old new Cut
@@ -91,19 +92,19 @@ abbrev pub StringFault : Field → ℕ → ℕ → List ℕ → PacketFault → 
 StringFault field.Text most = TextFault most
 StringFault _ most = NameFault most
 
--- what the source lost at the fault of a field of that size
+-- the bytes that the source lost at the fault of a field of that size
 abbrev pub FailsInFixed : ℕ → ℕ → Option (List ℕ) → Option (List ℕ) → PacketFault → Type 0
 FailsInFixed size = FailsInField (IsShort size) Never Never
 
--- what it lost at the fault of a name or the subject
+-- the bytes that it lost at the fault of a name or the subject
 abbrev pub FailsInName : ℕ → ℕ → Option (List ℕ) → Option (List ℕ) → PacketFault → Type 0
 FailsInName most = FailsInField (IsOpen most) (IsPast most) Never
 
--- what it lost at the fault of a text
+-- the bytes that it lost at the fault of a text
 abbrev pub FailsInText : ℕ → ℕ → Option (List ℕ) → Option (List ℕ) → PacketFault → Type 0
 FailsInText most = FailsInField (IsOpen most) Never (IsPast most)
 
--- what it lost at the fault of the string of a field
+-- the bytes that it lost at the fault of the string of a field
 abbrev pub FailsInString : Field → ℕ → ℕ → Option (List ℕ) → Option (List ℕ) → PacketFault → Type 0
 FailsInString field.Text most = FailsInText most
 FailsInString _ most = FailsInName most

@@ -19,7 +19,7 @@ header_bytes h =
     ++ (word h.orig_net ++ (word h.dest_net ++ (h.prod_code ∷ h.serial_no ∷ (h.password
     ++ (word h.orig_zone ++ (word h.dest_zone ++ h.fill)))))))))))))))
 
--- the header whose fields stand at their places in the bytes
+-- the header with the fields at their offsets in the bytes
 unfoldable pub header_of : List ℕ → Header
 header_of bs = record {
   orig_node = number_at 0 bs;

@@ -45,7 +45,7 @@ max_name = 35
 abbrev pub max_subject : ℕ
 max_subject = 71
 
--- a string of bytes that a 00 may end, of at most so many bytes
+-- a string without 00, of at most this many bytes
 pub record IsString (most : ℕ) (s : List ℕ) : Type 0 where
   pub bytes : AreBytes s
   pub no_zero : HasNoZero s
@@ -70,7 +70,7 @@ unfoldable pub numbers : Message → List ℕ
 numbers m = word m.orig_node ++ (word m.dest_node ++ (word m.orig_net ++ (word m.dest_net
     ++ (word m.attribute ++ word m.cost))))
 
--- the bytes of a message that stand before a field
+-- the bytes of a message before a field
 abbrev pub before : Part → Message → List ℕ
 before Number m = []
 before Numbers m = word 2
@@ -96,7 +96,7 @@ most_of text FromName = max_name
 most_of text Subject = max_subject
 most_of text _ = text
 
--- the fields of a message are of their sizes, its text of at most so many bytes
+-- the fields of a message have their sizes, its text at most this many bytes
 pub record IsMessage (most : ℕ) (m : Message) : Type 0 where
   pub orig_node : m.orig_node < 2 ^ 16
   pub dest_node : m.dest_node < 2 ^ 16

@@ -1,4 +1,4 @@
--- What stands where a message or the terminator begins, or what is wrong there.
+-- The next message, the terminator, or the fault at that place.
 use Rattle.std.specs.Prelude.{◌≡◌, ◌≢◌, ℕ, ◌+◌, ◌<◌, ◌≤◌, List, ◌++◌, length, Option, None, Some, IfSome, Result, Ok, Err}
 use Rattle.std.specs.Io.KnownBytes.{Consumes}
 use Rattle.echo_device.specs.Device.{Failed}
@@ -10,7 +10,8 @@ use Rattle.echo_packet.specs.Message.{Message, Part, Number, Numbers, DateTime, 
 use Rattle.echo_packet.specs.Field.{Came}
 use Rattle.echo_packet.specs.Fault.{IsCut, IsLongField, IsLongText, IsOtherNumber, IsOneTooMany, place_of}
 
--- So many messages and bytes stand before these bytes. After the earlier fields of one more message, the field at the place is wrong.
+-- This many messages and bytes come before these bytes. After the earlier fields of one more message, the field at
+-- the place is wrong.
 pub record AtPart (limits : Limits) (given start : ℕ) (bs : List ℕ) (at : ℕ) (Wrong : Part → List ℕ → Type 0) : Type 0 where
   pub one_more : Message
   pub field : Part
@@ -32,7 +33,7 @@ NextFault limits given start bs (fault.Read at) = Unit {0}
 NextFault limits given start bs fault.Memory = Unit {0}
 NextFault limits given start bs _ = ⊥
 
--- no more bytes than the field has; of a string at most one more than it may have, and none that is 00
+-- at most the bytes of the field; of a string at most one more than it may have, and no 00
 abbrev pub IsOfField : Limits → Part → List ℕ → Type 0
 IsOfField limits Number r = length r ≤ 2
 IsOfField limits Numbers r = length r ≤ 12
@@ -43,7 +44,8 @@ IsOfField limits field r = HasNoZero r × (length r ≤ most_of limits.text fiel
 abbrev pub LosesUpTo : Limits → ℕ → ℕ → List ℕ → Option (List ℕ) → Option (List ℕ) → ℕ → (Part → List ℕ → Type 0) → Type 0
 LosesUpTo limits given start front old new at Of = Came old new (λ came. AtPart limits given start (front ++ came) at Of)
 
--- At a fault the source lost nothing behind the field at the place. Where it ended, the device failed or memory ran out, the bytes end inside that field.
+-- At a fault the source lost nothing after the field at the place. Where it ended, the device failed or memory ran
+-- out, the bytes end inside that field.
 abbrev pub FailsInMessage : Limits → ℕ → ℕ → List ℕ → Option (List ℕ) → Option (List ℕ) → PacketFault → Type 0
 FailsInMessage limits given start front old new (fault.Truncated at) = LosesUpTo limits given start front old new at (IsCut limits)
 FailsInMessage limits given start front old new (fault.Read at) = LosesUpTo limits given start front old new at (IsCut limits)
@@ -64,7 +66,7 @@ abbrev pub next_bytes : Option Message → List ℕ
 next_bytes (Some m) = message_bytes m
 next_bytes None = word 0
 
--- the source lost just the bytes of what is given
+-- the source lost just the bytes of the answer
 abbrev pub TakesNext : Option (List ℕ) → Option (List ℕ) → Result (Option Message) PacketFault → Type 0
 TakesNext old new (Ok next) = Consumes old new (next_bytes next)
 TakesNext old new (Err f) = Unit {0}

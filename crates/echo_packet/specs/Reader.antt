@@ -23,7 +23,7 @@ reader_header p = p.header
 abbrev pub reader_limits : {R : Type 0} → PacketReader R → Limits
 reader_limits p = p.limits
 
--- how many messages were given
+-- the number of messages answered
 abbrev pub reader_given : {R : Type 0} → PacketReader R → ℕ
 reader_given p = p.given
 
@@ -47,7 +47,8 @@ IsStopped p = p.stage ≡ stage.Stopped
 abbrev pub KeepsFront : {R : Type 0} → PacketReader R → PacketReader R → Type 0
 KeepsFront old new = (new.header ≡ old.header) × (new.limits ≡ old.limits)
 
--- how many messages were given, and what comes: it goes on after a message, ends at the terminator and stops at an error
+-- the number of messages answered, and the next stage: it goes on after a message, ends at the terminator and stops
+-- at an error
 abbrev pub GoesOn : {R : Type 0} → PacketReader R → PacketReader R → Result (Option Message) PacketFault → Type 0
 GoesOn old new (Ok (Some m)) = (new.given ≡ old.given + 1) × IsReading new
 GoesOn old new (Ok None) = (new.given ≡ old.given) × IsEnded new
@@ -60,15 +61,16 @@ FrontFault bs (fault.NotType2 at) = (at ≡ 18) × (58 ≤ length bs) × (number
 FrontFault bs (fault.Read at) = at ≡ 0
 FrontFault bs _ = ⊥
 
--- at a fault the source lost no more than the header: fewer bytes than that has, or all of them where the packet type is another
+-- at a fault the source lost at most the header: fewer bytes than that has, or all of them if the packet type is
+-- another
 abbrev pub FailsInFront : Option (List ℕ) → Option (List ℕ) → PacketFault → Type 0
 FailsInFront old new (fault.Truncated at) = (at ≡ 0) × Came old new (IsShort 58)
 FailsInFront old new (fault.Read at) = (at ≡ 0) × Came old new (IsShort 58)
 FailsInFront old new (fault.NotType2 at) = (at ≡ 18) × Came old new (λ came. length came ≡ 58)
 FailsInFront old new _ = ⊥
 
--- A call failed that took the source by value: this is how it was left. It lost no more than the header, and the count of
--- failures rose at a read fault and only there.
+-- How a failed call left the source that it took by value. It lost at most the header. The count of failures rose at
+-- a read fault and only there.
 pub record IsDropped {R : Type 0} (remaining : R → Option (List ℕ)) (failures : R → ℕ) (source : R) (f : PacketFault) : Type 0 where
   pub left : R
   pub inside : FailsInFront (remaining source) (remaining left) f

@@ -9,7 +9,7 @@ use Rattle.echo_packet.specs.declared.fault.PacketFault.TheVariants.{Write}
 abbrev pub writer_below : {W : Type 0} → PacketWriter W → W
 writer_below p = p.writer
 
--- how many bytes of the packet went out
+-- the number of bytes of the packet that were sent
 abbrev pub bytes_sent : {W : Type 0} → PacketWriter W → ℕ
 bytes_sent p = p.sent
 
@@ -17,7 +17,7 @@ bytes_sent p = p.sent
 abbrev pub has_stopped : {W : Type 0} → PacketWriter W → Bool
 has_stopped p = p.stopped
 
--- A call that took the writer by value failed and gives it back: a front of the bytes, which lacks some, went out and
+-- A call that took the writer by value failed and gives it back. A beginning of the bytes was sent, not all, and
 -- nothing else. The fault counts it and the bytes before.
 pub record IsCutOff {W : Type 0} (contents : W → Option (List ℕ)) (failures : W → ℕ) (writer : W) (bytes : List ℕ) (before : ℕ) (left : Unfinished W) : Type 0 where
   pub sent : ℕ

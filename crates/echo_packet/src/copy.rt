@@ -8,7 +8,7 @@ use std::marker::Model;
 use std::rc::Rc;
 
 /// A packed message for one system. The copies of a message share all but the node and the net of
-/// the system that they are for, so each takes a few bytes.
+/// their system, so each takes a few bytes.
 #[derive(Debug, Drop)]
 pub struct PackedCopy {
     dest_node: u16,
@@ -61,7 +61,7 @@ impl PackedCopy {
         self.dest_net
     }
 
-    /// The message that it is a copy of: the same but for the system that it is for.
+    /// The message that it is a copy of: the same except for the system that it is for.
     pub fn message(&self) -> &Packed
         ensures { self.now ≡ readdressed result.now self.now.dest_node self.now.dest_net }
     {

@@ -8,7 +8,7 @@ use crate::header::{HEADER_BYTES, Header};
 use crate::packed::Packed;
 use byteorder::{ByteOrder, LittleEndian};
 
-/// How many bytes of a message stand before its strings.
+/// The number of bytes of a message before its strings.
 pub(crate) const FIXED_BYTES: usize = 34;
 
 // The numbers, the low byte of each first.
@@ -50,8 +50,8 @@ pub(crate) fn write_header(header: &Header, out: &mut [u8])
     out.copy_from_slice(&bytes);
 }
 
-/// The bytes of the message for the system of this node and net that stand before its strings: the
-/// number 2, the six numbers, DateTime.
+/// The bytes of the message before its strings, for the system of this node and net: the number 2,
+/// the six numbers, DateTime.
 #[tactic(auto, unfolding(crate::specs::Message::numbers))]
 pub(crate) fn fixed_bytes(message: &Packed, dest_node: u16, dest_net: u16) -> [u8; FIXED_BYTES]
     ensures { result ≡ (word 2 ++ numbers (readdressed message.now dest_node dest_net)) ++ message.now.date }

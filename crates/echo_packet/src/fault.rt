@@ -1,7 +1,7 @@
 use std::alloc::{AllocError, AllocFailed};
 use thiserror::Error;
 
-/// A field of a packed message whose bytes `Packed` refuses.
+/// A field of a packed message that `Packed` refuses.
 #[derive(Clone, Copy, Debug, PartialEq, Eq)]
 pub enum Field {
     ToName,
@@ -11,7 +11,7 @@ pub enum Field {
 }
 
 /// Why a packet was not read or written. `at` is the place of the faulty field in bytes from the
-/// start of the packet; `bytes` counts bytes that went out.
+/// start of the packet; `bytes` counts bytes that were sent.
 #[derive(Clone, Copy, Debug, PartialEq, Eq, Error)]
 pub enum PacketFault {
     /// The input ends inside the field, or where a message or 00 00 should begin.

@@ -9,10 +9,10 @@ use echo_device::{Broken, Source, are_bytes};
 use memchr::memchr;
 use std::alloc::Global;
 
-/// What stands at the front of bytes where a string goes on.
+/// The beginning of bytes where a string continues.
 #[derive(Clone, Copy, Debug, PartialEq, Eq)]
 pub(crate) enum Piece {
-    /// So many bytes, and then its 00.
+    /// This many bytes, and then its 00.
     Whole(usize),
     /// All bytes are the string's.
     Open,
@@ -104,8 +104,8 @@ fn take_piece<R: Source>(reader: &mut R, string: &mut Vec<u8>, room: usize) -> R
     }
 }
 
-/// A string of at most `most` bytes, without the 00 that ends it, or none where no 00 stands within
-/// `most + 1` bytes. No byte after the 00 is taken.
+/// A string of at most `most` bytes, without the 00 that ends it. None where `most + 1` bytes have
+/// no 00. No byte after the 00 is consumed.
 pub(crate) fn read_string<R: Source>(
     alloc: Global,
     reader: &mut R,

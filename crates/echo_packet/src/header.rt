@@ -6,8 +6,8 @@ use byteorder::{ByteOrder, LittleEndian};
 /// How many bytes a header has.
 pub const HEADER_BYTES: usize = 58;
 
-/// The header of a packet (FTS-0001). The fields are as they stand in the bytes: the month counts
-/// from 0, the packet type is always 2 and is left out, `password` and `fill` are kept as read.
+/// The header of a packet (FTS-0001). The fields are as in the bytes: the month counts from 0,
+/// `password` and `fill` are unchanged. The packet type is always 2 and is left out.
 #[derive(Clone, Copy, Debug, PartialEq, Eq)]
 pub struct Header {
     pub orig_node: u16,
@@ -29,7 +29,6 @@ pub struct Header {
     pub fill: [u8; 20],
 }
 
-/// The two-byte number at a place.
 pub(crate) fn number_at(bytes: &[u8], at: usize) -> u16
     requires { at + 2 ≤ length bytes.now }
     ensures { result ≡ number_at at bytes.now }
@@ -37,7 +36,7 @@ pub(crate) fn number_at(bytes: &[u8], at: usize) -> u16
     LittleEndian::read_u16(&bytes[at..])
 }
 
-/// The header that stands in front of the bytes, whatever the packet type.
+/// The header at the front of the bytes, whatever the packet type.
 #[tactic(auto, unfolding(crate::specs::Header::header_of))]
 pub(crate) fn header_of(bytes: &[u8]) -> Header
     requires { 58 ≤ length bytes.now }

@@ -1,4 +1,4 @@
-//! What holds of the definitions. Each law is the contract of a function that does nothing.
+//! Laws about the definitions. Each law is the contract of a function that does nothing.
 
 ghost use Rattle.std.specs.Prelude.{◌≡◌, ℕ, ◌+◌, ◌<◌, ◌≤◌, ◌⊎◌, List, [], ◌∷◌, ◌++◌, length, take, Ok};
 ghost use Rattle.echo_packet.specs.declared.header.Header.{Header};
@@ -31,8 +31,8 @@ pub fn written_packet_reads_back()
         Describes limits (packet_bytes h ms ++ rest) (Ok (h, ms, length (packet_bytes h ms))) }
 {}
 
-/// A packet that is read message by message is what its bytes are: the calls of `PacketReader` go
-/// from one `SoFar` to the next, and end in a packet or in the fault of these bytes.
+/// The bytes that are read message by message are a packet or have one fault. The calls of
+/// `PacketReader` go from one `SoFar` to the next, and end in that packet or that fault.
 pub fn whole_runs()
     // `open` read the header.
     ensures opens { (limits : Limits) (bs : List ℕ) (h : Header) (rest : List ℕ) → IsHeader h → bs ≡ header_bytes h ++ rest → SoFar limits bs h [] rest 0 58 }
@@ -40,7 +40,7 @@ pub fn whole_runs()
     ensures gives { (limits : Limits) (bs : List ℕ) (h : Header) (ms : List Message) (left rest : List ℕ) (given at : ℕ) (m : Message) → SoFar limits bs h ms left given at →
         left ≡ message_bytes m ++ rest → IsMessage limits.text m → given < limits.messages →
         SoFar limits bs h (ms ++ m ∷ []) rest (given + 1) (place_of (at + length (message_bytes m))) }
-    // `next` met the terminator.
+    // `next` reached the terminator.
     ensures ends { (limits : Limits) (bs : List ℕ) (h : Header) (ms : List Message) (left rest : List ℕ) (given at : ℕ) → SoFar limits bs h ms left given at →
         left ≡ word 0 ++ rest → Describes limits bs (Ok (h, ms, length (packet_bytes h ms))) }
     // `next` answered a fault: of the bytes, or of the device or of memory.
@@ -49,7 +49,7 @@ pub fn whole_runs()
 {}
 
 /// Bytes that begin with no whole message and no terminator have one fault of `next`. So a fault of
-/// the reader has one place too, where the bytes that came would be truncated.
+/// the reader has one place, too: where the bytes that came would be truncated.
 pub fn one_next_fault()
     ensures { (limits : Limits) (given start : ℕ) (bs : List ℕ) (f other : PacketFault) → NextFault limits given start bs f → NextFault limits given start bs other →
         (other ≡ f) ⊎ (IsOfCall f ⊎ IsOfCall other) }

@@ -1,13 +1,13 @@
 //! FidoNet packets of type 2 (FTS-0001).
 //!
-//! The contract for the layer above: `read_packet` accepts exactly the packets and answers how many
-//! bytes theirs are; else it answers the one fault that the input has, with its place. A
-//! `PacketReader` does so over any source, message by message, and takes no byte beyond them.
+//! Promise: `read_packet` accepts exactly the packets and answers their length in bytes. Otherwise
+//! it answers the one fault of the input, with its place. A `PacketReader` does the same over any
+//! source, message by message, and takes no byte after the packet.
 //!
-//! Modules in reading order: `header` (the 58 bytes in front), `packed` (one message), `copy` (one for one system), `limits`,
-//! `fault` (what may be wrong, and where), `field` (one field from a source), `message` (one
-//! message), `reader` (a packet, message by message), `reading` (a packet in a slice), `encoding`,
-//! `sending` and `writer` (a packet is written), and `laws` (what holds of the definitions).
+//! Begin with `packed` (one message) and `header` (the 58 bytes in front). `reader` reads a packet
+//! message by message, `reading` reads one in a slice; both use `message` and `field`. `writer`,
+//! `sending` and `encoding` write one, `copy` is a message for one system. `limits` and `fault` say
+//! what is refused, `laws` states the promise.
 //!
 //! A caller, who reads a packet message by message:
 //!

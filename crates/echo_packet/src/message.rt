@@ -86,7 +86,7 @@ fn string_at<R: Source>(
     }
 }
 
-// The fields of a message after its number 2, which stands before the place.
+// The fields of a message after its number 2, which is just before the place.
 fn read_fields<R: Source>(
     alloc: Global,
     reader: &mut R,
@@ -120,8 +120,8 @@ fn read_fields<R: Source>(
     ))
 }
 
-/// The message that begins at the place, or none where 00 00 stands there; the place moves past it,
-/// and stays at a fault. So many messages were given before it.
+/// The message that begins at the place, or none for 00 00. The place moves past it, and stays at a
+/// fault. `given` messages came before it.
 pub fn read_next<R: Source>(
     alloc: Global,
     reader: &mut R,

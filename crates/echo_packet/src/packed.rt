@@ -182,7 +182,7 @@ impl Packed {
         self.cost
     }
 
-    /// DateTime, as it stands in the packet.
+    /// DateTime, unchanged.
     pub fn date(&self) -> &[u8; 20]
         ensures { result.now ≡ self.now.date }
     {

@@ -8,7 +8,7 @@ use crate::limits::Limits;
 pub use calls::read_header;
 use std::alloc::Global;
 
-/// What the next call meets.
+/// The expected next part.
 #[derive(Clone, Copy, Debug, PartialEq, Eq)]
 enum Stage {
     /// A message or the terminator.

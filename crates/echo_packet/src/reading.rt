@@ -9,16 +9,16 @@ use crate::packed::Packed;
 use crate::reader::PacketReader;
 use std::alloc::Global;
 
-/// The packet at the front of the bytes: its header, its messages, and how many bytes it has. What
-/// follows the terminator is not looked at (FTS-0001). Only `Memory` may come in place of the answer.
+/// The packet at the front of the bytes: its header, its messages, and its length in bytes. Bytes
+/// after the terminator are ignored (FTS-0001). `Memory` is the only other answer.
 pub fn read_packet(
     alloc: Global,
     bytes: &[u8],
     limits: Limits,
 ) -> Result<(Header, Vec<Packed>, usize), PacketFault>
-    // What it answers is so of the bytes.
+    // Each answer is right for the bytes.
     ensures judged { (answered result ≡ Err Memory) ⊎ Describes limits bytes.now (answered result) }
-    // What is so of the bytes, it answers.
+    // The right answer is the only one.
     ensures only { (other : Answer) → Describes limits bytes.now other → AnswersAsDescribed (answered result) other }
 {
     read_messages(alloc, bytes, limits)

@@ -23,8 +23,8 @@ pub struct PacketWriter<W> {
 }
 
 impl<W: Sink + Drop> PacketWriter<W> {
-    /// Writes the header. A fault is `Write` with the number of bytes that went out; nothing is sent
-    /// after it, and the writer is given back.
+    /// Writes the header. A fault is `Write` with the number of bytes that were sent; the writer is
+    /// given back.
     pub fn begin(writer: W, header: &Header) -> Result<PacketWriter<W>, Unfinished<W>>
         ensures bytes { IfOk result (λ packet. Appends (W.contents writer) (W.contents (writer_below packet)) (header_bytes header.now)) }
         ensures count { IfOk result (λ packet. bytes_sent packet ≡ 58) }
@@ -48,8 +48,8 @@ impl<W: Sink + Drop> PacketWriter<W> {
         }
     }
 
-    /// Writes a message. A fault is `Write` with the number of bytes that went out since `begin`,
-    /// its own among them; after an error of an earlier call it is `Stopped`.
+    /// Writes a message. Faults: `Write` with the number of bytes that were sent since `begin`, its
+    /// own included; `Stopped` after an error of an earlier call.
     pub fn put(&mut self, message: &Packed) -> Result<(), PacketFault>
         ensures bytes { has_stopped self.old ≡ false → Sends (W.contents (writer_below self.old)) (W.contents (writer_below self.new)) result (message_bytes message.now) (bytes_sent self.old) (bytes_sent self.new) }
         ensures ok { OnOk result (has_stopped self.new ≡ false) }

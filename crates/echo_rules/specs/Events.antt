@@ -2,13 +2,13 @@
 use Rattle.std.specs.Prelude.{◌≡◌, Bool, true, false, List, [], ◌∷◌, ◌++◌, map, Option, Some, None}
 use Rattle.echo_graph.specs.Walk.{Among}
 
--- what a message says: its key, its content, and its SEEN-BY set
+-- a message's key, content and SEEN-BY set
 pub record Text (N K C : Type 0) : Type 0 where
   pub key : K
   pub content : C
   pub seen : List N
 
--- a message that a system filed: where, from whom it came, if it was not posted there, and what it says
+-- a message that a system filed: where, the sender if it was not posted there, and its text
 pub record Filed (A N K C : Type 0) : Type 0 where
   pub at : A
   pub sender : Option A
@@ -20,14 +20,14 @@ pub record Copy (A N K C : Type 0) : Type 0 where
   pub to : A
   pub text : Text N K C
 
--- A system posts a message. It exports one that it filed, at one moment, to some addresses, to each as this
--- text. A copy comes to its address, which files it or not: perhaps never, late, or again and again.
+-- A system posts a message. It exports one that it filed, in one step, to some addresses, to each as this text. A
+-- copy reaches its address, which files it or not. It may arrive never, late, or several times.
 pub data Event (A N K C : Type 0) : Type 0 where
   Posts : (at : A) (text : Text N K C) → Event A N K C
   Exports : (m : Filed A N K C) (to : List A) (text : A → Text N K C) → Event A N K C
   Comes : (copy : Copy A N K C) (is_filed : Bool) → Event A N K C
 
--- what was filed, in all systems
+-- all that was filed, in all systems
 abbrev pub filed : {A N K C : Type 0} → List (Event A N K C) → List (Filed A N K C)
 filed [] = []
 filed (Posts at text ∷ earlier) = record { at = at; sender = None; text = text } ∷ filed earlier
@@ -35,7 +35,7 @@ filed (Exports m to text ∷ earlier) = filed earlier
 filed (Comes copy true ∷ earlier) = record { at = copy.to; sender = Some copy.from; text = copy.text } ∷ filed earlier
 filed (Comes copy false ∷ earlier) = filed earlier
 
--- what was exported, by all systems
+-- all that was exported, by all systems
 abbrev pub exported : {A N K C : Type 0} → List (Event A N K C) → List (Filed A N K C)
 exported [] = []
 exported (Exports m to text ∷ earlier) = m ∷ exported earlier
@@ -57,6 +57,6 @@ came [] = []
 came (Comes copy is_filed ∷ earlier) = copy ∷ came earlier
 came (other ∷ earlier) = came earlier
 
--- one of the messages is of this system and has this key
+-- one of the messages was filed by this system and has this key
 abbrev pub Has : {A N K C : Type 0} → A → K → List (Filed A N K C) → Type 0
 Has {A} {N} {K} {C} x key ms = (m : Filed A N K C) × Among m ms × (m.at ≡ x) × (m.text.key ≡ key)

@@ -11,7 +11,7 @@ pub record Net (A N : Type 0) : Type 0 where
 
 -- the net is in order
 pub record Tidy {A N : Type 0} (net : Net A N) : Type 0 where
-  -- no system is a link of its own
+  -- no system is a link of itself
   pub no_self : (a : A) → ¬ IsTrue (net.linked a a)
   -- links are answered
   pub both : (a b : A) → IsTrue (net.linked a b) → IsTrue (net.linked b a)

@@ -1,4 +1,4 @@
--- What tossers that keep the rules promise, and what it takes.
+-- The promise of tossers that keep the rules, and its premises.
 use Rattle.std.specs.Prelude.{◌≡◌, ◌≢◌, ◌⊎◌, ℕ, IsTrue, List, map, None}
 use Rattle.echo_graph.specs.Walk.{Among, Different}
 use Rattle.echo_rules.specs.Nets.{Net, Tidy}
@@ -30,7 +30,7 @@ pub record IsSettled {A N K C : Type 0} (run : List (Event A N K C)) : Type 0 wh
 pub record Orderly {A N K C : Type 0} (net : Net A N) (Same : C → C → Type 0) (run : List (Event A N K C)) : Type 0 where
   -- each system filed each message at most once
   pub filed_once : Different (map place (filed run))
-  -- was sent each at most once, by all systems in all, and never one of its own
+  -- was sent each at most once, by all systems together, and never one that it posted
   pub sent_once : Different (map goal (copies run))
   pub never_own : (m : Filed A N K C) → Among m (filed run) → m.sender ≡ None → ¬ Among (place m) (map goal (copies run))
   -- and where the run has settled, each system with the area has filed each posting, with an equivalent content

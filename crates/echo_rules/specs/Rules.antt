@@ -11,7 +11,7 @@ IsPossible net earlier (Posts at text) = IsTrue (net.carries at)
 IsPossible net earlier (Exports m to text) = Unit {0}
 IsPossible net earlier (Comes copy is_filed) = Among copy (copies earlier)
 
--- files once: a copy is filed where it comes from a link and its key is not filed there yet, and only there
+-- files once: a copy is filed exactly if it comes from a link and its key is not filed there yet
 abbrev pub FilesOnce : {A N K C : Type 0} → Net A N → List (Event A N K C) → Event A N K C → Type 0
 FilesOnce net earlier (Comes copy is_filed) =
     IsTrue is_filed ↔ (IsTrue (net.linked copy.to copy.from) × (¬ Has copy.to copy.text.key (filed earlier)))
@@ -23,13 +23,13 @@ Keeps {A} {N} {K} {C} Same earlier (Exports m to text) =
     (x : A) → Among x to → ((text x).key ≡ m.text.key) × Same (text x).content m.text.content
 Keeps Same earlier other = Unit {0}
 
--- x is to be sent the message: a link that is not its sender and does not stand in its SEEN-BY
+-- x is to be sent the message: a link that is not its sender and is not in its SEEN-BY
 pub record IsTarget {A N K C : Type 0} (net : Net A N) (m : Filed A N K C) (x : A) : Type 0 where
   pub link : IsTrue (net.linked m.at x)
   pub not_sender : m.sender ≢ Some x
   pub not_seen : ¬ Among (net.net_node x) m.text.seen
 
--- sends once: a message is exported after it was filed, at one moment, to just its targets, one copy each
+-- sends once: a message is exported after it was filed, in one step, to exactly its targets, one copy each
 pub record IsSentOnce {A N K C : Type 0} (net : Net A N) (earlier : List (Event A N K C)) (m : Filed A N K C) (to : List A) : Type 0 where
   pub is_filed : Among m (filed earlier)
   pub first : ¬ Has m.at m.text.key (exported earlier)
@@ -40,15 +40,15 @@ abbrev pub SendsOnce : {A N K C : Type 0} → Net A N → List (Event A N K C) �
 SendsOnce net earlier (Exports m to text) = IsSentOnce net earlier m to
 SendsOnce net earlier other = Unit {0}
 
--- tells: the SEEN-BY of what goes to x lists each link of x that it is sent to as well; and of the systems
--- that are reached through x alone it lists none but x, or those that the message listed
+-- tells: the SEEN-BY of the copy for x lists each link of x that gets a copy too. Of the systems that only x leads
+-- to, it lists none but x and those that the message listed.
 pub record IsTold {A N K C : Type 0} (net : Net A N) (m : Filed A N K C) (to : List A) (x : A) (seen : List N) : Type 0 where
   pub others : (l : A) → Among l to → IsTrue (net.linked x l) → Among (net.net_node l) seen
   pub behind : (d : A) → IsTrue (net.carries d) → Beyond net.linked x m.at d → d ≢ x → Among (net.net_node d) seen →
       Among (net.net_node d) m.text.seen
 
--- the plain way to keep this: it lists all that it is sent to, and besides nothing but what the message
--- listed, the own system, links of it, and what is no system with the area
+-- the simple way to keep this: it lists all receivers, and otherwise only what the message listed, the own system,
+-- its links, and what is no system with the area
 pub record IsToldPlainly {A N K C : Type 0} (net : Net A N) (m : Filed A N K C) (to : List A) (seen : List N) : Type 0 where
   pub all : (l : A) → Among l to → Among (net.net_node l) seen
   pub only : (n : N) → Among n seen → Among n m.text.seen

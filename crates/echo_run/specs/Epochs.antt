@@ -1,4 +1,4 @@
--- A net that changes: link files that are written anew while systems keep what they have.
+-- A net that changes: link files are replaced while systems keep their messages.
 use Rattle.std.specs.Prelude.{◌≡◌, ◌⊎◌, ℕ, ◌≤◌, List, [], ◌∷◌, ◌++◌, map, Option}
 use Rattle.echo_addr.specs.declared.address.Address.{Address}
 use Rattle.echo_graph.specs.Walk.{Among}
@@ -11,16 +11,16 @@ use Rattle.echo_run.specs.Fits.{FilesFit}
 use Rattle.echo_run.specs.Tidy.{Tidy, Carries, carries, lists}
 use Rattle.echo_run.specs.Orderly.{FiledUnchanged, IsPosting, Settled, count, sent_count, tag_of}
 
--- a time in which the link files stay: the files, and what happens meanwhile
+-- a time without changes of link files: the files, and the events in it
 pub record Epoch : Type 0 where
   pub files : List LinkFile
   pub events : List RunEvent
 
--- the system with another link file: its base, its cursor and what it filed stay
+-- the system with another link file: its base, its cursor and its filed messages stay
 abbrev pub with_file : LinkFile → System → System
 with_file file s = record { file = file; base = s.base; cursor = s.cursor; history = s.history }
 
--- each system gets its new link file, in order; files beyond the systems are of systems that have nothing yet
+-- each system gets its new link file, in order; further files belong to new, empty systems
 abbrev pub with_files : List LinkFile → List System → List System
 with_files files [] = map fresh files
 with_files [] (s ∷ later) = s ∷ later
@@ -30,7 +30,7 @@ with_files (file ∷ files) (s ∷ later) = with_file file s ∷ with_files file
 abbrev pub changed_to : Run → List LinkFile → Run
 changed_to run files = record { systems = with_files files run.systems; packets = run.packets; delivered = run.delivered }
 
--- an epoch goes on from what the one before it left
+-- an epoch continues from the end of the one before it
 abbrev pub after_epoch : Run → Epoch → Run
 after_epoch run epoch = after_events (changed_to run epoch.files) epoch.events
 
@@ -51,14 +51,14 @@ run_of_epochs epochs = after_epochs nothing_yet epochs
 abbrev pub addresses : List LinkFile → List Address
 addresses files = map (λ file. file.system) files
 
--- the same system at a later time, with whatever link file: its cursor has not fallen, and what it filed
--- stands where it stood, before what it filed since
+-- the same system at a later time, with any link file: its cursor has not fallen, and its earlier messages come
+-- first, unchanged
 pub record HasGrown (s z : System) : Type 0 where
   pub address : z.file.system ≡ s.file.system
   pub cursor : s.cursor ≤ z.cursor
   pub filed : (since : List Filed) × (z.history ≡ s.history ++ since)
 
--- what each link file says of the area: the address, and the entry if it has one
+-- the entries of the area in each link file: the address, and the area if it has it
 abbrev pub area_entries : List ℕ → List LinkFile → List (Address × Option Area)
 area_entries tag files = map (λ file. (file.system, area_of file tag)) files
 
@@ -67,8 +67,8 @@ pub record SameArea (tag : List ℕ) (before after : List LinkFile) : Type 0 whe
   pub carriers : (a : Address) → carries before tag a ≡ carries after tag a
   pub links : (a b : Address) → lists before tag a b ≡ lists after tag a b
 
--- every epoch is tidy in the area and has the same systems, and at each change the area had settled, or the
--- change is one of other areas
+-- every epoch is tidy in the area and has the same systems; each change comes when the area has settled, or changes
+-- only other areas
 pub record TidyThroughout (epochs : List Epoch) (tag : List ℕ) : Type 0 where
   pub fit : (epoch : Epoch) → Among epoch epochs → FilesFit epoch.files
   pub tidy : (epoch : Epoch) → Among epoch epochs → Tidy epoch.files tag
@@ -84,11 +84,11 @@ pub record PostedBetween (tag : List ℕ) (before after : Run) (m : Filed) : Typ
   pub posting : IsPosting tag m
   pub new : (s : System) → Among s before.systems → s.file.system ≡ poster.file.system → ¬ Among m s.history
 
--- the message is of the epoch: it was posted in it, after the earlier epochs
+-- the message belongs to the epoch: it was posted in it, after the earlier epochs
 abbrev pub IsOf : List ℕ → List Epoch → Epoch → Filed → Type 0
 IsOf tag earlier epoch m = PostedBetween tag (run_of_epochs earlier) (run_of_epochs (earlier ++ epoch ∷ [])) m
 
--- a message is of some of the epochs
+-- a message belongs to one of the epochs
 pub record IsOfSome (tag : List ℕ) (epochs : List Epoch) (m : Filed) : Type 0 where
   pub earlier : List Epoch
   pub epoch : Epoch
@@ -96,11 +96,11 @@ pub record IsOfSome (tag : List ℕ) (epochs : List Epoch) (m : Filed) : Type 0 
   pub whole : epochs ≡ earlier ++ epoch ∷ later
   pub is_of : IsOf tag earlier epoch m
 
--- what a run of epochs is to keep of an area
+-- the promise about an area over several epochs
 pub record OrderlyThroughout (epochs : List Epoch) (tag : List ℕ) : Type 0 where
   -- (i) each system filed each message at most once
   pub filed_once : (s : System) → Among s (run_of_epochs epochs).systems → (key : Key) → count key s.base ≤ 1
-  -- (ii) was sent each message of the area at most once, over all epochs, and never one of its own
+  -- (ii) was sent each message of the area at most once, over all epochs, and never one that it posted
   pub sent_once : (s : System) → Among s (run_of_epochs epochs).systems → (key : Key) → tag_of key ≡ tag →
       sent_count s.file.system key (run_of_epochs epochs).packets ≤ 1
   pub never_own : (s : System) → Among s (run_of_epochs epochs).systems → (m : Filed) → Among m s.base → IsPosting tag m →

@@ -23,13 +23,13 @@ pub record Export : Type 0 where
 abbrev pub export_of : ℕ → ℕ → Packet → Export
 export_of n i packet = record { event = n; system = i; packet = packet }
 
--- what a scan makes, where the system is there and the stamp is in range
+-- the exports of a scan, if the system exists and the stamp is in range
 abbrev pub scan_exports : ℕ → ℕ → Stamp → Option System → List Export
 scan_exports n i stamp None = []
 scan_exports n i stamp (Some s) =
     if is_stamp stamp then map (export_of n i) (scanned s.file s.base s.cursor stamp) else []
 
--- what the event of this place makes
+-- the exports of the event at this place
 abbrev pub event_exports : Run → ℕ → RunEvent → List Export
 event_exports run n (Scanning i stamp) = scan_exports n i stamp (nth i run.systems)
 event_exports run n other = []
@@ -47,9 +47,8 @@ exports files events = exports_after (start files) 0 events
 abbrev pub sent_by : ℕ → List Export → List Packet
 sent_by i all = map (λ e. e.packet) (filter (λ e. e.system == i) all)
 
--- what a system sends of a message to an address: a copy of the same content, whose text says who has
--- seen it; the address is a target, did not send the message, and the message's SEEN-BY does not list its
--- net and node
+-- a system sends a copy of a message: the content is the same, and the text says who has seen it. The address is a
+-- target, did not send the message, and its net and node are not in the message's SEEN-BY
 pub record IsSentCopy (file : LinkFile) (m : Filed) (to : Address) (copy : Filed) : Type 0 where
   pub sender : copy.sender ≡ Some file.system
   pub content : SameContent copy m

@@ -1,4 +1,4 @@
--- What every link file that was read meets.
+-- A property of every link file that was read.
 use Rattle.std.specs.Prelude.{List}
 use Rattle.echo_graph.specs.Walk.{Among}
 use Rattle.echo_links.specs.Links.{IsFile, LinkFile}

@@ -23,7 +23,7 @@ pub record Content : Type 0 where
 abbrev pub content_of : Filed → Content
 content_of m = record { date = m.date; to_name = m.to_name; from_name = m.from_name; subject = m.subject; kept = m.echo.kept }
 
--- what a message says
+-- the text of a message
 abbrev pub said : Filed → Text NetNode Key Content
 said m = record { key = key_of m; content = content_of m; seen = m.echo.seen }
 
@@ -35,7 +35,7 @@ filed_as a m = record { at = a; sender = m.sender; text = said m }
 abbrev pub sent_as : Packet → Filed → Copy Address NetNode Key Content
 sent_as packet m = record { from = origin packet; to = destination packet; text = said m }
 
--- one of the systems has it in this part of what it filed, in the area
+-- one of the systems has it in this part of its messages, in the area
 pub record IsFiledIn (tag : List ℕ) (part : System → List Filed) (systems : List System) (m : rules.Filed Address NetNode Key Content) : Type 0 where
   pub system : System
   pub there : Among system systems
@@ -53,7 +53,7 @@ pub record IsSent (tag : List ℕ) (packets : List Packet) (c : Copy Address Net
   pub area : message.echo.tag ≡ tag
   pub same : c ≡ sent_as packet message
 
--- how many copies with the key went to the address
+-- the number of copies with the key for the address
 abbrev pub copy_count : Address → Key → List (Copy Address NetNode Key Content) → ℕ
 copy_count a key [] = 0
 copy_count a key (c ∷ later) = (if same_address c.to a && same_key c.text.key key then 1 else 0) + copy_count a key later
@@ -62,7 +62,7 @@ copy_count a key (c ∷ later) = (if same_address c.to a && same_key c.text.key 
 pub record IsHistory (tag : List ℕ) (run : Run) (events : List (Event Address NetNode Key Content)) : Type 0 where
   -- the same was filed, by the same systems
   pub filed : (m : rules.Filed Address NetNode Key Content) → Among m (rules.filed events) ↔ IsFiledIn tag (λ s. s.history) run.systems m
-  -- what was exported is what scans passed
+  -- the exported messages are those before a cursor
   pub exported : (m : rules.Filed Address NetNode Key Content) → Among m (rules.exported events) ↔ IsFiledIn tag (λ s. take s.cursor s.history) run.systems m
   -- the copies that were sent are those in packets, with their SEEN-BY, and as many to each address with each key
   pub sent : (c : Copy Address NetNode Key Content) → Among c (rules.copies events) ↔ IsSent tag run.packets c

@@ -1,4 +1,4 @@
--- What a run is to keep of an area.
+-- The promise about an area of a run.
 use Rattle.std.specs.Prelude.{◌≡◌, ◌≢◌, ◌⊎◌, ℕ, ◌+◌, ◌≤◌, IsTrue, List, [], ◌∷◌, ◌++◌, map, filter, length, drop, is_none, None, if◌then◌else◌}
 use Rattle.echo_addr.specs.declared.address.Address.{Address}
 use Rattle.echo_text.specs.Refusal.{text_refusal}
@@ -30,7 +30,7 @@ origin packet = record { zone = packet.header.orig_zone; net = packet.header.ori
 abbrev pub copies : Packet → List Filed
 copies packet = map (received (origin packet)) (filter (λ packed. is_none (text_refusal packed.text)) packet.messages)
 
--- how many messages with the key stand in the packets to an address
+-- the number of messages with the key in the packets to an address
 abbrev pub sent_count : Address → Key → List Packet → ℕ
 sent_count address key [] = 0
 sent_count address key (packet ∷ later) =
@@ -60,7 +60,7 @@ pub record FiledUnchanged (s : System) (posting : Filed) : Type 0 where
   -- just one message of its base has the key, and just one of those that it filed
   pub once : count (key_of posting) s.base ≡ 1
   pub filed_once : count (key_of posting) s.history ≡ 1
-  -- that of the base is the one that it filed, or what a purge leaves of it
+  -- the one in the base is the filed one, or its stub
   pub kept : (m filed : Filed) → Among m s.base → Among filed s.history → key_of m ≡ key_of posting → key_of filed ≡ key_of posting →
       (m ≡ filed) ⊎ (m ≡ stub_of filed)
   -- and that one has the content of the posting
@@ -70,7 +70,7 @@ pub record FiledUnchanged (s : System) (posting : Filed) : Type 0 where
 pub record Orderly (run : Run) (tag : List ℕ) : Type 0 where
   -- (i) each system filed each message at most once
   pub filed_once : (s : System) → Among s run.systems → IsTrue (has_area s.file tag) → (key : Key) → tag_of key ≡ tag → count key s.base ≤ 1
-  -- (ii) was sent each at most once, over all senders and scans, and never one of its own
+  -- (ii) was sent each at most once, over all senders and scans, and never one that it posted
   pub sent_once : (s : System) → Among s run.systems → IsTrue (has_area s.file tag) → (key : Key) → tag_of key ≡ tag →
       sent_count s.file.system key run.packets ≤ 1
   pub never_own : (s : System) → Among s run.systems → IsTrue (has_area s.file tag) → (m : Filed) → Among m s.base → IsPosting tag m →

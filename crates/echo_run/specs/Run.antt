@@ -33,8 +33,8 @@ pub record Run : Type 0 where
   pub packets : List Packet
   pub delivered : List ℕ
 
--- the same system at a later time: its file stays, its cursor has not fallen, and what it filed stands
--- where it stood, before what it filed since
+-- the same system at a later time: its file stays, its cursor has not fallen, and its earlier messages come first,
+-- unchanged
 pub record IsLater (s z : System) : Type 0 where
   pub file : z.file ≡ s.file
   pub cursor : s.cursor ≤ z.cursor
@@ -44,7 +44,7 @@ pub record IsLater (s z : System) : Type 0 where
 abbrev pub fresh : LinkFile → System
 fresh file = record { file = file; base = []; cursor = 0; history = [] }
 
--- the message, if there is one, is filed at the end of the base
+-- the message, if there is one, is appended to the base
 abbrev pub filing : System → Option Filed → System
 filing s None = s
 filing s (Some m) = record { file = s.file; base = s.base ++ m ∷ []; cursor = s.cursor; history = s.history ++ m ∷ [] }
@@ -62,7 +62,7 @@ tossing_at sender (packed ∷ later) s = tossing_at sender later (filing s (toss
 abbrev pub scanning_at : System → System
 scanning_at s = record { file = s.file; base = s.base; cursor = length s.base; history = s.history }
 
--- a system is purged: of what stands before the cursor the ids are left
+-- a purge of a system: messages before the cursor become stubs
 abbrev pub purging_at : System → System
 purging_at s = record { file = s.file; base = purged s.base s.cursor; cursor = s.cursor; history = s.history }
 
@@ -78,11 +78,11 @@ change i f [] = []
 change zero f (x ∷ xs) = f x ∷ xs
 change (suc i) f (x ∷ xs) = x ∷ change i f xs
 
--- whom a packet is for
+-- the address that a packet is for
 abbrev pub destination : Packet → Address
 destination packet = record { zone = packet.header.dest_zone; net = packet.header.dest_net; node = packet.header.dest_node }
 
--- the index of the first system of this address, the number of systems where there is none
+-- the index of the first system of this address, or the number of systems without one
 abbrev pub receiver : Run → Packet → ℕ
 receiver run packet = position_or_len (λ s. same_address s.file.system (destination packet)) run.systems
 
@@ -90,7 +90,7 @@ receiver run packet = position_or_len (λ s. same_address s.file.system (destina
 abbrev pub changing : Run → ℕ → (System → System) → Run
 changing run i f = record { systems = change i f run.systems; packets = run.packets; delivered = run.delivered }
 
--- a system that is there scans, where the stamp is in range
+-- a scan of a system, if it exists and the stamp is in range
 abbrev pub scanning : Run → ℕ → Stamp → Option System → Run
 scanning run i stamp None = run
 scanning run i stamp (Some s) =
@@ -106,11 +106,11 @@ scanning run i stamp (Some s) =
 abbrev pub taking : Packet → ℕ → System → System
 taking packet messages s = tossing_at (sender_of s.file packet.header) (take messages packet.messages) s
 
--- the index is one of them: there once, however often it comes
+-- the index is added once, however often it comes
 abbrev pub with_index : ℕ → List ℕ → List ℕ
 with_index k delivered = if list_any (λ d. d == k) delivered then delivered else k ∷ delivered
 
--- the packet of this index comes, where the system is there
+-- the packet of this index arrives, if the system exists
 abbrev pub coming : Run → ℕ → Packet → Option System → Run
 coming run k packet None = run
 coming run k packet (Some s) = record {

@@ -19,7 +19,7 @@ lists files tag a b = list_any (λ file. same_address file.system a && is_link f
 abbrev pub Carries : List LinkFile → List ℕ → Address → Type 0
 Carries files tag a = IsTrue (carries files tag a)
 
--- the net is tidy but for its cycles
+-- the net is tidy except for its cycles
 pub record Joined (files : List LinkFile) (tag : List ℕ) : Type 0 where
   -- V1: some file has the tag
   pub some : IsTrue (list_any (λ file. has_area file tag) files)
@@ -29,7 +29,7 @@ pub record Joined (files : List LinkFile) (tag : List ℕ) : Type 0 where
   pub no_self : (a : Address) → ¬ IsTrue (lists files tag a a)
   -- V4: every link of a carrier is a carrier
   pub known : (a b : Address) → IsTrue (lists files tag a b) → Carries files tag b
-  -- V5: every link stands in both files
+  -- V5: every link is in both files
   pub both : (a b : Address) → IsTrue (lists files tag a b) → IsTrue (lists files tag b a)
   -- V6: no two carriers have the same net and node
   pub apart : (a b : Address) → Carries files tag a → Carries files tag b → net_node_of a ≡ net_node_of b → a ≡ b

@@ -5,11 +5,11 @@ use Rattle.echo_steps.specs.declared.packet.Packet.{Packet}
 use Rattle.echo_filed.specs.Filed.{Filed}
 use Rattle.echo_run.specs.Run.{Run, nth}
 
--- how many of the messages are of the area
+-- the number of messages of the area
 abbrev pub area_count : List ℕ → List Filed → ℕ
 area_count tag ms = count_by (λ m. bytes_eq m.echo.tag tag) ms
 
--- how many messages of the area the system of this index has, 0 where there is no such system
+-- the number of messages of the area at the system of this index, 0 without such a system
 abbrev pub filed_at : Run → ℕ → List ℕ → ℕ
 filed_at run i tag = unwrap_or (option_map (λ s. area_count tag s.base) (nth i run.systems)) 0
 

@@ -1,4 +1,4 @@
-//! What holds of nets whose link files change. Each law is the contract of a function that does nothing.
+//! Laws about nets with link files that change. Each law is the contract of a function that does nothing.
 
 ghost use Rattle.std.specs.Prelude.{◌≡◌, ℕ, ◌≤◌, List, [], ◌∷◌, ◌++◌};
 ghost use Rattle.echo_addr.specs.declared.address.Address.{Address};
@@ -13,11 +13,10 @@ ghost use Rattle.echo_run.specs.Fits.{FilesFit};
 ghost use Rattle.echo_run.specs.Tidy.{Carries, Tidy};
 ghost use Rattle.echo_run.specs.Epochs.{Epoch, HasGrown, IsOf, IsOfSome, OrderlyThroughout, SameArea, TidyThroughout, addresses, area_entries, run_of_epochs};
 
-/// Where the link files of an area change from time to time, are tidy each time, and the area had settled
-/// at each change, the net stays orderly over all of it: each system filed each message at most once, was
-/// sent it at most once and never one of its own, whatever late and repeated packets of former times come
-/// to it, and where the area has settled, each system that had the area when a message was posted filed
-/// it exactly once, unchanged.
+/// Let the link files of an area be tidy in each epoch, and let the area have settled at each change. Then the
+/// net stays orderly over all epochs. Each system filed each message at most once. It was sent it at most once,
+/// and never one that it posted. Late and repeated packets of earlier epochs change nothing. Where the area has
+/// settled, each system that had the area when a message was posted filed it exactly once, unchanged.
 pub fn every_run_of_tidy_epochs_is_orderly()
     ensures { (epochs : List Epoch) (tag : List ℕ) → TidyThroughout epochs tag → OrderlyThroughout epochs tag }
 {}
@@ -37,22 +36,21 @@ pub fn who_joins_is_sent_nothing_older()
         (sent_count s.file.system (key_of m) (run_of_epochs epochs).packets ≡ 0) × (count (key_of m) s.base ≡ 0) }
 {}
 
-/// Over changes, too, a system keeps its cursor or moves it on, and what it filed stays as it was filed, in
-/// its order: what it had in an earlier epoch it has in each later one.
+/// Over changes, too, a system keeps its cursor or moves it on, and keeps its filed messages unchanged and in
+/// order. What it had in an earlier epoch it has in each later one.
 pub fn what_is_filed_stays_over_changes()
     ensures { (names : List Address) (earlier later : List Epoch) →
         ((epoch : Epoch) → Among epoch (earlier ++ later) → (addresses epoch.files ≡ names) × FilesFit epoch.files) →
         (s : System) → Among s (run_of_epochs earlier).systems → (z : System) × Among z (run_of_epochs (earlier ++ later)).systems × HasGrown s z }
 {}
 
-/// Each message that some system posted in the area is of one of the epochs, so what is said of those is said of all.
+/// Each message posted in the area belongs to one of the epochs, so a law about those covers all.
 pub fn each_posting_is_of_an_epoch()
     ensures { (epochs : List Epoch) (tag : List ℕ) → TidyThroughout epochs tag →
         (s : System) → Among s (run_of_epochs epochs).systems → (m : Filed) → Among m s.history → IsPosting tag m → IsOfSome tag epochs m }
 {}
 
-/// A change that only touches other areas needs no settling. It is one where what each link file says of
-/// the area stays.
+/// A change of other areas needs no settling: the entries of this area stay the same in each link file.
 pub fn changes_of_other_areas_need_no_settling()
     ensures orderly { (tag : List ℕ) (before after : Epoch) → Tidy before.files tag → Tidy after.files tag →
         FilesFit before.files → FilesFit after.files → addresses before.files ≡ addresses after.files →

@@ -22,7 +22,7 @@ pub enum Event {
     Deliver {
         packet: usize,
     },
-    /// The system leaves the ids alone of what it scanned.
+    /// The system replaces its scanned messages by stubs.
     Purge {
         system: usize,
     },

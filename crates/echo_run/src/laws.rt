@@ -1,4 +1,4 @@
-//! What holds of every run. Each law is the contract of a function that does nothing.
+//! Laws about every run. Each law is the contract of a function that does nothing.
 
 ghost use Rattle.std.specs.Prelude.{◌≡◌, ◌⊎◌, ℕ, ◌≤◌, ◌++◌, IsTrue, List, map, drop, length, take, None, Some};
 ghost use Rattle.echo_addr.specs.declared.address.Address.{Address};
@@ -21,10 +21,10 @@ ghost use Rattle.echo_run.specs.World.{is_settled};
 ghost use Rattle.echo_run.specs.Tidy.{Joined, Tidy, lists};
 ghost use Rattle.echo_run.specs.Fits.{FilesFit};
 
-/// Every run of a tidy area is orderly: after any postings, scans, deliveries, stopped tosses and
-/// purges, with losses and repeats and in any order, each system filed each message at most once, was
-/// sent it at most once and never one of its own, and where nothing waits and every packet came, it
-/// filed every posting exactly once, unchanged. Link files that were read meet the premise on files.
+/// Every run of a tidy area is orderly: after any postings, scans, deliveries, stopped tosses and purges, with
+/// losses and repeats and in any order. Each system filed each message at most once. It was sent it at most
+/// once, and never one that it posted. Where nothing waits and every packet came, it filed every posting
+/// exactly once, unchanged. Link files that were read meet the premise on files.
 pub fn every_run_of_a_tidy_area_is_orderly()
     ensures { (files : List LinkFile) (tag : List ℕ) → Tidy files tag → FilesFit files →
         (events : List RunEvent) → Orderly (run_of files events) tag }
@@ -36,8 +36,8 @@ pub fn each_message_is_filed_once()
         (s : System) → Among s (run_of files events).systems → (key : Key) → count key s.base ≤ 1 }
 {}
 
-/// On every net the base of a system is the list of its messages as they were filed, place by place, but
-/// that messages before the cursor may be what a purge leaves of them.
+/// On every net a system's base is the list of its filed messages, place by place. Only messages before the
+/// cursor may be stubs.
 pub fn bases_are_what_was_filed()
     ensures places { (files : List LinkFile) (events : List RunEvent) →
         (s : System) → Among s (run_of files events).systems → (i : ℕ) (m filed : Filed) →
@@ -48,8 +48,8 @@ pub fn bases_are_what_was_filed()
         (s : System) → Among s (run_of files events).systems → drop s.cursor s.base ≡ drop s.cursor s.history }
 {}
 
-/// On every net, whatever happens later, a system keeps its file, its cursor never falls, and what it filed
-/// stays as it was filed, in its order.
+/// On every net, later events keep a system's file and its filed messages, unchanged and in order, and its
+/// cursor never falls.
 pub fn what_is_filed_stays()
     ensures { (files : List LinkFile) (events later : List RunEvent) (i : ℕ) (s : System) →
         nth i (run_of files events).systems ≡ Some s →
@@ -62,9 +62,9 @@ pub fn packets_are_exports()
         map (λ (e : Export). e.packet) (exports files events) ≡ (run_of files events).packets }
 {}
 
-/// On every net each packet was made by a scan of a system of the run, under that system's address; each
-/// message in it is the copy of one that this system had filed and scanned, for one of its targets, and
-/// that message's SEEN-BY does not list the net and node that the packet goes to.
+/// On every net a scan of a system made each packet, under that system's address. Each message in it is the
+/// copy of one that this system had filed and scanned, for one of its targets. The SEEN-BY of that message does
+/// not list the packet's net and node.
 pub fn exports_go_to_targets()
     ensures { (files : List LinkFile) → FilesFit files → (events : List RunEvent) → (e : Export) → Among e (exports files events) →
         (s : System) × (nth e.system (run_of files events).systems ≡ Some s) × (origin e.packet ≡ s.file.system) ×
@@ -72,10 +72,10 @@ pub fn exports_go_to_targets()
         (m : Filed) × Among m (take s.cursor s.history) × IsSentCopy s.file m (destination e.packet) copy) }
 {}
 
-/// On every net a filed message is exported by at most one scan of its system, to each of its targets once
-/// and to no other address: two packets of a system that hold copies of one message were made by one scan;
-/// what was scanned stands just once in the system's packets to a target, and never in those to other
-/// addresses; what waits stands in none.
+/// On every net at most one scan of its system exports a filed message, to each of its targets once and to no
+/// other address. Two packets of a system that hold copies of one message come from one scan. The packets to a
+/// target have a scanned message just once, those to other addresses do not have it. No packet has a waiting
+/// message.
 pub fn each_message_is_exported_by_one_scan()
     ensures one_scan { (files : List LinkFile) → FilesFit files → (events : List RunEvent) → (e f : Export) →
         Among e (exports files events) → Among f (exports files events) → e.system ≡ f.system →
@@ -99,8 +99,8 @@ pub fn each_message_was_posted()
         (f : System) × Among f (run_of files events).systems × ((o : Filed) × Among o f.history × IsPosting m.echo.tag o × SameContent m o) }
 {}
 
-/// On every net a packet holds no text that is refused: what is said of the copies in packets is said of
-/// all their messages.
+/// On every net no packet has a text that is refused: a law about the copies in packets covers all their
+/// messages.
 pub fn packets_hold_echomail()
     ensures accepted { (files : List LinkFile) → FilesFit files → (events : List RunEvent) →
         (packet : Packet) → Among packet (run_of files events).packets → (packed : Message) → Among packed packet.messages → text_refusal packed.text ≡ None }
@@ -108,7 +108,7 @@ pub fn packets_hold_echomail()
         (packet : Packet) → Among packet (run_of files events).packets → copies packet ≡ map (received (origin packet)) packet.messages }
 {}
 
-/// On every net the delivered packets are packets of the run, and each is there once, however often it came.
+/// On every net the delivered packets are packets of the run, each once, however often it came.
 pub fn delivered_packets_are_a_set()
     ensures once { (files : List LinkFile) (events : List RunEvent) → Different (run_of files events).delivered }
     ensures there { (files : List LinkFile) (events : List RunEvent) → (k : ℕ) → Among k (run_of files events).delivered →
@@ -120,7 +120,7 @@ pub fn settled_runs_settle_each_area()
     ensures { (run : Run) → IsTrue (is_settled run) → (tag : List ℕ) → Settled run tag }
 {}
 
-/// Where the links of an area have no cycle, what is asked beside the cycles makes it tidy.
+/// Where the links of an area have no cycle, the other clauses make it tidy.
 pub fn trees_are_tidy()
     ensures { (files : List LinkFile) (tag : List ℕ) → Joined files tag → NoCycle (lists files tag) → Tidy files tag }
 {}

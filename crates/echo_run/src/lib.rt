@@ -1,12 +1,12 @@
-//! Nets of systems that exchange echomail (FTS-0004).
+//! The model of a net: systems that exchange echomail (FTS-0004), and laws about all that may happen.
 //!
-//! The definitions stand in specs/: `Event` and `Run` (what may happen, and what comes of it), `Tidy`
-//! (which nets are in order), `Orderly` (what runs are to keep), `Exports` (which scan made which
-//! packet), `World` (what one reads off a run), `Fits` (what link files that were read meet) and `Epochs`
-//! (nets whose link files change).
+//! The promise is in `laws`: a run of a tidy net is orderly. Begin with specs/: `Event` and `Run` (what may
+//! happen, and its effect), `Tidy` (which nets are in order) and `Orderly` (what runs keep). `Exports` says
+//! which scan made which packet, `World` what an observer sees, `Fits` what every link file meets. `Epochs` has
+//! nets with link files that change.
 //!
-//! Modules in reading order: `event` (what happens to a net), `laws` (what holds of every run),
-//! `epoch_laws` (what holds where link files change).
+//! Of the modules, `event` is what happens to a net, and `epoch_laws` has the laws about link files that
+//! change.
 #![tactic(auto)]
 
 mod epoch_laws;

@@ -1,5 +1,5 @@
-//! What holds of this tosser among any tossers that keep the rules. Each law is the contract of a function
-//! that does nothing.
+//! Laws about this tosser among any tossers that keep the rules. Each law is the contract of a function that
+//! does nothing.
 
 ghost use Rattle.std.specs.Prelude.{◌≡◌, ℕ, Bool, IsTrue, List};
 ghost use Rattle.echo_addr.specs.declared.address.Address.{Address};
@@ -16,9 +16,9 @@ ghost use Rattle.echo_run.specs.Tidy.{Tidy};
 ghost use Rattle.echo_run.specs.Keeping.{IsHistory, Content};
 ghost use Rattle.echo_run.specs.AreaNets.{IsTidyNet, net_of};
 
-/// This tosser keeps the rules, with equality of contents: whatever happens to systems of link files that are
-/// tidy in an area, its messages have the history that some events for any tossers give, in which the five
-/// rules are kept: messages are posted, exported by scans one at a time, and come from packets one at a time.
+/// This tosser keeps the rules, with equality of contents. On link files that are tidy in an area, the messages
+/// of all systems have a history that events of any tossers give, too. In it messages are posted, exported by
+/// scans one at a time, and received from packets one at a time. These events keep the five rules.
 pub fn this_tosser_keeps_the_rules()
     ensures { (files : List LinkFile) (tag : List ℕ) → Tidy files tag → FilesFit files → (events : List RunEvent) →
         (by_rules : List (Event Address NetNode Key Content)) × IsHistory tag (run_of files events) by_rules ×
@@ -31,9 +31,9 @@ pub fn tidy_files_are_a_tidy_net()
     ensures { (files : List LinkFile) (tag : List ℕ) → Tidy files tag → IsTidyNet files tag }
 {}
 
-/// Where link files are tidy in an area, and the tosser of each system with it keeps the five rules, every
-/// run on these files is orderly. Keys and contents are of any types; contents are compared by any `same`
-/// that is reflexive and transitive.
+/// Where link files are tidy in an area, and the tosser of each system with it keeps the five rules, every run
+/// on these files is orderly. Keys and contents have any types. `same` compares contents and is any reflexive
+/// and transitive relation.
 pub fn any_tossers_on_tidy_files_are_orderly<K, C>()
     ensures { AreToldApart K → (files : List LinkFile) (tag : List ℕ) → Tidy files tag →
         (same : C → C → Bool) → Compares (λ a b. IsTrue (same a b)) →

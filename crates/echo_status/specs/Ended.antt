@@ -1,4 +1,4 @@
--- How a command ends: what it answers before a fault is reported, and its status.
+-- How a command ends: its answer before a fault is reported, and its status.
 use Rattle.std.specs.Prelude.{◌≡◌, ℕ, ◌⊎◌, false, List, codes, Result, Ok, Err}
 use Rattle.std.specs.Io.KnownBytes.{Appends}
 use Rattle.echo_device.specs.Device.{Failed}
@@ -54,7 +54,7 @@ pub record IsDone {A : Type 0} (IsRight : List ℕ → A → Type 0) (old new : 
   pub written : Appends old.contents new.contents lines
   pub flushed : PassesAll old new
 
--- what was printed is a beginning of the lines of a right answer
+-- the printed bytes are a beginning of the lines of a right answer
 pub record IsBegun {A : Type 0} (IsRight : List ℕ → A → Type 0) (old new : Output) : Type 0 where
   pub lines : List ℕ
   pub answer : A
@@ -74,7 +74,7 @@ AnswersInPieces IsRight IsRefused old new (Ok right) = IsDone IsRight old new ri
 AnswersInPieces IsRight IsRefused old new (Err fault) =
     (Stops old.failures new.failures fault × IsBegun IsRight old new) ⊎ ((IsOutOfMemory fault ⊎ IsRefused fault) × (new ≡ old))
 
--- the answer is of the input, and not of the machine
+-- the answer depends on the input, and not on the machine
 abbrev pub IsOfInput : ℕ → ℕ → Result Status Fault → Type 0
 IsOfInput before after (Ok status) = Unit {0}
 IsOfInput before after (Err fault) = Stops before after fault → ⊥

@@ -1,4 +1,4 @@
--- The files that a command was given: what they say, and which fault of theirs comes first.
+-- The input files of a command: their parts, and which fault is reported first.
 use Rattle.std.specs.Prelude.{◌≡◌, ℕ, ◌⊎◌, List, [], ◌∷◌, ◌++◌, Option, Some, None, Ok, Err}
 use Rattle.echo_base.specs.declared.fault.BaseFault.{BaseFault}
 use Rattle.echo_base.specs.BaseFile.{BaseFaultOf, LoadOf}
@@ -12,7 +12,7 @@ use Rattle.echo_nodelist.specs.Nodelist.{NodelistFaultOf, NodelistOf}
 use Rattle.echo_status.specs.declared.fault.Fault.{Fault}
 use Rattle.echo_status.specs.declared.fault.Fault.TheVariants.{Base, Link, Nodelist}
 
--- each of the inputs is a link file without fault, and these are what they say, in order
+-- each of the inputs is a link file without fault, and these are their parts, in order
 abbrev pub AreLinkFiles : List (List ℕ) → List LinkFile → Type 0
 AreLinkFiles [] [] = Unit {0}
 AreLinkFiles (bytes ∷ inputs) (file ∷ files) = LinksOf bytes (Ok file) × AreLinkFiles inputs files
@@ -30,7 +30,7 @@ pub record IsLinkFault (inputs : List (List ℕ)) (fault : Fault) : Type 0 where
   pub is : fault ≡ Link why
   pub of_bytes : LinksOf bytes (Err why)
 
--- what a base file says; where there is none the base is empty
+-- the messages of a base file; without a file the base is empty
 abbrev pub IsBaseGiven : Option (List ℕ) → List Filed → ℕ → Type 0
 IsBaseGiven None messages cursor = (messages ≡ []) × (cursor ≡ 0)
 IsBaseGiven (Some bytes) messages cursor = (size : ℕ) × LoadOf bytes (Ok (messages, cursor, size))
@@ -40,13 +40,13 @@ abbrev pub IsBaseFault : Option (List ℕ) → Fault → Type 0
 IsBaseFault None fault = ⊥
 IsBaseFault (Some bytes) fault = (why : BaseFault) × (fault ≡ Base why) × BaseFaultOf bytes why
 
--- the input is a nodelist of these lines; where none was given there are none
+-- the input is a nodelist of these lines; without an input there are none
 abbrev pub IsNodelistGiven : Option (List ℕ) → Option (List Line) → Type 0
 IsNodelistGiven None None = Unit {0}
 IsNodelistGiven (Some bytes) (Some lines) = NodelistOf bytes lines
 IsNodelistGiven _ _ = ⊥
 
--- the first faulty line of the nodelist that was given has the fault
+-- the first faulty line of the given nodelist has the fault
 abbrev pub IsNodelistFault : Option (List ℕ) → Fault → Type 0
 IsNodelistFault None fault = ⊥
 IsNodelistFault (Some bytes) fault = (why : NodeFault) × (fault ≡ Nodelist why) × NodelistFaultOf bytes why

@@ -6,6 +6,6 @@ use Rattle.echo_packet.specs.declared.limits.Limits.{Limits}
 abbrev pub show_limits : Limits
 show_limits = record { text = 16777216; messages = 18446744073709551615 }
 
--- what `toss` takes where texts of this many bytes at most are wanted: never more than `show` takes
+-- the limits of `toss` with texts of at most this many bytes: never above those of `show`
 abbrev pub limits_for : ℕ → Limits
 limits_for most = record { text = min most show_limits.text; messages = show_limits.messages }

@@ -8,7 +8,7 @@ pub record PassesOn (lines rest : List ℕ) (old new : Option (List ℕ)) : Type
   pub whole : lines ≡ went ++ rest
   pub written : Appends old new went
 
--- first bytes of the lines were written: none, some or all
+-- a beginning of the lines was written, perhaps none or all
 pub record WritesFront (lines : List ℕ) (old new : Option (List ℕ)) : Type 0 where
   pub rest : List ℕ
   pub passed : PassesOn lines rest old new

@@ -18,7 +18,7 @@ is_serial word = (length word == 8) && list_all is_hex_digit word
 abbrev pub serial_of_word : List ℕ → ℕ
 serial_of_word word = digits_value 16 word
 
--- whether the marks of a stamp stand where they are to stand: YYYY-MM-DDThh:mm:ss
+-- whether the marks of a stamp are at their places: YYYY-MM-DDThh:mm:ss
 abbrev pub has_marks : List ℕ → Bool
 has_marks word =
     (slice_index word 4 == 45 && slice_index word 7 == 45) && (slice_index word 10 == 84 && (slice_index word 13 == 58 && slice_index word 16 == 58))
@@ -33,7 +33,7 @@ has_numbers word =
 abbrev pub is_stamp_word : List ℕ → Bool
 is_stamp_word word = (length word == 19) && (has_marks word && has_numbers word)
 
--- the moment that it writes, whose parts may be out of their ranges
+-- the stamp that it writes; parts may be out of their ranges
 abbrev pub stamp_in : List ℕ → Stamp
 stamp_in word = record {
   year = number_between word 0 4;

@@ -27,42 +27,42 @@ code_of Refused = 2
 code_of Device = 3
 code_of CommandLine = 4
 
--- the status of a packet's fault: P6, P7 and P9 are of a device or of memory
+-- the status of a packet's fault: P6, P7 and P9 blame a device or memory
 abbrev pub packet_status : PacketFault → Status
 packet_status (packet.Read at) = Device
 packet_status packet.Memory = Device
 packet_status (packet.Write bytes) = Device
 packet_status _ = Refused
 
--- the status of a text's fault: X3 is of memory
+-- the status of a text's fault: X3 blames memory
 abbrev pub text_status : TextFault → Status
 text_status text.Memory = Device
 text_status _ = Refused
 
--- the status of a nodelist's fault: N5 and N6 are of memory or of a device
+-- the status of a nodelist's fault: N5 and N6 blame memory or a device
 abbrev pub node_status : NodeFault → Status
 node_status node.Memory = Device
 node_status (node.Write bytes) = Device
 node_status _ = Refused
 
--- the status of a link file's fault: L9 is of memory
+-- the status of a link file's fault: L9 blames memory
 abbrev pub link_status : LinkFault → Status
 link_status link.Memory = Device
 link_status _ = Refused
 
--- the status of a base's fault: F4, F5 and F6 are of a device or of memory
+-- the status of a base's fault: F4, F5 and F6 blame a device or memory
 abbrev pub base_status : BaseFault → Status
 base_status base.Read = Device
 base_status (base.Write bytes) = Device
 base_status base.Memory = Device
 base_status _ = Refused
 
--- the status of a refused posting: B7 is of memory
+-- the status of a refused posting: B7 blames memory
 abbrev pub post_status : PostFault → Status
 post_status post.Memory = Device
 post_status _ = Refused
 
--- the status of a refused scan: S2 is of memory
+-- the status of a refused scan: S2 blames memory
 abbrev pub scan_status : ScanFault → Status
 scan_status scan.Memory = Device
 scan_status _ = Refused

@@ -1,4 +1,4 @@
-//! The files that a command was given.
+//! The input files of a command.
 ghost use Rattle.std.specs.Prelude.{◌≡◌, ◌⊎◌, IfErr, IfOk, option_copied};
 ghost use Rattle.echo_status.specs.Ended.{IsOutOfMemory};
 ghost use Rattle.echo_status.specs.Inputs.{AreLinkFiles, IsLinkFault, IsNodelistFault, IsNodelistGiven};
@@ -9,7 +9,7 @@ use echo_links::LinkFile;
 use echo_nodelist::Nodelist;
 use std::alloc::Global;
 
-/// What the link files say, in order, or the first fault of the first faulty one.
+/// The link files, in order, or the first fault of the first faulty one.
 pub fn link_files<'a>(alloc: Global, inputs: &[Items<u8>]) -> Result<Vec<LinkFile>, Fault<'a>>
     ensures ok { IfOk result (λ files. AreLinkFiles inputs.now files.items) }
     ensures err { IfErr result (λ fault. IsOutOfMemory fault ⊎ IsLinkFault inputs.now fault) }
@@ -22,7 +22,7 @@ pub fn link_files<'a>(alloc: Global, inputs: &[Items<u8>]) -> Result<Vec<LinkFil
     Ok(files)
 }
 
-/// What the nodelist says, where one was given.
+/// The nodelist, if one was given.
 pub fn nodelist_given<'a>(
     alloc: Global,
     input: Option<&[u8]>,

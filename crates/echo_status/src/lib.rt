@@ -1,14 +1,13 @@
-//! How a command of `echonet` ends, and what the commands share: the faults that stop one, its status,
-//! how its lines go to standard output, the words of its command line, and the link files and nodelists that
-//! it was given.
+//! How a command of `echonet` ends: faults, statuses and printed lines. It also has the words of the command
+//! line, and reads link files and nodelists.
 //!
-//! The contract for the layers above: a fault has one status; lines that were printed are just those, and none
-//! of them is held back; standard output failed where the answer says so, and only there, and then a beginning of
-//! the lines went out; a word or a file is refused just where it has the fault.
+//! Promise: a fault has one status. Exactly the printed lines are written, and none is held back. The answer
+//! says if standard output failed; then a beginning of the lines was written. A word or a file is refused
+//! exactly if it has the fault.
 //!
-//! Modules in reading order: `fault`, `shown` and `status` (how a command ends), `printing` (lines on their way to
-//! standard output), `options` (addresses, stamps, serials and numbers of the command line), `inputs` (link
-//! files and a nodelist are read), and `limits` (what is taken of a packet).
+//! Begin with `fault`, `status` and `shown` (a path in a fault). `printing` writes lines to standard output,
+//! `options` parses addresses, stamps, serials and numbers, `inputs` reads link files and a nodelist. `limits`
+//! bounds packets.
 #![tactic(auto)]
 
 mod fault;

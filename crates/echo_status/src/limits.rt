@@ -1,4 +1,4 @@
-//! What commands take of a packet.
+//! The limits of packets for commands.
 ghost use Rattle.std.specs.Prelude.{◌≡◌};
 ghost use Rattle.echo_status.specs.Limits.{limits_for};
 
@@ -10,7 +10,7 @@ pub const LIMITS: Limits = Limits {
     messages: u64::MAX,
 };
 
-/// The same with texts of at most this many bytes, where that is less.
+/// The same with texts of at most this many bytes, if that is less.
 pub fn limits_for(most: u64) -> Limits
     ensures { result ≡ limits_for most }
 {

@@ -1,4 +1,4 @@
-//! Words of the command line that are more than paths and texts.
+//! Words of the command line that are parsed.
 ghost use Rattle.std.specs.Prelude.{◌≡◌, ◌≤◌, false, true, length, IfErr, IfOk, IsSome, MatchOption};
 ghost use Rattle.std.specs.List.{list_all};
 ghost use Rattle.echo_addr.specs.Address.{AddressOf, refusal};
@@ -24,7 +24,7 @@ pub fn wanted<'a>(word: &str) -> Result<Address, Fault<'a>>
     }
 }
 
-/// The moment that `YYYY-MM-DDThh:mm:ss` writes. Its parts may be out of their ranges.
+/// The stamp that `YYYY-MM-DDThh:mm:ss` writes. Its parts may be out of their ranges.
 pub fn stamp_of<'a>(word: &str) -> Result<Stamp, Fault<'a>>
     ensures ok { IfOk result (λ stamp. (is_stamp_word word.now ≡ true) × (stamp ≡ options.stamp_in word.now)) }
     ensures refused { IfErr result (λ fault. (fault ≡ BadStamp) × (is_stamp_word word.now ≡ false)) }
@@ -74,7 +74,7 @@ fn is_stamp(word: &[u8]) -> bool
     word.len() == 19 && has_marks(word) && has_numbers(word)
 }
 
-// Do the marks stand where they are to stand?
+// Are the marks at their places?
 fn has_marks(word: &[u8]) -> bool
     requires { length word.now ≡ 19 }
     ensures { result ≡ options.has_marks word.now }
@@ -84,7 +84,6 @@ fn has_marks(word: &[u8]) -> bool
     of_day && word[10] == b'T' && of_time
 }
 
-// Are the parts numbers?
 fn has_numbers(word: &[u8]) -> bool
     requires { length word.now ≡ 19 }
     ensures { result ≡ options.has_numbers word.now }

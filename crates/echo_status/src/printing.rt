@@ -1,4 +1,4 @@
-//! Lines on their way to standard output. They are kept back until a piece of them is there.
+//! Lines on their way to standard output, buffered up to a piece.
 ghost use Rattle.std.specs.Prelude.{◌≡◌, [], false, OnOk, OnErr, IfErr};
 ghost use Rattle.std.specs.Io.KnownBytes.{Appends};
 ghost use Rattle.echo_status.specs.Ended.{CannotPrint};
@@ -27,7 +27,7 @@ fn send_lines<'a, W: Sink>(lines: &mut Vec<u8>, out: &mut W) -> Result<(), Fault
     }
 }
 
-/// Writes the lines, where they are a piece or more. Of lines that could not be written none are left.
+/// Writes the lines, if they are a piece or more. Lines that could not be written are dropped.
 pub fn pass_on<'a, W: Sink>(lines: &mut Vec<u8>, out: &mut W) -> Result<(), Fault<'a>>
     ensures bytes { OnOk result (PassesOn lines.old.items lines.new.items (W.contents out.old) (W.contents out.new)) }
     ensures begun { OnErr result (WritesFront lines.old.items (W.contents out.old) (W.contents out.new)) }

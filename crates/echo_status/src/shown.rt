@@ -1,10 +1,10 @@
-//! Paths as a fault line has them.
+//! Paths in a fault line.
 
 use echo_escape::{are_shown, is_shown};
 use std::fmt;
 
-/// A path as it is printed: as it stands where a terminal shows all of it, else with `\xNN` for each byte that
-/// could steer the terminal.
+/// A printed path: unchanged where a terminal shows all of it, else with `\xNN` for each byte that could steer
+/// the terminal.
 #[derive(Clone, Copy)]
 pub(crate) struct Shown<'a>(pub(crate) &'a str);
 
@@ -25,7 +25,7 @@ impl fmt::Display for Shown<'_> {
     }
 }
 
-// Writes a character as it is, the backslash twice.
+// Writes a character unchanged, the backslash twice.
 fn write_doubled<W: fmt::Write>(f: &mut fmt::Formatter<W>, character: char) -> fmt::Result {
     if character == '\\' {
         f.write_char('\\')?;

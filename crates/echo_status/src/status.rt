@@ -37,8 +37,7 @@ impl Status {
     }
 }
 
-/// The status of what a command answered. A fault is reported to `errors`; where there is none nothing is
-/// added to it.
+/// The status of a command's answer. A fault is reported to `errors`; without one nothing is written there.
 pub fn ended<E: Sink>(answer: Result<Status, Fault<'_>>, errors: &mut E) -> Status
     ensures status { result ≡ status_at answer.entry }
     ensures quiet { IfOk answer.entry (λ _. output_of E.contents E.failures E.holds errors.new ≡ output_of E.contents E.failures E.holds errors.old) }

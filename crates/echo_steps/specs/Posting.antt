@@ -1,4 +1,4 @@
--- Posting: what is filed for a draft, and why a draft is refused.
+-- Posting: the message filed for a draft, and why a draft is refused.
 pub use Rattle.echo_filed.specs.Filed.{has_id}
 use Rattle.std.specs.Prelude.{◌≡◌, ℕ, ◌⊎◌, ◌==◌, ◌||◌, not, nat_lt, Bool, true, false, List, [], ◌∷◌, ◌++◌, length, codes, if◌then◌else◌, Option, Some, None, is_none, Result, Ok, Err}
 use Rattle.std.specs.List.{list_any}
@@ -15,7 +15,7 @@ use Rattle.echo_text.specs.Ids.{id_of, is_id, is_zero}
 use Rattle.echo_steps.specs.Stamps.{date_of, is_stamp}
 use Rattle.echo_steps.specs.SystemState.{SystemState, state_with}
 
--- the line that names the message that is replied to, where one is given
+-- the line that names the message that is replied to, if any
 abbrev pub reply_lines : List ℕ → List (List ℕ)
 reply_lines reply = if length reply == 0 then [] else id_line reply_word (trimmed reply) ∷ []
 
@@ -72,7 +72,7 @@ pub record IsAllowed (file : LinkFile) (base : List Filed) (tag : List ℕ) (dra
   pub reply : ((length draft.reply == 0) || is_id draft.reply) ≡ true
   pub new : list_any (has_id (id_of file.system serial)) base ≡ false
 
--- this refusal applies, and none that comes before it: B1, B2, B3, B5, B6, B4
+-- this refusal applies, and none before it in the order B1, B2, B3, B5, B6, B4
 abbrev pub IsFirstRefusal : LinkFile → List Filed → List ℕ → Draft → ℕ → Stamp → PostFault → Type 0
 IsFirstRefusal file base tag draft serial stamp fault.NoArea = has_area file (upper tag) ≡ false
 IsFirstRefusal file base tag draft serial stamp fault.ByteZero = (has_area file (upper tag) ≡ true) × (holds_zero draft ≡ true)
@@ -93,13 +93,13 @@ unfoldable pub posting : LinkFile → List Filed → List ℕ → Draft → ℕ 
 posting file base tag draft serial stamp =
     if is_none (post_refusal file base tag draft serial stamp) then Some (posted file tag draft serial stamp) else None
 
--- what a refused posting may answer: the first refusal that applies, and out of memory once the draft is in order
+-- the answers of a refused posting: the first refusal that applies, or out of memory for a draft without fault
 abbrev pub IsPostFault : LinkFile → List Filed → List ℕ → Draft → ℕ → Stamp → PostFault → Type 0
 IsPostFault file base tag draft serial stamp fault.Memory =
     (post_refusal file base tag draft serial stamp ≡ None) ⊎ (post_refusal file base tag draft serial stamp ≡ Some fault.KnownSerial)
 IsPostFault file base tag draft serial stamp refused = post_refusal file base tag draft serial stamp ≡ Some refused
 
--- a posting: the message is put at the end of the base, or a refusal leaves all as it was
+-- a posting: the message is appended to the base, or a refusal changes nothing
 abbrev pub PostStep : {A : Type 0} → SystemState → List ℕ → Draft → ℕ → Stamp → Result A PostFault → SystemState → Type 0
 PostStep old tag draft serial stamp (Ok done) new =
     (post_refusal old.file old.base tag draft serial stamp ≡ None) × (new ≡ state_with old (Some (posted old.file tag draft serial stamp)))

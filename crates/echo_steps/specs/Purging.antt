@@ -12,7 +12,7 @@ purged base cursor = map stub_of (take cursor base) ++ drop cursor base
 unfoldable pub changed : List Filed → ℕ → ℕ
 changed base cursor = count_by (λ m. not (is_stub m)) (take cursor base)
 
--- a purge: the number of messages changed, or a refusal that leaves all as it was
+-- a purge: the number of messages changed, or a refusal that changes nothing
 abbrev pub PurgeStep : {E : Type 0} → SystemState → Result ℕ E → SystemState → Type 0
 PurgeStep old (Ok count) new =
     (count ≡ changed old.base old.cursor) × (new ≡ record { file = old.file; base = purged old.base old.cursor; cursor = old.cursor })

@@ -21,16 +21,16 @@ use Rattle.echo_steps.specs.SystemState.{SystemState}
 abbrev pub is_sender : Filed → Address → Bool
 is_sender m address = unwrap_or (option_map (same_address address) m.sender) false
 
--- whether the net and node of the address stand in the message's SEEN-BY
+-- whether the message's SEEN-BY has the net and node of the address
 abbrev pub is_seen_by : Filed → Address → Bool
 is_seen_by m address = list_any (same_entry (net_node_of address)) m.echo.seen
 
--- whom a message goes to: the links of its area that did not send it and do not stand in its SEEN-BY
+-- the receivers of a message: the links of its area that did not send it and are not in its SEEN-BY
 unfoldable pub targets : LinkFile → Filed → List Address
 targets file m =
     filter (λ link. not (is_sender m link) && not (is_seen_by m link)) (links_of file m.echo.tag)
 
--- the text that goes out: the own net/node and those of the links join SEEN-BY, the own ends PATH
+-- the exported text: the own net/node and those of the links join SEEN-BY, the own ends PATH
 unfoldable pub exported : LinkFile → EchoText → EchoText
 exported file e = record {
   tag = e.tag;
@@ -39,7 +39,7 @@ exported file e = record {
   path = e.path ++ net_node_of file.system ∷ [];
 }
 
--- a message with this text, as it goes to an address
+-- a message with this text for an address
 abbrev pub message_out : LinkFile → Address → Filed → List ℕ → Message
 message_out file address m text = record {
   orig_node = file.system.node;
@@ -55,7 +55,7 @@ message_out file address m text = record {
   text = text;
 }
 
--- the copy of a message that goes to an address
+-- the copy of a message for an address
 unfoldable pub copy_to : LinkFile → Address → Filed → Message
 copy_to file address m = message_out file address m (text_of (exported file m.echo))
 
@@ -104,7 +104,7 @@ packets_of file stamp waiting = map (packet_to file stamp waiting) (recipients f
 unfoldable pub scanned : LinkFile → List Filed → ℕ → Stamp → List Packet
 scanned file base cursor stamp = packets_of file stamp (drop cursor base)
 
--- a scan: the packets, and the cursor at the end of the base, or a refusal that leaves all as it was
+-- a scan: the packets, and the cursor at the end of the base, or a refusal that changes nothing
 abbrev pub ScanStep : SystemState → Stamp → Result (List Packet) ScanFault → SystemState → Type 0
 ScanStep old stamp (Ok packets) new =
     (is_stamp stamp ≡ true) × (packets ≡ scanned old.file old.base old.cursor stamp)

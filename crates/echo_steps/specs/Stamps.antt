@@ -1,4 +1,4 @@
--- Moments, and how DateTime shows them (FTS-0001).
+-- Dates with times, and how DateTime shows them (FTS-0001).
 use Rattle.std.specs.Prelude.{ℕ, ◌+◌, ◌-◌, ◌*◌, ◌/◌, ◌%◌, ◌&&◌, Bool, List, [], ◌∷◌, ◌++◌, take, drop, codes}
 use Rattle.std.specs.Int.{is_in_range}
 use Rattle.echo_steps.specs.declared.stamp.Stamp.{Stamp}

@@ -14,7 +14,7 @@ use Rattle.echo_filed.specs.Filed.{Filed, key_of}
 use Rattle.echo_base.specs.Base.{is_known}
 use Rattle.echo_steps.specs.SystemState.{SystemState, state_with}
 
--- a received message as it is filed
+-- the filed form of a received message
 unfoldable pub received : Address → Message → Filed
 received sender packed = record {
   sender = Some sender;
@@ -25,7 +25,7 @@ received sender packed = record {
   echo = echo_of packed.text;
 }
 
--- what becomes of a message whose text is echomail
+-- the outcome of a message with an echomail text
 abbrev pub outcome_of_filed : LinkFile → List Filed → Address → Filed → Outcome
 outcome_of_filed file base sender m =
     if not (has_area file m.echo.tag) then outcome.NoArea
@@ -33,7 +33,7 @@ outcome_of_filed file base sender m =
     else if is_known base (key_of m) then outcome.Known
     else outcome.Filed
 
--- the same of a message whose text is refused, or is not
+-- the outcome of a message with a text that may be refused
 abbrev pub outcome_after : LinkFile → List Filed → Address → Filed → Option TextFault → Outcome
 outcome_after file base sender m None = outcome_of_filed file base sender m
 outcome_after file base sender m (Some text.NotEcho) = outcome.NotEcho
@@ -53,7 +53,7 @@ where_filed other m = None
 unfoldable pub tossing : LinkFile → List Filed → Address → Message → Option Filed
 tossing file base sender packed = where_filed (toss_outcome file base sender packed) (received sender packed)
 
--- a message is to be filed: its text is echomail of an area that is there, from a link, and not known
+-- a message is to be filed: its text is echomail of an area in the link file, from a link, and not known
 pub record IsToBeFiled (file : LinkFile) (base : List Filed) (from : Address) (packed : Message) : Type 0 where
   pub text : text_refusal packed.text ≡ None
   pub area : has_area file (echo_of packed.text).tag ≡ true
@@ -72,7 +72,7 @@ IsOutcome file base from packed outcome.Known =
     × (is_known base (key_of (received from packed)) ≡ true)
 IsOutcome file base from packed outcome.Filed = IsToBeFiled file base from packed
 
--- a toss: the message is put at the end of the base where it is filed, else all stays as it was, as it does without memory
+-- a toss: the message is appended to the base if it is filed, otherwise nothing changes; nor does it without memory
 abbrev pub TossStep : {E : Type 0} → SystemState → Address → Message → Result Outcome E → SystemState → Type 0
 TossStep old sender packed (Ok answer) new =
     (answer ≡ toss_outcome old.file old.base sender packed) × (new ≡ state_with old (tossing old.file old.base sender packed))
@@ -91,7 +91,7 @@ outcomes file base sender (packed ∷ later) =
     toss_outcome file base sender packed
     ∷ outcomes file (base ++ option_to_list (tossing file base sender packed)) sender later
 
--- a zone of a header: 0 stands for the receiver's own
+-- a zone of a header: 0 means the receiver's own
 abbrev pub zone_of : LinkFile → ℕ → ℕ
 zone_of file zone = if zone == 0 then file.system.zone else zone
 
@@ -99,6 +99,6 @@ zone_of file zone = if zone == 0 then file.system.zone else zone
 abbrev pub sender_of : LinkFile → Header → Address
 sender_of file header = record { zone = zone_of file header.orig_zone; net = header.orig_net; node = header.orig_node }
 
--- whom a packet is for
+-- the address that a packet is for
 abbrev pub destination_of : LinkFile → Header → Address
 destination_of file header = record { zone = zone_of file header.dest_zone; net = header.dest_net; node = header.dest_node }

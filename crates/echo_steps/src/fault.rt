@@ -5,8 +5,7 @@ ghost use Rattle.echo_steps.specs.declared.fault.ScanFault.TheVariants as scan;
 use std::alloc::{AllocError, AllocFailed};
 use thiserror::Error;
 
-/// Why a draft was not posted: the first of these that applies. `Memory` may come in place of
-/// `KnownSerial`.
+/// Why a draft was not posted: the first of these that applies. `Memory` can replace `KnownSerial`.
 #[derive(Clone, Copy, Debug, PartialEq, Eq, Error)]
 pub enum PostFault {
     /// The link file has no area of the tag in upper case.
@@ -24,7 +23,7 @@ pub enum PostFault {
     /// The reply is not empty and no MSGID (FTS-0009).
     #[error("B6 BadReply")]
     BadReply,
-    /// A message of the base, in any area, has the MSGID that this one would have.
+    /// A message of the base, in any area, has the MSGID that this one would get.
     #[error("B4 KnownSerial")]
     KnownSerial,
     /// A growth was refused.

@@ -1,4 +1,4 @@
-//! What holds of the definitions. Each law is the contract of a function that does nothing.
+//! Laws about the definitions. Each law is the contract of a function that does nothing.
 
 ghost use Rattle.std.specs.Prelude.{◌≡◌, ◌↔◌, ℕ, List, [], ◌∷◌, ◌++◌, Some, None, true, false};
 ghost use Rattle.std.specs.List.{AllByRecursion, list_any};
@@ -19,8 +19,7 @@ ghost use Rattle.echo_steps.specs.Tossing.{IsOutcome, IsToBeFiled, received, tos
 ghost use Rattle.echo_steps.specs.Scanning.{copy_to, exported, scanned};
 ghost use Rattle.echo_steps.specs.Purging.{purged};
 
-/// The copy of a message that goes out is echomail whose text is read back, and it has the key of the
-/// message.
+/// The exported copy of a message is echomail, its text is read back, and it has the key of the message.
 pub fn copy_laws()
     ensures echo { (file : LinkFile) (m : Filed) → IsFile file → IsEcho m.echo → IsEcho (exported file m.echo) }
     ensures accepted { (file : LinkFile) (to : Address) (m : Filed) → IsFile file → IsEcho m.echo → text_refusal ((copy_to file to m).text) ≡ None }
@@ -29,8 +28,8 @@ pub fn copy_laws()
     ensures keep_keys { (file : LinkFile) (from to : Address) (m : Filed) → IsFile file → IsEcho m.echo → key_of (received from (copy_to file to m)) ≡ key_of m }
 {}
 
-/// What a posting files is echomail, was sent by no other system, stands in an area of the link file,
-/// and has the id of the system and the serial, which no message of the base has.
+/// A posting files an echomail message that no other system sent, in an area of the link file. Its id has the
+/// system and the serial, and no message of the base has it.
 pub fn posting_laws()
     ensures echo { (file : LinkFile) (base : List Filed) (tag : List ℕ) (draft : Draft) (serial : ℕ) (stamp : Stamp) (m : Filed) →
         IsFile file → posting file base tag draft serial stamp ≡ Some m → IsEcho m.echo }
@@ -42,8 +41,8 @@ pub fn posting_laws()
         posting file base tag draft serial stamp ≡ Some m → list_any (has_id (id_of file.system serial)) base ≡ false }
 {}
 
-/// A posting is refused for a reason exactly where that is the first that applies, and is filed exactly
-/// where none does.
+/// A posting is refused with a reason exactly where it is the first that applies. It is filed exactly where no
+/// reason applies.
 pub fn posting_refusals()
     ensures refused { (file : LinkFile) (base : List Filed) (tag : List ℕ) (draft : Draft) (serial : ℕ) (stamp : Stamp) (reason : PostFault) →
         (post_refusal file base tag draft serial stamp ≡ Some reason) ↔ IsFirstRefusal file base tag draft serial stamp reason }
@@ -57,8 +56,8 @@ pub fn toss_outcomes()
         (toss_outcome file base sender packed ≡ outcome) ↔ IsOutcome file base sender packed outcome }
 {}
 
-/// A message is filed by a toss exactly where its text is echomail, its area is in the link file, the
-/// sender is a link of the area, and no message of the base has its key.
+/// A toss files a message exactly if its text is echomail, its area is in the link file, the sender is a link
+/// of the area, and no message of the base has its key.
 pub fn toss_law()
     ensures { (file : LinkFile) (base : List Filed) (sender : Address) (packed : Message) →
         (tossing file base sender packed ≡ Some (received sender packed)) ↔ IsToBeFiled file base sender packed }

@@ -1,11 +1,10 @@
-//! What posting, tossing, scanning and purging do to the base of a system, and the words that they
-//! speak of.
+//! The steps of a system: how posting, tossing, scanning and purging change its base.
 //!
-//! The contract for the layers above: `PostStep`, `TossStep`, `ScanStep` and `PurgeStep` of specs/, and
-//! that each keeps what holds of each base.
+//! Promise: `PostStep`, `TossStep`, `ScanStep` and `PurgeStep` of specs/. Each keeps the rules of a base.
 //!
-//! Modules in reading order: `stamp` and `draft` (what is posted), `outcome` (what became of a tossed
-//! message), `packet` (what a scan makes), `packet_file` (the file that it becomes), `fault`, and `laws` (what holds of the steps).
+//! Begin with specs/Posting and specs/Tossing. `stamp` and `draft` are posted, `outcome` is the result of a
+//! tossed message, a scan makes a `packet` and writes it as `packet_file`. `fault` lists the refusals, `laws`
+//! states the promise.
 #![tactic(auto)]
 
 mod draft;

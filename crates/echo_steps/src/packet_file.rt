@@ -6,8 +6,8 @@ use echo_addr::Items;
 use std::alloc::{AllocError, Global};
 use std::marker::Model;
 
-/// A packet that is to become a new file: its name in the folder of packets, and its bytes. These are made when they
-/// are wanted, so that those of many packets, which share their texts, are not held at once.
+/// A packet that becomes a new file: its name in the folder of packets, and its bytes. It makes the bytes only
+/// when they are needed: packets share their texts, so many are not held at once.
 #[derive(Debug, Drop)]
 pub struct PacketFile {
     pub name: Items<u8>,

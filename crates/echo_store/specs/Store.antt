@@ -1,4 +1,4 @@
--- What a store of messages shows, and what its calls leave of it.
+-- The messages of a store, and how its calls change them.
 use Rattle.std.specs.Prelude.{◌≡◌, ◌≤◌, ◌⊎◌, ◌↔◌, ℕ, List, [], ◌∷◌, ◌++◌, length, map, take, drop, Option, None, Result, IsErrOf}
 use Rattle.echo_device.specs.Device.{Failed}
 use Rattle.echo_disk.specs.Disk.{DiskState, Files, Honestly}
@@ -18,19 +18,19 @@ store_cause disk_error.Device = error.Device
 
 -- a store between two calls
 pub record StoreState : Type 1 where
-  -- the disk that it is on, with what stands beside it
+  -- the disk that it is on, with the other files there
   pub disk : DiskState
-  -- calls may be made: none has failed in the middle of a change
+  -- calls are allowed: none has failed in the middle of a change
   pub is_ready : Type 0
-  -- it holds these messages under this cursor, with what is not committed yet
+  -- it holds these messages under this cursor, committed or not
   pub keeps : Base → Type 0
   -- this base was committed last
   pub committed : Base → Type 0
   -- the message that was fetched last
   pub at_hand : Option Filed
-  -- files that a crash left stand for this base
+  -- files that a crash left represent this base
   pub stands : Base → Files → Type 0
-  -- the paths of its own files
+  -- the paths that belong to it
   pub is_own : List ℕ → Type 0
   -- a call that fails in the middle of a change takes it back
   pub undoes : Type 0
@@ -51,13 +51,14 @@ all_scanned base = record { messages = base.messages; cursor = length base.messa
 abbrev pub purged : Base → Base
 purged base = record { messages = map stub_of (take base.cursor base.messages) ++ drop base.cursor base.messages; cursor = base.cursor }
 
--- files stand for the same bases as they did, the same paths are the store's own, and it takes back what failed if it did
+-- files represent the same bases as before, the same paths belong to the store, and it undoes failed changes if it
+-- did before
 pub record IsSameStore (old new : StoreState) : Type 0 where
   pub stands : (base : Base) (c : Files) → new.stands base c ↔ old.stands base c
   pub own : (m : List ℕ) → new.is_own m ↔ old.is_own m
   pub undoes : new.undoes ↔ old.undoes
 
--- a look at the store: nothing has changed but the message at hand
+-- a look at the store: nothing has changed but the current message
 pub record LooksOn (old new : StoreState) : Type 0 where
   pub ready : new.is_ready
   pub keeps : (base : Base) → old.keeps base → new.keeps base
@@ -66,11 +67,11 @@ pub record LooksOn (old new : StoreState) : Type 0 where
   pub quiet : ChangesNothing old.disk new.disk
   pub same : IsSameStore old new
 
--- what stands beside the store, and was on the disk, is as it was
+-- other files that were on the disk are unchanged
 abbrev pub SameBesideStore : StoreState → Files → Type 0
 SameBesideStore old c = (m : List ℕ) → (old.is_own m → ⊥) → old.disk.is_named m → old.disk.is_flushed m → c m ≡ old.disk.seen m
 
--- a crash left the base that was committed before, and nothing beside it has changed
+-- a crash left the base that was committed before, and no other file has changed
 pub record StandsBeside (old : StoreState) (base : Base) (c : Files) : Type 0 where
   pub beside : SameBesideStore old c
   pub stands : old.stands base c
@@ -80,7 +81,7 @@ pub record StandsForEither (old : StoreState) (first next : Base) (c : Files) : 
   pub beside : SameBesideStore old c
   pub stands : old.stands first c ⊎ old.stands next c
 
--- what was seen and on the disk beside the store is so still
+-- other files that were seen and on the disk are so still
 pub record KeepsBeside (old new : StoreState) : Type 0 where
   pub seen : (m : List ℕ) → (old.is_own m → ⊥) → new.disk.seen m ≡ old.disk.seen m
   pub named : (m : List ℕ) → (old.is_own m → ⊥) → old.disk.is_named m → new.disk.is_named m
@@ -88,41 +89,41 @@ pub record KeepsBeside (old new : StoreState) : Type 0 where
   pub alone : (m : List ℕ) → (old.is_own m → ⊥) → old.disk.is_alone m → new.disk.is_alone m
   pub honest : new.disk.is_honest → old.disk.is_honest
 
--- until the next commit a crash at any moment leaves what was committed before
+-- until the next commit a crash leaves the base that was committed before
 pub record CommitsNothing (old new : StoreState) : Type 0 where
   pub any_moment : Honestly new.disk ((base : Base) → old.committed base → LeavesOnly old.disk new.disk (StandsBeside old base))
   pub beside : KeepsBeside old new
   pub same : IsSameStore old new
 
--- a crash at any moment leaves the base that was committed before, or the one that the store holds
+-- a crash leaves the base that was committed before, or the one that the store holds
 pub record MayCommit (old new : StoreState) : Type 0 where
   pub any_moment : Honestly new.disk ((first next : Base) → old.committed first → old.keeps next → LeavesOnly old.disk new.disk (StandsForEither old first next))
   pub beside : KeepsBeside old new
   pub same : IsSameStore old new
 
--- the store goes on, and what was committed before is so still
+-- the store goes on, and the committed base is the same
 pub record GoesOn (old new : StoreState) : Type 0 where
   pub ready : new.is_ready
   pub committed : Honestly new.disk ((base : Base) → old.committed base → new.committed base)
   pub honest : new.disk.is_honest → old.disk.is_honest
 
--- what it holds is committed
+-- the held base is committed
 pub record Commits (old new : StoreState) : Type 0 where
   pub ready : new.is_ready
   pub keeps : Honestly new.disk ((base : Base) → old.keeps base → new.keeps base)
   pub committed : Honestly new.disk ((base : Base) → old.keeps base → new.committed base)
   pub honest : new.disk.is_honest → old.disk.is_honest
 
--- what was committed before is so still, or what was held is
+-- the committed base is the same, or the held base is now committed
 abbrev pub KeepsOrCommits : StoreState → StoreState → Type 0
 KeepsOrCommits old new = ((base : Base) → old.committed base → new.committed base) ⊎ ((base : Base) → old.keeps base → new.committed base)
 
--- what a store that takes back what failed has held, it holds
+-- a store that undoes failed changes still holds its base
 abbrev pub Undoes : StoreState → StoreState → Type 0
 Undoes old new = Honestly new.disk (old.undoes → (base : Base) → old.keeps base → new.keeps base)
 
--- A failure of the device is answered only where its count of failures rose, and damage, on an honest disk, only of a store
--- that holds no base.
+-- A failure of the device is answered only where its count of failures rose. On an honest disk, damage is answered
+-- only of a store that holds no base.
 pub record HasStoreCause {T : Type 0} (old new : StoreState) (before now : ℕ) (result : Result T StoreError) : Type 0 where
   pub later : before ≤ now
   pub failed : IsErrOf result error.Device → Failed before now

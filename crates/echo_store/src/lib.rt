@@ -1,6 +1,8 @@
-//! Messages and a cursor, wherever they are kept: what posting, tossing, scanning and purging ask of a store.
+//! The trait `Store`: messages and a cursor, as posting, tossing, scanning and purging use them,
+//! wherever they are kept.
 //!
-//! Modules in reading order: `store_error`, `store` (the traits) and `memory_store` (a base in memory).
+//! Promise: the traits state what a store holds, and what a crash leaves of it. Begin with `store`
+//! (the traits). `memory_store` is a base in memory, `store_error` says why a call failed.
 #![tactic(auto)]
 
 mod memory_store;

@@ -8,11 +8,12 @@ use echo_base::Base;
 use echo_filed::{Filed, Key};
 use std::hash::BuildHasher;
 
-/// A base in memory. It is on no disk, so any files stand for any base: its owner saves it as a file.
+/// A base in memory. It is on no disk, so any files represent any base: its owner saves it as a
+/// file.
 #[derive(Drop)]
 pub struct MemoryStore<S: BuildHasher> {
     base: Base<S>,
-    // The place of the message at hand.
+    // The number of the current message.
     place: usize,
 }
 
@@ -31,7 +32,7 @@ impl<S: BuildHasher> MemoryStore<S> {
         &self.base
     }
 
-    /// The base, taken out.
+    /// The base.
     pub fn into_base(self) -> Base<S>
         ensures { (⟦<MemoryStore<S> as Store>⟧.state self).keeps result }
     {

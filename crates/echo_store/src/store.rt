@@ -13,14 +13,15 @@ use echo_filed::{Filed, Key};
 
 /// The messages of a system in order of filing, no key twice, and the cursor: the messages before it were scanned.
 ///
-/// What is filed and moved stays once it is committed; until then a crash leaves what was committed before. After a
-/// call that failed in the middle of a change nothing is known but what a crash may leave: the store is opened again,
-/// but for one that takes back what failed.
+/// Changes are permanent after a commit; until then a crash leaves the base that was committed
+/// before. After a call that failed in the middle of a change only what a crash may leave is known.
+/// Open the store again then, unless it undoes failed changes.
 ///
-/// Files that others change too may answer anything. So what an answer says of the messages is known only where the
-/// disk was honest up to then, and what a call asks of them is asked only on a disk that was.
+/// Files that others change too may answer anything. So an answer says something about the messages
+/// only if the disk was honest until then. The preconditions about messages assume an honest disk,
+/// too.
 pub trait Store {
-    // What it holds, and what a crash may leave.
+    // The messages that it holds, and what a crash may leave.
     ghost state: { Self → StoreState };
 
     // How often the device failed: a count that stays at 2^64 - 1.
@@ -51,7 +52,7 @@ pub trait Store {
         ensures looks { LooksOn (state self.old) (state self.new) }
         ensures cause { HasStoreCause (state self.old) (state self.new) (failures self.old) (failures self.new) result };
 
-    /// Takes the message of this number at hand, counted from 0 in order of filing.
+    /// Makes the message of this number the current one. Numbers count from 0 in order of filing.
     fn fetch(&mut self, place: usize) -> Result<(), StoreError>
         requires ready { (state self.old).is_ready }
         requires within { Honestly (state self.old).disk ((base : Base) → (state self.old).keeps base → place < length base.messages) }
@@ -59,11 +60,11 @@ pub trait Store {
         ensures looks { LooksOn (state self.old) (state self.new) }
         ensures cause { HasStoreCause (state self.old) (state self.new) (failures self.old) (failures self.new) result };
 
-    /// The message at hand, none before one was fetched.
+    /// The current message; `None` before the first fetch.
     fn at_hand(&self) -> Option<&Filed>
         ensures { option_copied result ≡ (state self.now).at_hand };
 
-    /// Puts a new message, with its key, at the end.
+    /// Appends a new message with its key.
     fn file(&mut self, key: Key, message: Filed) -> Result<(), StoreError>
         requires ready { (state self.old).is_ready }
         requires own { key ≡ key_of message }
@@ -84,7 +85,8 @@ pub trait Store {
         ensures commits { CommitsNothing (state self.old) (state self.new) }
         ensures cause { HasStoreCause (state self.old) (state self.new) (failures self.old) (failures self.new) result };
 
-    /// Commits what the store holds. At `Ok` each crash leaves it; until then, it or what was committed before.
+    /// Commits the held base. At `Ok` each crash leaves it; until then, it or the base that was
+    /// committed before.
     fn commit(&mut self) -> Result<(), StoreError>
         requires { (state self.old).is_ready }
         ensures committed { OnOk result (Commits (state self.old) (state self.new)) }
@@ -92,10 +94,11 @@ pub trait Store {
         ensures cause { HasStoreCause (state self.old) (state self.new) (failures self.old) (failures self.new) result };
 }
 
-/// A store whose scanned messages can be purged.
+/// A store that can purge scanned messages.
 pub trait PurgedStore: Store {
-    /// Leaves of each scanned message with an id nothing of its text but the id, and answers how many messages
-    /// changed. What was filed before may be committed by it; the purge itself stays once it is committed.
+    /// Replaces each scanned message that has an id by its stub, which keeps only the id, and
+    /// answers how many changed. It may commit what was filed before; the purge itself waits for
+    /// the next commit.
     fn purge(&mut self) -> Result<u64, StoreError>
         requires { (Self.state self.old).is_ready }
         ensures count { Honestly (Self.state self.new).disk ((base : Base) → (Self.state self.old).keeps base

@@ -12,7 +12,7 @@ pub enum StoreError {
     /// The device failed, and counts it.
     #[error("the device failed")]
     Device,
-    /// A message does not stand there as it was filed.
+    /// A stored message differs from the filed one.
     #[error("a message is damaged")]
     Damaged,
     /// A text that four bytes do not count, or a file that eight bytes do not.

@@ -11,7 +11,7 @@ use Rattle.echo_text.specs.Echo.{EchoText, origin_of}
 abbrev pub is_address_byte : ℕ → Bool
 is_address_byte b = is_in_range 47 58 b
 
--- what stands behind the last `(`, or all where none is
+-- the bytes after the last `(`, or all where there is none
 abbrev pub behind_bracket : List ℕ → List ℕ
 behind_bracket line = drop (length line - suffix_len (λ b. not (b == 40)) line) line
 
@@ -19,7 +19,7 @@ behind_bracket line = drop (length line - suffix_len (λ b. not (b == 40)) line)
 abbrev pub address_word : List ℕ → List ℕ
 address_word bytes = take (prefix_len is_address_byte bytes) bytes
 
--- the address of an origin line, none where that has no address of a system
+-- the address of an origin line, none where it has no address of a system
 abbrev pub origin_address : List ℕ → Option Address
 origin_address line = result_ok (outcome (address_word (behind_bracket line)))
 

@@ -1,4 +1,4 @@
--- The stored message of FTS-0001: one message, as editors and tossers keep it in a file of its own.
+-- The stored message of FTS-0001: one message in a file, as editors and tossers write it.
 use Rattle.std.specs.Prelude.{ℕ, ◌-◌, Bool, List, [], ◌∷◌, ◌++◌, length, replicate, if◌then◌else◌, Option, Some, None}
 use Rattle.std.specs.List.{flat_map}
 use Rattle.echo_addr.specs.declared.address.Address.{Address}
@@ -17,7 +17,7 @@ padded size bytes = bytes ++ replicate (size - length bytes) 0
 abbrev pub stored_front : Filed → List ℕ
 stored_front m = padded 36 m.from_name ++ (padded 36 m.to_name ++ (padded 72 m.subject ++ m.date))
 
--- the first of two addresses that is known; zeros where none is
+-- the first of two addresses that is known; zeros where neither is
 abbrev pub known_address : Option Address → Option Address → Address
 known_address (Some a) sender = a
 known_address None (Some a) = a

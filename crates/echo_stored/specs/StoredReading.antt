@@ -9,7 +9,7 @@ use Rattle.echo_stored.specs.declared.reading.StoredDraft.{StoredDraft}
 use Rattle.echo_stored.specs.declared.reading.StoredFault.{StoredFault}
 use Rattle.echo_stored.specs.declared.reading.StoredFault.TheVariants.{BadMessage, Memory}
 
--- what stands before the first 00, or all where none is
+-- the bytes before the first 00, or all where there is none
 abbrev pub until_zero : List ℕ → List ℕ
 until_zero bytes = take (prefix_len (λ b. not (b == 0)) bytes) bytes
 
@@ -48,7 +48,7 @@ body_of text = flat_map own_line (lines text)
 abbrev pub reply_in : List ℕ → List ℕ
 reply_in text = unwrap_or (first_after reply_word (lines text)) []
 
--- what stands in the bytes: names, subject, the reply and the body
+-- the parts of the bytes: names, subject, the reply and the body
 pub record IsDraft (bytes : List ℕ) (draft : StoredDraft) : Type 0 where
   pub from_is : draft.from_name.now ≡ field_at 0 36 bytes
   pub to_is : draft.to_name.now ≡ field_at 36 36 bytes
@@ -56,13 +56,13 @@ pub record IsDraft (bytes : List ℕ) (draft : StoredDraft) : Type 0 where
   pub reply_is : draft.reply.now ≡ reply_in (text_in bytes)
   pub body_is : draft.body ≡ body_of (text_in bytes)
 
--- what is answered where a stored message is to be posted
+-- the answer for a stored message that is to be posted
 abbrev pub ReadAnswers : List ℕ → Result StoredDraft StoredFault → Type 0
 ReadAnswers bytes (Ok draft) = (is_to_post bytes ≡ true) × IsDraft bytes draft
 ReadAnswers bytes (Err BadMessage) = is_to_post bytes ≡ false
 ReadAnswers bytes (Err Memory) = is_to_post bytes ≡ true
 
--- what was written for a message has its names, its subject and its text
+-- the bytes written for a message have its names, its subject and its text
 pub record ReadsBack (scanned : Bool) (m : Filed) : Type 0 where
   pub from_back : field_at 0 36 (stored_bytes scanned m) ≡ m.from_name
   pub to_back : field_at 36 36 (stored_bytes scanned m) ≡ m.to_name

@@ -1,11 +1,12 @@
-//! Stored messages (FTS-0001): files of one message each, which editors and other tossers of the field read and write.
+//! Stored messages (FTS-0001): files of one message each, `*.MSG`, which editors and other tossers
+//! read and write.
 //!
-//! The contract for the layers above: a call that ends well added just the bytes that `stored_bytes` gives for a
-//! message, behind what stood there; what an editor wrote is answered field by field, or refused where it is not to be
-//! posted; and what was written is read back (`written_message_read_back`).
+//! Promise: a call that succeeds appends just the bytes that `stored_bytes` gives for a message.
+//! The file of an editor is read field by field, or refused if it must not be posted. A written
+//! message is read back (`written_message_read_back`).
 //!
-//! Modules in reading order: `origin` (the address in an origin line), `stored` (a message as a stored one), `reading`
-//! (one that is to be posted) and `laws` (what holds of the definitions).
+//! Begin with `stored`, which writes one, and `reading`, which reads one for posting. `origin`
+//! finds the address in an origin line, `laws` states the promise.
 #![tactic(auto)]
 
 mod laws;

@@ -6,28 +6,28 @@ ghost use Rattle.echo_stored.specs.OriginAddress.{address_word, behind_bracket, 
 
 use echo_addr::Address;
 
-/// The address of a system that stands behind the last `(` of an origin line (FTS-0004), without its point and domain.
+/// The address of a system after the last `(` of an origin line (FTS-0004), without its point and
+/// domain.
 pub fn origin_address(line: &[u8]) -> Option<Address>
     ensures { result ≡ origin_address line.now }
 {
     address(address_word(behind_bracket(line)))
 }
 
-// The address that the word writes.
 fn address(word: &[u8]) -> Option<Address>
     ensures { result ≡ result_ok (outcome word.now) }
 {
     Address::parse(word).ok()
 }
 
-// What stands behind the last `(`, or all where none is.
+// The bytes after the last `(`, or all where there is none.
 fn behind_bracket(line: &[u8]) -> &[u8]
     ensures { result.now ≡ behind_bracket line.now }
 {
     &line[line.len() - back_len(line)..]
 }
 
-// How many bytes at the end are no `(`.
+// The number of bytes at the end that are no `(`.
 fn back_len(line: &[u8]) -> usize
     ensures exact { result ≡ length (take_while (λ b. not (b == 40)) (reverse line.now)) }
     ensures within { result ≤ length line.now }

@@ -25,8 +25,9 @@ impl From<AllocError> for StoredFault {
     }
 }
 
-/// What an editor wrote: names, subject, the id of the message that is replied to or no bytes, and the lines of the
-/// text but for those that posting makes or a scan adds, each with its 0D.
+/// The parts that an editor wrote: names, subject, the id of the message that is replied to or no
+/// bytes, and the lines of the text. It omits the lines that posting makes or a scan adds. Each
+/// line ends in 0D.
 #[derive(Debug, Drop)]
 pub struct StoredDraft<'a> {
     pub from_name: &'a [u8],
@@ -74,7 +75,6 @@ fn is_sent(low: u8) -> bool
     low / 8 % 2 == 1
 }
 
-// The field of this size at this place.
 fn field_at(bytes: &[u8], place: usize, size: usize) -> &[u8]
     requires long { 190 ≤ length bytes.now }
     requires place { place ≤ 72 }
@@ -99,14 +99,13 @@ fn behind_numbers(bytes: &[u8]) -> &[u8]
     &bytes[190..]
 }
 
-// What stands before the first 00.
 fn until_zero(bytes: &[u8]) -> &[u8]
     ensures { result.now ≡ until_zero bytes.now }
 {
     &bytes[..filled_len(bytes)]
 }
 
-// How many bytes that is.
+// The number of bytes before the first 00, or of all.
 fn filled_len(bytes: &[u8]) -> usize
     ensures exact { result ≡ length (take_while (λ b. not (b == 0)) bytes.now) }
     ensures within { result ≤ length bytes.now }
@@ -114,7 +113,7 @@ fn filled_len(bytes: &[u8]) -> usize
     bytes.iter().take_while(|b| **b != 0).count()
 }
 
-// The lines of the text but for those that are made.
+// The lines of the text, except those that posting or a scan makes.
 fn body_of(alloc: Global, text: &[u8]) -> Result<Vec<u8>, AllocError>
     ensures { IfOk result (λ body. body.items ≡ body_of text.now) }
 {
@@ -186,7 +185,6 @@ pub fn after_feeds(line: &[u8]) -> &[u8]
     &line[feed_count(line)..]
 }
 
-// How many line feeds stand at the front.
 fn feed_count(line: &[u8]) -> usize
     ensures exact { result ≡ length (take_while is_feed line.now) }
     ensures within { result ≤ length line.now }

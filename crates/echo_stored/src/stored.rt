@@ -1,4 +1,4 @@
-//! A message as a stored one.
+//! Writes a message as a stored message.
 ghost use Rattle.std.specs.Prelude.{◌≡◌, ◌≤◌, ◌+◌, ◌%◌, ◌/◌, ◌++◌, IfOk, OnOk, drop, length};
 ghost use Rattle.echo_filed.specs.Written.{text_of};
 ghost use Rattle.echo_stored.specs.OriginAddress as origins;
@@ -38,7 +38,6 @@ pub fn push_stored(
     push_bytes(stored, &[0])
 }
 
-// Adds bytes as they stand.
 fn push_bytes(stored: &mut Vec<u8>, bytes: &[u8]) -> Result<(), AllocError>
     ensures { OnOk result (stored.new.items ≡ stored.old.items ++ bytes.now) }
 {
@@ -55,7 +54,7 @@ fn push_front(stored: &mut Vec<u8>, message: &Filed) -> Result<(), AllocError>
     push_bytes(stored, &message.date)
 }
 
-// Adds bytes, and 00 behind them until they are so many.
+// Adds bytes, and pads them with 00 to `size` bytes.
 fn push_padded(stored: &mut Vec<u8>, bytes: &[u8], size: usize) -> Result<(), AllocError>
     requires fits { length bytes.now ≤ size }
     requires small { size ≤ 72 }
@@ -145,14 +144,12 @@ fn push_text(alloc: Global, stored: &mut Vec<u8>, message: &Filed) -> Result<(),
     push_behind(stored, &text, area_len(message))
 }
 
-// How long the AREA line is.
 fn area_len(message: &Filed) -> usize
     ensures { result ≡ length message.now.echo.tag + 6 }
 {
     message.echo.tag.len() + 6
 }
 
-// Adds what stands behind so many bytes.
 fn push_behind(stored: &mut Vec<u8>, text: &[u8], front: usize) -> Result<(), AllocError>
     requires { front ≤ length text.now }
     ensures { OnOk result (stored.new.items ≡ stored.old.items ++ drop front text.now) }

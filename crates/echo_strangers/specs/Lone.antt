@@ -1,4 +1,4 @@
--- One system by itself: what it does, and whatever comes to it.
+-- One system by itself: its steps, and all that may arrive.
 use Rattle.std.specs.Prelude.{ℕ, List, [], ◌∷◌, ◌++◌, if◌then◌else◌}
 use Rattle.echo_addr.specs.declared.address.Address.{Address}
 use Rattle.echo_graph.specs.Walk.{Among}
@@ -11,16 +11,16 @@ use Rattle.echo_steps.specs.Scanning.{scanned}
 use Rattle.echo_steps.specs.Stamps.{is_stamp}
 use Rattle.echo_run.specs.Run.{System, fresh, posting_at, purging_at, scanning_at, tossing_at}
 
--- The system posts, tosses, scans or is purged. What it tosses are any messages under any sender; where the toss of a
--- packet stops inside, they are the first messages of the packet.
+-- The system posts, tosses, scans or is purged. It may toss any messages under any sender. If the toss of a packet
+-- stops inside, they are the first messages of the packet.
 pub data LoneEvent : Type 0 where
   PostHere : (tag : List ℕ) (draft : Draft) (serial : ℕ) (stamp : Stamp) → LoneEvent
   TossHere : (sender : Address) (messages : List Message) → LoneEvent
   ScanHere : (stamp : Stamp) → LoneEvent
   PurgeHere : LoneEvent
 
--- the system, the packets of all its scans, in order, and how many of its messages had been scanned when it was last
--- purged, 0 where it never was
+-- the system, the packets of all its scans in order, and the number of messages scanned before its last purge, 0
+-- without one
 pub record LoneSystem : Type 0 where
   pub system : System
   pub sent : List Packet
@@ -34,7 +34,7 @@ lone_at_first file = record { system = fresh file; sent = []; purged_to = 0 }
 abbrev pub with_system : LoneSystem → System → LoneSystem
 with_system s system = record { system = system; sent = s.sent; purged_to = s.purged_to }
 
--- the packets of a scan join those that were sent, and the cursor is at the end
+-- the packets of a scan join those that were sent, and the cursor moves to the end
 abbrev pub with_scanned : Stamp → LoneSystem → LoneSystem
 with_scanned stamp s = record {
   system = scanning_at s.system;
@@ -42,7 +42,7 @@ with_scanned stamp s = record {
   purged_to = s.purged_to;
 }
 
--- what an event does; a posting that is refused does nothing, nor does a scan whose stamp is out of range
+-- the effect of an event; a refused posting has none, nor has a scan with a stamp out of range
 abbrev pub after_lone : LoneSystem → LoneEvent → LoneSystem
 after_lone s (PostHere tag draft serial stamp) = with_system s (posting_at tag draft serial stamp s.system)
 after_lone s (TossHere sender messages) = with_system s (tossing_at sender messages s.system)
@@ -58,11 +58,11 @@ after_all_lone s (event ∷ later) = after_all_lone (after_lone s event) later
 abbrev pub lone_run : LinkFile → List LoneEvent → LoneSystem
 lone_run file events = after_all_lone (lone_at_first file) events
 
--- the text of no message that is tossed holds 00, since a 00 ends a text in a packet
+-- no text of a tossed message has 00, since a 00 ends a text in a packet
 abbrev pub IsOfPackets : LoneEvent → Type 0
 IsOfPackets (TossHere sender messages) = (packed : Message) → Among packed messages → HasNoZero packed.text
 IsOfPackets other = Unit {0}
 
--- what is tossed can stand in packets
+-- packets can have the tossed messages
 abbrev pub AreOfPackets : List LoneEvent → Type 0
 AreOfPackets events = (event : LoneEvent) → Among event events → IsOfPackets event

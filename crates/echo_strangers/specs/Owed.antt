@@ -1,4 +1,4 @@
--- What is to be filed and to be sent of what comes.
+-- The messages that should be filed and sent.
 use Rattle.std.specs.Prelude.{◌≡◌, ◌≢◌, List, Some, None, true}
 use Rattle.echo_addr.specs.declared.address.Address.{Address}
 use Rattle.echo_addr.specs.Address.{net_node_of}
@@ -17,16 +17,16 @@ pub record IsFromLink (file : LinkFile) (sender : Address) (packed : Message) : 
   pub text : text_refusal packed.text ≡ None
   pub link : is_link file (echo_of packed.text).tag sender ≡ true
 
--- the message is the posting of this event, which nothing refuses where the base is this one, or came with it from a link of
--- its area, as it is
+-- the event filed the message: it is its posting, not refused by this base, or came with it, unchanged, from a link
+-- of its area
 abbrev pub IsFiledBy : LinkFile → List Filed → Filed → LoneEvent → Type 0
 IsFiledBy file base m (PostHere tag draft serial stamp) =
     (m ≡ posted file tag draft serial stamp) × IsAllowed file base tag draft serial stamp
 IsFiledBy file base m (TossHere sender messages) = (packed : Message) × Among packed messages × IsFromLink file sender packed × (m ≡ received sender packed)
 IsFiledBy file base m other = ⊥
 
--- the address is to get the message: a link of its area that did not send it, and whose net and node do not stand in the
--- SEEN-BY with which it was filed
+-- the address should get the message: it is a link of the area, not the sender, and not in the message's first
+-- SEEN-BY
 pub record IsOwed (file : LinkFile) (m : Filed) (address : Address) : Type 0 where
   pub link : is_link file m.echo.tag address ≡ true
   pub not_sender : m.sender ≢ Some address

@@ -1,10 +1,10 @@
-//! What holds of one system, whoever its neighbours are and whatever they send. Each law is the contract of
-//! a function that does nothing.
+//! Laws about one system, whoever its neighbours are and whatever they send. Each law is the contract of a
+//! function that does nothing.
 //!
-//! Some laws ask that the link file is as one that was read (`IsFile`): the id of a posting is found again in
-//! its line because the own address is in range, and a copy is read back because its tag is one. They ask
-//! that no text that comes holds 00 (`AreOfPackets`), as none in a packet does. Nothing is asked of senders,
-//! ids, areas, SEEN-BY or PATH.
+//! Some laws require a link file that was read (`IsFile`). Then the own address is in range, so an id of a
+//! posting is found again. The tag of an area is one, so a copy is read back. They also require that no
+//! received text has 00 (`AreOfPackets`), as in every packet. Senders, ids, areas, SEEN-BY and PATH may be
+//! anything.
 
 ghost use Rattle.std.specs.Prelude.{◌≡◌, ◌≤◌, ℕ, List, [], ◌∷◌, ◌++◌, None, drop, take, true};
 ghost use Rattle.echo_addr.specs.declared.address.Address.{Address};
@@ -33,15 +33,16 @@ pub fn no_message_is_filed_twice()
         (key : Key) → count key (lone_run file events).system.base ≤ 1 }
 {}
 
-/// Nothing is filed but postings that nothing refuses, and what came from a link of its area, as it came.
+/// Only two kinds of messages are filed: postings that are not refused, and messages from a link of their area,
+/// unchanged.
 pub fn only_postings_and_copies_from_links_are_filed()
     ensures { (file : LinkFile) (events : List LoneEvent) (m : Filed) → Among m (lone_run file events).system.history →
         (earlier : List LoneEvent) × (event : LoneEvent) × (later : List LoneEvent) × (events ≡ earlier ++ event ∷ later)
         × IsFiledBy file (lone_run file earlier).system.base m event }
 {}
 
-/// A posting that nothing refuses is filed. What came from a link of its area is in the base, once; and where its
-/// key was new, it is filed as it came. Later events take nothing away.
+/// A posting that is not refused is filed. A message from a link of its area is in the base, once; if its key
+/// was new, it was filed unchanged. Later events remove nothing.
 pub fn what_is_due_is_filed()
     ensures postings { (file : LinkFile) (earlier later : List LoneEvent) (tag : List ℕ) (draft : Draft) (serial : ℕ) (stamp : Stamp) →
         IsAllowed file (lone_run file earlier).system.base tag draft serial stamp →
@@ -56,9 +57,9 @@ pub fn what_is_due_is_filed()
         Among (received sender packed) (lone_run file (earlier ++ TossHere sender (before ++ packed ∷ after) ∷ later)).system.history }
 {}
 
-/// Over all packets each address is sent each message at most once. What was scanned is sent once to each
-/// address that is to get it; no message is sent to another one, and what waits is sent to none. A scan whose
-/// stamp is in range sends all that was filed before it.
+/// All packets together send each message to an address at most once. A scanned message is sent once to each
+/// address that should get it, and to no other; a waiting one is not sent. A scan with a stamp in range sends
+/// all that was filed before it.
 pub fn each_link_is_sent_each_message_once()
     ensures once { (file : LinkFile) → IsFile file → (events : List LoneEvent) → AreOfPackets events →
         (address : Address) (key : Key) → sent_count address key (lone_run file events).sent ≤ 1 }
@@ -89,9 +90,9 @@ pub fn packets_hold_what_was_filed()
         × IsSentCopy file m (destination packet) copy × IsOwed file m (destination packet) }
 {}
 
-/// The base is what was filed, place by place, but that stubs are left of the messages that had been scanned
-/// before the last purge; what waits is as it was filed. Whatever happens later, what was filed stays as it was
-/// filed, in its order and before what is filed later, and so do the packets.
+/// The base has the filed messages, place by place, except that those scanned before the last purge are stubs.
+/// Waiting messages are unchanged. Later events keep filed messages unchanged, in order and before later ones,
+/// and keep the packets.
 pub fn what_was_filed_stays()
     ensures base { (file : LinkFile) (events : List LoneEvent) →
         (lone_run file events).system.base ≡ purged (lone_run file events).system.history (lone_run file events).purged_to }

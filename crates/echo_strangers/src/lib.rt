@@ -1,9 +1,7 @@
-//! One system among strangers: what holds of its base and of its packets, whatever comes to it.
+//! One system alone: laws about its base and its packets, whatever its neighbours send.
 //!
-//! The definitions stand in specs/: `Lone` (the system by itself, and what may happen to it) and `Owed`
-//! (what is to be filed and to be sent of what comes).
-//!
-//! `laws` states what holds.
+//! The promise is in `laws`. Begin with specs/: `Lone` (the system by itself, and what may happen to it) and
+//! `Owed` (which messages it should file and send).
 #![tactic(auto)]
 
 mod laws;

@@ -7,7 +7,7 @@ use Rattle.echo_addr.specs.ShortLines.{ComesBefore, IsNetNode, ShortLines, path_
 use Rattle.echo_text.specs.Lines.{after_feeds, after_word, area_tag, area_word, begins, first_line, is_area, is_blank_line, is_origin, is_path, is_seen, is_tag, is_tear, later_lines, lines, msgid_word, reply_word, trimmed}
 use Rattle.echo_text.specs.Tail.{all_dropped, all_entries, kept_of, path_lists, seen_lists, tail}
 
--- a text taken apart: the tag in upper case, the lines that are kept, the entries of SEEN-BY and PATH
+-- a parsed text: the tag in upper case, the kept lines, the entries of SEEN-BY and PATH
 pub record EchoText : Type 0 where
   pub tag : List ℕ
   pub kept : List (List ℕ)
@@ -43,7 +43,7 @@ pub record Says (later kept : List (List ℕ)) (seen path : List NetNode) (dropp
   pub path_list : path ≡ all_entries (path_lists later)
   pub dropped_tokens : dropped ≡ all_dropped (seen_lists later) + all_dropped (path_lists later)
 
--- the text is an echo text that says e; so many tokens of its SEEN-BY and PATH lines are no entry
+-- the text is an echo text that says e; this many tokens of its SEEN-BY and PATH lines are no entry
 pub record EchoOf (text : List ℕ) (e : EchoText) (dropped : ℕ) : Type 0 where
   pub area : is_area (first_line (lines text)) ≡ true
   pub tag : e.tag ≡ area_tag (first_line (lines text))

@@ -34,19 +34,19 @@ is_gap b = b == 32
 abbrev pub is_quote : ℕ → Bool
 is_quote b = b == 34
 
--- a byte that may stand in a line: neither 00 nor 0D
+-- a byte that a line may have: neither 00 nor 0D
 abbrev pub is_line_byte : ℕ → Bool
 is_line_byte b = not (is_zero b || (b == 13))
 
--- what stands before the serial, and the same without the blanks 20 at its end
+-- the bytes before the serial, and the same without the blanks 20 at their end
 abbrev pub before_serial : List ℕ → List ℕ
 before_serial id = take (length id - 8) id
 
 abbrev pub without_gap : List ℕ → List ℕ
 without_gap front = take (length front - suffix_len is_gap front) front
 
--- bytes in which each double quote is doubled, then one double quote; a double quote that is not yet
--- followed by a second one may stand before them
+-- bytes in which each double quote is doubled, then one double quote; the flag says that a single double quote came
+-- just before them
 abbrev pub ends_quoted : Bool → List ℕ → Bool
 ends_quoted single [] = single
 ends_quoted single (b ∷ rest) = (is_quote b || not single) && ends_quoted (is_quote b && not single) rest
@@ -70,7 +70,7 @@ is_id_trimmed id =
     && (list_all is_hex_digit (drop (length id - 8) id)
     && (is_quoted_origin (without_gap (before_serial id)) || is_bare_origin (without_gap (before_serial id)))))
 
--- whether the bytes spell an id; blanks may stand at both ends
+-- whether the bytes spell an id; blanks are allowed at both ends
 unfoldable pub is_id : List ℕ → Bool
 is_id id = is_id_trimmed (trimmed id)
 
@@ -85,7 +85,7 @@ abbrev pub doubled : List ℕ → List ℕ
 doubled [] = []
 doubled (b ∷ rest) = if is_quote b then 34 ∷ (34 ∷ doubled rest) else b ∷ doubled rest
 
--- each doubled double quote made one; one that is taken already may stand before the bytes
+-- each doubled double quote made one; the flag says that the first of a pair came before the bytes
 abbrev pub undoubled : Bool → List ℕ → List ℕ
 undoubled taken [] = []
 undoubled taken (b ∷ rest) =
@@ -123,7 +123,7 @@ pub record IdParts (id origin : List ℕ) (quoted : Bool) (serial : ℕ) : Type 
   pub hex : AllDigits 16 digits
   pub value : digits_value 16 digits ≡ serial
 
--- the bytes spell this id; blanks may stand at both ends
+-- the bytes spell this id; blanks are allowed at both ends
 abbrev pub IdOf : List ℕ → List ℕ → Bool → ℕ → Type 0
 IdOf b origin quoted serial = IdParts (trimmed b) origin quoted serial
 

@@ -10,7 +10,7 @@ use Rattle.echo_text.specs.Lines.{after_word, begins, is_blank_line, is_control,
 abbrev pub is_tail_line : List ℕ → Bool
 is_tail_line line = is_seen line || is_control line || is_blank_line line
 
--- the longest ending of the lines that is made of such lines
+-- the longest ending of the lines that has only such lines
 abbrev pub tail : List (List ℕ) → List (List ℕ)
 tail [] = []
 tail (line ∷ later) = if list_all is_tail_line (line ∷ later) then line ∷ later else tail later
@@ -20,7 +20,7 @@ abbrev pub body : List (List ℕ) → List (List ℕ)
 body [] = []
 body (line ∷ later) = if list_all is_tail_line (line ∷ later) then [] else line ∷ body later
 
--- a line of the tail that is kept: it begins with 01 and is no PATH line
+-- a kept line of the tail: it begins with 01 and is no PATH line
 abbrev pub is_kept_control : List ℕ → Bool
 is_kept_control line = is_control line && not (is_path line)
 

@@ -10,7 +10,7 @@ use crate::words::{AREA, after_word, trimmed};
 /// The most bytes of a tag.
 pub const MAX_TAG: usize = 60;
 
-/// The tag of the AREA line as it stands there, where the line is one and the tag a good one.
+/// The tag of the AREA line, spelled as it is there, if the line and the tag are right.
 pub(crate) fn tag_of(first: &[u8]) -> Result<&[u8], TextFault>
     ensures refused { MatchResult result (λ _. refusal_of first.now ≡ None) (λ fault. refusal_of first.now ≡ Some fault) }
     ensures tag { IfOk result (λ tag. map to_ascii_uppercase tag.now ≡ area_tag first.now) }
@@ -38,28 +38,27 @@ pub fn is_tag(bytes: &[u8]) -> bool
     has_tag_bytes(bytes)
 }
 
-/// Whether the bytes are a tag as it is kept, in upper case. Takes no memory.
+/// Whether the bytes are a tag in upper case. Takes no memory.
 pub fn is_kept_tag(bytes: &[u8]) -> bool
     ensures { result ≡ is_tag bytes.now }
 {
     !bytes.is_empty() && bytes.len() <= MAX_TAG && has_kept_bytes(bytes)
 }
 
-/// Whether each byte may stand in a tag.
+/// Whether a tag in upper case may have each byte.
 fn has_kept_bytes(bytes: &[u8]) -> bool
     ensures { result ≡ list_all is_tag_byte bytes.now }
 {
     bytes.iter().all(|b| is_tag_byte(*b))
 }
 
-/// Whether each byte, in upper case, may stand in a tag.
+/// Whether a tag may have each byte, in upper case.
 fn has_tag_bytes(bytes: &[u8]) -> bool
     ensures { result ≡ list_all (λ b. is_tag_byte (to_ascii_uppercase b)) bytes.now }
 {
     bytes.iter().all(|b| is_tag_byte(b.to_ascii_uppercase()))
 }
 
-/// Whether the byte may stand in a tag.
 fn is_tag_byte(byte: u8) -> bool
     ensures { result ≡ is_tag_byte byte }
 {

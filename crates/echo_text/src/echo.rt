@@ -4,10 +4,10 @@ use echo_addr::{Items, NetNode};
 use std::alloc::{AllocError, Global};
 use std::marker::Model;
 
-/// An echomail text taken apart (FTS-0004). The tag has 1 to 60 bytes from `!` to `~` without small
-/// letters. No kept line holds 00 or 0D, and the longest ending of the kept lines that is made of
-/// control lines holds no SEEN-BY line, no PATH line and no blank line. `seen` ascends without
-/// repeats; `path` has its entries in order, with repeats.
+/// A parsed echomail text (FTS-0004). The tag has 1 to 60 bytes from `!` to `~` without small
+/// letters. No kept line has 00 or 0D. The longest ending of the kept lines that has only control
+/// lines has no SEEN-BY line, no PATH line and no blank line. `seen` ascends without repeats;
+/// `path` has its entries in order, with repeats.
 #[derive(Debug, Drop, PartialEq, Eq, Hash)]
 pub struct Echo {
     pub tag: Items<u8>,
@@ -51,7 +51,7 @@ impl Echo {
     ghost use Rattle.std.specs.Prelude.{◌≡◌, option_copied};
     ghost use Rattle.echo_text.specs.Echo.{msgid_of, origin_of, reply_of, tear_of};
 
-    /// The id of the message (FTS-0009): what follows the colon of the first MSGID line with more
+    /// The id of the message (FTS-0009): the text after the colon of the first MSGID line with more
     /// than blanks there, without blanks at both ends.
     pub fn msgid(&self) -> Option<&[u8]>
         ensures { option_copied result ≡ msgid_of self.now.kept }
@@ -59,7 +59,7 @@ impl Echo {
         found::msgid(self.kept.as_text())
     }
 
-    /// The id of the message replied to, read likewise from the REPLY lines (FTS-0009).
+    /// The id of the message replied to, read from the REPLY lines in the same way (FTS-0009).
     pub fn reply(&self) -> Option<&[u8]>
         ensures { option_copied result ≡ reply_of self.now.kept }
     {
@@ -113,7 +113,7 @@ impl<'a> EchoView<'a> {
         self.kept.origin()
     }
 
-    /// The same parts, with lines of their own.
+    /// The same parts, with a copy of the lines.
     pub fn to_echo(&self, alloc: Global) -> Result<Echo, AllocError>
         ensures { IfOk result (λ echo. echo ≡ self.now) }
     {
@@ -129,7 +129,7 @@ impl<'a> EchoView<'a> {
         })
     }
 
-    /// The same parts, of which only the lines take memory of their own.
+    /// The same parts; only the lines are copied.
     pub fn into_echo(self, alloc: Global) -> Result<Echo, AllocError>
         ensures { IfOk result (λ echo. echo ≡ self.entry) }
     {

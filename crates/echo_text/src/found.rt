@@ -38,7 +38,7 @@ pub(crate) fn origin(kept: &[u8]) -> Option<&[u8]>
     last_with(ORIGIN, kept)
 }
 
-/// What follows the word in the line, where that is more than blanks, without blanks at both ends.
+/// The text after the word in the line, if it is more than blanks, without blanks at both ends.
 fn id_in<'a>(word: &[u8], line: &'a [u8]) -> Option<&'a [u8]>
     ensures { option_copied result ≡ id_in word.now line.now }
 {
@@ -46,7 +46,7 @@ fn id_in<'a>(word: &[u8], line: &'a [u8]) -> Option<&'a [u8]>
     if id.is_empty() { None } else { Some(id) }
 }
 
-/// What follows the word in the first of the lines where that is more than blanks.
+/// The text after the word in the first line where it is more than blanks.
 fn first_id<'a>(word: &[u8], kept: &'a [u8]) -> Option<&'a [u8]>
     ensures { option_copied result ≡ first_after word.now (lines kept.now) }
 {

@@ -1,4 +1,4 @@
-//! What holds of message ids. Each law is the contract of a function that does nothing.
+//! Laws about message ids. Each law is the contract of a function that does nothing.
 
 ghost use Rattle.std.specs.Prelude.{◌≡◌, ◌<◌, ◌^◌, ◌↔◌, ℕ, Bool, true, false, List};
 ghost use Rattle.echo_addr.specs.declared.address.Address.{Address};

@@ -50,7 +50,7 @@ impl Lines {
         self.text.as_slice()
     }
 
-    /// The same lines in memory of their own.
+    /// A copy of the lines.
     pub fn copy(&self, alloc: Global) -> Result<Lines, AllocError>
         ensures { IfOk result (λ lines. lines ≡ self.now) }
     {
@@ -128,7 +128,7 @@ impl<'a> KeptView<'a> {
         KeptView { body, tail }
     }
 
-    /// The same lines in memory of their own.
+    /// A copy of the lines.
     pub fn to_lines(&self, alloc: Global) -> Result<Lines, AllocError>
         ensures { IfOk result (λ lines. lines ≡ self.now) }
     {
@@ -139,7 +139,6 @@ impl<'a> KeptView<'a> {
         Ok(Lines::of_text(text))
     }
 
-    /// The id of the message.
     pub(crate) fn msgid(&self) -> Option<&[u8]>
         ensures { option_copied result ≡ msgid_of self.now }
     {
@@ -159,14 +158,14 @@ impl<'a> KeptView<'a> {
         }
     }
 
-    /// The last tear line. None stands in a tail.
+    /// The last tear line. A tail has none.
     pub(crate) fn tear(&self) -> Option<&[u8]>
         ensures { option_copied result ≡ tear_of self.now }
     {
         found::tear(self.body)
     }
 
-    /// The last origin line. None stands in a tail.
+    /// The last origin line. A tail has none.
     pub(crate) fn origin(&self) -> Option<&[u8]>
         ensures { option_copied result ≡ origin_of self.now }
     {

@@ -1,4 +1,4 @@
-//! What holds of the definitions. Each law is the contract of a function that does nothing.
+//! Laws about the definitions. Each law is the contract of a function that does nothing.
 
 ghost use Rattle.std.specs.Prelude.{◌≡◌, ◌⊎◌, ℕ, List, All, Contains, Option, Some, Result, Ok, Err, filter};
 ghost use Rattle.echo_text.specs.declared.fault.TextFault.{TextFault};
@@ -8,13 +8,12 @@ ghost use Rattle.echo_text.specs.Lines.{begins, is_origin, is_tear, msgid_word, 
 ghost use Rattle.echo_text.specs.Refusal.{TextAnswers, text_refusal};
 ghost use Rattle.echo_text.specs.Tail.{kept_of};
 
-/// A text that was written is read back as what it was written for, no token dropped.
+/// A text that was written is read back as its `Echo`, no token dropped.
 pub fn written_text_read_back()
     ensures { (e : EchoText) (text : List ℕ) → IsEcho e → TextOf e text → EchoOf text e 0 }
 {}
 
-/// A text that was written has no 00, and whoever reads it answers what it was written for, no token
-/// dropped, or out of memory.
+/// A written text has no 00. A reader answers its `Echo` with no token dropped, or out of memory.
 pub fn written_text_is_read()
     ensures no_zero { (e : EchoText) (text : List ℕ) → IsEcho e → TextOf e text → HasNoZero text }
     ensures read { (e : EchoText) (text : List ℕ) (r : Result (EchoText × ℕ) TextFault) → IsEcho e → TextOf e text → TextAnswers text r → (r ≡ Ok (e, 0)) ⊎ (r ≡ Err Memory) }
@@ -30,8 +29,8 @@ pub fn readers_agree()
     ensures { (text : List ℕ) (r s : Result (EchoText × ℕ) TextFault) → TextAnswers text r → TextAnswers text s → (r ≡ s) ⊎ ((r ≡ Err Memory) ⊎ (s ≡ Err Memory)) }
 {}
 
-/// MSGID, REPLY, tear and origin lines are kept as they stand, all of them and in order, wherever they
-/// stand after the AREA line; and each kept line is a line of the text.
+/// MSGID, REPLY, tear and origin lines after the AREA line are kept unchanged, all of them and in
+/// order. Each kept line is a line of the text.
 pub fn kept_as_they_stand()
     ensures msgid { (later : List (List ℕ)) → filter (begins msgid_word) (kept_of later) ≡ filter (begins msgid_word) later }
     ensures reply { (later : List (List ℕ)) → filter (begins reply_word) (kept_of later) ≡ filter (begins reply_word) later }
@@ -40,15 +39,15 @@ pub fn kept_as_they_stand()
     ensures lines { (later : List (List ℕ)) → All (Contains later) (kept_of later) }
 {}
 
-/// What a text says keeps the rules of an `Echo`, and it says one thing: whoever reads it answers
-/// that, or out of memory.
+/// The parts of a text keep the rules of an `Echo`, and a text has only one reading: a reader
+/// answers it, or out of memory.
 pub fn one_reading()
     ensures echo { (text : List ℕ) (e : EchoText) (d : ℕ) → HasNoZero text → EchoOf text e d → IsEcho e }
     ensures same { (text : List ℕ) (e f : EchoText) (m n : ℕ) → EchoOf text e m → EchoOf text f n → (e ≡ f) × (m ≡ n) }
     ensures only { (text : List ℕ) (e : EchoText) (d : ℕ) (r : Result (EchoText × ℕ) TextFault) → EchoOf text e d → TextAnswers text r → (r ≡ Ok (e, d)) ⊎ (r ≡ Err Memory) }
 {}
 
-/// An echo has one text, and what was read and written once is written again as itself.
+/// An echo has one text. A text that was read and written once is written again as itself.
 pub fn one_writing()
     ensures same { (e : EchoText) (b c : List ℕ) → TextOf e b → TextOf e c → b ≡ c }
     ensures again { (text : List ℕ) (e f : EchoText) (d n : ℕ) (b c : List ℕ) → HasNoZero text → EchoOf text e d → TextOf e b → EchoOf b f n → TextOf f c → (f ≡ e) × (n ≡ 0) × (c ≡ b) }

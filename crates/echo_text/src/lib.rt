@@ -1,13 +1,12 @@
 //! Echomail texts (FTS-0004, FTS-0009).
 //!
-//! The contract for the layer above: what `write_text` writes for an `Echo`, `read_text` answers with
-//! that `Echo`, no token dropped (`written_text_read_back`).
+//! Promise: `read_text` of the text that `write_text` made for an `Echo` gives that `Echo`, no
+//! token dropped (`written_text_read_back`).
 //!
-//! Modules in reading order: `fault` (why a text is refused), `words` (what lines begin with), `lines`
-//! (cutting a text, and putting one together), `area` (the tag), `tail` (the control tail), `listed`
-//! (its entries), `found` (ids, tear and origin lines), `kept` (the kept lines), `echo` (a text taken
-//! apart), `reading`, `writing`, `msgid` (message ids), and `laws` and `id_laws` (what holds of the
-//! definitions).
+//! Begin with `echo` (a parsed text), then `reading` and `writing`. `area` has the tag, `kept` the
+//! kept lines, `tail` the control tail, `listed` its entries, `found` ids, tear and origin lines,
+//! `msgid` message ids, `fault` the refusals. `words` and `lines` are helpers; `laws` and `id_laws`
+//! state the promises.
 //!
 //! A caller, who adds a system to the PATH of a text:
 //!

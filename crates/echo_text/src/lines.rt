@@ -6,7 +6,6 @@ ghost use Rattle.echo_text.specs.Echo.{HasEndedLines, ended};
 use memchr::{memchr, memrchr};
 use std::alloc::AllocError;
 
-/// What ends a line.
 const RETURN: u8 = b'\r';
 
 /// The first line of a text, without its 0D, and the bytes after it (FTS-0001). Takes no memory.
@@ -23,7 +22,6 @@ pub fn split_line(text: &[u8]) -> (&[u8], &[u8])
     }
 }
 
-/// Where the last line starts.
 pub(crate) fn last_line_start(text: &[u8]) -> usize
     requires { 0 < length text.now }
     ensures within { result < length text.now }

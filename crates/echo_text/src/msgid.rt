@@ -13,8 +13,8 @@ use std::alloc::{AllocError, Global};
 /// How many digits to the base 16 a serial has.
 const DIGITS: usize = 8;
 
-/// A message id taken apart (FTS-0009). `origin` is what stands before the serial, without the double
-/// quotes around it where it was quoted; double quotes inside are then still doubled.
+/// A parsed message id (FTS-0009). `origin` is the part before the serial, without the double
+/// quotes around it if it was quoted. Double quotes inside are then still doubled.
 #[derive(Clone, Copy, Debug, PartialEq, Eq)]
 pub struct MsgId<'a> {
     pub origin: &'a [u8],
@@ -23,7 +23,7 @@ pub struct MsgId<'a> {
 }
 
 impl<'a> MsgId<'a> {
-    /// The id that the bytes spell; blanks may stand at both ends. Takes no memory.
+    /// The id that the bytes spell; blanks are allowed at both ends. Takes no memory.
     pub fn read(bytes: &'a [u8]) -> Result<MsgId<'a>, TextFault>
         ensures { MatchResult result (λ id. IdOf bytes.now id.origin.now id.quoted id.serial) (λ fault. (fault ≡ BadMsgId) × NoId bytes.now) }
     {
@@ -56,7 +56,7 @@ impl<'a> MsgId<'a> {
     }
 }
 
-/// The id, which has no blanks at its ends, taken apart.
+/// The parts of an id that has no blanks at its ends.
 fn parts_of(id: &[u8]) -> Option<MsgId>
     ensures { MatchOption result (is_id_trimmed id.now ≡ false) (λ m. IdParts id.now m.origin.now m.quoted m.serial) }
 {
@@ -77,7 +77,6 @@ fn parts_of(id: &[u8]) -> Option<MsgId>
     })
 }
 
-/// Whether no byte is 00 or 0D.
 fn is_line(bytes: &[u8]) -> bool
     ensures { result ≡ list_all is_line_byte bytes.now }
 {
@@ -92,7 +91,6 @@ fn without_gap(front: &[u8]) -> &[u8]
     &front[..front.len() - gap_len(front)]
 }
 
-/// How many blanks 20 stand at the end.
 fn gap_len(front: &[u8]) -> usize
     ensures exact { result ≡ length (take_while is_gap (reverse front.now)) }
     ensures within { result ≤ length front.now }
@@ -113,7 +111,6 @@ pub fn serial_of(digits: &[u8]) -> Option<u32>
     Some(value)
 }
 
-/// The origin, and whether it was quoted.
 fn spelled_origin(spelled: &[u8]) -> Option<(&[u8], bool)>
     ensures { MatchOption result ((is_quoted_origin spelled.now || is_bare_origin spelled.now) ≡ false) (λ o. SpellsOrigin o.1 spelled.now o.0.now) }
 {
@@ -126,7 +123,7 @@ fn spelled_origin(spelled: &[u8]) -> Option<(&[u8], bool)>
     None
 }
 
-/// Whether the bytes stand in double quotes, each double quote between them doubled.
+/// Whether the bytes are in double quotes, and each double quote between them is doubled.
 fn is_quoted(spelled: &[u8]) -> bool
     ensures value { result ≡ is_quoted_origin spelled.now }
     ensures room { IsTrue result → 2 ≤ length spelled.now }
@@ -155,7 +152,6 @@ fn ends_quoted(rest: &[u8]) -> bool
     single
 }
 
-/// Whether the bytes may stand without quotes.
 fn is_bare(spelled: &[u8]) -> bool
     ensures { result ≡ is_bare_origin spelled.now }
 {

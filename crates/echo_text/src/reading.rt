@@ -14,8 +14,8 @@ use crate::words::{PATH, SEEN_BY};
 use echo_addr::{Items, NetNode};
 use std::alloc::{AllocError, Global};
 
-/// What the text says (FTS-0004), and how many tokens of its SEEN-BY and PATH lines are no entries.
-/// The kept lines are slices of the text.
+/// The parts of the text (FTS-0004), and how many tokens of its SEEN-BY and PATH lines are no
+/// entries. The kept lines are slices of the text.
 pub fn view_text<'a>(alloc: Global, text: &'a [u8]) -> Result<(EchoView<'a>, usize), TextFault>
     requires { HasNoZero text.now }
     ensures { TextAnswers text.now result }
@@ -33,7 +33,7 @@ pub fn view_text<'a>(alloc: Global, text: &'a [u8]) -> Result<(EchoView<'a>, usi
     Ok((view, parts.dropped))
 }
 
-/// What the text says, as `view_text` does, with lines of its own.
+/// The parts of the text, as `view_text` gives them, with a copy of the lines.
 pub fn read_text(alloc: Global, text: &[u8]) -> Result<(Echo, usize), TextFault>
     requires { HasNoZero text.now }
     ensures { TextAnswers text.now result }

@@ -17,7 +17,6 @@ pub(crate) fn split_tail(text: &[u8]) -> (&[u8], &[u8])
     (&text[..at], &text[at..])
 }
 
-/// How many bytes stand before the control tail.
 fn body_len(text: &[u8]) -> usize
     ensures within { result ≤ length text.now }
     ensures body { lines (take result text.now) ≡ body (lines text.now) }

@@ -27,7 +27,7 @@ pub(crate) fn after_feeds(line: &[u8]) -> &[u8]
     &line[feed_count(line)..]
 }
 
-/// How many line feeds stand at the front.
+/// The number of line feeds at the front.
 fn feed_count(line: &[u8]) -> usize
     ensures exact { result ≡ length (take_while is_feed line.now) }
     ensures within { result ≤ length line.now }
@@ -54,7 +54,6 @@ pub(crate) fn after_word<'a>(word: &[u8], line: &'a [u8]) -> Option<&'a [u8]>
     }
 }
 
-/// Whether there is nothing but blanks.
 pub(crate) fn is_blank_line(line: &[u8]) -> bool
     ensures { result ≡ is_blank_line line.now }
 {
@@ -69,7 +68,6 @@ pub fn trimmed(bytes: &[u8]) -> &[u8]
     &begun[..begun.len() - back_blanks(begun)]
 }
 
-/// How many blanks stand at the front.
 fn front_blanks(bytes: &[u8]) -> usize
     ensures exact { result ≡ length (take_while is_blank bytes.now) }
     ensures within { result ≤ length bytes.now }
@@ -77,7 +75,6 @@ fn front_blanks(bytes: &[u8]) -> usize
     bytes.iter().take_while(|b| is_blank(**b)).count()
 }
 
-/// How many blanks stand at the end.
 fn back_blanks(bytes: &[u8]) -> usize
     ensures exact { result ≡ length (take_while is_blank (reverse bytes.now)) }
     ensures within { result ≤ length bytes.now }
@@ -99,7 +96,7 @@ pub(crate) fn is_tail_line(line: &[u8]) -> bool
     begins(SEEN_BY, line) || begins(CONTROL, line) || is_blank_line(line)
 }
 
-/// Whether the line is kept also in a control tail.
+/// Whether a control tail keeps the line too.
 pub(crate) fn is_kept_control(line: &[u8]) -> bool
     ensures { result ≡ is_kept_control line.now }
 {

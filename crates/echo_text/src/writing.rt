@@ -48,7 +48,7 @@ const LINE_ROOM: usize = 80;
 
 const ENTRY_ROOM: usize = 6;
 
-/// How many bytes most such texts have at most.
+/// The room in bytes that most such texts need at most.
 fn room_of(kept: &[u8], entries: usize) -> usize {
     let room = entries.saturating_mul(ENTRY_ROOM);
     room.saturating_add(3 * LINE_ROOM)

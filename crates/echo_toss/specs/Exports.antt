@@ -1,4 +1,4 @@
--- What goes out of the messages that wait.
+-- The copies that a scan makes of waiting messages.
 use Rattle.std.specs.Prelude.{◌≡◌, ℕ, Bool, List, map, filter, slice_get, Some, Result, Ok, Err, Vec}
 use Rattle.std.specs.declared.alloc.Global.{Global}
 use Rattle.echo_steps.specs.declared.fault.ScanFault.{ScanFault}
@@ -16,28 +16,28 @@ use Rattle.echo_steps.specs.Scanning.{copy_to, header_to, targets}
 abbrev pub nowhere : Address
 nowhere = record { zone = 0; net = 0; node = 0 }
 
--- a message as it goes out, to no address alone, and whom it goes to
+-- an outgoing message before it is addressed, and its receivers
 pub record Outgoing : Type 0 where
   pub message : Message
   pub targets : List Address
 
--- what goes out of a message
+-- the outgoing form of a message
 abbrev pub outgoing_of : LinkFile → Filed → Outgoing
 outgoing_of file m = record { message = copy_to file nowhere m; targets = targets file m }
 
--- what goes out of the message of this number
+-- the outgoing form of the message of this number
 abbrev pub IsOutgoingAt : LinkFile → List Filed → ℕ → Outgoing → Type 0
 IsOutgoingAt file messages place o = (m : Filed) × (slice_get messages place ≡ Some m) × (o ≡ outgoing_of file m)
 
--- the copy of it that goes to an address
+-- the copy for an address
 abbrev pub copy_out : Address → Outgoing → Message
 copy_out address o = readdressed o.message address.node address.net
 
--- whether it goes to an address
+-- whether an address receives it
 abbrev pub goes_out : Address → Outgoing → Bool
 goes_out address o = list_any (same_address address) o.targets
 
--- the packet of what goes out to an address
+-- the packet of outgoing messages to an address
 abbrev pub packet_out : LinkFile → Stamp → List Outgoing → Address → Packet
 packet_out file stamp all address = record {
   header = header_to file stamp address;
@@ -48,31 +48,31 @@ packet_out file stamp all address = record {
 abbrev pub packets_out : LinkFile → Stamp → List Outgoing → List Packet
 packets_out file stamp all = map (packet_out file stamp all) (address_set (flat_map (λ o. o.targets) all))
 
--- the same, whom it goes to as a set
+-- the same, with its receivers as a set
 pub record Ready : Type 0 where
   pub message : Message
   pub targets : List Address
 
--- what is made ready of what goes out
+-- an outgoing message made ready
 abbrev pub ready_of : Outgoing → Ready
 ready_of o = record { message = o.message; targets = address_set o.targets }
 
--- the copy of it that goes to an address
+-- the copy for an address
 abbrev pub ready_copy : Address → Ready → Message
 ready_copy address r = readdressed r.message address.node address.net
 
--- whether it goes to an address
+-- whether an address receives it
 abbrev pub goes_ready : Address → Ready → Bool
 goes_ready address r = list_any (same_address address) r.targets
 
--- the packet of what is ready to go to an address
+-- the packet of the messages that are ready for an address
 abbrev pub packet_ready : LinkFile → Stamp → List Ready → Address → Packet
 packet_ready file stamp all address = record {
   header = header_to file stamp address;
   messages = map (ready_copy address) (filter (goes_ready address) all);
 }
 
--- what a scan answered, its packets as a list
+-- a scan's answer, with its packets as a list
 abbrev pub listed : Result (Vec Packet Global) ScanFault → Result (List Packet) ScanFault
 listed (Ok packets) = Ok packets.items
 listed (Err fault) = Err fault

@@ -1,4 +1,4 @@
--- What the calls below a toss of a packet do: its header, and its messages.
+-- The calls that a toss of a packet makes: for its header, and its messages.
 use Rattle.std.specs.Prelude.{◌≡◌, ◌≢◌, ℕ, ◌+◌, List, [], length, Option, IfSome, Result, Ok, Err}
 use Rattle.std.specs.Io.KnownBytes.{Consumes}
 use Rattle.echo_addr.specs.declared.address.Address.{Address}

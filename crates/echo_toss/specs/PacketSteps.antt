@@ -20,7 +20,7 @@ use Rattle.echo_toss.specs.declared.fault.TossCause.TheVariants as stop
 use Rattle.echo_toss.specs.declared.fault.TossFault.{TossFault}
 use Rattle.echo_toss.specs.Tallies.{tally_of}
 
--- what a fault of the packet's reader stops a toss with
+-- the cause that stops a toss at a fault of the packet's reader
 abbrev pub cause_of : PacketFault → TossCause
 cause_of fault.Memory = stop.Memory
 cause_of other = stop.Packet other
@@ -62,7 +62,7 @@ pub record TossesSome (limits : Limits) (old : SystemState) (before : Option (Li
   pub for_us : IsForUs old header
   pub done : HasTossed (sender_of old.file header) messages old tally new
 
--- the bytes that the reader lost are a header, whose destination is not this system, and nothing was tossed
+-- the bytes that the reader lost are a header with another system as destination, and nothing was tossed
 pub record IsForOther (old : SystemState) (before after : Option (List ℕ)) (tally : Tally) (destination : Address) (new : SystemState) : Type 0 where
   pub header : Header
   pub bytes : Came before after (λ came. IsHeader header × (came ≡ header_bytes header))
@@ -76,7 +76,8 @@ pub record FailsInHeader (old : SystemState) (before after : Option (List ℕ)) 
   pub inside : FailsInFront before after f
   pub nothing : HasTossedNone old tally new
 
--- The bytes have the fault after these messages. Where the device failed, it is the bytes that the reader lost that end inside the field at the place.
+-- The bytes have the fault after these messages. If the device failed, the bytes that the reader lost end inside the
+-- field at the place.
 abbrev pub StopsBehind : Limits → List Message → Option (List ℕ) → Option (List ℕ) → PacketFault → Type 0
 StopsBehind limits ms before after (fault.Read at) = Came before after (λ came. FaultOf came limits ms (fault.Truncated at))
 StopsBehind limits ms before after f = IfSome before (λ bs. FaultOf bs limits ms f)
@@ -104,7 +105,7 @@ abbrev pub CountsCause : TossCause → ℕ → ℕ → Type 0
 CountsCause (stop.Packet (fault.Read at)) before after = Failed before after
 CountsCause other before after = after ≡ before
 
--- the same of what a toss of a packet answered
+-- the same for the answer of a toss of a packet
 abbrev pub CountsToss : Result Tally TossFault → ℕ → ℕ → Type 0
 CountsToss (Ok tally) before after = after ≡ before
 CountsToss (Err f) before after = CountsCause f.cause before after

@@ -1,4 +1,4 @@
--- Tossing a whole packet at a system whose messages and cursor are in a store.
+-- Tossing a whole packet at a system that has its messages and cursor in a store.
 use Rattle.std.specs.Prelude.{◌≡◌, ℕ, List, Option, Result, Ok, Err}
 use Rattle.echo_addr.specs.declared.address.Address.{Address}
 use Rattle.echo_packet.specs.declared.limits.Limits.{Limits}
@@ -18,21 +18,21 @@ use Rattle.echo_toss.specs.Tallies.{all_counted}
 use Rattle.echo_toss.specs.PacketSteps.{PacketStep}
 use Rattle.echo_toss.specs.Messages.{TossesMessages}
 
--- a system with this link file, whose store holds this base
+-- a system with this link file, and this base in its store
 abbrev pub state_in : LinkFile → Base → SystemState
 state_in file base = record { file = file; base = base.messages; cursor = base.cursor }
 
--- what stopped a toss, as steps of a system tell it: that the store failed, as out of memory
+-- the cause that stopped a toss, as the steps of a system state it: a failed store counts as out of memory
 abbrev pub cause_in : TossStop → TossCause
 cause_in (toss.Packet why) = why
 cause_in (toss.Store error) = cause.Memory
 
--- the same of what a toss of messages answered
+-- the same for the answer of a toss of messages
 abbrev pub messages_answer : {A : Type 0} → Result A TossStop → Result A TossCause
 messages_answer (Ok done) = Ok done
 messages_answer (Err stop) = Err (cause_in stop)
 
--- the same of what a toss of a packet answered
+-- the same for the answer of a toss of a packet
 abbrev pub packet_answer : Result Tally StoppedToss → Result Tally TossFault
 packet_answer (Ok tally) = Ok tally
 packet_answer (Err stopped) = Err (record { tally = stopped.tally; cause = cause_in stopped.stop })
@@ -42,7 +42,7 @@ abbrev pub stop_in : Result Tally StoppedToss → Result (Unit {0}) TossStop
 stop_in (Ok tally) = Ok tt
 stop_in (Err stopped) = Err stopped.stop
 
--- what the store answered
+-- the answer of the store
 abbrev pub toss_answer : {A : Type 0} → Result A TossStop → Result (Unit {0}) StoreError
 toss_answer (Ok done) = Ok tt
 toss_answer (Err (toss.Packet why)) = Ok tt
@@ -54,7 +54,7 @@ HoldsUnlessFailed old (Ok done) new base = new.keeps base
 HoldsUnlessFailed old (Err (toss.Packet why)) new base = new.keeps base
 HoldsUnlessFailed old (Err (toss.Store error)) new base = old.undoes → new.keeps base
 
--- where the store did not fail, it goes on
+-- if the store did not fail, it goes on
 abbrev pub GoesOnUnlessFailed : {A : Type 0} → StoreState → Result A TossStop → StoreState → Type 0
 GoesOnUnlessFailed old (Ok done) new = GoesOn old new
 GoesOnUnlessFailed old (Err (toss.Packet why)) new = GoesOn old new
@@ -89,7 +89,7 @@ pub record ReadsPacket (limits : Limits) (file : LinkFile) (base : Base) (before
   pub step : PacketStep limits (state_in file base) before after (with_tally tally result) (state_in file next)
   pub count : all_counted tally ≡ counted_in result
 
--- the same of the messages behind a header, of which so many were counted
+-- the same for the messages after a header, of which this many were counted
 pub record ReadsMessages {A : Type 0} (limits : Limits) (sender : Address) (file : LinkFile) (base : Base) (before after : Option (List ℕ)) (counted : ℕ) (result : Result A TossCause) : Type 0 where
   pub tally : Tally
   pub next : Base

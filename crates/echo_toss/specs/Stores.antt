@@ -1,4 +1,4 @@
--- Steps of a system whose messages and cursor are in a store.
+-- Steps of a system that has its messages and cursor in a store.
 use Rattle.std.specs.Prelude.{◌≡◌, ◌++◌, true, false, ℕ, List, Option, Some, option_to_list, Result, Ok, Err}
 use Rattle.echo_base.specs.Base.{Base}
 use Rattle.echo_filed.specs.Filed.{Filed}
@@ -17,26 +17,26 @@ use Rattle.echo_toss.specs.declared.stop.PostStop.TheVariants as post
 use Rattle.echo_toss.specs.declared.stop.ScanStop.{ScanStop}
 use Rattle.echo_toss.specs.declared.stop.ScanStop.TheVariants as scan
 
--- one message more at the end, where there is one
+-- one message more at the end, if there is one
 abbrev pub and_filed : Base → Option Filed → Base
 and_filed base m = record { messages = base.messages ++ option_to_list m; cursor = base.cursor }
 
--- where nothing was filed, nothing has changed but the message at hand
+-- if nothing was filed, only the current message has changed
 abbrev pub LooksUnlessFiled : StoreState → StoreState → Outcome → Type 0
 LooksUnlessFiled old new outcome.Filed = Unit {0}
 LooksUnlessFiled old new other = LooksOn old new
 
--- why a posting was not filed: the refusal that applies, or the store, once the draft is in order
+-- why a posting was not filed: the refusal that applies, or the store for a draft without fault
 abbrev pub IsPostStop : LinkFile → List Filed → List ℕ → Draft → ℕ → Stamp → PostStop → Type 0
 IsPostStop file base tag draft serial stamp (post.Refused refusal) = post_refusal file base tag draft serial stamp ≡ Some refusal
 IsPostStop file base tag draft serial stamp (post.Store cause) = IsPostFault file base tag draft serial stamp fault.Memory
 
--- a refusal has changed nothing but the message at hand
+-- a refusal has changed only the current message
 abbrev pub LooksWhereRefused : StoreState → StoreState → PostStop → Type 0
 LooksWhereRefused old new (post.Refused refusal) = LooksOn old new
 LooksWhereRefused old new (post.Store cause) = Unit {0}
 
--- what the store answered to a posting
+-- the answer of the store to a posting
 abbrev pub post_answer : {T : Type 0} → Result T PostStop → Result (Unit {0}) StoreError
 post_answer (Ok done) = Ok tt
 post_answer (Err (post.Refused refusal)) = Ok tt
@@ -47,7 +47,7 @@ abbrev pub IsScanStop : Stamp → StoreState → StoreState → ScanStop → Typ
 IsScanStop stamp old new scan.BadStamp = (is_stamp stamp ≡ false) × LooksOn old new
 IsScanStop stamp old new (scan.Store cause) = is_stamp stamp ≡ true
 
--- what the store answered to a scan
+-- the answer of the store to a scan
 abbrev pub scan_answer : {T : Type 0} → Result T ScanStop → Result (Unit {0}) StoreError
 scan_answer (Ok done) = Ok tt
 scan_answer (Err scan.BadStamp) = Ok tt

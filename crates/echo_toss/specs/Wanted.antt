@@ -1,4 +1,4 @@
--- Whether a received message is wanted, whatever the base.
+-- Whether a received message is echomail from a link, whatever the base.
 use Rattle.std.specs.Prelude.{◌≡◌, false, ℕ, not, List, if◌then◌else◌, Option, Some, None}
 use Rattle.echo_addr.specs.declared.address.Address.{Address}
 use Rattle.echo_packet.specs.Message.{Message}
@@ -24,7 +24,7 @@ refused_by file tag sender =
     else if not (is_link file tag sender) then Some outcome.NotLinked
     else None
 
--- the text is echomail that says e, of an area that the sender links
+-- the text is echomail that says e, and the sender is a link of its area
 pub record IsWanted (file : LinkFile) (sender : Address) (packed : Message) (e : EchoText) : Type 0 where
   pub text : text_refusal packed.text ≡ None
   pub said : e ≡ echo_of packed.text
@@ -35,7 +35,7 @@ abbrev pub IsUnwanted : LinkFile → Address → Message → Outcome → Type 0
 IsUnwanted file sender packed answer =
     (base : List Filed) → (answer ≡ toss_outcome file base sender packed) × (None ≡ tossing file base sender packed)
 
--- what was read of a message is so
+-- the message was read in this way
 abbrev pub IsRead : LinkFile → Address → Message → Reading → Type 0
 IsRead file sender packed (Wanted e) = IsWanted file sender packed e
 IsRead file sender packed (Unwanted answer) = IsUnwanted file sender packed answer

@@ -14,7 +14,6 @@ use echo_steps::{Draft, Stamp};
 use echo_text::{Echo, Lines, MsgId, push_line, push_lines, trimmed};
 use std::alloc::{AllocError, Global};
 
-/// The message.
 pub(crate) fn posted(
     alloc: Global,
     links: &LinkFile,
@@ -49,7 +48,6 @@ pub(crate) fn posted(
     })
 }
 
-// The bytes as a list of their own.
 pub(crate) fn copied(alloc: Global, bytes: &[u8]) -> Result<Items<u8>, AllocError>
     ensures { IfOk result (λ copy. copy ≡ bytes.now) }
 {
@@ -85,7 +83,7 @@ fn push_id(text: &mut Vec<u8>, word: &[u8], id: &[u8]) -> Result<(), AllocError>
     push_line(text, id)
 }
 
-// Adds the line that names what is replied to, where something is.
+// Adds the line that names the message replied to, if any.
 fn push_reply(text: &mut Vec<u8>, reply: &[u8]) -> Result<(), AllocError>
     ensures { OnOk result (text.new.items ≡ text.old.items ++ flat_map ended (reply_lines reply.now)) }
 {

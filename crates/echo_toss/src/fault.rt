@@ -7,7 +7,7 @@ use thiserror::Error;
 /// Why the toss of a packet stopped.
 #[derive(Clone, Copy, Debug, PartialEq, Eq, Error)]
 pub enum TossCause {
-    /// The packet is for this other system, and none of its messages was looked at.
+    /// The packet is for this other system, and its messages were not read.
     #[error("C1 NotForUs {0}")]
     NotForUs(Address),
     /// A growth was refused.

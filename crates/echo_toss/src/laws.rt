@@ -1,4 +1,4 @@
-//! What holds of the definitions. Each law is the contract of a function that does nothing.
+//! Laws about the definitions. Each law is the contract of a function that does nothing.
 
 ghost use Rattle.std.specs.Prelude.{◌≡◌, ◌≢◌, ℕ, List, [], ◌++◌, Option, Some, Result, Ok, Err};
 ghost use Rattle.echo_packet.specs.declared.header.Header.{Header};
@@ -20,7 +20,7 @@ pub fn packet_laws()
     ensures whole { (limits : Limits) (header : Header) (ms : List Message) (bytes rest : List ℕ) (after : Option (List ℕ)) (old new : SystemState) (result : Result Tally TossFault) →
         PacketOf limits header ms bytes → IsForUs old header → PacketStep limits old (Some (bytes ++ rest)) after result new → CountsToss result 0 0 →
         WholeStep old (sender_of old.file header) ms result new }
-    // Where all messages were tossed, just its bytes were taken.
+    // If all messages were tossed, just their bytes were consumed.
     ensures taken { (limits : Limits) (header : Header) (ms : List Message) (bytes rest : List ℕ) (after : Option (List ℕ)) (old new : SystemState) (tally : Tally) →
         PacketOf limits header ms bytes → PacketStep limits old (Some (bytes ++ rest)) after (Ok tally) new → after ≡ Some rest }
     // At another system it is refused, whatever follows its header.

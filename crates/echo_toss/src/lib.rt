@@ -1,15 +1,13 @@
 //! The tosser: what one system does to its base.
 //!
-//! The contract for the layer above: `post`, `toss_message`, `scan` and `purge` are the steps of
-//! echo_steps on the whole state of the system, `toss` is the step of each message of a packet, in
-//! order, and what a refused call finds it leaves. `post_in`, `toss_in`, `toss_packet_in` and `scan_in` are the
-//! same steps over any store of messages, and commit nothing.
+//! Promise: `post`, `toss_message`, `scan` and `purge` are the steps of echo_steps on the whole state of the
+//! system. `toss` makes the step of each message of a packet, in order. A refused call changes nothing.
+//! `post_in`, `toss_in`, `toss_packet_in` and `scan_in` are the same steps over any store, and commit nothing.
 //!
-//! Modules in reading order: `tosser` (the type), `moment`, `refusing`, `drafting`, `stop` and `posting` (a
-//! draft is judged, made a message and filed), `receiving` and `tossing` (the same of a received
-//! message), `sets`, `outgoing`, `packing` and `scanning` (what waits, its packets, and the scan),
-//! `purging`, `tally` (what became of the messages of a packet), `fault` and `packets` (a whole packet
-//! is tossed), `storing` (the base is written and read), and `laws` (what holds of the definitions).
+//! Begin with `tosser` (the type) and `tossing` (one received message; `receiving` reads it). `packets` tosses
+//! a whole packet, `tally` counts outcomes. `posting` files a draft; `refusing`, `drafting`, `moment` and
+//! `stop` are its parts. `scanning` exports by `outgoing`, `packing` and `sets`. Then `purging`, `storing` (the
+//! base is written and read), `fault`, and `laws`.
 #![tactic(auto)]
 
 mod drafting;

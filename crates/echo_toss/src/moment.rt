@@ -1,4 +1,4 @@
-//! Moments, judged and written.
+//! Checks a stamp, and writes it as a DateTime.
 ghost use Rattle.std.specs.Prelude.{◌≡◌, ◌≤◌, ◌+◌, ◌*◌, ◌/◌, ◌%◌, ◌-◌, true};
 ghost use Rattle.std.specs.Int.{is_in_range};
 ghost use Rattle.echo_steps.specs.Stamps.{date_of, is_stamp};
@@ -26,7 +26,7 @@ fn is_within(low: u16, high: u16, part: u16) -> bool
     low <= part && part <= high
 }
 
-/// The DateTime of the moment (FTS-0001): `DD Mon YY  hh:mm:ss` and 00.
+/// The DateTime of the stamp (FTS-0001): `DD Mon YY  hh:mm:ss` and 00.
 pub(crate) fn date_of(stamp: Stamp) -> [u8; 20]
     requires { is_stamp stamp ≡ true }
     ensures { result ≡ date_of stamp }
@@ -63,7 +63,6 @@ fn tens(number: u16) -> u8
     b'0' + (number / 10 % 10) as u8
 }
 
-// The last decimal digit of a number.
 fn ones(number: u16) -> u8
     ensures { result ≡ 48 + number % 10 }
 {

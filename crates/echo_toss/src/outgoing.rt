@@ -1,4 +1,4 @@
-//! What goes out of a message that waits for a scan.
+//! The outgoing form of a message that waits for a scan.
 ghost use Rattle.std.specs.Prelude.{◌≡◌, ◌<◌, ◌∷◌, ◌++◌, ◌&&◌, not, false, length, map, filter, drop, option_map, unwrap_or, IfOk};
 ghost use Rattle.std.specs.List.{list_any};
 ghost use Rattle.echo_addr.specs.Address.{net_node_of};
@@ -22,7 +22,7 @@ use echo_text::{Echo, write_parts};
 use std::alloc::{AllocError, Global};
 use std::marker::Model;
 
-/// A message that waits, as it goes out, to no system alone, and whom it goes to.
+/// A waiting message in its outgoing form, before it is addressed, and its receivers.
 #[derive(Drop)]
 pub(crate) struct Outgoing {
     pub(crate) message: Packed,
@@ -37,7 +37,7 @@ impl Model for Outgoing {
     ghost view = { λ o. record { message = o.message; targets = o.targets } };
 }
 
-/// What goes out of the messages from the cursor on, in order.
+/// The outgoing forms of the messages from the cursor on, in order.
 pub(crate) fn waiting<T: Store>(
     alloc: Global,
     links: &LinkFile,
@@ -59,7 +59,7 @@ pub(crate) fn waiting<T: Store>(
     Ok(all)
 }
 
-// What goes out of the message of this number. It is copied while it is at hand.
+// The outgoing form of the message of this number. It is copied while it is the current one.
 fn outgoing_at<T: Store>(
     alloc: Global,
     links: &LinkFile,
@@ -89,7 +89,7 @@ fn prepared(alloc: Global, links: &LinkFile, message: &Filed) -> Result<Outgoing
     Ok(Outgoing { message, targets })
 }
 
-// The links of the area, none where there is no such area.
+// The links of the area; without such an area there are none.
 #[tactic(auto, unfolding(echo_links::specs::Links::links_of))]
 fn links_of<'a>(links: &'a LinkFile, tag: &[u8]) -> &'a [Address]
     ensures { result.now ≡ links_of links.now tag.now }
@@ -100,7 +100,7 @@ fn links_of<'a>(links: &'a LinkFile, tag: &[u8]) -> &'a [Address]
     }
 }
 
-// The links that did not send the message and do not stand in its SEEN-BY.
+// The links that did not send the message and are not in its SEEN-BY.
 #[tactic(auto, unfolding(echo_steps::specs::Scanning::targets))]
 fn targets(alloc: Global, links: &LinkFile, message: &Filed) -> Result<Items<Address>, AllocError>
     ensures { IfOk result (λ found. found ≡ targets links.now message.now) }
@@ -111,7 +111,7 @@ fn targets(alloc: Global, links: &LinkFile, message: &Filed) -> Result<Items<Add
     Ok(Items::new(found))
 }
 
-// The links that are not the sender and do not stand among the entries.
+// The links that are not the sender and not among the entries.
 fn meant(
     alloc: Global,
     links: &[Address],
@@ -137,14 +137,14 @@ fn is_sender(sender: Option<Address>, link: Address) -> bool
     }
 }
 
-// Whether the net and node of the address stand there.
+// Whether the entries have the net and node of the address.
 fn is_seen_by(seen: &[NetNode], link: Address) -> bool
     ensures { result ≡ list_any (same_entry (net_node_of link)) seen.now }
 {
     seen.contains(&link.net_node())
 }
 
-// The text that goes out: the own net/node and those of the links join SEEN-BY, the own ends PATH.
+// The exported text: the own net/node and those of the links join SEEN-BY, the own ends PATH.
 fn exported_text(alloc: Global, links: &LinkFile, echo: &Echo) -> Result<Items<u8>, AllocError>
     ensures no_zero { IfOk result HasNoZero }
     ensures text { IfOk result (λ text. text ≡ text_of (exported links.now echo.now)) }
@@ -176,7 +176,7 @@ fn joined(
     Ok(Items::new(entry_set(all)))
 }
 
-// The message, whose text goes into it, as it goes to no system alone.
+// The message with its text moved into it, before it is addressed.
 fn packed(
     alloc: Global,
     links: &LinkFile,

@@ -22,9 +22,9 @@ use echo_store::Store;
 use std::alloc::Global;
 use std::hash::BuildHasher;
 
-/// Tosses the messages of the packet at the front of what the reader has into the store, each as it was read, with the
-/// origin of its header as sender. No byte after the packet is taken. A zone 0 of the header is the own zone. Nothing is
-/// committed.
+/// Tosses the messages of the packet at the front of the reader into the store, in order. The origin in the
+/// packet's header is their sender, and a zone 0 there means the own zone. No byte after the packet is read.
+/// Nothing is committed.
 ///
 /// It is `NotForUs` exactly where the header's destination is not the own address. A message before a fault stays tossed
 /// and is counted; one at which the store failed is neither filed nor counted.
@@ -38,7 +38,7 @@ pub fn toss_packet_in<T: Store, R: Source>(
     requires { (T.state store.old).is_ready }
     ensures tossed { Honestly (T.state store.new).disk ((base : Base) → (T.state store.old).keeps base
         → TossesPacketIn limits links.now base (R.remaining reader.old) (R.remaining reader.new) (T.state store.old) result (T.state store.new)) }
-    // What it answers of the bytes is so whatever the store holds.
+    // The answer is right for the bytes, whatever the store holds.
     ensures read { (base : Base) → ReadsPacket limits links.now base (R.remaining reader.old) (R.remaining reader.new) (packet_answer result) }
     ensures device { CountsToss (packet_answer result) (R.failures reader.old) (R.failures reader.new) }
     ensures goes_on { GoesOnUnlessFailed (T.state store.old) (stop_in result) (T.state store.new) }
@@ -60,9 +60,8 @@ pub fn toss_packet_in<T: Store, R: Source>(
 }
 
 impl<S: BuildHasher> Tosser<S> {
-    /// Tosses the messages of the packet at the front of what the reader has, each as it was read, with
-    /// the origin of its header as sender. No byte after the packet is taken. A zone 0 of the header is
-    /// the own zone.
+    /// Tosses the messages of the packet at the front of the reader, in order. The origin in the packet's
+    /// header is their sender, and a zone 0 there means the own zone. No byte after the packet is read.
     ///
     /// It is `NotForUs` exactly where the header's destination is not the own address. A message before
     /// a fault stays tossed and is counted; one that was refused memory is neither filed nor counted.
@@ -140,7 +139,7 @@ pub fn opened<R: Source>(links: &LinkFile, reader: &mut R) -> Result<Address, To
     Ok(origin_of(links, &header))
 }
 
-// Whom the packet is for.
+// The address that the packet is for.
 fn destination_of(links: &LinkFile, header: &Header) -> Address
     ensures { result ≡ destination_of links.now header.now }
 {
@@ -162,7 +161,7 @@ fn origin_of(links: &LinkFile, header: &Header) -> Address
     }
 }
 
-// A zone of a header: 0 stands for the own.
+// A zone of a header: 0 means the own.
 fn zone_of(links: &LinkFile, zone: u16) -> u16
     ensures { result ≡ zone_of links.now zone }
 {

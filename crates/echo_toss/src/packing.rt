@@ -1,4 +1,4 @@
-//! The packets of what goes out.
+//! The packets of outgoing messages.
 ghost use Rattle.std.specs.Prelude.{◌≡◌, [], ◌∷◌, ◌++◌, true, map, filter, IfOk, OnOk};
 ghost use Rattle.std.specs.List.{flat_map};
 ghost use Rattle.echo_filed.specs.Sets.{address_set};
@@ -15,7 +15,7 @@ use echo_steps::{Packet, Stamp};
 use std::alloc::{AllocError, Global};
 use std::marker::Model;
 
-// A message as it goes out, which its copies share, and the addresses that it goes to, as a set.
+// An outgoing message, shared by its copies, and its receivers as a set.
 #[derive(Drop)]
 struct Ready {
     message: PackedCopy,
@@ -122,7 +122,7 @@ fn packet_to(
     })
 }
 
-// Puts the copy of the message, where it goes to the address, at the end.
+// Appends the copy of the message, if the address receives it.
 fn push_copy(
     address: Address,
     one: &Ready,

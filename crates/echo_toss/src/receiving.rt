@@ -1,4 +1,4 @@
-//! Whether a received message is wanted, and the message that is filed for it.
+//! Reads a received message: it is refused, or becomes a filed message.
 ghost use Rattle.std.specs.Prelude.{◌≡◌, None, IfOk};
 ghost use Rattle.echo_text.specs.Refusal.{text_refusal};
 ghost use Rattle.echo_addr.specs.declared.address.Address.{Address as System};
@@ -16,10 +16,10 @@ use echo_steps::Outcome;
 use echo_text::{EchoView, TextFault, view_text};
 use std::alloc::{AllocError, Global};
 
-/// What a message is, whatever the base.
+/// The kind of a message, whatever the base.
 #[derive(Drop)]
 pub(crate) enum Reading<'a> {
-    /// Its text says this, and its sender is a link of the area.
+    /// Its text is this echomail, and its sender is a link of the area.
     Wanted(EchoView<'a>),
     /// It is not filed.
     Unwanted(Outcome),
@@ -74,7 +74,7 @@ pub(crate) fn key_in(alloc: Global, packed: &Packed, view: &EchoView<'_>) -> Res
     )
 }
 
-/// The message that is filed, of which `view` is what the text says.
+/// The filed message; `view` is its parsed text.
 pub(crate) fn received(
     alloc: Global,
     sender: Address,

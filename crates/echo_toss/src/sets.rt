@@ -4,7 +4,6 @@ ghost use Rattle.echo_filed.specs.Sets.{address_set, entry_set};
 
 use echo_addr::{Address, NetNode, put_in_order};
 
-/// The entries as a set.
 pub(crate) fn entry_set(entries: Vec<NetNode>) -> Vec<NetNode>
     ensures { result.items ≡ entry_set entries.items }
 {
@@ -13,7 +12,6 @@ pub(crate) fn entry_set(entries: Vec<NetNode>) -> Vec<NetNode>
     set
 }
 
-/// The addresses as a set.
 pub(crate) fn address_set(addresses: Vec<Address>) -> Vec<Address>
     ensures { result.items ≡ address_set addresses.items }
 {

@@ -1,4 +1,4 @@
-//! Why a step of a system whose messages are in a store was not done.
+//! Why a step of a system with its messages in a store was not done.
 ghost use Rattle.std.specs.Prelude.{◌≡◌};
 ghost use Rattle.echo_store.specs.declared.store_error.StoreError.TheVariants as error;
 
@@ -13,7 +13,7 @@ use thiserror::Error;
 /// Why a draft was not posted.
 #[derive(Clone, Copy, Debug, PartialEq, Eq, Error)]
 pub enum PostStop {
-    /// The draft, or what was filed before, refuses it.
+    /// The draft is refused, perhaps because of a filed message.
     #[error("{0}")]
     Refused(PostFault),
     /// The store failed.
@@ -78,7 +78,7 @@ pub enum TossStop {
     /// The packet stopped it: it is for another system, it is faulty, or memory to read it was refused.
     #[error("{0}")]
     Packet(TossCause),
-    /// The store failed, or memory for the message at hand was refused.
+    /// The store failed, or memory for the current message was refused.
     #[error("{0}")]
     Store(StoreError),
 }

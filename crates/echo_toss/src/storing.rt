@@ -1,4 +1,4 @@
-//! The base of a system, written and read.
+//! Writes and reads the base of a system.
 ghost use Rattle.std.specs.Prelude.{◌≡◌, IfErr, IfOk, IfSome, Result};
 ghost use Rattle.echo_packet.specs.Header.{AreBytes};
 ghost use Rattle.echo_base.specs.declared.fault.BaseFault.{BaseFault as Fault};
@@ -17,9 +17,8 @@ use std::alloc::Global;
 use std::hash::BuildHasher;
 
 impl<S: BuildHasher> Tosser<S> {
-    /// Writes the base. What the writer holds back is left to its owner. It is `TooMany` where four
-    /// bytes do not count the messages, or the bytes of a text or an id, and `Write` with the number of
-    /// bytes that went out.
+    /// Writes the base; the owner of the writer flushes it. Faults: `TooMany` if there are more than 2^32 - 1
+    /// messages, or bytes of a text or an id; `Write` with the number of bytes that were sent.
     pub fn save<W: Sink>(&self, writer: &mut W) -> Result<(), BaseFault>
         ensures base { IsBase self.now.base self.now.cursor }
         ensures bytes { Saves (W.contents writer.old) (W.contents writer.new) result (saved_bytes self.now.base self.now.cursor) }
@@ -29,8 +28,8 @@ impl<S: BuildHasher> Tosser<S> {
         self.store.base().save(writer)
     }
 
-    /// The system of the link file with the base at the front of what the reader has. No byte after the
-    /// last message is taken.
+    /// The system of the link file with the base at the front of the reader. No byte after the last message is
+    /// read.
     pub fn load<R: Source>(
         alloc: Global,
         links: LinkFile,
@@ -40,10 +39,10 @@ impl<S: BuildHasher> Tosser<S> {
     where
         S: Drop,
         ensures links { IfOk result (λ system. system.file ≡ links) }
-        // What it answers is so of the bytes.
+        // Each answer is right for the bytes.
         ensures taken { IfOk result (λ system. TakesBase system.base system.cursor (R.remaining reader.old) (R.remaining reader.new)) }
         ensures fault { IfErr result (FailsToLoad (R.remaining reader.old) (R.remaining reader.new)) }
-        // What is so of the bytes, it answers.
+        // The right answer is the only one.
         ensures only { (other : Result Loaded Fault) → IfSome (R.remaining reader.old) (λ bytes. AreBytes bytes → LoadOf bytes other → AnswersLoad (base_in result) other) }
         ensures device { CountsLoad result (R.failures reader.old) (R.failures reader.new) }
     {

@@ -10,8 +10,8 @@ use std::alloc::Global;
 use std::hash::BuildHasher;
 use std::marker::Model;
 
-/// A system that posts, tosses, scans and purges: its link file and its base. The messages of the base
-/// stand in order of filing; those before the cursor were scanned. Look-ups go by the hasher `S`.
+/// A system that posts, tosses, scans and purges: its link file and its base. The base has its messages in
+/// order of filing; those before the cursor were scanned. `S` hashes keys for look-ups.
 #[derive(Drop)]
 pub struct Tosser<S: BuildHasher> {
     pub(crate) alloc: Global,

@@ -1,4 +1,4 @@
-//! A base is read from a source.
+//! Reads a base from a source.
 ghost use Rattle.std.specs.Prelude.{◌≡◌, ◌≤◌, [], length, IfErr, IfOk, IfSome, Result};
 ghost use Rattle.echo_packet.specs.Header.{AreBytes};
 ghost use Rattle.echo_base.specs.declared.fault.BaseFault.{BaseFault as Fault};
@@ -13,7 +13,7 @@ use echo_filed::{Version, read_long, read_stored};
 use std::alloc::Global;
 use std::hash::BuildHasher;
 
-// What the two versions begin with.
+// The first bytes of the two versions.
 const FIRST: &[u8] = b"ECHOBAS1";
 
 pub(super) const SECOND: &[u8] = b"ECHOBAS2";
@@ -26,7 +26,7 @@ struct Head {
     number: u32,
 }
 
-// Why a field was not read, behind so many whole messages.
+// Why a field was not read, after this many whole messages.
 fn broken_fault(broken: Broken, messages: u64) -> BaseFault
     ensures { result ≡ fault_behind broken messages }
 {
@@ -37,7 +37,7 @@ fn broken_fault(broken: Broken, messages: u64) -> BaseFault
     }
 }
 
-// The version that begins so, or why none does.
+// The version with these first bytes, or the fault.
 fn version_of(front: &[u8]) -> Result<Version, BaseFault>
     requires { length front.now ≤ 8 }
     ensures { IsVersion front.now result }
@@ -54,7 +54,6 @@ fn version_of(front: &[u8]) -> Result<Version, BaseFault>
     Err(BaseFault::NotBase)
 }
 
-// The version.
 fn read_version<R: Source>(reader: &mut R) -> Result<Version, BaseFault>
     ensures read { ReadsVersion (R.remaining reader.old) (R.remaining reader.new) result }
     ensures device { CountsLoad result (R.failures reader.old) (R.failures reader.new) }
@@ -90,7 +89,7 @@ fn read_head<R: Source>(reader: &mut R) -> Result<Head, BaseFault>
     })
 }
 
-// Takes the message that stands next, and puts it at the end of the base.
+// Takes the next message, and appends it to the base.
 fn take_message<R: Source, S: BuildHasher>(
     reader: &mut R,
     base: &mut Base<S>,
@@ -117,7 +116,7 @@ fn take_message<R: Source, S: BuildHasher>(
     })
 }
 
-// Takes the messages that stand behind the head.
+// Takes the messages after the head.
 fn take_messages<R: Source, S: BuildHasher>(
     reader: &mut R,
     base: &mut Base<S>,
@@ -135,7 +134,6 @@ fn take_messages<R: Source, S: BuildHasher>(
 }
 
 impl<S: BuildHasher> Base<S> {
-    // Puts the cursor at a place.
     fn put_cursor(&mut self, cursor: usize)
         requires { cursor ≤ length self.old.messages }
         ensures messages { self.new.messages ≡ self.old.messages }
@@ -145,7 +143,6 @@ impl<S: BuildHasher> Base<S> {
         self.purged = 0;
     }
 
-    // Reads head and messages.
     fn read_base<R: Source>(alloc: Global, reader: &mut R, hasher: S) -> Result<Base<S>, BaseFault>
     where
         S: Drop,
@@ -168,10 +165,10 @@ impl<S: BuildHasher> Base<S> {
     pub fn load<R: Source>(alloc: Global, reader: &mut R, hasher: S) -> Result<Base<S>, BaseFault>
     where
         S: Drop,
-        // What it answers is so of the bytes.
+        // Each answer is right for the bytes.
         ensures taken { IfOk result (λ base. TakesBase base.messages base.cursor (R.remaining reader.old) (R.remaining reader.new)) }
         ensures fault { IfErr result (FailsToLoad (R.remaining reader.old) (R.remaining reader.new)) }
-        // What is so of the bytes, it answers.
+        // The right answer is the only one.
         ensures only { (other : Result Loaded Fault) → IfSome (R.remaining reader.old) (λ bytes. AreBytes bytes → LoadOf bytes other → AnswersLoad result other) }
         ensures device { CountsLoad result (R.failures reader.old) (R.failures reader.new) }
     {

@@ -1,4 +1,4 @@
-//! A base is written to a sink.
+//! Writes a base to a sink.
 ghost use Rattle.std.specs.Prelude.{◌≡◌, ◌^◌, ◌<◌, ◌≤◌, length, IfOk, OnOk, OnErr, true};
 ghost use Rattle.std.specs.List.{flat_map, list_all};
 ghost use Rattle.echo_device.specs.Device.{Failed, Sends};
@@ -22,7 +22,6 @@ use std::hash::BuildHasher;
 // The most messages that four bytes count.
 const MOST: usize = 0xffff_ffff;
 
-// The first 16 bytes.
 fn send_head<W: Sink>(
     writer: &mut W,
     cursor: u32,
@@ -56,7 +55,6 @@ fn are_short_enough<S: BuildHasher>(
     Ok(true)
 }
 
-// The messages in order.
 fn send_messages<W: Sink, S: BuildHasher>(
     alloc: Global,
     writer: &mut W,
@@ -77,7 +75,6 @@ fn send_messages<W: Sink, S: BuildHasher>(
     Ok(())
 }
 
-// Head and messages.
 fn send_base<W: Sink, S: BuildHasher>(
     alloc: Global,
     writer: &mut W,
@@ -112,10 +109,10 @@ fn are_countable<S: BuildHasher>(
 impl<S: BuildHasher> Base<S> {
     /// Writes the base as a base file of version 2.
     ///
-    /// It is `TooMany` where four bytes do not count the messages or the bytes of a text or an id, before
-    /// a byte went out; `Write` where the device failed, with the number of bytes that went out in this
-    /// call, the greatest `u64` standing for a greater one. Where memory was refused, too, a beginning of
-    /// the bytes went out. What the writer still holds back is its owner's to pass on.
+    /// `TooMany`: there are more than 2^32 - 1 messages, or bytes of a text or an id; nothing was
+    /// sent. `Write`: the device failed; it has the number of bytes that this call sent, at most
+    /// the greatest `u64`. Memory refused: a beginning of the bytes was sent. The owner of the
+    /// writer flushes it.
     pub fn save<W: Sink>(&self, writer: &mut W) -> Result<(), BaseFault>
         ensures base { IsBase self.now.messages self.now.cursor }
         ensures bytes { Saves (W.contents writer.old) (W.contents writer.new) result (saved_bytes self.now.messages self.now.cursor) }

@@ -11,14 +11,14 @@ use echo_addr::{Address, next_token};
 use std::alloc::Global;
 use std::collections::BTreeSet;
 
-/// The address that the word writes.
 fn address(word: &[u8]) -> Option<Address>
     ensures { IsWordOf word.now result }
 {
     Address::parse(word).ok()
 }
 
-/// The address of a SYSTEM line, by what stands after that word in the line of this number.
+/// The address of a SYSTEM line, read from `rest`, the bytes after that word. `number` is the
+/// line's.
 pub(super) fn system_in(number: u64, rest: &[u8]) -> Result<Address, LinkFault>
     ensures { MatchResult result
         (λ a. (is_one_address (tokens rest.now) ≡ true) × (a ≡ address_in (first_of (tokens rest.now))))
@@ -37,7 +37,7 @@ pub(super) fn system_in(number: u64, rest: &[u8]) -> Result<Address, LinkFault>
     Ok(address)
 }
 
-/// The links of an AREA line, by what stands after its tag in the line of this number.
+/// The links of an AREA line, read from `rest`, the bytes after its tag. `number` is the line's.
 pub(super) fn links_in(alloc: Global, number: u64, rest: &[u8]) -> Result<Links, LinkFault>
     ensures { MatchResult result
         (λ links. (links_fault number [] (tokens rest.now) ≡ None) × (links ≡ map address_in (tokens rest.now)))

@@ -5,7 +5,6 @@ use std::alloc::{AllocError, Global};
 use std::collections::BTreeMap;
 use std::marker::Model;
 
-/// An area: its tag and its links.
 #[derive(Debug, Drop)]
 struct Area {
     tag: Vec<u8>,
@@ -42,7 +41,6 @@ impl Model for Areas {
 }
 
 impl Areas {
-    /// No areas.
     pub(crate) fn new(alloc: Global) -> Areas
         ensures { result ≡ [] }
     {
@@ -52,7 +50,6 @@ impl Areas {
         }
     }
 
-    /// How many areas there are.
     pub(crate) fn len(&self) -> usize
         ensures { result ≡ length self.now }
     {
@@ -67,7 +64,6 @@ impl Areas {
         Some(area.tag.as_slice())
     }
 
-    /// The links of the area with this tag.
     pub(crate) fn links(&self, tag: &[u8]) -> Option<&Links>
         ensures { option_copied result ≡ option_map (λ area. area.links) (find (λ area. bytes_eq area.tag tag.now) self.now) }
     {
@@ -83,7 +79,6 @@ impl Areas {
         Some(&area.links)
     }
 
-    /// Whether there is an area with this tag.
     pub(crate) fn has(&self, tag: &[u8]) -> bool
         ensures { result ≡ is_some (find (λ area. bytes_eq area.tag tag.now) self.now) }
     {

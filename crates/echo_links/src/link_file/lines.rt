@@ -5,7 +5,7 @@ ghost use Rattle.echo_links.specs.LinkLines.{file_lines, is_control_byte, is_ski
 use memchr::memchr;
 
 /// The first line of a link file or a script, and the bytes after its end. A line ends in 0A or in
-/// 0D 0A; the last may end without either. There is to be a byte. Takes no memory.
+/// 0D 0A; the last may end without either. The bytes are not empty. Takes no memory.
 pub fn split_line(bytes: &[u8]) -> (&[u8], &[u8])
     requires { 0 < length bytes.now }
     ensures lines { file_lines bytes.now ≡ result.0.now ∷ file_lines result.1.now }
@@ -17,7 +17,6 @@ pub fn split_line(bytes: &[u8]) -> (&[u8], &[u8])
     }
 }
 
-/// The line without one 0D at its end.
 fn without_return(line: &[u8]) -> &[u8]
     ensures { result.now ≡ without_return line.now }
 {
@@ -34,7 +33,6 @@ pub fn is_skipped(line: &[u8]) -> bool
     is_blank(line) || line.starts_with(b";")
 }
 
-/// Whether there is nothing but blanks.
 fn is_blank(line: &[u8]) -> bool
     ensures { result ≡ list_all is_space_or_tab line.now }
 {
@@ -48,7 +46,6 @@ pub fn has_control_byte(line: &[u8]) -> bool
     line.iter().any(|b| is_control_byte(*b))
 }
 
-/// Whether words are separated at the byte.
 fn is_space(byte: u8) -> bool
     ensures { result ≡ is_space_or_tab byte }
 {

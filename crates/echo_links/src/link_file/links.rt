@@ -6,7 +6,7 @@ use echo_addr::Address;
 use std::collections::BTreeSet;
 use std::marker::Model;
 
-/// The links of an area in order, each once. One is found without going through the others, whatever
+/// The links of an area in order, each once. A look-up does not go through the others, whatever
 /// addresses there are.
 #[derive(Debug, Drop)]
 pub(crate) struct Links {
@@ -28,14 +28,12 @@ impl Model for Links {
 }
 
 impl Links {
-    /// The links in order.
     pub(crate) fn as_slice(&self) -> &[Address]
         ensures { result.now ≡ self.now }
     {
         self.all.as_slice()
     }
 
-    /// Whether the address is one of them.
     pub(crate) fn contains(&self, address: Address) -> bool
         ensures { result ≡ list_any (same_address address) self.now }
     {

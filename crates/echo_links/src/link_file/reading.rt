@@ -34,7 +34,6 @@ pub(super) struct Reading {
 }
 
 impl Reading {
-    /// Takes what the line of this number says.
     fn take(&mut self, alloc: Global, number: u64, line: &[u8]) -> Result<(), LinkFault>
         ensures { (earlier : List (List ℕ)) → Knows earlier self.old → TakesLine earlier number line.now self.old self.new result }
     {
@@ -59,7 +58,7 @@ impl Reading {
         }
     }
 
-    /// Takes a SYSTEM line, of which `rest` stands after that word.
+    /// Takes a SYSTEM line; `rest` comes after that word.
     fn take_system(&mut self, number: u64, rest: &[u8]) -> Result<(), LinkFault>
         ensures { MatchResult result
             (λ _. (system_refusal (is_some self.old.system) number (tokens rest.now) ≡ None)
@@ -73,7 +72,7 @@ impl Reading {
         Ok(())
     }
 
-    /// Takes a NAME line, of which `rest` stands after that word.
+    /// Takes a NAME line; `rest` comes after that word.
     fn take_name(&mut self, alloc: Global, number: u64, rest: &[u8]) -> Result<(), LinkFault>
         ensures { MatchResult result
             (λ _. (name_refusal (is_some self.old.name) number (trimmed rest.now) ≡ None)
@@ -91,7 +90,7 @@ impl Reading {
         Ok(())
     }
 
-    /// Takes an AREA line, of which `rest` stands after that word.
+    /// Takes an AREA line; `rest` comes after that word.
     fn take_area(&mut self, alloc: Global, number: u64, rest: &[u8]) -> Result<(), LinkFault>
         ensures { let words = tokens rest.now in MatchResult result
             (λ _. (area_refusal self.old.areas number words ≡ None)

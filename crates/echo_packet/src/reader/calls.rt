@@ -16,7 +16,7 @@ use crate::reader::{PacketReader, Stage};
 use echo_device::{Source, read_fixed};
 use std::alloc::Global;
 
-/// The header at the front of what the source has, and no byte more.
+/// The header at the front of the source; no byte after it is consumed.
 ///
 /// It takes no memory. It is `Truncated` at 0 where fewer than 58 bytes come, `NotType2` at 18 where
 /// these hold another packet type, and `Read` at 0 where the device failed.
@@ -40,7 +40,7 @@ pub fn read_header<R: Source>(source: &mut R) -> Result<Header, PacketFault>
 }
 
 impl<R: Source> PacketReader<R> {
-    /// Reads the header by `read_header`, whose faults it gives. The source is dropped then.
+    /// Reads the header by `read_header` and passes its faults on. The source is then dropped.
     pub fn open(alloc: Global, reader: R, limits: Limits) -> Result<PacketReader<R>, PacketFault>
     where
         R: Drop,
@@ -116,8 +116,8 @@ impl<R> PacketReader<R> {
         &self.header
     }
 
-    /// How many bytes of the packet were read: those of the header, of the messages that were given
-    /// and of the terminator. The greatest `u64` stands for a greater number.
+    /// The number of bytes read: the header, the messages answered and the terminator. It stops at
+    /// the greatest `u64`.
     pub fn place(&self) -> u64
         ensures { result ≡ reader_place self.now }
     {
