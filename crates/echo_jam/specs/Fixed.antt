@@ -10,7 +10,6 @@ jam_mark = codes "JAM" ++ 0 ∷ []
 abbrev pub counts : ℕ → ℕ → List ℕ
 counts changes active = long changes ++ long active
 
--- that of a base created at this time: never changed, without messages and password; its first message will be number
--- 1
+-- that of a base created at this time: never changed, no messages, no password, first message number 1
 abbrev pub new_fixed : ℕ → List ℕ
 new_fixed created = jam_mark ++ (long created ++ (counts 0 0 ++ (long 4294967295 ++ (long 1 ++ replicate 1000 0))))

@@ -28,7 +28,7 @@ last_with headers index offset wanted low (suc n) =
     if field_in headers index offset (low + n) == wanted then Some (low + n)
     else last_with headers index offset wanted low n
 
--- the same headers with a number in a field that was 0
+-- the headers with a number in a field, if the field was 0
 abbrev pub with_field : List ℕ → ℕ → ℕ → List ℕ
 with_field headers at n =
     if nat_le (at + 4) (length headers) && long_at at headers == 0 then take at headers ++ (long n ++ drop (at + 4) headers)

@@ -30,7 +30,8 @@ fn push_fixed(bytes: &mut Vec<u8>, created: u32) -> Result<(), AllocError>
     push_bytes(bytes, &RESERVED)
 }
 
-/// The counts of a base after `added` more messages. More than four bytes count is refused as out of memory.
+/// The counts of a base after `added` more messages. Counts that four bytes do not hold are refused as out of
+/// memory.
 pub fn counts_after(alloc: Global, standing: Standing, added: usize) -> Result<Vec<u8>, AllocError>
     ensures { IfOk result (λ bytes. bytes.items ≡ counts ((standing.changes + 1) % 2 ^ 32) (standing.counted + added)) }
 {

@@ -18,7 +18,7 @@ pub(crate) fn push_bytes(all: &mut Vec<u8>, bytes: &[u8]) -> Result<(), AllocErr
     all.extend_from_slice(bytes)
 }
 
-/// How many bytes there are. More than four bytes count is refused as out of memory.
+/// The number of bytes. One that four bytes do not hold is refused as out of memory.
 pub(crate) fn count_of(bytes: &[u8]) -> Result<u32, AllocError>
     ensures { IfOk result (λ count. count ≡ length bytes.now) }
 {

@@ -48,7 +48,7 @@ OtherThan path P m = P m × (m ≢ path)
 abbrev pub OrIs : List ℕ → (List ℕ → Type 0) → List ℕ → Type 0
 OrIs path P m = P m ⊎ (m ≡ path)
 
--- the disk if only this answer was right
+-- the disk after an answer that changed nothing; the disk stays honest if this holds
 abbrev pub answered : Type 0 → DiskState → DiskState
 answered P old = record old { is_honest = old.is_honest × P }
 
