@@ -1,4 +1,4 @@
--- What writes an address, and why other bytes do not.
+-- The text of an address, and why other bytes are no address.
 use Rattle.std.specs.Prelude.{◌≡◌, ℕ, ◌+◌, ◌==◌, ◌&&◌, not, nat_lt, Bool, List, ◌∷◌, ◌++◌, length, decimal, codes, Option, Some, None, if◌then◌else◌, Result, Ok, Err}
 use Rattle.std.specs.List.{count_by, position_or_len, before_first, after_first, slice_range}
 use Rattle.std.specs.Int.{IsInRange, is_in_range}

@@ -1,4 +1,4 @@
--- The entries of a SEEN-BY or PATH line, of what follows its colon (FTS-0004).
+-- The entries of a SEEN-BY or PATH line, in the bytes after its colon (FTS-0004).
 use Rattle.std.specs.Prelude.{ℕ, ◌==◌, ◌||◌, nat_lt, Bool, List, [], ◌∷◌, length, Option, Some, None, is_none, count_by, filter}
 use Rattle.std.specs.Option.{option_or, option_map}
 use Rattle.std.specs.List.{slice_split, before_first, after_first, filter_map}

@@ -9,14 +9,14 @@ use Rattle.echo_addr.specs.Entries.{entries, dropped}
 abbrev pub line_room : ℕ
 line_room = 79
 
--- what the two kinds of lines begin with
+-- the beginnings of the two kinds of lines
 abbrev pub seen_prefix : List ℕ
 seen_prefix = codes "SEEN-BY:"
 
 abbrev pub path_prefix : List ℕ
 path_prefix = 1 ∷ codes "PATH:"
 
--- an entry shows its net where it is the first of its line or the entry before has another net
+-- an entry shows its net if it is the first of its line or the entry before has another net
 abbrev pub shows_net : Option ℕ → ℕ → Bool
 shows_net None net = true
 shows_net (Some before) net = not (before == net)
@@ -39,7 +39,7 @@ entries_text before (e ∷ more) = entry_text before e ++ entries_text (Some e.n
 abbrev pub line_front : List ℕ → List NetNode → List ℕ
 line_front prefix run = prefix ++ entries_text None run
 
--- a line that begins with the prefix and goes on with the given bytes
+-- a line of the prefix and the given bytes
 abbrev pub line_of : List ℕ → List ℕ → List ℕ
 line_of prefix rest = prefix ++ (rest ++ 13 ∷ [])
 

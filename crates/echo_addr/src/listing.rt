@@ -42,7 +42,7 @@ pub fn add_list(found: &mut Vec<NetNode>, bytes: &[u8]) -> Result<usize, AllocEr
     dropped
 }
 
-/// The same, but out of memory leaves some first entries behind the list.
+/// The same, but out of memory leaves some first entries appended to the list.
 #[tactic(auto, using(crate::proofs::Carrying::kept_behind))]
 fn add_entries(found: &mut Vec<NetNode>, bytes: &[u8]) -> Result<usize, AllocError>
     ensures entries { OnOk result (found.new.items ≡ found.old.items ++ entries bytes.now) }

@@ -7,7 +7,7 @@ use std::alloc::{AllocError, Global};
 /// The most bytes of a line before its 0D.
 const LINE_ROOM: usize = 79;
 
-/// How many bytes an entry takes in most lists, with its part of what its line begins with.
+/// The bytes of an entry in most lists, with its share of the line's beginning.
 const ENTRY_ROOM: usize = 6;
 
 /// The SEEN-BY lines of the entries (FTS-0004), each with its 0D. The entries ascend by net and node,

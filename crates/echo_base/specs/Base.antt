@@ -13,7 +13,7 @@ abbrev pub AreNew : List Filed → List Filed → Type 0
 AreNew earlier [] = ⊤
 AreNew earlier (m ∷ later) = (is_known earlier (key_of m) ≡ false) × AreNew (earlier ++ m ∷ []) later
 
--- what holds of each base and its cursor
+-- the rules of each base and its cursor
 pub record IsBase (base : List Filed) (cursor : ℕ) : Type 0 where
   pub each : AllByRecursion IsFiled base
   pub new : AreNew [] base

@@ -75,7 +75,7 @@ AreSound version cursor earlier (s ∷ later) =
 unfoldable pub head_bytes : Version → ℕ → ℕ → List ℕ
 head_bytes version cursor number = magic version ++ (long cursor ++ long number)
 
--- head and messages, and the first messages of a base of which there may be more
+-- head and messages: the first messages of a base, which may have more
 pub record Begins (version : Version) (cursor number : ℕ) (all : List Stored) (rest bytes : List ℕ) : Type 0 where
   pub number_fits : number < 2 ^ 32
   pub cursor_within : cursor ≤ number
@@ -140,7 +140,7 @@ BaseFaultOf bytes _ = ⊥
 abbrev pub Loaded : Type 0
 Loaded = List Filed × ℕ × ℕ
 
--- what reading a base is to answer: the first bytes are this base, or the bytes have this fault
+-- the right answer of reading a base: the first bytes are this base, or the bytes have this fault
 abbrev pub LoadOf : List ℕ → Result Loaded BaseFault → Type 0
 LoadOf bytes (Ok found) = (found.2 ≤ length bytes) × BaseOf found.0 found.1 (take found.2 bytes)
 LoadOf bytes (Err refused) = BaseFaultOf bytes refused

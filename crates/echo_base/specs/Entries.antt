@@ -1,4 +1,4 @@
--- What a base keeps: its messages by their keys, and their tags.
+-- A base in memory: its messages by their keys, and their tags.
 use Rattle.std.specs.Prelude.{◌≡◌, ◌≤◌, ℕ, true, List, map, take, bytes_eq}
 use Rattle.std.specs.List.{AllByRecursion, list_any}
 use Rattle.std.specs.Ordering.{is_eq, nat_cmp}

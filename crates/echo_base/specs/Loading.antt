@@ -1,4 +1,4 @@
--- What loading a base answers.
+-- The answers of loading a base.
 use Rattle.std.specs.Prelude.{◌≡◌, ℕ, ◌^◌, ◌<◌, ◌≤◌, ◌⊎◌, ◌||◌, not, nat_lt, Bool, true, false, List, [], ◌∷◌, ◌++◌, length, if◌then◌else◌, Option, Some, None, IfSome, Result, Ok, Err, map}
 use Rattle.std.specs.List.{AllByRecursion, flat_map}
 use Rattle.std.specs.Io.KnownBytes.{Consumes, IsAtEnd}
@@ -154,7 +154,7 @@ CountsLoad (Err fault.Read) old new = Failed old new
 CountsLoad (Err _) old new = new ≡ old
 CountsLoad (Ok _) old new = new ≡ old
 
--- this is what loading answered, unless the device failed or memory ran out
+-- the answer of loading, unless the device failed or memory ran out
 abbrev pub AnswersLoad : Result Base BaseFault → Result Loaded BaseFault → Type 0
 AnswersLoad (Ok base) other = (n : ℕ) × (other ≡ Ok (base.messages, base.cursor, n))
 AnswersLoad (Err fault.Read) other = Unit {0}

@@ -1,4 +1,4 @@
--- What saving a base sends, and why it stops.
+-- The bytes that saving a base sends, and why it stops.
 use Rattle.std.specs.Prelude.{◌≡◌, ℕ, ◌<◌, Bool, true, false, List, length, take, Option, Result, Ok, Err}
 use Rattle.std.specs.Io.KnownBytes.{Appends, Keeps}
 use Rattle.echo_device.specs.Device.{Failed, counted}

@@ -156,8 +156,7 @@ impl<S: BuildHasher> Base<S> {
     }
 }
 
-// Puts a message, with its key, behind the others, unless one of them has the key, and answers whether it
-// did.
+// Appends a message with its key, unless another one has the key, and answers whether it did.
 fn push_new<S: BuildHasher>(
     entries: &mut IndexMap<Key, Filed, S>,
     key: Key,

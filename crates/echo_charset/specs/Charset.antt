@@ -1,4 +1,4 @@
--- Charsets of message texts: their names, their characters, and what bytes say as text.
+-- Charsets of message texts: their names, their characters, and bytes as text.
 use Rattle.std.specs.Prelude.{ℕ, ◌+◌, ◌-◌, ◌||◌, nat_lt, Bool, true, false, if◌then◌else◌, List, map, codes, bytes_eq, slice_index, encode_utf8, Option, Some, None}
 use Rattle.std.specs.List.{flat_map}
 use Rattle.std.specs.Char.{to_ascii_lowercase}

@@ -12,6 +12,6 @@ IsLacked charset c = (c ≡ 0xFFFD) ⊎ ((byte : ℕ) → byte < 256 → charact
 abbrev pub LacksOne : Charset → List ℕ → Type 0
 LacksOne charset text = (c : ℕ) × Contains (chars text) c × IsLacked charset c
 
--- the same, of a charset that has not all characters, as UTF-8 has
+-- the same, for a charset without all characters; UTF-8 has all
 abbrev pub Lacks : Charset → List ℕ → Type 0
 Lacks charset text = (is_utf8 charset ≡ false) × LacksOne charset text

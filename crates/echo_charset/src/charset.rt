@@ -63,9 +63,8 @@ impl Charset {
         }
     }
 
-    /// The bytes as text. A byte that the charset lacks becomes U+FFFD. In UTF-8 each longest run
-    /// of bytes that begins a character but does not complete it becomes one U+FFFD, and so does a
-    /// byte that begins none.
+    /// The bytes as text. A byte that the charset lacks becomes U+FFFD. In UTF-8 so does each byte that begins
+    /// no character, and each longest run of bytes that begins one but does not complete it.
     #[tactic(auto, unfolding(crate::specs::Charset::decoded_text))]
     pub fn text(self, alloc: Global, bytes: &[u8]) -> Result<String, AllocError>
         ensures { IfOk result (λ text. string_bytes text ≡ decoded_text self bytes.now) }

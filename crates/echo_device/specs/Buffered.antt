@@ -1,4 +1,4 @@
--- What a clause reads of a `Buffered`.
+-- The parts of a `Buffered` that clauses name.
 use Rattle.std.specs.Prelude.{ℕ, List, Option}
 use Rattle.std.specs.Io.KnownBytes.{prepend_known}
 use Rattle.echo_device.specs.declared.buffered.Buffered.{Buffered}

@@ -1,4 +1,4 @@
--- What a clause reads of a `Trial`.
+-- The parts of a `Trial` that clauses name.
 use Rattle.std.specs.Prelude.{◌≡◌, ℕ, ◌+◌, ◌<◌, ◌≤◌, Result, MatchResult}
 use Rattle.echo_device.specs.declared.trial.Trial.{Trial}
 

@@ -1,4 +1,4 @@
--- What a clause reads of a `Watched`.
+-- The parts of a `Watched` that clauses name.
 use Rattle.std.specs.Prelude.{ℕ, Bool}
 use Rattle.echo_device.specs.declared.watched.Watched.{Watched}
 

@@ -12,7 +12,7 @@ use std::alloc::{AllocError, Global};
 use std::io;
 use std::io::{ErrorKind, Read};
 
-/// A buffer in front of a source. It is filled by one read where it is empty.
+/// A buffer in front of a source. One read fills it when it is empty.
 #[derive(Drop)]
 pub struct Buffered<S> {
     source: S,
@@ -41,7 +41,7 @@ impl<S> Buffered<S> {
 }
 
 impl<S: Source> Buffered<S> {
-    /// Reads once where the buffer is empty: then it holds some bytes, or nothing is left.
+    /// Reads once if the buffer is empty: then it holds some bytes, or nothing is left.
     pub fn read_ahead(&mut self) -> Result<(), Failure>
         ensures bytes { Keeps (buffered_remaining S.remaining self.old)
             (buffered_remaining S.remaining self.new) }

@@ -26,7 +26,7 @@ pub trait Sink: Write {
         ensures ok { OnOk result (failures self.new ≡ failures self.old) }
         ensures err { OnErr result (Failed (failures self.old) (failures self.new)) };
 
-    /// Passes on what the writer still holds back.
+    /// Passes on the bytes that the writer holds back.
     fn flush_all(&mut self) -> Result<(), Failure>
         ensures bytes { Keeps (Self.contents self.old) (Self.contents self.new) }
         ensures passed { OnOk result (holds self.new ≡ false) }

@@ -67,7 +67,7 @@ fn count_error<T>(failures: &mut u64, answer: &io::Result<T>)
     }
 }
 
-// What sixteen interruptions in a row are.
+// The error for sixteen interruptions in a row.
 fn interrupted_too_often() -> io::Error
     ensures { error_kind result ≡ ErrorKind.TimedOut }
 {

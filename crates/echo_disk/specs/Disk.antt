@@ -21,9 +21,9 @@ pub record IsIn (folder path : List ℕ) : Type 0 where
   pub parts : path ≡ folder ++ name
   pub plain : All (λ b. b ≢ 47) name
 
--- The files that a disk shows, those that a crash may leave, and what is permanent.
+-- The files that a disk shows, those that a crash may leave, and the permanent ones.
 pub record DiskState : Type 1 where
-  -- what reads return
+  -- the files that reads return
   pub seen : Files
   -- the files that a crash now may leave
   pub may_leave : Files → Type 0
@@ -46,6 +46,6 @@ pub record DiskState : Type 1 where
   -- every answer so far showed the files as seen
   pub is_honest : Type 0
 
--- this is so where the disk was honest up to this state
+-- it holds if the disk was honest up to this state
 abbrev pub Honestly : DiskState → Type 0 → Type 0
 Honestly disk P = disk.is_honest → P

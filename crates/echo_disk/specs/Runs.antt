@@ -1,4 +1,4 @@
--- What calls, and runs of calls, do to a disk.
+-- The effects of calls, and of runs of calls, on a disk.
 use Rattle.std.specs.Prelude.{◌≡◌, ◌≤◌, ◌⊎◌, ℕ, List, Result, IsErrOf}
 use Rattle.echo_device.specs.Device.{Failed}
 use Rattle.echo_disk.specs.Disk.{Files, DiskState}

@@ -1,4 +1,4 @@
--- What one call does to one file, as it is seen and after a crash.
+-- The effect of one call on one file, as it is seen and after a crash.
 use Rattle.std.specs.Prelude.{◌≡◌, ◌≢◌, ◌≤◌, ◌⊎◌, ℕ, ◌+◌, max, min, List, [], ◌++◌, length, take, drop, Option, Some, None, IsSome}
 use Rattle.echo_disk.specs.Disk.{Files, DiskState, bytes_in}
 

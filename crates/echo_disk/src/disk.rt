@@ -1,4 +1,4 @@
-//! What a disk promises to those that use it.
+//! The promise of a disk to its users.
 ghost use Rattle.std.specs.Prelude.{◌≡◌, ◌≢◌, ◌≤◌, ◌<◌, ◌⊎◌, ◌↔◌, ℕ, List, [], length, take, drop, true, false, IsTrue, IfOk, OnOk, IsSome, Some, None};
 ghost use Rattle.echo_disk.specs.Disk.{DiskState, Honestly, bytes_in, IsFolder, IsIn};
 ghost use Rattle.echo_disk.specs.Steps.{IsWrittenAt, TornWrite, TornCut, TornMaking, TornRemoval, TornNaming, SameBeside, ChangesFile, RenamesFile};
@@ -22,7 +22,7 @@ pub trait Disk {
     // How often the device failed: a count that stays at 2^64 - 1.
     ghost failures: { Self → ℕ };
 
-    /// Whether there is such a file.
+    /// Whether the file exists.
     fn exists(&mut self, path: &[u8]) -> Result<bool, DiskError>
         ensures found { Honestly (state self.new) (IfOk result (λ found. IsTrue found ↔ IsSome ((state self.old).seen path.now))) }
         ensures quiet { ChangesNothing (state self.old) (state self.new) }

@@ -4,9 +4,8 @@
 //! makes permanent. Bytes that are not synced may be torn anywhere; a path that is not synced may
 //! be lost.
 //!
-//! Begin with `disk` (the trait); `disk_error` is its error. `synced` changes one file and syncs
-//! it, `folder` gives the folder of a path, `part` reads bytes from the middle of a file, `whole`
-//! reads a whole file.
+//! Begin with `disk` (the trait); `disk_error` is its error. `synced` changes one file and syncs it, `folder`
+//! gives the folder of a path. `part` reads bytes from the middle of a file, `whole` reads a whole file.
 #![tactic(auto)]
 
 mod disk;

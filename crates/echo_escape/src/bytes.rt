@@ -4,7 +4,7 @@ ghost use Rattle.echo_escape.specs.Escaped.{escaped, escaped_byte, escaped_line,
 
 use std::alloc::AllocError;
 
-/// The digits of a byte that is not printed as it is.
+/// The digits of a byte that is not printed unchanged.
 const DIGITS: [u8; 16] = *b"0123456789abcdef";
 
 // A byte by `\x` and its two digits.

@@ -4,7 +4,7 @@ ghost use Rattle.std.specs.Prelude.{IsOk, OnOk};
 use std::alloc::AllocError;
 use std::io;
 
-/// What writing to a vector answers, which fails only out of memory.
+/// The answer of writing to a vector, which fails only out of memory.
 pub fn written(answer: io::Result<()>) -> Result<(), AllocError>
     ensures { OnOk result (IsOk answer) }
 {

@@ -62,7 +62,7 @@ word_room = 30
 abbrev pub is_within_word : Option Charset → ℕ → ℕ → Bool
 is_within_word charset room b = is_following charset b || nat_le 12 room
 
--- for how many a word has room behind a byte
+-- the room of a word after a byte
 abbrev pub next_room : Option Charset → ℕ → ℕ → ℕ
 next_room charset room b = (if is_within_word charset room b then room else word_room) - q_size b
 

@@ -159,11 +159,11 @@ abbrev pub mail_text : Filed → List ℕ
 mail_text m =
     head_text (label_of m.echo.kept) m ++ (body_text (charset_for (label_of m.echo.kept)) m.echo.kept ++ codes "\n")
 
--- names and subject as a mail has them, one behind the other
+-- names and subject in the form of a mail, in a row
 abbrev pub name_bytes : Option Charset → Filed → List ℕ
 name_bytes charset m = mail_bytes charset m.from_name ++ (mail_bytes charset m.to_name ++ mail_bytes charset m.subject)
 
--- the same, and a body behind them
+-- the same, and a body after them
 abbrev pub all_bytes : Option Charset → Filed → List ℕ → List ℕ
 all_bytes charset m body = name_bytes charset m ++ body
 

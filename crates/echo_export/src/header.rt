@@ -220,7 +220,7 @@ fn is_within_word(charset: Option<Charset>, room: u8, byte: u8) -> bool
     is_following(charset, byte) || CHARACTER <= room
 }
 
-// For how many bytes more a word has room behind a byte.
+// The room of a word in bytes after a byte.
 fn next_room(charset: Option<Charset>, room: u8, byte: u8) -> u8
     ensures { result ≡ next_room charset room byte }
 {

@@ -33,7 +33,7 @@ BreaksSized lacks old new broken.Cut = Came old new (λ came. length came < lack
 BreaksSized lacks old new broken.Device = Came old new (λ came. length came < lacks)
 BreaksSized lacks old new broken.Memory = Unit {0}
 
--- some more bytes of a string of this length came behind those that it had
+-- some more bytes of a string of this length were appended
 abbrev pub StepsSized : {A : Type 0} → ℕ → List ℕ → List ℕ → Option (List ℕ) → Option (List ℕ) → Result A Broken → Type 0
 StepsSized size had has old new (Ok _) =
     (t : List ℕ) × (has ≡ had ++ t) × Consumes old new t × (0 < length t) × (length has ≤ size)

@@ -25,7 +25,7 @@ abbrev pub key_with : Filed → Option (List ℕ) → Key
 key_with m (Some msgid) = ById m.echo.tag msgid
 key_with m None = ByContent m.echo.tag m.date m.to_name m.from_name m.subject m.echo.kept
 
--- what makes two messages the same
+-- the key, which makes two messages one
 unfoldable pub key_of : Filed → Key
 key_of m = key_with m (msgid_of m.echo.kept)
 
@@ -48,7 +48,7 @@ abbrev pub HasSmallSender : Option Address → Type 0
 HasSmallSender None = ⊤
 HasSmallSender (Some a) = (a.zone < 2 ^ 16) × (a.net < 2 ^ 16) × (a.node < 2 ^ 16)
 
--- what holds of each message of a base
+-- the rules of each message of a base
 pub record IsFiled (m : Filed) : Type 0 where
   pub small_sender : HasSmallSender m.sender
   pub date_len : length m.date ≡ 20

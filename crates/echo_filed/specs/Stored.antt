@@ -91,8 +91,8 @@ message_in version s = record {
   echo = echo_in version s;
 }
 
--- a message has tag and id instead of the text exactly if it is of the second version, was scanned, has an id and is
--- a stub
+-- a message has tag and id instead of the text exactly if four things hold: the second version, scanned, an id, and a
+-- stub
 abbrev pub is_short : Version → ℕ → ℕ → Filed → Bool
 is_short First cursor place m = false
 is_short Second cursor place m = nat_lt place cursor && (is_some (msgid_of m.echo.kept) && is_stub m)
@@ -102,7 +102,7 @@ abbrev pub kind_of : Bool → Option Address → ℕ
 kind_of short None = if short then 2 else 0
 kind_of short (Some sender) = if short then 3 else 1
 
--- the sender as it is stored, zeros where there is none
+-- the stored sender, zeros for none
 abbrev pub sender_or_zeros : Option Address → Address
 sender_or_zeros None = record { zone = 0; net = 0; node = 0 }
 sender_or_zeros (Some sender) = sender

@@ -1,4 +1,4 @@
--- What a purge leaves of a message: its id and nothing else of its text.
+-- The stub that a purge leaves of a message: its id and nothing else of its text.
 use Rattle.std.specs.Prelude.{ℕ, not, filter, map, ◌==◌, ◌&&◌, Bool, true, List, [], ◌∷◌, length, Option, Some, None, bytes_eq}
 use Rattle.std.specs.Cmp.Lexicographic.{pointwise}
 use Rattle.echo_text.specs.Lines.{msgid_word}
@@ -21,11 +21,11 @@ stub_with m (Some msgid) = record {
   echo = bare m.echo.tag msgid;
 }
 
--- what a purge leaves of a message
+-- the stub of a message
 unfoldable pub stub_of : Filed → Filed
 stub_of m = stub_with m (msgid_of m.echo.kept)
 
--- whether a purge leaves the message as it is
+-- whether a purge leaves the message unchanged
 abbrev pub is_stub_with : Filed → Option (List ℕ) → Bool
 is_stub_with m None = true
 is_stub_with m (Some msgid) =

@@ -1,4 +1,4 @@
--- What a text says, and the text that is written for it (FTS-0004), as functions.
+-- The parts of a text, and the text that is written for them (FTS-0004), as functions.
 use Rattle.std.specs.Prelude.{ℕ, nat_le, List, [], ◌∷◌, ◌++◌, length, if◌then◌else◌, None}
 use Rattle.std.specs.List.{flat_map}
 use Rattle.echo_addr.specs.declared.address.NetNode.{NetNode}
@@ -8,7 +8,7 @@ use Rattle.echo_text.specs.Tail.{all_entries, kept_of, path_lists, seen_lists}
 use Rattle.echo_text.specs.Echo.{EchoText, ended}
 use Rattle.echo_filed.specs.Sets.{entry_set}
 
--- what the lines of an echomail text say
+-- the parts in the lines of an echomail text
 abbrev pub echo_of_lines : List (List ℕ) → EchoText
 echo_of_lines all = record {
   tag = area_tag (first_line all);
@@ -17,7 +17,7 @@ echo_of_lines all = record {
   path = all_entries (path_lists (later_lines all));
 }
 
--- what an echomail text says
+-- the parts of an echomail text
 unfoldable pub echo_of : List ℕ → EchoText
 echo_of text = echo_of_lines (lines text)
 

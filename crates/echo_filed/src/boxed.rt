@@ -11,8 +11,7 @@ use std::fmt::Debug;
 use std::hash::{Hash, Hasher};
 use std::marker::Model;
 
-/// A list behind one pointer, seen by contracts as the list of its items. A value that holds it stays
-/// small.
+/// A list behind one pointer; contracts see the list of its items. A value that holds it stays small.
 #[derive(Drop)]
 pub struct Boxed<T> {
     all: Box<Vec<T>>,
@@ -73,7 +72,7 @@ impl<T: Debug> Debug for Boxed<T> {
     }
 }
 
-/// The lines of a text behind one pointer, seen by contracts as the list of the lines.
+/// The lines of a text behind one pointer; contracts see the list of the lines.
 #[derive(Drop)]
 pub struct BoxedLines {
     lines: Box<Lines>,

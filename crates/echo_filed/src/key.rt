@@ -9,8 +9,8 @@ use echo_addr::Items;
 use echo_text::{EchoView, Lines};
 use std::alloc::{AllocError, Global};
 
-/// What makes two messages of a base the same: the tag and the MSGID (FTS-0009), or, of a message
-/// without one, the tag, the DateTime, the names, the subject and the kept lines.
+/// The key, which makes two messages of a base one: the tag and the MSGID (FTS-0009). Without a MSGID: the tag,
+/// the DateTime, the names, the subject and the kept lines.
 #[derive(Debug, Drop, PartialEq, Eq, Hash)]
 pub enum Key {
     ById {

@@ -1,4 +1,4 @@
-//! What a purge leaves of a message.
+//! The stub that a purge leaves of a message.
 ghost use Rattle.std.specs.Prelude.{◌≡◌, ◌==◌, ◌&&◌, length, false, [], ◌∷◌, Some, bytes_eq, IfOk};
 ghost use Rattle.std.specs.Cmp.Lexicographic.{pointwise};
 ghost use Rattle.echo_text.specs.Lines.{msgid_word};

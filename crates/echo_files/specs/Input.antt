@@ -1,8 +1,8 @@
--- What reading an input does.
+-- The effect of reading an input.
 use Rattle.std.specs.Prelude.{◌≡◌, ℕ, ◌<◌, List, ◌++◌, length, Option}
 use Rattle.std.specs.Io.KnownBytes.{Consumes, IsAtEnd}
 
--- so many bytes came from the source behind those that were there, fewer than a piece only where no more were left
+-- this many bytes came from the source and were appended, fewer than a piece only if no more were left
 pub record ReadsOn (before after : Option (List ℕ)) (old new : List ℕ) (count piece : ℕ) : Type 0 where
   pub came : List ℕ
   pub whole : new ≡ old ++ came

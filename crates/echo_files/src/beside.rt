@@ -1,4 +1,4 @@
-//! The file beside one that is to be written: its name, and how it is made.
+//! The temporary file: its name, and how it is made.
 
 use crate::owned::Owned;
 use crate::writing::OutputFault;
@@ -10,10 +10,10 @@ use std::os::unix::fs::{MetadataExt, OpenOptionsExt};
 use std::rt::Files;
 use std::{fs, io};
 
-/// Who may read and write a file beside another until it gets the mode of what it replaces.
+/// Only the owner may read and write a temporary file, until it gets the mode of the file that it replaces.
 const OWNER_ALONE: u32 = 0o600;
 
-/// What a file keeps when other bytes take its name.
+/// The mode and owner that a file keeps when it is replaced.
 #[derive(Drop)]
 pub struct Access {
     pub permissions: Permissions,
@@ -21,13 +21,13 @@ pub struct Access {
     pub group: u32,
 }
 
-/// The name of the file beside this one, for a system with this address.
+/// The temporary name for this path, for a system with this address.
 pub(crate) fn name_beside(alloc: Global, path: &str, own: &str) -> Result<String, AllocError> {
     format!(in alloc; "{path}.~{own}~.new")
 }
 
-/// Makes the file beside another anew. What a stopped run left of it is removed; anything else that has
-/// the name stays, and is a fault.
+/// Makes a new temporary file. It removes the one of a stopped run. Any other file with the name stays, and is
+/// a fault.
 pub(crate) fn make_beside<R: Files>(
     alloc: Global,
     files: &R,
@@ -53,8 +53,8 @@ pub fn make_new<R: Files>(files: &R, path: &str) -> io::Result<R::File> {
         .open(files, path)
 }
 
-/// A fault, unless a stopped run left the file: a regular one that begins as what is to be written does,
-/// or ends before that shows.
+/// A fault, unless a stopped run left the file: a regular one that begins like the new bytes, or is too short
+/// to tell.
 pub fn check_left<R: Files>(
     alloc: Global,
     files: &R,
@@ -75,7 +75,7 @@ pub fn check_left<R: Files>(
     }
 }
 
-/// What the file that is to be replaced keeps, if there is one. It has to be a regular file that may be
+/// The access of the file that is to be replaced, if there is one. It has to be a regular file that may be
 /// written.
 pub fn access_of<R: Files>(files: &R, path: &str) -> Result<Option<Access>, OutputFault> {
     match fs::metadata(files, path) {
@@ -93,7 +93,7 @@ pub fn access_of<R: Files>(files: &R, path: &str) -> Result<Option<Access>, Outp
     }
 }
 
-/// Gives a file the access of the one that it replaces. Its owner and group are set where that is allowed.
+/// Gives a file the access of the one that it replaces. It sets owner and group if that is allowed.
 pub fn give_access<F: OpenFile + Owned>(file: &F, access: Access) -> io::Result<()> {
     file.set_owner(access.owner, access.group);
     file.set_permissions(access.permissions)

@@ -32,10 +32,10 @@ impl From<Failure> for InputFault {
     }
 }
 
-/// How many bytes are asked for at once.
+/// The size of one read.
 const PIECE: usize = 65_536;
 
-// Makes room for a piece after the bytes that are there.
+// Makes room for a piece after the present bytes.
 fn make_room(whole: &mut Vec<u8>) -> Result<(), InputFault>
     ensures ok { OnOk result (whole.new.items ≡ whole.old.items ++ replicate 65536 0) }
     ensures err { IfErr result (λ fault. fault ≡ Memory) }
@@ -45,7 +45,7 @@ fn make_room(whole: &mut Vec<u8>) -> Result<(), InputFault>
     Ok(())
 }
 
-// Reads a piece to the end of `whole`, a short one only where nothing is left.
+// Appends a piece to `whole`, a short one only if nothing is left.
 fn read_piece<R: Source>(reader: &mut R, whole: &mut Vec<u8>) -> Result<usize, InputFault>
     ensures bytes { IfOk result (λ count. ReadsOn (R.remaining reader.old) (R.remaining reader.new) whole.old.items whole.new.items count 65536) }
     ensures device { IsErrOf result Device → Failed (R.failures reader.old) (R.failures reader.new) }
@@ -59,7 +59,7 @@ fn read_piece<R: Source>(reader: &mut R, whole: &mut Vec<u8>) -> Result<usize, I
     Ok(came)
 }
 
-/// All bytes of the reader, where they are at most so many.
+/// All bytes of the reader, if they are at most `most`.
 pub fn read_whole<R: Source>(
     alloc: Global,
     reader: &mut R,

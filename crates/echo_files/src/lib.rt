@@ -1,12 +1,11 @@
-//! Files and standard input: read whole up to a limit, and made so that whatever stops the program leaves a new file
-//! whole or none, never a part of one.
+//! Files and standard input of the program: read whole up to a limit, and written so that a stop leaves a new
+//! file whole or absent.
 //!
-//! The contract for the program: what is read is all bytes, where the reader names them, and at most as
-//! many as are allowed. What a file system does with the calls of `write` is not known to a contract; it
-//! is tested, each call failing in turn.
+//! Promise: all bytes are read if the reader knows them, and never more than the limit. Contracts do not know
+//! what a file system does with the calls of `write`; tests let each call fail in turn.
 //!
-//! Modules in reading order: `input` (any reader), `reading` (files), `owned` (whose a file is), `beside`
-//! (the file that is written first) and `writing` (new files).
+//! Begin with `reading` (files) and `input` (any reader). `writing` makes new files by way of `beside`, the
+//! temporary file. `owned` gives a file an owner.
 #![tactic(auto)]
 
 mod beside;

@@ -1,4 +1,4 @@
-//! Files that are read whole.
+//! Reads whole files.
 ghost use Rattle.std.specs.Prelude.{◌≡◌, ◌≤◌, ◌↔◌, length, IfOk, IfSome, IsTrue};
 ghost use Rattle.std.specs.IoError.{error_kind};
 
@@ -9,7 +9,7 @@ use std::io::{ErrorKind, Read};
 use std::rt::Files;
 use std::{fs, io};
 
-/// The bytes of the file with this path, where they are at most so many.
+/// The bytes of the file with this path, if they are at most `most`.
 pub fn read_file<R: Files>(
     alloc: Global,
     files: &R,
@@ -24,7 +24,7 @@ pub fn read_file<R: Files>(
     }
 }
 
-/// Opens the file with this path, where it is a regular one. A folder or a pipe is a fault at once.
+/// Opens the file with this path. Anything but a regular file, such as a folder or a pipe, is a fault at once.
 pub fn open_regular<R: Files>(files: &R, path: &str) -> Result<R::File, InputFault> {
     match fs::metadata(files, path) {
         Ok(found) if found.is_file() => fs::open(files, path).map_err(|error| input_fault(&error)),

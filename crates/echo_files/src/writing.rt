@@ -1,5 +1,5 @@
-//! Files that are made whole: the bytes go to a file beside it (`beside`), are flushed to the disk, and get the name at
-//! once. Where a step fails the file beside it is removed, and what had the name stays as it was.
+//! Writes whole files. The bytes go to a temporary file (`beside`) and are flushed to the disk. Then the file
+//! gets its name at once. If a step fails, the temporary file is removed, and the old file is unchanged.
 ghost use Rattle.std.specs.Prelude.{◌≡◌, take, IfErr, OnOk};
 ghost use Rattle.std.specs.Io.KnownBytes.{Appends};
 ghost use Rattle.echo_device.specs.Device.{Failed};
@@ -22,9 +22,8 @@ pub enum OutputFault {
     Memory,
 }
 
-/// A file that is to be written: its path, its bytes, and how many of these show that a file is one of
-/// its kind. The address of the system that writes it, as `1.10.2`, stands in the name of the file beside
-/// it, so that no other system writes that one.
+/// A file to be written: its path, its bytes, and how many first bytes show its kind. The temporary name has
+/// the address of the system that writes it, such as `1.10.2`, so that no other system writes that file.
 #[derive(Clone, Copy)]
 pub struct NewFile<'a> {
     pub path: &'a str,
@@ -58,8 +57,8 @@ impl From<io::Error> for OutputFault {
     }
 }
 
-/// Makes a file of these bytes. That something has the path already is a fault, and that stays. The
-/// folder is flushed by `flush_folder` alone, once for many files.
+/// Makes a file of these bytes. If the path exists, that is a fault, and it stays. It does not flush the
+/// folder: `flush_folder` does, once for many files.
 pub fn create_file<R: Files>(
     alloc: Global,
     files: &R,
@@ -79,14 +78,14 @@ pub fn create_file<R: Files>(
     tidied(files, beside.as_str(), done)
 }
 
-/// Flushes a folder to the disk, so that a power cut takes none of its names away.
+/// Flushes a folder to the disk, so that a power cut removes no name from it.
 pub fn flush_folder<R: Files>(files: &R, folder: &str) -> Result<(), OutputFault> {
     fs::open(files, folder)?.sync_all()?;
     Ok(())
 }
 
-/// Flushes the folder of the file with this path, or of the one that a symbolic link leads to, so that a power cut
-/// leaves the file that has the path now.
+/// Flushes the folder of the file with this path, or of the one that a symbolic link leads to. Then a power cut
+/// leaves the present file at the path.
 pub fn flush_path<R: Files>(alloc: Global, files: &R, path: &str) -> Result<(), OutputFault> {
     let target = target_of(alloc, files, path)?;
     flush_folder(files, folder_of(target.as_str()))
@@ -108,7 +107,7 @@ fn folder_of(path: &str) -> &str {
     }
 }
 
-// Gives the file beside it a name that nothing has.
+// Gives the temporary file a new name.
 fn give_new_name<R: Files>(files: &R, beside: &str, path: &str) -> Result<(), OutputFault> {
     fs::hard_link(files, beside, path)?;
     fs::remove_file(files, beside)?;
@@ -133,7 +132,7 @@ fn put_bytes<W: Sink>(device: &mut W, bytes: &[u8]) -> Result<(), OutputFault>
     Ok(())
 }
 
-// Removes the file beside it where that was not given the name.
+// Removes the temporary file, unless it got the name.
 fn tidied<R: Files>(
     files: &R,
     beside: &str,

@@ -10,7 +10,7 @@ block_of blocks member = slice_index blocks.numbers.items member
 abbrev pub top_of : Blocks → ℕ → ℕ
 top_of blocks member = slice_index blocks.tops.items member
 
--- the rank of a member: its own number, where none is given
+-- the rank of a member; by default its own number
 abbrev pub rank_of : Blocks → ℕ → ℕ
 rank_of blocks member = slice_index_or blocks.ranks.items member member
 

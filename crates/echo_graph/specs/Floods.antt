@@ -1,4 +1,4 @@
--- A search by levels: what its queue keeps, and what it has found.
+-- A search by levels: its queue and its result.
 use Rattle.std.specs.Prelude.{◌≡◌, ◌≢◌, ◌+◌, ◌<◌, ◌≤◌, ◌⊎◌, ℕ, suc, Bool, IsTrue, Option, Some, None, List, length, slice_index}
 use Rattle.echo_graph.specs.Levels.{level_of}
 
@@ -24,7 +24,7 @@ pub record Flooding (linked : ℕ → ℕ → Bool) (without root : ℕ) (old le
   pub sorted : (j k m n : ℕ) → j ≤ k → k < length queue → level_of levels (slice_index queue j) ≡ Some m → level_of levels (slice_index queue k) ≡ Some n → m ≤ n
   pub near : (k m n : ℕ) → head < length queue → k < length queue → level_of levels (slice_index queue head) ≡ Some m → level_of levels (slice_index queue k) ≡ Some n → n ≤ m + 1
 
--- what a search from the root has added to the levels
+-- the levels that a search from the root has added
 pub record Flooded (linked : ℕ → ℕ → Bool) (without root : ℕ) (old levels : List (Option ℕ)) : Type 0 where
   pub same_length : length levels ≡ length old
   pub rooted : level_of levels root ≡ Some 0

@@ -1,4 +1,4 @@
--- One member's links given a level, where they have none yet, and put at the end of the queue.
+-- One member's links get a level, if they have none yet, and join the end of the queue.
 use Rattle.std.specs.Prelude.{◌≡◌, ◌≢◌, ◌==◌, ◌+◌, ◌<◌, ◌≤◌, ◌⊎◌, ℕ, IsTrue, Option, Some, None, List, [], ◌∷◌, length, slice_index}
 use Rattle.std.specs.List.{list_any}
 use Rattle.echo_graph.specs.Levels.{level_of}
@@ -9,7 +9,7 @@ unlevelled [] = 0
 unlevelled (None ∷ levels) = unlevelled levels + 1
 unlevelled (Some level ∷ levels) = unlevelled levels
 
--- what the first `count` of the links have brought
+-- the effect of the first `count` of the links
 pub record Visited (links : List ℕ) (count without level : ℕ) (old new : List (Option ℕ)) (queue longer : List ℕ) : Type 0 where
   pub same_length : length new ≡ length old
   pub grows : length queue ≤ length longer

@@ -1,11 +1,11 @@
-//! Blocks found by a search in depth. Nothing is proved of what it finds: `division` tests that before
-//! it is used, so no answer depends on this search.
+//! Blocks found by a search in depth. The search itself is not proved: `division` tests its result before use,
+//! so no answer depends on it.
 
 use crate::blocks::{Blocks, value_or};
 use crate::graph::Graph;
 use std::alloc::{AllocError, Global};
 
-/// What the search keeps.
+/// The state of the search.
 #[derive(Drop)]
 struct Search {
     /// The blocks found. Ranks count visits from 1, and are 0 for members not visited.

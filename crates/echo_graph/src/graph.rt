@@ -50,7 +50,7 @@ impl Model for Graph {
 }
 
 impl Graph {
-    /// The graph with a row of links for each member. `is_graph` tests what the rows must be.
+    /// The graph with a row of links for each member. `is_graph` tests the rows.
     pub fn new(rows: Vec<Links>) -> Graph
         requires { IsGraph rows.items }
         ensures { result ≡ rows.items }

@@ -37,8 +37,8 @@ pub fn one_way()
         (f y u : ℕ) → Reaches linked y f → IsWay linked f y u → ¬ Beyond linked y f u }
 {}
 
-/// What lies beyond a member that lies beyond x, lies beyond x. Let c be a link of y that lies
-/// beyond y. What lies beyond c, other than c, is neither y nor a link of y.
+/// All that lies beyond a member beyond x, lies beyond x. Let c be a link of y that lies beyond y. Members
+/// beyond c, other than c, are neither y nor links of y.
 pub fn further_out()
     ensures in_turn { (linked : ℕ → ℕ → Bool) (x y f c : ℕ) → Beyond linked y f c → Beyond linked x f y → Beyond linked x f c }
     ensures no_link { (linked : ℕ → ℕ → Bool) → Simple linked →
@@ -46,8 +46,8 @@ pub fn further_out()
         (d ≢ y) × (¬ IsTrue (linked y d)) }
 {}
 
-/// What is true of f, and holds for each member if it holds for the way from it to f, is true of
-/// all members that reach f.
+/// A property of f spreads to all members that reach f, if each member takes it over from the next one on its
+/// way to f.
 pub fn along_ways()
     ensures { (linked : ℕ → ℕ → Bool) → Simple linked → Parted linked →
         (f : ℕ) (test : ℕ → Bool) → IsTrue (test f) →

@@ -17,7 +17,7 @@ pub record SentAgain (run : Run) (tag : List ℕ) : Type 0 where
   pub of_area : tag_of key ≡ tag
   pub again : 2 ≤ sent_count system.file.system key run.packets
 
--- a system with the area is sent what it posted itself
+-- a system with the area is sent a message that it posted
 pub record SentItsOwn (run : Run) (tag : List ℕ) : Type 0 where
   pub system : System
   pub there : Among system run.systems

@@ -86,8 +86,8 @@ pub fn one_posting_shows_the_harm()
 }
 
 /// No area is refused without reason. Premises: some file has the area, no two files have one address, and
-/// every link of a carrier is a carrier. Each pair with one net and node looks like one system. Then the area
-/// is tidy exactly where every run is orderly. If it is not tidy, some run does harm.
+/// every link of a carrier is a carrier. The last premise: each pair with one net and node looks like one
+/// system. Then the area is tidy exactly where every run is orderly. If it is not tidy, some run does harm.
 pub fn no_area_is_refused_in_vain()
     ensures exact { (files : List LinkFile) (tag : List ℕ) → FilesFit files → IsTrue (list_any (λ file. has_area file tag) files) →
         HaveOwnAddresses files → AllAreCarriers files tag → ((a b : Address) → AreTwins files tag a b → AreTakenForOne files tag a b) →

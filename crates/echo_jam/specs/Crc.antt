@@ -1,8 +1,9 @@
--- The CRC-32 by which JAM finds names and ids: that of the small letters, begun with all bits set and not turned at the end.
+-- The CRC-32 by which JAM finds names and ids: of the small letters, with all bits set at first, and not inverted at
+-- the end.
 use Rattle.std.specs.Prelude.{ℕ, ◌/◌, ◌%◌, ◌==◌, bit_xor, List, [], ◌∷◌, map, if◌then◌else◌}
 use Rattle.std.specs.Char.{to_ascii_lowercase}
 
--- one bit: the polynomial, the lowest bit first, is added where the bit that goes is 1
+-- one bit: the polynomial, the lowest bit first, is added if the bit shifted out is 1
 abbrev pub crc_bit : ℕ → ℕ
 crc_bit crc = if crc % 2 == 1 then bit_xor (crc / 2) 3988292384 else crc / 2
 

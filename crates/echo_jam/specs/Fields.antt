@@ -20,7 +20,7 @@ subfield kind bytes = word kind ++ (word 0 ++ (long (length bytes) ++ bytes))
 abbrev pub address_field : Address → List ℕ
 address_field a = subfield 0 (address_text a)
 
--- the address of the origin line, else of the system that sent the message; none where neither is known
+-- the address of the origin line, else of the system that sent the message; none if neither is known
 abbrev pub origin_field : Option Address → Option Address → List ℕ
 origin_field (Some a) sender = address_field a
 origin_field None (Some a) = address_field a
@@ -30,11 +30,11 @@ origin_field None None = []
 abbrev pub lines_behind : EchoText → List (List ℕ)
 lines_behind e = later_lines (lines (text_of e))
 
--- what stands behind this in a line that tells which program wrote the message
+-- the beginning of a line that names the program of the message
 abbrev pub program_word : List ℕ
 program_word = 1 ∷ codes "PID:"
 
--- what becomes a subfield: its kind, how many bytes that takes at most, and the bytes
+-- the content of a subfield: its kind, its most bytes, and the bytes
 pub record Content : Type 0 where
   pub kind : ℕ
   pub most : ℕ
@@ -51,8 +51,8 @@ most_of_id = 100
 abbrev pub most_of_all : ℕ
 most_of_all = 4294967295
 
--- what becomes of a line: an id, that of the message replied to, the program, PATH, SEEN-BY, or another control line;
--- nothing of a line of the body
+-- the content of a line: an id, that of the message replied to, the program, PATH, SEEN-BY, or another control line;
+-- nothing for a line of the body
 abbrev pub content_of : List ℕ → Option Content
 content_of line =
     if begins msgid_word line then content 4 most_of_id (after_word msgid_word line)

@@ -2,7 +2,7 @@
 use Rattle.std.specs.Prelude.{ℕ, List, [], ◌∷◌, ◌++◌, codes, replicate}
 use Rattle.echo_filed.specs.Stored.{long}
 
--- what a file of headers begins with, and each header in it
+-- the first bytes of a file of headers, and of each header in it
 abbrev pub jam_mark : List ℕ
 jam_mark = codes "JAM" ++ 0 ∷ []
 
@@ -10,6 +10,6 @@ jam_mark = codes "JAM" ++ 0 ∷ []
 abbrev pub counts : ℕ → ℕ → List ℕ
 counts changes active = long changes ++ long active
 
--- that of a base begun at this moment: never changed, without messages and password, and its first message will be number 1
+-- that of a base created at this time: never changed, no messages, no password, first message number 1
 abbrev pub new_fixed : ℕ → List ℕ
 new_fixed created = jam_mark ++ (long created ++ (counts 0 0 ++ (long 4294967295 ++ (long 1 ++ replicate 1000 0))))

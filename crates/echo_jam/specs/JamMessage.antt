@@ -10,7 +10,7 @@ use Rattle.echo_jam.specs.Fields.{body_of, fields_of, most_of_id}
 use Rattle.echo_jam.specs.Fixed.{jam_mark}
 use Rattle.echo_jam.specs.Moment.{seconds_of}
 
--- the CRC of an id, as its subfield has it; all bits set where there is none
+-- the CRC of an id, as its subfield has it; all bits set without an id
 abbrev pub id_crc : Option (List ℕ) → ℕ
 id_crc None = 4294967295
 id_crc (Some id) = jam_crc (take most_of_id id)
@@ -28,18 +28,18 @@ header_front size = jam_mark ++ (word 1 ++ (word 0 ++ (long size ++ long 0)))
 abbrev pub header_ids : Filed → List ℕ
 header_ids m = long (id_crc (msgid_of m.echo.kept)) ++ (long (id_crc (reply_of m.echo.kept)) ++ (long 0 ++ (long 0 ++ long 0)))
 
--- when it was written, not received nor processed; its number and attributes; where its text stands and how long it is;
--- no password, no cost
+-- the dates: written, not received nor processed; its number and attributes; the place and size of its text; no
+-- password, no cost
 abbrev pub header_back : Bool → Filed → ℕ → ℕ → ℕ → List ℕ
 header_back scanned m number place size =
     (long (seconds_of m.date) ++ (long 0 ++ long 0))
     ++ ((long number ++ (long (jam_attribute scanned m.sender) ++ long 0)) ++ (long place ++ (long size ++ (long 4294967295 ++ long 0))))
 
--- the header of the message of this number, scanned or not, whose text stands at this place of the texts
+-- the header of the message of this number, scanned or not, with its text at this place of the texts
 abbrev pub header_of : Bool → Filed → ℕ → ℕ → List ℕ
 header_of scanned m number place =
     header_front (length (fields_of m)) ++ (header_ids m ++ (header_back scanned m number place (length (body_of m)) ++ fields_of m))
 
--- the index entry: the CRC of the addressee's name, and where the header stands
+-- the index entry: the CRC of the addressee's name, and the place of the header
 abbrev pub entry_of : Filed → ℕ → List ℕ
 entry_of m place = long (jam_crc m.to_name) ++ long place

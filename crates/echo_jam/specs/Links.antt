@@ -3,11 +3,11 @@ use Rattle.std.specs.Prelude.{ℕ, zero, suc, ◌+◌, ◌-◌, ◌==◌, ◌&&�
 use Rattle.echo_filed.specs.Stored.{long, long_at}
 use Rattle.echo_jam.specs.Standing.{entries_in, place_in}
 
--- the four bytes at a place, 0 where the headers end before
+-- the four bytes at a place, 0 past the end of the headers
 abbrev pub field_at : List ℕ → ℕ → ℕ
 field_at headers at = if nat_le (at + 4) (length headers) then long_at at headers else 0
 
--- a field of the message of an entry, which stands so far behind the beginning of its header
+-- a field of an entry's message, at this offset in its header
 abbrev pub field_in : List ℕ → List ℕ → ℕ → ℕ → ℕ
 field_in headers index offset i = field_at headers (place_in index i + offset)
 
@@ -21,14 +21,14 @@ reply_in headers index i = field_in headers index 20 i
 abbrev pub number_in : List ℕ → List ℕ → ℕ → ℕ
 number_in headers index i = field_in headers index 48 i
 
--- the last of so many entries, from this one on, whose field is this number
+-- the last entry with this number in the field, of this many from this one on
 abbrev pub last_with : List ℕ → List ℕ → ℕ → ℕ → ℕ → ℕ → Option ℕ
 last_with headers index offset wanted low zero = None
 last_with headers index offset wanted low (suc n) =
     if field_in headers index offset (low + n) == wanted then Some (low + n)
     else last_with headers index offset wanted low n
 
--- the same headers with a number in a field where that is 0
+-- the headers with a number in a field, if the field was 0
 abbrev pub with_field : List ℕ → ℕ → ℕ → List ℕ
 with_field headers at n =
     if nat_le (at + 4) (length headers) && long_at at headers == 0 then take at headers ++ (long n ++ drop (at + 4) headers)
@@ -37,7 +37,7 @@ with_field headers at n =
 abbrev pub with_field_in : List ℕ → List ℕ → ℕ → ℕ → ℕ → List ℕ
 with_field_in headers index offset i n = with_field headers (place_in index i + offset) n
 
--- a reply behind the last one that its message has already, else as the first one of its message
+-- a reply follows the last one that its message has, or is the first one of its message
 abbrev pub behind_reply : List ℕ → List ℕ → ℕ → ℕ → Option ℕ → List ℕ
 behind_reply headers index i k None = with_field_in headers index 28 k (number_in headers index i)
 behind_reply headers index i k (Some last) = with_field_in headers index 32 last (number_in headers index i)
@@ -56,7 +56,7 @@ linked_at headers index i =
     if reply_in headers index i == 4294967295 || number_in headers index i == 0 then headers
     else linked_to headers index i (last_with headers index 16 (reply_in headers index i) 0 i)
 
--- so many messages, from this entry on
+-- this many messages, from this entry on
 abbrev pub linked : List ℕ → List ℕ → ℕ → ℕ → List ℕ
 linked headers index from zero = headers
 linked headers index from (suc n) = linked_at (linked headers index from n) index (from + n)

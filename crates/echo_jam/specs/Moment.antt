@@ -2,7 +2,7 @@
 use Rattle.std.specs.Prelude.{ℕ, ◌+◌, ◌-◌, ◌*◌, ◌/◌, ◌%◌, ◌==◌, ◌&&◌, not, nat_lt, nat_le, Bool, List, codes, slice_index, slice_range, bytes_eq, if◌then◌else◌}
 use Rattle.std.specs.Int.{is_in_range}
 
--- whether two digits stand at this place, and the number that they write
+-- whether two digits are at this place, and their number
 abbrev pub is_pair : List ℕ → ℕ → Bool
 is_pair date i = is_in_range 48 57 (slice_index date i) && is_in_range 48 57 (slice_index date (i + 1))
 
@@ -27,11 +27,11 @@ month_of name = if early_month name == 0 then late_month name else early_month n
 abbrev pub days_before : ℕ → ℕ
 days_before month = (month * 367 - 362) / 12 - (if nat_le month 2 then 0 else 2)
 
--- the year: 80 to 99 are of the last century
+-- the year: 80 to 99 belong to the last century
 abbrev pub year_of : ℕ → ℕ
 year_of pair = if nat_lt pair 80 then 2000 + pair else 1900 + pair
 
--- how many days lie between the beginning of 1970 and that of the month
+-- the days from the beginning of 1970 to that of the month
 abbrev pub days_at : ℕ → ℕ → ℕ
 days_at year month = (year - 1970) * 365 + ((year - 1969) / 4 + (days_before month + (if year % 4 == 0 && nat_lt 2 month then 1 else 0)))
 

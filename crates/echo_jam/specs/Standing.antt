@@ -1,15 +1,15 @@
--- What stands in the files of a JAM base (JAM-001).
+-- The state of the files of a JAM base (JAM-001).
 use Rattle.std.specs.Prelude.{ℕ, zero, suc, ◌+◌, ◌-◌, ◌*◌, ◌/◌, ◌^◌, ◌==◌, ◌&&◌, ◌||◌, nat_le, nat_lt, Bool, true, List, length, slice_index, slice_range, bytes_eq, if◌then◌else◌, Option, Some, None}
 use Rattle.echo_filed.specs.Stored.{long_at}
 use Rattle.echo_jam.specs.declared.standing.Last.{Last}
 use Rattle.echo_jam.specs.declared.standing.Standing.{Standing}
 use Rattle.echo_jam.specs.Fixed.{jam_mark}
 
--- whether the mark of JAM stands there
+-- whether the mark of JAM is there
 abbrev pub has_mark : List ℕ → ℕ → Bool
 has_mark headers at = bytes_eq (slice_range headers at (at + 4)) jam_mark
 
--- where the subfields of the header that stands there end
+-- the end of the subfields of the header there
 abbrev pub fields_end : List ℕ → ℕ → ℕ
 fields_end headers at = at + 76 + long_at (at + 8) headers
 
@@ -17,24 +17,24 @@ fields_end headers at = at + 76 + long_at (at + 8) headers
 abbrev pub is_deleted_at : List ℕ → ℕ → Bool
 is_deleted_at headers at = nat_le 128 (slice_index headers (at + 55))
 
--- where its text stands, and how long that is
+-- the place and size of its text
 abbrev pub text_at : List ℕ → ℕ → ℕ
 text_at headers at = long_at (at + 60) headers
 
 abbrev pub text_size_at : List ℕ → ℕ → ℕ
 text_size_at headers at = long_at (at + 64) headers
 
--- whether a text lies within the texts, of which there are so many bytes
+-- whether a text lies within the texts, which have this many bytes
 abbrev pub has_text : List ℕ → ℕ → ℕ → Bool
 has_text headers texts at = is_deleted_at headers at || nat_le (text_at headers at + text_size_at headers at) texts
 
--- whether a whole header stands there, and its text
+-- whether a whole header is there, with its text
 abbrev pub is_header : List ℕ → ℕ → ℕ → Bool
 is_header headers texts at =
     nat_le 1024 at && (nat_le (at + 76) (length headers)
     && (has_mark headers at && (nat_le (fields_end headers at) (length headers) && has_text headers texts at)))
 
--- where the header of an entry of the index stands
+-- the place of the header of an index entry
 abbrev pub place_in : List ℕ → ℕ → ℕ
 place_in index i = long_at (8 * i + 4) index
 
@@ -42,7 +42,7 @@ place_in index i = long_at (8 * i + 4) index
 abbrev pub is_unwritten : List ℕ → ℕ → Bool
 is_unwritten index i = long_at (8 * i) index == 0 && place_in index i == 0
 
--- how many of the first so many whole entries there are, without those of zeros at their end
+-- the number of whole entries among the first ones, without those of zeros at their end
 abbrev pub written_behind : List ℕ → ℕ → ℕ → ℕ
 written_behind index before i = if is_unwritten index i then before else i + 1
 
@@ -61,7 +61,7 @@ is_gone place = place == 4294967295
 abbrev pub is_entry : List ℕ → ℕ → ℕ → Bool
 is_entry headers texts place = is_gone place || is_header headers texts place
 
--- whether each of the first so many entries is gone or has its header
+-- whether each of this many first entries is gone or has its header
 abbrev pub are_entries : List ℕ → List ℕ → ℕ → ℕ → Bool
 are_entries headers index texts zero = true
 are_entries headers index texts (suc n) =
@@ -72,7 +72,7 @@ are_entries headers index texts (suc n) =
 abbrev pub active_at : List ℕ → ℕ → ℕ
 active_at headers place = if is_gone place || is_deleted_at headers place then 0 else 1
 
--- how many of the first so many there are
+-- the number of active ones among this many first entries
 abbrev pub active_in : List ℕ → List ℕ → ℕ → ℕ
 active_in headers index zero = 0
 active_in headers index (suc n) = active_in headers index n + active_at headers (place_in index n)
@@ -84,11 +84,11 @@ first_number headers = long_at 20 headers
 abbrev pub next_number : List ℕ → List ℕ → ℕ
 next_number headers index = first_number headers + entries_in index
 
--- how many messages the base says are active
+-- the number of active messages that the base states
 abbrev pub told_active : List ℕ → ℕ
 told_active headers = long_at 12 headers
 
--- whether that count knows none of the entries of zeros at the end of the index
+-- whether that count includes no entry of zeros at the end of the index
 abbrev pub is_counted : List ℕ → List ℕ → Bool
 is_counted headers index =
     entries_in index == length index / 8 || nat_le (told_active headers) (active_in headers index (entries_in index))
@@ -100,7 +100,7 @@ is_base headers index texts =
     && (nat_lt (next_number headers index) (2 ^ 32)
     && (are_entries headers index texts (entries_in index) && is_counted headers index))
 
--- the last message, where there is one and it is not gone
+-- the last message, if there is one and it is not gone
 abbrev pub last_at : List ℕ → ℕ → ℕ → Option Last
 last_at headers texts place =
     if is_gone place then None
@@ -110,7 +110,7 @@ abbrev pub last_in : List ℕ → List ℕ → ℕ → Option Last
 last_in headers index texts =
     if entries_in index == 0 then None else last_at headers texts (place_in index (entries_in index - 1))
 
--- what stands in a base, nothing where the files are none of one
+-- the state of a base; nothing if the files are not one
 abbrev pub standing_in : List ℕ → List ℕ → ℕ → Option Standing
 standing_in headers index texts =
     if is_base headers index texts then Some (record {

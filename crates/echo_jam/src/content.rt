@@ -1,4 +1,4 @@
-//! What becomes of a line of a text: a subfield, cut where that takes less, or a line of the body.
+//! The content of a line of a text: a subfield, cut if that has less room, or a line of the body.
 ghost use Rattle.std.specs.Prelude.{◌≡◌, ◌+◌, IfOk, MatchOption, None, Some, drop, take, true};
 ghost use Rattle.echo_text.specs.Lines.{after_feeds, is_control, is_seen, lines};
 ghost use Rattle.echo_jam.specs.Fields as contents;
@@ -19,7 +19,7 @@ const MOST_OF_CONTROL: usize = 255;
 /// That of PATH and SEEN-BY lines: as many as four bytes count.
 const MOST_OF_ALL: usize = 4_294_967_295;
 
-/// What becomes a subfield: its kind, how many bytes that takes at most, and the bytes.
+/// The content of a subfield: its kind, its most bytes, and the bytes.
 #[derive(Clone, Copy)]
 pub(crate) struct LineContent<'a> {
     pub(crate) kind: u16,
@@ -27,7 +27,7 @@ pub(crate) struct LineContent<'a> {
     pub(crate) bytes: &'a [u8],
 }
 
-/// What becomes of a line.
+/// The content of a line.
 pub(crate) fn content_of(line: &[u8]) -> Option<LineContent<'_>>
     ensures { MatchOption result (content_of line.now ≡ None) (λ c. content_of line.now ≡ Some (record { kind = c.kind; most = c.most; bytes = c.bytes.now })) }
 {
@@ -59,7 +59,7 @@ fn content(kind: u16, most: usize, bytes: &[u8]) -> LineContent<'_>
     }
 }
 
-/// The first so many bytes.
+/// The first `most` bytes.
 pub(crate) fn front(bytes: &[u8], most: usize) -> &[u8]
     ensures { result.now ≡ take most bytes.now }
 {
@@ -89,7 +89,7 @@ fn cut(line: &[u8]) -> u64
         _ => 0,
     }
 }
-// What follows the 01 of a control line.
+// The bytes after the 01 of a control line.
 fn behind_mark(line: &[u8]) -> &[u8]
     requires { is_control line.now ≡ true }
     ensures { result.now ≡ drop 1 (after_feeds line.now) }

@@ -14,7 +14,6 @@ pub fn jam_crc(bytes: &[u8]) -> u32
     crc
 }
 
-// A byte more.
 fn crc_byte(crc: u32, byte: u8) -> u32
     ensures { result ≡ crc_byte crc byte }
 {
@@ -22,7 +21,6 @@ fn crc_byte(crc: u32, byte: u8) -> u32
     crc_bit(crc_bit(crc_bit(crc_bit(first))))
 }
 
-// One bit.
 fn crc_bit(crc: u32) -> u32
     ensures { result ≡ crc_bit crc }
 {

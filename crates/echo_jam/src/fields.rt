@@ -16,7 +16,7 @@ use echo_text::{push_line, split_line};
 use std::alloc::{AllocError, Global};
 use std::io::Write;
 
-/// Adds a subfield. One whose length four bytes do not count is refused as out of memory.
+/// Adds a subfield. If four bytes do not count its length, it is refused as out of memory.
 pub(crate) fn push_subfield(fields: &mut Vec<u8>, kind: u16, bytes: &[u8]) -> Result<(), AllocError>
     ensures { OnOk result (fields.new.items ≡ fields.old.items ++ subfield kind bytes.now) }
 {
@@ -57,7 +57,6 @@ fn push_line_field(fields: &mut Vec<u8>, line: &[u8]) -> Result<(), AllocError>
     }
 }
 
-/// Adds the lines of the body of a text.
 pub(crate) fn push_body(body: &mut Vec<u8>, text: &[u8]) -> Result<(), AllocError>
     ensures { OnOk result (body.new.items ≡ body.old.items ++ flat_map body_line (lines text.now)) }
 {
@@ -70,7 +69,6 @@ pub(crate) fn push_body(body: &mut Vec<u8>, text: &[u8]) -> Result<(), AllocErro
     Ok(())
 }
 
-// Adds a line of the body.
 fn push_body_line(body: &mut Vec<u8>, line: &[u8]) -> Result<(), AllocError>
     ensures { OnOk result (body.new.items ≡ body.old.items ++ body_line line.now) }
 {
@@ -80,7 +78,6 @@ fn push_body_line(body: &mut Vec<u8>, line: &[u8]) -> Result<(), AllocError>
     push_line(body, line)
 }
 
-/// Adds the subfields of names and subject.
 pub(crate) fn push_names(fields: &mut Vec<u8>, message: &Filed) -> Result<(), AllocError>
     ensures { OnOk result (fields.new.items ≡ fields.old.items ++ name_fields message.now) }
 {
@@ -106,7 +103,6 @@ pub(crate) fn push_origin(
     }
 }
 
-// Adds the subfield of an address.
 fn push_address(alloc: Global, fields: &mut Vec<u8>, address: Address) -> Result<(), AllocError>
     ensures { OnOk result (fields.new.items ≡ fields.old.items ++ address_field address) }
 {

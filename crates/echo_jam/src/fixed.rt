@@ -6,10 +6,10 @@ use crate::long::{push_bytes, push_long};
 use crate::standing::Standing;
 use std::alloc::{AllocError, Global};
 
-/// The bytes behind the numbers, which are kept for later standards.
+/// The bytes after the numbers, which are kept for later standards.
 const RESERVED: [u8; 1000] = [0; 1000];
 
-/// The fixed header of a base that begins at this moment, without messages.
+/// The fixed header of a base created at this time, without messages.
 pub fn new_fixed(alloc: Global, created: u32) -> Result<Vec<u8>, AllocError>
     ensures { IfOk result (λ bytes. bytes.items ≡ new_fixed created) }
 {
@@ -30,7 +30,8 @@ fn push_fixed(bytes: &mut Vec<u8>, created: u32) -> Result<(), AllocError>
     push_bytes(bytes, &RESERVED)
 }
 
-/// The counts of a base to which so many messages were added. More than four bytes count is refused as out of memory.
+/// The counts of a base after `added` more messages. Counts that four bytes do not hold are refused as out of
+/// memory.
 pub fn counts_after(alloc: Global, standing: Standing, added: usize) -> Result<Vec<u8>, AllocError>
     ensures { IfOk result (λ bytes. bytes.items ≡ counts ((standing.changes + 1) % 2 ^ 32) (standing.counted + added)) }
 {

@@ -1,12 +1,12 @@
-//! Messages of a base as those of a JAM base (JAM-001): headers with subfields, texts and index entries; and what stands
-//! in the files of a base that is there.
+//! JAM bases (JAM-001): messages of a base as headers with subfields, texts and index entries, and the state of
+//! an existing JAM base.
 //!
-//! The contract for the layers above: a call that ends well added just the bytes that the definitions give for a message.
-//! What is read of a base is what its bytes say, and damaged files are none of one.
+//! Promise: a call that succeeds appends just the bytes that the definitions give for a message. The state of
+//! an existing base is what its bytes say. Damaged files are refused.
 //!
-//! Modules in reading order: `crc` (names and ids by CRC), `moment` (a DateTime as seconds), `content` (what becomes of a
-//! line), `fields` (subfields and the text), `message` (a message in the files), `fixed` (the fixed header), `standing` (a
-//! base that is there), `same` (whether a message stands in it) and `links` (which message one replies to).
+//! Begin with `message` (a message in the files). `fields` makes subfields and the text by `content` (a line),
+//! `fixed` is the fixed header. `crc` and `moment` convert names, ids and dates. `standing` reads an existing
+//! base, `same` finds out whether it has a message, `links` sets replies.
 #![tactic(auto)]
 
 mod content;

@@ -7,7 +7,7 @@ ghost use Rattle.echo_jam.specs.Standing.{place_in};
 use crate::standing::{long_at, place_in};
 use echo_filed::long_bytes;
 
-/// Where the fields of links stand in a header, and those by which they are found.
+/// The offsets of the link fields in a header, and of the fields by which they are found.
 const ID_AT: usize = 16;
 
 const REPLY_AT: usize = 20;
@@ -20,8 +20,8 @@ const NEXT_REPLY_AT: usize = 32;
 
 const NUMBER_AT: usize = 48;
 
-/// Links the messages of so many entries of the index, from one on, to those that they reply to. No link that is there
-/// changes.
+/// Links the messages of `count` index entries from `from` on to those that they reply to. Existing links do
+/// not change.
 pub fn link_replies(headers: &mut [u8], index: &[u8], from: usize, count: usize)
     requires { 8 * (from + count) ≤ length index.now }
     ensures { headers.new ≡ linked headers.old index.now from count }
@@ -73,7 +73,7 @@ fn link_behind(headers: &mut [u8], index: &[u8], i: usize, k: usize, last: Optio
     }
 }
 
-// The last of so many entries, from one on, whose field is this number.
+// The last entry with this number in the field, of `count` entries from one on.
 fn last_with(
     headers: &[u8],
     index: &[u8],
@@ -106,7 +106,7 @@ fn field_in(headers: &[u8], index: &[u8], offset: usize, i: usize) -> u32
     field_at(headers, place_in(index, i) as usize + offset)
 }
 
-// The four bytes at a place, 0 where the headers end before.
+// The four bytes at a place, 0 past the end of the headers.
 fn field_at(headers: &[u8], at: usize) -> u32
     requires { at < 2 ^ 33 }
     ensures { result ≡ field_at headers.now at }
@@ -118,7 +118,7 @@ fn field_at(headers: &[u8], at: usize) -> u32
     }
 }
 
-// Sets a field of the message of an entry, where that is 0.
+// Sets a field of an entry's message, if it is 0.
 fn set_in(headers: &mut [u8], index: &[u8], offset: usize, i: usize, number: u32)
     requires room { 8 * i + 8 ≤ length index.now }
     requires small { offset ≤ 72 }

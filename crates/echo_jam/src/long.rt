@@ -12,21 +12,20 @@ pub(crate) fn push_long(bytes: &mut Vec<u8>, number: u32) -> Result<(), AllocErr
     bytes.extend_from_slice(&long_bytes(number))
 }
 
-/// Adds bytes as they stand.
 pub(crate) fn push_bytes(all: &mut Vec<u8>, bytes: &[u8]) -> Result<(), AllocError>
     ensures { OnOk result (all.new.items ≡ all.old.items ++ bytes.now) }
 {
     all.extend_from_slice(bytes)
 }
 
-/// How many bytes there are. More than four bytes count is refused as out of memory.
+/// The number of bytes. One that four bytes do not hold is refused as out of memory.
 pub(crate) fn count_of(bytes: &[u8]) -> Result<u32, AllocError>
     ensures { IfOk result (λ count. count ≡ length bytes.now) }
 {
     u32::try_from(bytes.len()).map_err(|_| AllocError)
 }
 
-/// The place behind bytes that begin at this one.
+/// The place after bytes that begin at this one.
 pub(crate) fn place_behind(start: u32, bytes: &[u8]) -> Result<u32, AllocError>
     ensures { IfOk result (λ place. place ≡ start + length bytes.now) }
 {

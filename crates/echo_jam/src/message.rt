@@ -18,7 +18,7 @@ use echo_stored::written_text;
 use echo_text::split_line;
 use std::alloc::{AllocError, Global};
 
-/// What is added to the headers, the texts and the index of a JAM base, and how many subfields of it were cut.
+/// The bytes to append to the headers, the texts and the index of a JAM base, and how many subfields were cut.
 #[derive(Debug, Drop)]
 pub struct Jam {
     pub headers: Vec<u8>,
@@ -35,8 +35,8 @@ pub(crate) struct Parts {
     pub(crate) cuts: u64,
 }
 
-/// Adds a message of this number, which was scanned or waits. What is added to headers and texts begins at these places
-/// of their files. What four bytes do not count is refused as out of memory.
+/// Adds a message of this number, which was scanned or waits. The headers and texts of `jam` begin at these
+/// places of their files. A number that four bytes do not count is refused as out of memory.
 pub fn push_jam(
     alloc: Global,
     jam: &mut Jam,
@@ -83,7 +83,7 @@ pub(crate) fn parts_of(alloc: Global, message: &Filed) -> Result<Parts, AllocErr
     Ok(Parts { fields, body, cuts })
 }
 
-/// Adds the header of a message of this number, whose text of so many bytes stands at this place, and its subfields.
+/// Adds the header of a message of this number and its subfields. Its text has this place and size.
 pub(crate) fn push_header(
     header: &mut Vec<u8>,
     message: &Filed,
@@ -123,7 +123,7 @@ fn push_ids(header: &mut Vec<u8>, message: &Filed) -> Result<(), AllocError>
     push_long(header, 0)
 }
 
-// The CRC of an id, as its subfield has it; all bits set where there is none.
+// The CRC of an id, as its subfield has it; all bits set without an id.
 fn id_crc(id: Option<&[u8]>) -> u32
     ensures { result ≡ id_crc (option_copied id.entry) }
 {
@@ -133,7 +133,6 @@ fn id_crc(id: Option<&[u8]>) -> u32
     }
 }
 
-// The attribute.
 fn jam_attribute(scanned: bool, sender: Option<Address>) -> u32
     ensures { result ≡ jam_attribute scanned sender }
 {
@@ -144,7 +143,7 @@ fn jam_attribute(scanned: bool, sender: Option<Address>) -> u32
     }
 }
 
-// Adds the moments, the number, the attribute, and where the text stands.
+// Adds the dates, the number, the attribute, and the place of the text.
 fn push_back(
     header: &mut Vec<u8>,
     message: &Filed,
@@ -160,7 +159,7 @@ fn push_back(
     push_place(header, place, size)
 }
 
-// Adds when it was written, and that it was neither received nor processed.
+// Adds the date when it was written, and that it was neither received nor processed.
 fn push_moments(header: &mut Vec<u8>, written: u32) -> Result<(), AllocError>
     ensures { OnOk result (header.new.items ≡ header.old.items ++ (long written ++ (long 0 ++ long 0))) }
 {
@@ -169,7 +168,6 @@ fn push_moments(header: &mut Vec<u8>, written: u32) -> Result<(), AllocError>
     push_long(header, 0)
 }
 
-// Adds the number and the attributes.
 fn push_number(header: &mut Vec<u8>, number: u32, attribute: u32) -> Result<(), AllocError>
     ensures { OnOk result (header.new.items ≡ header.old.items ++ (long number ++ (long attribute ++ long 0))) }
 {
@@ -178,7 +176,7 @@ fn push_number(header: &mut Vec<u8>, number: u32, attribute: u32) -> Result<(), 
     push_long(header, 0)
 }
 
-// Adds where the text stands and how long it is, no password and no cost.
+// Adds the place and size of the text, no password and no cost.
 fn push_place(header: &mut Vec<u8>, place: u32, size: u32) -> Result<(), AllocError>
     ensures { OnOk result (header.new.items ≡ header.old.items ++ (long place ++ (long size ++ (long 4294967295 ++ long 0)))) }
 {
@@ -188,7 +186,6 @@ fn push_place(header: &mut Vec<u8>, place: u32, size: u32) -> Result<(), AllocEr
     push_long(header, 0)
 }
 
-/// All subfields of the message.
 pub(crate) fn fields_of(
     alloc: Global,
     message: &Filed,
@@ -204,7 +201,6 @@ pub(crate) fn fields_of(
     Ok(fields)
 }
 
-/// The text of the message.
 pub(crate) fn body_of(alloc: Global, message: &Filed, behind: &[u8]) -> Result<Vec<u8>, AllocError>
     requires { lines behind.now ≡ lines_behind message.now.echo }
     ensures { IfOk result (λ body. body.items ≡ body_of message.now) }
@@ -214,7 +210,6 @@ pub(crate) fn body_of(alloc: Global, message: &Filed, behind: &[u8]) -> Result<V
     Ok(body)
 }
 
-/// Adds an index entry.
 pub(crate) fn push_entry(index: &mut Vec<u8>, message: &Filed, place: u32) -> Result<(), AllocError>
     ensures { OnOk result (index.new.items ≡ index.old.items ++ entry_of message.now place) }
 {

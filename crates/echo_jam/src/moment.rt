@@ -1,4 +1,4 @@
-//! A DateTime as seconds since 1970 began.
+//! A DateTime as seconds since the beginning of 1970.
 ghost use Rattle.std.specs.Prelude.{◌≡◌, ◌≤◌, ◌+◌, true, length};
 ghost use Rattle.echo_jam.specs.Moment as moments;
 ghost use Rattle.echo_jam.specs.Moment.{days_at, days_before, early_month, is_laid_out, is_pair, late_month, month_of, pair, time_of, year_of, day_of};
@@ -23,7 +23,7 @@ fn is_laid_out(date: &[u8; 20]) -> bool
     of_day && of_time
 }
 
-// Whether two digits stand there.
+// Whether two digits are there.
 fn is_pair(date: &[u8; 20], i: usize) -> bool
     requires { i ≤ 18 }
     ensures { result ≡ is_pair date.now i }
@@ -68,7 +68,7 @@ fn year_of(pair: u32) -> u32
     if pair < 80 { 2000 + pair } else { 1900 + pair }
 }
 
-// How many days lie between the beginning of 1970 and that of the month.
+// The days from the beginning of 1970 to that of the month.
 fn days_at(year: u32, month: u32) -> u32
     requires least { 1980 ≤ year }
     requires most { year ≤ 2079 }

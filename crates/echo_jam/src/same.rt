@@ -1,4 +1,4 @@
-//! Whether a message stands in a JAM base already.
+//! Whether a JAM base has a message already.
 ghost use Rattle.std.specs.Prelude.{◌≡◌, ◌==◌, ◌+◌, ◌&&◌, ◌≤◌, IfOk, bytes_eq, length};
 ghost use Rattle.echo_jam.specs.Moment as moments;
 ghost use Rattle.echo_jam.specs.Same.{fields_at, is_same, written_at};
@@ -10,7 +10,7 @@ use crate::standing::long_at;
 use echo_filed::Filed;
 use std::alloc::{AllocError, Global};
 
-/// Whether the header that stands at this place, and this text, are those of the message, but for what readers change:
+/// Whether the header at this place, and this text, are those of the message, except for what readers change:
 /// numbers, attributes and links.
 pub fn is_same(
     alloc: Global,
@@ -39,7 +39,7 @@ fn has_parts(fields: &[u8], text: &[u8], parts: &Parts) -> bool
     fields == parts.fields.as_slice() && text == parts.body.as_slice()
 }
 
-// Whether the message was written when the header that stands there says.
+// Whether the header there has the date of the message.
 fn is_written_then(headers: &[u8], at: usize, message: &Filed) -> bool
     requires { at + 76 ≤ length headers.now }
     ensures { result ≡ (written_at headers.now at == moments.seconds_of message.now.date) }

@@ -1,4 +1,4 @@
-//! What stands in the files of a JAM base.
+//! The state of the files of a JAM base.
 ghost use Rattle.std.specs.Prelude.{◌≡◌, ◌+◌, ◌*◌, ◌/◌, ◌≤◌, ◌<◌, ◌^◌, IsTrue, length};
 ghost use Rattle.echo_filed.specs.Stored as numbers;
 ghost use Rattle.echo_packet.specs.Header as words;
@@ -12,9 +12,9 @@ pub struct Last {
     pub size: u32,
 }
 
-/// What stands in a base: how many entries its index has, without those of zeros at the end, the number of the next
-/// message, how often the base was changed, how many messages it says are active, how many are, and the last one, unless
-/// that is gone.
+/// The state of a JAM base: the number of index entries without those of zeros at the end, the number of the
+/// next message, and the count of changes. Then the number of active messages as stated and as counted, and the
+/// last message, unless it is gone.
 #[derive(Clone, Copy, Debug, PartialEq, Eq)]
 pub struct Standing {
     pub entries: u32,
@@ -25,8 +25,8 @@ pub struct Standing {
     pub last: Option<Last>,
 }
 
-/// What stands in the base of these headers and this index, with so many bytes of texts. None where they are damaged, or
-/// none of a JAM base.
+/// The state of the base of these headers and this index, with this many bytes of texts. None if they are
+/// damaged, or no JAM base.
 pub fn standing_in(headers: &[u8], index: &[u8], texts: u64) -> Option<Standing>
     ensures { result ≡ standing_in headers.now index.now texts }
 {
@@ -57,7 +57,7 @@ fn is_base(headers: &[u8], index: &[u8], texts: u64) -> bool
     next < 1 << 32 && are_entries(headers, index, texts) && is_counted(headers, index)
 }
 
-// Whether the count of active messages knows none of the entries of zeros at the end of the index.
+// Whether the count of active messages includes no entry of zeros at the end of the index.
 fn is_counted(headers: &[u8], index: &[u8]) -> bool
     requires room { 1024 ≤ length headers.now }
     requires small { entries_in index.now < 2 ^ 32 }
@@ -66,7 +66,7 @@ fn is_counted(headers: &[u8], index: &[u8]) -> bool
     entries_in(index) == index.len() / 8 || long_at(headers, 12) <= active_in(headers, index)
 }
 
-// How many entries the index has, without those of zeros at its end.
+// The number of index entries, without those of zeros at its end.
 fn entries_in(index: &[u8]) -> usize
     ensures value { result ≡ entries_in index.now }
     ensures within { result ≤ length index.now / 8 }
@@ -78,7 +78,7 @@ fn entries_in(index: &[u8]) -> usize
     entries
 }
 
-// How many there are with the one of this number.
+// The number of entries up to index `i`, without those of zeros at their end.
 fn written_behind(index: &[u8], before: usize, i: usize) -> usize
     requires room { 8 * i + 8 ≤ length index.now }
     requires few { before ≤ i }
@@ -92,7 +92,6 @@ fn written_behind(index: &[u8], before: usize, i: usize) -> usize
     }
 }
 
-// Whether an entry is zeros.
 fn is_unwritten(index: &[u8], i: usize) -> bool
     requires { 8 * i + 8 ≤ length index.now }
     ensures { result ≡ is_unwritten index.now i }
@@ -117,7 +116,6 @@ pub(crate) fn long_at(bytes: &[u8], at: usize) -> u32
     number_at(bytes, at) + 65536 * number_at(bytes, at + 2)
 }
 
-// Whether the mark of JAM stands there.
 fn has_mark(headers: &[u8], at: usize) -> bool
     requires { at + 4 ≤ length headers.now }
     ensures { result ≡ has_mark headers.now at }
@@ -125,7 +123,6 @@ fn has_mark(headers: &[u8], at: usize) -> bool
     &headers[at..at + 4] == b"JAM\0".as_slice()
 }
 
-// Whether a whole header stands there, and its text.
 fn is_header(headers: &[u8], texts: u64, place: u32) -> bool
     ensures value { result ≡ is_header headers.now texts place }
     ensures room { IsTrue result → place + 76 ≤ length headers.now }
@@ -139,7 +136,7 @@ fn is_header(headers: &[u8], texts: u64, place: u32) -> bool
         && has_text(headers, texts, at)
 }
 
-// Where the subfields of the header end.
+// The end of the subfields of the header.
 fn fields_end(headers: &[u8], at: usize) -> usize
     requires room { at + 76 ≤ length headers.now }
     requires small { at < 2 ^ 32 }
@@ -158,7 +155,6 @@ fn has_text(headers: &[u8], texts: u64, at: usize) -> bool
     is_deleted(headers, at) || end <= texts
 }
 
-// Whether the message is deleted.
 fn is_deleted(headers: &[u8], at: usize) -> bool
     requires { at < 2 ^ 32 }
     ensures { result ≡ is_deleted_at headers.now at }
@@ -169,7 +165,6 @@ fn is_deleted(headers: &[u8], at: usize) -> bool
     }
 }
 
-/// Where the header of an entry stands.
 pub(crate) fn place_in(index: &[u8], i: usize) -> u32
     requires { 8 * i + 8 ≤ length index.now }
     ensures { result ≡ place_in index.now i }
@@ -177,7 +172,6 @@ pub(crate) fn place_in(index: &[u8], i: usize) -> u32
     long_at(index, 8 * i + 4)
 }
 
-// Whether each entry is gone or has its header.
 fn are_entries(headers: &[u8], index: &[u8], texts: u64) -> bool
     ensures { result ≡ are_entries headers.now index.now texts (entries_in index.now) }
 {

@@ -23,7 +23,7 @@ pub struct Expected {
     // The number of expected digests.
     digests: usize,
     places: Vec<usize>,
-    // How many messages were gone over.
+    // The number of messages that a pass has covered.
     passed: usize,
 }
 
@@ -88,7 +88,7 @@ impl Expected {
         are_set(&self.low, &self.high, digest)
     }
 
-    /// How many of the first messages of the keys were gone over.
+    /// The number of first messages that a pass has covered.
     pub(crate) fn passed(&self) -> usize
         ensures { result ≡ self.now.passed }
     {

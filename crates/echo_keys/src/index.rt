@@ -50,7 +50,7 @@ impl Index {
         }
     }
 
-    /// The digest is going to be looked up. Answers are the same whether it is or not.
+    /// Announces a look-up of the digest. Answers do not depend on it.
     pub fn expect(&mut self, alloc: Global, digest: u64)
         ensures { (keys : List ℕ) → IsIndexOf keys self.old → IsIndexOf keys self.new }
     {
@@ -71,7 +71,7 @@ impl Index {
         Ok(())
     }
 
-    // Takes in the message of this number, the next one. Where memory is refused, nothing has changed.
+    // Indexes the message of this number, the next one. If memory is refused, nothing has changed.
     fn take_in(&mut self, keys: &[u8], number: usize) -> Result<(), AllocError>
         requires within { number < length keys.now / 16 }
         requires few { number < 4294967294 }
@@ -118,7 +118,7 @@ impl Index {
         }
     }
 
-    // The message of this number, counted from 1, and the last one before it under the same head.
+    // The message of this number, counted from 1, and the previous one under the same head.
     fn link(&self, next: usize) -> Option<(usize, usize)>
         ensures link { IfSome result (λ link. (next ≡ link.0 + 1) × (link.0 < count_of self.now) × (link.1 ≡ min (slice_index self.now.before.items link.0) link.0)) }
         ensures none { IfNone result ((next ≡ 0) ⊎ (count_of self.now < next)) }

@@ -5,7 +5,7 @@ ghost use Rattle.echo_keys.specs.Index.{IsIndexOf};
 ghost use Rattle.echo_keys.specs.declared.index.Index.{Index};
 ghost use Rattle.echo_keys.specs.Keys.{FolderStandsFor, StandWhereTold, TellsEach, digested, digested_key};
 
-/// In the keys of a base folder each message has an entry at its number with the digest of what makes it one.
+/// In the keys of a base folder each message has an entry at its number, with the digest of its key.
 pub fn each_message_has_its_entry()
     ensures { (digest : List ℕ → ℕ) (base : List Filed) (cursor : ℕ) (messages keys : List ℕ)
         → FolderStandsFor digest base cursor messages keys → TellsEach digest base keys }
@@ -23,7 +23,7 @@ pub fn each_message_stands_where_told()
         → FolderStandsFor digest base cursor messages keys → StandWhereTold base messages keys }
 {}
 
-/// An index of keys is one of these and of more behind them.
+/// An index stays an index when keys are appended.
 pub fn an_index_stays_one()
     ensures { (keys more : List ℕ) (index : Index) → IsIndexOf keys index → IsIndexOf (keys ++ more) index }
 {}

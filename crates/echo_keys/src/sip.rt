@@ -6,7 +6,7 @@ ghost use Rattle.echo_keys.specs.Sip.{sip_digest};
 use crate::digest::Digest;
 use std::hash::{DefaultHasher, Hasher};
 
-/// SipHash of a key and of the bytes behind it.
+/// SipHash of a key and of the bytes after it.
 #[derive(Clone, Copy)]
 pub struct SipDigest {
     first: u64,

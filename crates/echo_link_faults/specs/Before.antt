@@ -1,4 +1,4 @@
--- What the good lines before a line say, and how the line is judged.
+-- The parts of the good lines before a line, and how the line is judged.
 use Rattle.std.specs.Prelude.{◌≡◌, ◌||◌, not, Bool, ℕ, List, [], ◌∷◌, map, if◌then◌else◌, Option, Some, None, MatchOption, bytes_eq, filter}
 use Rattle.std.specs.List.{list_any}
 use Rattle.echo_text.specs.Lines.{is_tag}
@@ -16,7 +16,7 @@ pub record SaidBefore : Type 0 where
   pub name : Bool
   pub tags : List (List ℕ)
 
--- this is what the lines before say
+-- the parts of the lines before
 pub record IsBefore (earlier : List (List ℕ)) (b : SaidBefore) : Type 0 where
   pub system : list_any is_system_line earlier ≡ b.system
   pub name : list_any is_name_line earlier ≡ b.name
@@ -33,7 +33,7 @@ area_refused tags number words =
     else if list_any (bytes_eq (upper (first_of words))) tags then Some (fault.RepeatedArea number)
     else links_fault number [] (after_first_of words)
 
--- the word that is wrong in a SYSTEM line with this first word and these behind it
+-- the faulty word in a SYSTEM line with this first word and these after it
 abbrev pub system_says : List ℕ → List (List ℕ) → LinkFault → List ℕ
 system_says word more (fault.BadAddress number) = not_one_address more
 system_says word more _ = word
@@ -49,7 +49,7 @@ links_say words (fault.BadAddress number) = no_address words
 links_say words (fault.RepeatedLink number) = link_again [] words
 links_say words _ = []
 
--- in an AREA line with these words behind the first
+-- the same in an AREA line with these words after the first
 abbrev pub area_says : List (List ℕ) → LinkFault → List ℕ
 area_says words (fault.BadAddress number) = no_address (after_first_of words)
 area_says words (fault.RepeatedLink number) = link_again [] (after_first_of words)
@@ -60,7 +60,7 @@ abbrev pub Tells : Option LinkFault → (LinkFault → List ℕ) → Type 0 → 
 Tells refusal say Good Bad found =
     MatchOption found ((refusal ≡ None) × Good) (λ wrong. (refusal ≡ Some wrong.fault) × (wrong.word.now ≡ say wrong.fault) × Bad)
 
--- the judgement on a line after these good lines, and what is known then
+-- the judgement on a line after these good lines, and the parts that are then known
 abbrev pub JudgesLine : List (List ℕ) → ℕ → List ℕ → SaidBefore → Option Wrong → Type 0
 JudgesLine earlier number line new found =
     Tells (line_fault earlier number line) (λ fault. wrong_word fault line) (IsBefore (line ∷ earlier) new) (IsBefore earlier new) found

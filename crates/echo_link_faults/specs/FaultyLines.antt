@@ -59,7 +59,7 @@ abbrev pub good_with : Option LinkFault → List ℕ → List (List ℕ) → Lis
 good_with None line earlier = line ∷ earlier
 good_with (Some fault) line earlier = earlier
 
--- a faulty line, and those behind it; or those alone
+-- a faulty line, and those after it; or those alone
 abbrev pub told_with : Option LinkFault → List ℕ → List FaultyLine → List FaultyLine
 told_with None line later = later
 told_with (Some fault) line later = faulty_line fault line ∷ later

@@ -44,7 +44,7 @@ impl Model for Before {
 }
 
 impl Before {
-    // Judges the line of this number, and keeps what it says where it is good.
+    // Judges the line of this number, and keeps its parts if it is good.
     fn take<'a>(
         &mut self,
         alloc: Global,

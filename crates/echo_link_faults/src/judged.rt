@@ -12,14 +12,14 @@ use std::alloc::{AllocError, Global};
 /// A link file, or its faults.
 #[derive(Debug, Drop)]
 pub enum Judged {
-    /// What the file says.
+    /// The parts of the file.
     Good(LinkFile),
     /// Its faulty lines in order. If each line is good but no line has the own address, that alone.
     Faulty(Items<FaultyLine>),
 }
 
-/// What the bytes say as a link file, or all that is wrong with them. Each line is judged by the good lines
-/// before it. Fails only when out of memory.
+/// Judges the bytes: a link file, or all of its faults. Each line is judged by the good lines before it. Fails
+/// only when out of memory.
 pub fn judge(alloc: Global, bytes: &[u8]) -> Result<Judged, AllocError>
     ensures { IfOk result (IsJudged bytes.now) }
 {

@@ -7,7 +7,7 @@ use std::alloc::{AllocError, Global};
 use std::collections::BTreeSet;
 use std::marker::Model;
 
-/// Tags, of which one is found without going through the others.
+/// Tags. A look-up does not go through the others.
 #[derive(Drop)]
 pub(crate) struct Tags {
     sorted: BTreeSet<Vec<u8>>,

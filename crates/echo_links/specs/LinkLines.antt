@@ -159,7 +159,7 @@ file_fault bytes =
 abbrev pub no_address : Address
 no_address = record { zone = 0; net = 0; node = 0 }
 
--- what a link file says
+-- the parts of a link file
 unfoldable pub file_of : List ℕ → LinkFile
 file_of bytes = record {
   system = unwrap_or (option_map system_in (find is_system_line (read_lines bytes))) no_address;

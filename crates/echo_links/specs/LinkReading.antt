@@ -45,7 +45,7 @@ area_refusal areas number words =
 abbrev pub kept : List (List ℕ) → List (List ℕ)
 kept lines = filter (λ line. not (is_skipped line)) lines
 
--- what lines say of the system, of the name, and of areas
+-- the parts of lines: the system, the name, and the areas
 unfoldable pub system_of : List (List ℕ) → Option Address
 system_of lines = option_map system_in (find is_system_line (kept lines))
 
@@ -61,24 +61,24 @@ pub record Knows (earlier : List (List ℕ)) (r : Reading) : Type 0 where
   pub name : list_any is_name_line earlier ≡ is_some r.name
   pub areas : (tag : List ℕ) → list_any (bytes_eq tag) (map tag_in (filter is_area_line earlier)) ≡ is_area_known r.areas tag
 
--- a reader holds what it held and what these lines say
+-- a reader holds its old parts and those of these lines
 pub record Adds (lines : List (List ℕ)) (old new : Reading) : Type 0 where
   pub system : new.system ≡ option_or old.system (system_of lines)
   pub name : new.name ≡ option_or old.name (name_of lines)
   pub areas : new.areas ≡ old.areas ++ areas_of lines
 
--- what taking a line answers
+-- the answer of taking a line
 abbrev pub TakesLine : {T : Type 0} → List (List ℕ) → ℕ → List ℕ → Reading → Reading → Result T LinkFault → Type 0
 TakesLine earlier number line old new (Ok _) = (line_fault earlier number line ≡ None) × Adds (line ∷ []) old new
 TakesLine earlier number line old new (Err refused) = (refused ≡ fault.Memory) ⊎ (line_fault earlier number line ≡ Some refused)
 
--- a reader holds what these lines say
+-- a reader holds the parts of these lines
 pub record Holds (lines : List (List ℕ)) (r : Reading) : Type 0 where
   pub system : r.system ≡ system_of lines
   pub name : r.name ≡ name_of lines
   pub areas : r.areas ≡ areas_of lines
 
--- what taking all lines answers
+-- the answer of taking all lines
 abbrev pub ReadsLinkFile : List ℕ → Result Reading LinkFault → Type 0
 ReadsLinkFile bytes (Ok r) = (first_fault [] 1 (file_lines bytes) ≡ None) × Holds (file_lines bytes) r
 ReadsLinkFile bytes (Err refused) = (refused ≡ fault.Memory) ⊎ (first_fault [] 1 (file_lines bytes) ≡ Some refused)

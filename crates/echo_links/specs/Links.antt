@@ -1,4 +1,4 @@
--- How addresses are compared, and what a link file says.
+-- How addresses are compared, and the parts of a link file.
 use Rattle.std.specs.Prelude.{map, ◌≡◌, ◌≢◌, ◌≤◌, ℕ, ◌==◌, ◌&&◌, AllPairs, length, Bool, true, List, [], Option, option_map, unwrap_or, is_some, bytes_eq, find}
 use Rattle.std.specs.Char.{to_ascii_uppercase}
 use Rattle.std.specs.List.{AllByRecursion, list_any}
@@ -32,7 +32,7 @@ pub record IsArea (area : Area) : Type 0 where
   pub addresses : AllByRecursion IsAddress area.links
   pub each_once : AllPairs (λ (a b : Address). a ≢ b) area.links
 
--- what holds of a link file that was read
+-- the rules of a link file that was read
 pub record IsFile (file : LinkFile) : Type 0 where
   pub address : IsAddress file.system
   pub name_room : length file.name ≤ 40

@@ -28,7 +28,7 @@ token_value value = take (prefix_len is_token_byte value) value
 abbrev pub quoted_value : List ℕ → List ℕ
 quoted_value value = before_first (λ b. b == 34) value
 
--- the value behind `charset=`, a word or between quotation marks
+-- the value after `charset=`, a word or between quotation marks
 abbrev pub param_value : List ℕ → List ℕ
 param_value word = if slice_index word 8 == 34 then quoted_value (drop 9 word) else token_value (drop 8 word)
 

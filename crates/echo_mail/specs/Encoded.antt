@@ -54,7 +54,7 @@ coded charset encoding text = text_by (known_charset (before_byte 42 charset)) (
 abbrev pub ended_text : List ℕ → List ℕ → List ℕ → Option (List ℕ)
 ended_text charset encoding rest = if bytes_eq (after_byte 63 rest) (codes "=") then coded charset encoding (before_byte 63 rest) else None
 
--- by its charset and what follows, and by all of it behind the first two bytes
+-- by its charset and the rest, and by all bytes after the first two
 abbrev pub typed_text : List ℕ → List ℕ → Option (List ℕ)
 typed_text charset rest = ended_text charset (before_byte 63 rest) (after_byte 63 rest)
 

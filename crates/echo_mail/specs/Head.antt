@@ -28,7 +28,7 @@ is_name_byte b = is_in_range 33 126 b && not (b == 58)
 abbrev pub name_len : List ℕ → ℕ
 name_len line = prefix_len is_name_byte line
 
--- whether a line is a field: a name, and a colon behind it
+-- whether a line is a field: a name, and a colon after it
 abbrev pub is_field : List ℕ → Bool
 is_field line = nat_lt 0 (name_len line) && (slice_index line (name_len line) == 58)
 

@@ -19,7 +19,7 @@ encoding_of (Some word) =
     else if is_called word (codes "base64") then Some Base64
     else None
 
--- a letter, a digit, `+`, `/` or `=`; other bytes of a body in base64 count for nothing (6.8)
+-- a letter, a digit, `+`, `/` or `=`; other bytes of a body in base64 are ignored (6.8)
 abbrev pub is_base64_byte : ℕ → Bool
 is_base64_byte b =
     (is_in_range 48 57 b || (is_in_range 65 90 b || is_in_range 97 122 b)) || ((b == 43) || ((b == 47) || (b == 61)))

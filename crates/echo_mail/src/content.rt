@@ -109,7 +109,7 @@ fn charset_param(value: &[u8]) -> Option<&[u8]>
     None
 }
 
-// The value behind `charset=`.
+// The value after `charset=`.
 fn param_value(word: &[u8]) -> &[u8]
     requires { 8 ≤ length word.now }
     ensures { result.now ≡ param_value word.now }

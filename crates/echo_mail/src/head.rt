@@ -88,7 +88,7 @@ pub(crate) fn fields_of(alloc: Global, text: &[u8]) -> Result<Vec<Field>, AllocE
     Ok(fields)
 }
 
-// Whether a line is a header field: a name, and a colon behind it.
+// Whether a line is a header field: a name, and a colon after it.
 fn is_field(line: &[u8]) -> bool
     ensures { result ≡ is_field line.now }
 {
@@ -96,7 +96,7 @@ fn is_field(line: &[u8]) -> bool
     0 < end && end < line.len() && line[end] == b':'
 }
 
-// The name before the colon of a line, and the value behind it.
+// The name before the colon of a line, and the value after it.
 fn field_of(alloc: Global, line: &[u8]) -> Result<Field, AllocError>
     ensures { IfOk result (λ field. field ≡ field_of line.now) }
 {

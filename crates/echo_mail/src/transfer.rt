@@ -95,7 +95,7 @@ fn base64_digits(alloc: Global, body: &[u8]) -> Result<Vec<u8>, AllocError>
         .collect(alloc)
 }
 
-// A digit of base64, or what fills up the last group.
+// A digit of base64, or the padding of the last group.
 fn is_base64_byte(byte: u8) -> bool
     ensures { result ≡ is_base64_byte byte }
 {

@@ -1,4 +1,4 @@
--- What one call adds to the steps of a disk in memory.
+-- The steps that one call adds to a disk in memory.
 use Rattle.std.specs.Prelude.{◌≡◌, ℕ, Bool, true, false, List, [], ◌∷◌, ◌++◌, Option, Some, None, IsSome, Vec, take}
 use Rattle.std.specs.declared.alloc.Global.{Global}
 use Rattle.echo_memory_disk.specs.Memory.{seen_at}
@@ -15,7 +15,7 @@ Bytes = Vec ℕ Global
 abbrev pub Adds : Step → List Step → List Step → Type 0
 Adds step old new = new ≡ old ++ step ∷ []
 
--- other bytes in a file: what is seen then, and what a crash keeps
+-- other bytes in a file: the bytes seen, and those that a crash keeps
 pub record AddsChange (path : List ℕ) (seen : List ℕ → Type 0) (kept : Option (List ℕ) → Type 0) (old new : List Step) : Type 0 where
   pub at : Bytes
   pub contents : Contents
@@ -57,7 +57,7 @@ pub record AddsLink (from to : List ℕ) (file : Option (List ℕ)) (old new : L
   pub file_is : file ≡ Some bytes.items
   pub adds : Adds (Linked at target bytes came) old new
 
--- a second path for the file at the first, where the second has none
+-- a second path for the file at the first, if the second has none
 abbrev pub LinksWhereFree : Bool → List ℕ → List ℕ → List Step → List Step → Type 0
 LinksWhereFree true from to old new = AddsLink from to (seen_at old from) old new × (seen_at old to ≡ None)
 LinksWhereFree false from to old new = (new ≡ old) × IsSome (seen_at old to)

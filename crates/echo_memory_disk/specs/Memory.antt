@@ -1,4 +1,4 @@
--- A disk in memory, as a disk: what a crash may leave of it after its steps, of which the newest comes first.
+-- A disk in memory, as a disk: what a crash may leave after its steps, the newest first.
 use Rattle.std.specs.Prelude.{◌≡◌, ◌≤◌, ◌⊎◌, ℕ, Bool, true, false, cond, List, [], ◌∷◌, length, reverse, Option}
 use Rattle.std.proofs.Common.{inl, inr, ◌∙◌, refl}
 use Rattle.std.proofs.Math.Nat.{lt_irrefl}
@@ -20,17 +20,17 @@ AreTogether (Synced path ∷ steps) came = AreTogether steps came
 AreTogether (FolderSynced folder ∷ steps) came = Unit {0}
 AreTogether (Crashed ∷ steps) came = Unit {0}
 
--- the files where at some paths all that is seen has come to the disk, and at the others what a crash keeps
+-- the files if all seen bytes have reached the disk at some paths, and at the others what a crash keeps
 abbrev pub left_where : List Step → (List ℕ → Bool) → Files
 left_where steps came m = cond (came m) (shown steps m).seen (shown steps m).kept
 
--- What a crash leaves now, or would leave once more of what is seen has come to the disk.
+-- The files that a crash leaves now, or would leave if more of the seen bytes had reached the disk.
 pub record MayLeave (steps : List Step) (c : Files) : Type 0 where
   pub came : List ℕ → Bool
   pub together : AreTogether steps came
   pub files : (m : List ℕ) → c m ≡ left_where steps came m
 
--- at the moment of so many steps, or at one since
+-- after this many steps, or later
 abbrev pub LeftSince : List Step → ℕ → Files → Type 0
 LeftSince [] t c = MayLeave [] c
 LeftSince (step ∷ steps) t c = MayLeave (step ∷ steps) c ⊎ ((t ≤ length steps) × LeftSince steps t c)
@@ -83,7 +83,7 @@ disk_after steps = record {
 abbrev pub steps_of : MemoryDisk → List Step
 steps_of disk = reverse disk.steps.items
 
--- the file at a path that is seen after steps of which the oldest comes first, and the one that a crash leaves
+-- the seen file at a path after steps, the oldest first, and the one that a crash leaves
 abbrev pub seen_at : List Step → List ℕ → Option (List ℕ)
 seen_at steps m = (shown (reverse steps) m).seen
 

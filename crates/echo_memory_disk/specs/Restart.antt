@@ -2,11 +2,11 @@
 use Rattle.std.specs.Prelude.{ℕ, List}
 use Rattle.echo_disk.specs.Disk.{DiskState}
 
--- what is seen now might have been left by a crash before
+-- an earlier crash might have left the files that are seen now
 abbrev pub IsCrashOf : DiskState → DiskState → Type 0
 IsCrashOf old new = old.may_leave new.seen
 
--- all that is seen is on the disk, so that a crash leaves it as it is
+-- all that is seen is on the disk, so a crash leaves it unchanged
 pub record IsAllOnDisk (disk : DiskState) : Type 0 where
   pub named : (m : List ℕ) → disk.is_named m
   pub flushed : (m : List ℕ) → disk.is_flushed m

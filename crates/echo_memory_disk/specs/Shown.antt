@@ -1,4 +1,4 @@
--- What a disk in memory shows at one path, and what each step does to it.
+-- A disk in memory at one path, and the effect of each step there.
 use Rattle.std.specs.Prelude.{ℕ, Bool, true, false, cond, ◌&&◌, ◌||◌, List, [], ◌∷◌, Option, Some, None, bytes_eq, Vec}
 use Rattle.std.specs.Borrow.{Bor}
 use Rattle.std.specs.declared.alloc.Global.{Global}
@@ -9,7 +9,7 @@ use Rattle.echo_memory_disk.specs.declared.step.Making.TheVariants.{Lost, Half, 
 use Rattle.echo_memory_disk.specs.declared.step.Step.{Step}
 use Rattle.echo_memory_disk.specs.declared.step.Step.TheVariants.{Changed, Made, Removed, Renamed, Linked, Synced, FolderSynced, Crashed}
 
--- what is so of one path
+-- the state of one path
 pub record Shown : Type 0 where
   -- the file that reads return
   pub seen : Option (List ℕ)
@@ -21,7 +21,7 @@ pub record Shown : Type 0 where
   pub flushed : Bool
   -- no other path leads to it
   pub alone : Bool
-  -- it took part in a renaming, and no folder was synced since
+  -- it took part in a rename, and no folder was synced since
   pub renamed : Bool
 
 -- the bytes of a file, as a list
@@ -47,7 +47,7 @@ shown_by view = record {
 abbrev pub nothing : Shown
 nothing = record { seen = None; kept = None; named = true; flushed = true; alone = true; renamed = false }
 
--- what a crash leaves of a making: the file that was there, none, or the new one
+-- the file after a crash of a making: the old one, none, or the new one
 abbrev pub kept_of : Making → Option (List ℕ) → Option (List ℕ)
 kept_of Lost was = was
 kept_of Half was = None
@@ -70,7 +70,8 @@ after_renaming from to file came m was =
 abbrev pub after_linking : List ℕ → List ℕ → List ℕ → Bool → List ℕ → Shown → Shown
 after_linking from to file came m was = cond (bytes_eq m to) (named_anew (Some file) came was) (cond (bytes_eq m from) (record was { alone = false }) was)
 
--- What is seen comes to the disk where the path is one of the folder and the file has its bytes there, and at all paths of renamings.
+-- The seen files reach the disk where the path is in the folder and the file has its bytes there. So they do at all
+-- paths of renames.
 abbrev pub after_folder_sync : List ℕ → List ℕ → Shown → Shown
 after_folder_sync folder m was =
     record was { kept = cond (is_in folder m && was.flushed || was.renamed) was.seen was.kept; named = is_in folder m || was.named; renamed = false }
@@ -86,7 +87,7 @@ after (Synced path) m was = cond (bytes_eq m path.items) (record was { kept = co
 after (FolderSynced folder) m was = after_folder_sync folder.items m was
 after Crashed m was = record { seen = was.kept; kept = was.kept; named = true; flushed = true; alone = true; renamed = false }
 
--- after all steps, of which the newest comes first
+-- the state after all steps, the newest first
 abbrev pub shown : List Step → List ℕ → Shown
 shown [] m = nothing
 shown (step ∷ steps) m = after step m (shown steps m)

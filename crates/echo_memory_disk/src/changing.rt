@@ -1,4 +1,4 @@
-//! Calls that change files: each adds one step, or nothing where it fails.
+//! Calls that change files: each adds one step, or nothing if it fails.
 ghost use Rattle.std.specs.Prelude.{◌≡◌, ◌≤◌, length, IfOk, IsSome, MatchResult};
 ghost use Rattle.echo_disk.specs.Disk.{bytes_in};
 ghost use Rattle.echo_disk.specs.Steps.{IsWrittenAt, TornWrite, TornCut};
@@ -14,7 +14,7 @@ use crate::tearing::{Tear, kept_after_cut, kept_after_write, overwritten};
 use echo_disk::DiskError;
 use std::alloc::{AllocError, Global};
 
-// What is seen of a file after a write, and what a crash leaves of it.
+// A file after a write, as it is seen and after a crash.
 fn contents_after_write(
     alloc: Global,
     steps: &[Step],
@@ -33,7 +33,7 @@ fn contents_after_write(
     })
 }
 
-// What is seen of a file after a cut, and what a crash leaves of it.
+// A file after a cut, as it is seen and after a crash.
 fn contents_after_cut(
     alloc: Global,
     steps: &[Step],
@@ -51,7 +51,7 @@ fn contents_after_cut(
     })
 }
 
-/// Writes over what is there, and past the end.
+/// Writes over old bytes, and past the end.
 pub(crate) fn write(
     disk: &mut MemoryDisk,
     path: &[u8],
@@ -73,7 +73,6 @@ pub(crate) fn write(
     Ok(())
 }
 
-/// Cuts a file to a length.
 pub(crate) fn cut(disk: &mut MemoryDisk, path: &[u8], len: usize) -> Result<(), DiskError>
     requires { len ≤ length (bytes_in (seen_at disk.old.steps.items path.now)) }
     ensures adds { MatchResult result (λ _. AddsChange path.now
@@ -90,12 +89,12 @@ pub(crate) fn cut(disk: &mut MemoryDisk, path: &[u8], len: usize) -> Result<(), 
     Ok(())
 }
 
-// Whether a crash leaves what was done to a path, where it is not on the disk.
+// Whether a crash leaves the change of a path that is not synced.
 fn has_come(tear: Tear) -> bool {
     tear.bytes != 0
 }
 
-// What a crash leaves of a making that is not on the disk.
+// The file after a crash of a making that is not synced.
 fn making(tear: Tear) -> Making {
     match tear.bytes {
         0 => Making::Lost,
@@ -104,7 +103,7 @@ fn making(tear: Tear) -> Making {
     }
 }
 
-/// Makes an empty file, in the place of one that is there.
+/// Makes an empty file instead of the present one.
 pub(crate) fn make(disk: &mut MemoryDisk, path: &[u8]) -> Result<(), DiskError>
     ensures adds { MatchResult result (λ _. AddsMaking path.now disk.old.steps.items disk.new.steps.items)
         (λ _. disk.new.steps.items ≡ disk.old.steps.items) }
@@ -117,7 +116,6 @@ pub(crate) fn make(disk: &mut MemoryDisk, path: &[u8]) -> Result<(), DiskError>
     Ok(())
 }
 
-/// Removes a file.
 pub(crate) fn remove(disk: &mut MemoryDisk, path: &[u8]) -> Result<(), DiskError>
     ensures adds { MatchResult result (λ _. AddsRemoval path.now disk.old.steps.items disk.new.steps.items)
         (λ _. disk.new.steps.items ≡ disk.old.steps.items) }
@@ -130,7 +128,6 @@ pub(crate) fn remove(disk: &mut MemoryDisk, path: &[u8]) -> Result<(), DiskError
     Ok(())
 }
 
-/// Gives a file another path.
 pub(crate) fn rename(disk: &mut MemoryDisk, from: &[u8], to: &[u8]) -> Result<(), DiskError>
     requires { IsSome (seen_at disk.old.steps.items from.now) }
     ensures adds { MatchResult result (λ _. AddsRenaming from.now to.now (seen_at disk.old.steps.items from.now)

@@ -1,4 +1,4 @@
-//! A disk in memory meets what a disk owes.
+//! A disk in memory keeps the promise of `Disk`.
 ghost use Rattle.echo_memory_disk.specs.Memory.{disk_after, steps_of};
 
 use crate::changing::{cut, link, make, remove, rename, write};

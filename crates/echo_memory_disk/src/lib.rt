@@ -1,4 +1,4 @@
-//! A disk in memory, which can be told to fail before any of its calls, and then to crash.
+//! A disk in memory for tests: it can fail before any call, and then crash.
 #![tactic(auto)]
 
 mod changing;

@@ -9,13 +9,13 @@ use crate::tearing::Tear;
 use echo_disk::DiskError;
 use std::alloc::{AllocError, Global};
 
-/// Files in memory, of which a crash leaves what was synced and what came to the disk by itself.
+/// Files in memory. A crash leaves those that were synced, and changes that reached the disk by themselves.
 ///
-/// It counts its calls, and can be told to fail from one of them on.
+/// It counts its calls, and can fail from one of them on.
 #[derive(Drop)]
 pub struct MemoryDisk {
     pub(crate) alloc: Global,
-    // What was done, the newest last.
+    // The steps so far, the newest last.
     pub(crate) steps: Vec<Step>,
     // How far the next changes come to the disk, one after another and then again from the first.
     tears: Vec<Tear>,
@@ -27,8 +27,8 @@ pub struct MemoryDisk {
 }
 
 impl MemoryDisk {
-    /// A disk without files that lets so many calls pass. The tears say how far its changes come to the disk, one
-    /// after another and then again from the first; with none, each comes whole.
+    /// A disk without files that lets `passes` calls pass. The tears say how much of each change reaches the
+    /// disk, one after another and then again from the first. Without tears each change arrives whole.
     pub fn new(alloc: Global, tears: Vec<Tear>, passes: u64) -> MemoryDisk
         ensures empty { steps_of result ≡ [] }
         ensures on_disk { IsAllOnDisk (disk_after (steps_of result)) }
@@ -49,8 +49,8 @@ impl MemoryDisk {
         self.calls
     }
 
-    /// Loses what is not on the disk, and lets so many calls pass from then on. The disk stays as it was where a
-    /// growth is refused.
+    /// Loses all that is not on the disk, and lets `passes` calls pass from then on. If memory is refused, the
+    /// disk is unchanged.
     pub fn crash(&mut self, passes: u64) -> Result<(), AllocError>
         ensures left { OnOk result (IsCrashOf (disk_after (steps_of self.old)) (disk_after (steps_of self.new))) }
         ensures on_disk { OnOk result (IsAllOnDisk (disk_after (steps_of self.new))) }
@@ -62,7 +62,7 @@ impl MemoryDisk {
         Ok(())
     }
 
-    // Counts a call, or fails where it is behind the last that passes.
+    // Counts a call, or fails after the last call that passes.
     pub(crate) fn begin(&mut self) -> Result<(), DiskError>
         ensures same { self.new.steps ≡ self.old.steps }
         ensures cause { HasCause self.old.failures self.new.failures result }

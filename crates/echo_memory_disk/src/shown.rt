@@ -1,4 +1,4 @@
-//! What a disk in memory shows at a path.
+//! The state of a disk in memory at a path.
 ghost use Rattle.std.specs.Prelude.{◌≡◌, reverse};
 ghost use Rattle.echo_disk.specs.Disk.{bytes_in as bytes_of};
 ghost use Rattle.echo_memory_disk.specs.Paths.{is_in};
@@ -6,7 +6,7 @@ ghost use Rattle.echo_memory_disk.specs.Shown.{after, after_making, after_renami
 
 use crate::step::{Making, Step};
 
-/// One path: what is seen, what a crash leaves, and what of it is on the disk for good.
+/// One path: the file that is seen, the one that a crash leaves, and which of it is permanent.
 #[derive(Clone, Copy)]
 pub(crate) struct PathView<'a> {
     pub(crate) seen: Option<&'a [u8]>,
@@ -17,7 +17,6 @@ pub(crate) struct PathView<'a> {
     pub(crate) renamed: bool,
 }
 
-// Whether the path is one of the folder.
 fn is_in_folder(folder: &[u8], path: &[u8]) -> bool
     ensures { result ≡ is_in folder.now path.now }
 {
@@ -33,7 +32,7 @@ fn bytes_in(file: &Option<Vec<u8>>) -> Option<&[u8]>
     }
 }
 
-// What a crash leaves of a file that was made.
+// The file that a crash leaves of a making.
 fn left_by<'a>(came: Making, was: Option<&'a [u8]>) -> Option<&'a [u8]>
     ensures { file_behind result ≡ kept_of came (file_behind was.entry) }
 {
@@ -58,7 +57,6 @@ fn named_now<'a>(file: Option<&'a [u8]>, came: bool, was: PathView<'a>) -> PathV
     }
 }
 
-// The path has a new file.
 fn made<'a>(came: Making, was: PathView<'a>) -> PathView<'a>
     ensures { shown_by result ≡ after_making came (shown_by was.entry) }
 {
@@ -72,7 +70,6 @@ fn made<'a>(came: Making, was: PathView<'a>) -> PathView<'a>
     }
 }
 
-// A path after a renaming.
 fn renamed<'a>(
     from: &[u8],
     to: &[u8],
@@ -96,7 +93,6 @@ fn renamed<'a>(
     }
 }
 
-// A path after a link.
 fn linked<'a>(
     from: &[u8],
     to: &[u8],
@@ -119,7 +115,6 @@ fn linked<'a>(
     was
 }
 
-// A path after the sync of a folder.
 fn in_synced_folder<'a>(folder: &[u8], path: &[u8], was: PathView<'a>) -> PathView<'a>
     ensures { shown_by result ≡ after_folder_sync folder.now path.now (shown_by was.entry) }
 {
@@ -177,7 +172,7 @@ fn stepped<'a>(step: &'a Step, path: &[u8], was: PathView<'a>) -> PathView<'a>
     }
 }
 
-/// What is shown at the path after all steps, the oldest of which comes first.
+/// The state of the path after all steps, the oldest first.
 pub(crate) fn view<'a>(steps: &'a [Step], path: &[u8]) -> PathView<'a>
     ensures { shown_by result ≡ shown (reverse steps.now) path.now }
 {
@@ -195,7 +190,7 @@ pub(crate) fn view<'a>(steps: &'a [Step], path: &[u8]) -> PathView<'a>
     view
 }
 
-/// The bytes that are seen of a file, none where there is no file.
+/// The seen bytes of a file, none without a file.
 pub(crate) fn seen<'a>(steps: &'a [Step], path: &[u8]) -> &'a [u8]
     ensures { result.now ≡ bytes_of (shown (reverse steps.now) path.now).seen }
 {

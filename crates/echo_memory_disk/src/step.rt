@@ -1,24 +1,24 @@
-//! What calls did to the files of a disk in memory.
+//! The steps that calls made on the files of a disk in memory.
 
-/// The bytes of a file: what is seen, and what a crash leaves, or no file where its path is not on the disk.
+/// The bytes of a file: those seen, and those that a crash leaves; no file if its path is not on the disk.
 #[derive(Drop)]
 pub struct Contents {
     pub seen: Vec<u8>,
     pub kept: Option<Vec<u8>>,
 }
 
-/// What a crash leaves of a file that was made in the place of another.
+/// The file after a crash, when it was made instead of another.
 #[derive(Clone, Copy)]
 pub enum Making {
     /// The file that was there.
     Lost,
-    /// None.
+    /// Neither.
     Half,
     /// The new one, which is empty.
     Done,
 }
 
-/// One step, by paths. Where `came` is `false` a crash leaves what was there before.
+/// One step, by paths. If `came` is `false`, a crash undoes it.
 #[derive(Drop)]
 pub enum Step {
     /// A file has other bytes.
@@ -26,7 +26,7 @@ pub enum Step {
         path: Vec<u8>,
         contents: Contents,
     },
-    /// A path has an empty file of its own.
+    /// A path has an empty new file.
     Made {
         path: Vec<u8>,
         came: Making,

@@ -1,4 +1,4 @@
-//! Calls that put on the disk what is seen.
+//! Calls that sync.
 ghost use Rattle.std.specs.Prelude.{◌≡◌, MatchResult};
 ghost use Rattle.echo_disk.specs.Runs.{HasCause};
 ghost use Rattle.echo_memory_disk.specs.Calls.{AddsSync, AddsFolderSync};

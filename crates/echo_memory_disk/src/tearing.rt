@@ -8,14 +8,14 @@ use std::alloc::{AllocError, Global};
 /// How far a change comes to the disk before a sync.
 #[derive(Clone, Copy)]
 pub struct Tear {
-    /// So many first bytes of a write come, and so many bytes behind a cut stay. A making, a removal, a renaming or
-    /// a link comes where it is not 0.
+    /// The number of first bytes of a write that arrive, and of bytes after a cut that stay. A making, a
+    /// removal, a rename or a link arrives if it is not 0.
     pub bytes: usize,
-    /// What the rest of the range of a write has then: this byte, or what was there.
+    /// The rest of the range of a write: this byte, or the old bytes.
     pub filler: Option<u8>,
 }
 
-// The bytes with others at an offset, over what was there and past its end.
+// The bytes with others at an offset, over the old ones and past their end.
 pub(crate) fn overwritten(
     alloc: Global,
     old: &[u8],
@@ -34,7 +34,7 @@ pub(crate) fn overwritten(
     Ok(new)
 }
 
-// What comes of the bytes of a write, at its offset.
+// The bytes of a write, at its offset, that arrive.
 fn torn(alloc: Global, bytes: &[u8], tear: Tear) -> Result<Vec<u8>, AllocError>
     ensures { IfOk result (λ came. length came.items ≤ length bytes.now) }
 {
@@ -46,7 +46,7 @@ fn torn(alloc: Global, bytes: &[u8], tear: Tear) -> Result<Vec<u8>, AllocError>
     Ok(came)
 }
 
-// The bytes with others at an offset, with zeros between where the offset is behind the end.
+// The bytes with others at an offset. Zeros fill the gap if the offset is after the end.
 fn overwritten_behind(
     alloc: Global,
     old: &[u8],
@@ -64,7 +64,7 @@ fn overwritten_behind(
     Ok(new)
 }
 
-// What a crash leaves of a file after a write that is not synced; no file where there was none.
+// The bytes after a crash of a write that is not synced; without a file there are none.
 pub(crate) fn kept_after_write(
     alloc: Global,
     kept: Option<&[u8]>,
@@ -83,7 +83,7 @@ pub(crate) fn kept_after_write(
     }
 }
 
-// What a crash leaves of a file after a cut that is not synced; no file where there was none.
+// The bytes after a crash of a cut that is not synced; without a file there are none.
 pub(crate) fn kept_after_cut(
     alloc: Global,
     kept: Option<&[u8]>,

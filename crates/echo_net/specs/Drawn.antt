@@ -77,7 +77,7 @@ sides_of false _ = Second
 abbrev pub IsDrawn : List LinkFile → List ℕ → Address → Type 0
 IsDrawn files tag a = Carries files tag a ⊎ ((b : Address) × IsTrue (lists files tag b a))
 
--- two addresses, the smaller first, of which one lists the other
+-- two addresses, the smaller first, and one lists the other
 abbrev pub IsDrawnPair : List LinkFile → List ℕ → Link → Type 0
 IsDrawnPair files tag l =
     (address_before l.to l.from ≡ false) × (IsTrue (lists files tag l.from l.to) ⊎ IsTrue (lists files tag l.to l.from))

@@ -67,7 +67,7 @@ numbered all linked i j = (nat_lt i (length all) && nat_lt j (length all)) && li
 abbrev pub IsNamedLoop : List LinkFile → List ℕ → List Address → Type 0
 IsNamedLoop files tag loop = NamedLoopBy (λ a b. address_before a b ≡ true) (lists files tag) loop
 
--- the fault is the first clause that fails, with the smallest addresses of which it fails
+-- the fault is the first clause that fails, with the smallest addresses for which it fails
 abbrev pub IsFirstFault : List LinkFile → List ℕ → NetFault → Type 0
 IsFirstFault files tag NoSuchArea = ¬ IsCarried files tag
 IsFirstFault files tag (TwoFiles a) = IsCarried files tag × IsSmallest (StandsTwice (systems files)) a

@@ -1,4 +1,4 @@
--- The smallest addresses, and the smallest pairs of addresses, of which something holds.
+-- The smallest addresses, and the smallest pairs of addresses, with a property.
 use Rattle.std.specs.Prelude.{◌≡◌, ◌<◌, ◌&&◌, ◌||◌, ℕ, Bool, true, false, List, Contains}
 use Rattle.echo_addr.specs.declared.address.Address.{Address}
 use Rattle.echo_addr.specs.Address.{net_node_of}
@@ -25,7 +25,7 @@ pub record IsSmallestPair (Holds : Address → Address → Type 0) (a b : Addres
 abbrev pub StandsTwice : {X : Type 0} → List X → X → Type 0
 StandsTwice xs x = (i : ℕ) × (j : ℕ) × (i < j) × IsAt xs i x × IsAt xs j x
 
--- of these links the first of which it holds
+-- the first of these links for which it holds
 pub record IsFirstLink (links : List Link) (Holds : Link → Type 0) (l : Link) : Type 0 where
   pub there : Contains links l
   pub holds : Holds l

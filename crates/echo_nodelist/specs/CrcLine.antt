@@ -42,7 +42,7 @@ stated_crc line = digits_value 10 (last_five line)
 abbrev pub compared : ℕ → ℕ → CrcLine
 compared stated computed = if stated == computed then Match stated else Mismatch stated computed
 
--- what the first line of a text says of the bytes after it
+-- the checksum that the first line of a text states for the bytes after it
 abbrev pub crc_of_text : List ℕ → CrcLine
 crc_of_text text = if states_crc (stating_line text) then compared (stated_crc (stating_line text)) (crc (later_bytes text)) else Absent
 

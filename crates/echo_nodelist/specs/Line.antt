@@ -1,4 +1,4 @@
--- What a line of a nodelist says (FTS-5000).
+-- A line of a nodelist (FTS-5000).
 use Rattle.std.specs.Prelude.{ℕ, ◌==◌, ◌&&◌, ◌||◌, nat_lt, Bool, true, false, List, [], ◌∷◌, length, codes, find, slice_index, Option, Some, None, if◌then◌else◌, Result, Ok, Err}
 use Rattle.std.specs.List.{slice_split}
 use Rattle.std.specs.Int.{is_in_range}
@@ -72,12 +72,12 @@ abbrev pub with_keyword : ℕ → Option Keyword → List ℕ → List (List ℕ
 with_keyword at None digits fields = Err (BadKeyword at)
 with_keyword at (Some k) digits fields = with_number at k (number_of k digits) fields
 
--- what the fields of line `at` say: a keyword, a number, and at least five more
+-- the entry in the fields of line `at`: a keyword, a number, and at least five more
 abbrev pub entry_in : ℕ → List (List ℕ) → Result Line NodeFault
 entry_in at (word ∷ (digits ∷ fields)) =
     if nat_lt (length fields) 5 then Err (TooFewFields at) else with_keyword at (keyword_of word) digits fields
 entry_in at _ = Err (TooFewFields at)
 
--- what line `at` says, apart from the lines before it
+-- the parsed line `at`, apart from the lines before it
 abbrev pub line_in : ℕ → List ℕ → Result Line NodeFault
 line_in at line = if is_note line then Ok (Note line) else entry_in at (slice_split is_comma line)

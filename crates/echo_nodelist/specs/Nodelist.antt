@@ -1,4 +1,4 @@
--- What a nodelist says (FTS-5000), and why bytes are none.
+-- A nodelist (FTS-5000), and why bytes are no nodelist.
 use Rattle.std.specs.Prelude.{◌≡◌, ℕ, ◌+◌, ◌≤◌, ◌⊎◌, ◌&&◌, not, Bool, true, List, [], ◌∷◌, ◌++◌, length, reverse, Option, Some, None, IsSome, Result, Ok, Err}
 use Rattle.std.specs.List.{list_all}
 use Rattle.echo_addr.specs.declared.address.Address.{Address}
@@ -16,13 +16,13 @@ abbrev pub in_zone : ℕ → Option ℕ → Line → Result Line NodeFault
 in_zone at None line = Err (NoZone at)
 in_zone at (Some zone) line = Ok line
 
--- what a line says after earlier lines, nearest first
+-- a parsed line after earlier lines, nearest first
 abbrev pub placed : ℕ → List Line → Result Line NodeFault → Result Line NodeFault
 placed at earlier (Err fault) = Err fault
 placed at earlier (Ok (Note text)) = Ok (Note text)
 placed at earlier (Ok (Entry k n fields)) = in_zone at (zone_back (Entry k n fields ∷ earlier)) (Entry k n fields)
 
--- what bytes of a line say after earlier lines, or the first fault of it
+-- the bytes of a line, parsed after earlier lines, or the first fault of it
 abbrev pub line_outcome : List Line → List ℕ → Result Line NodeFault
 line_outcome earlier raw = placed (length earlier + 1) earlier (line_in (length earlier + 1) raw)
 
@@ -66,14 +66,14 @@ is_inner b = not (is_end b) && not (is_feed b)
 abbrev pub is_field_byte : ℕ → Bool
 is_field_byte b = is_inner b && not (is_comma b)
 
--- what holds of each entry
+-- the rules of each entry
 pub record IsEntry (earlier : List Line) (k : Keyword) (n : ℕ) (fields : List (List ℕ)) : Type 0 where
   pub number : is_fit k n ≡ true
   pub enough : 5 ≤ length fields
   pub bytes : list_all (list_all is_field_byte) fields ≡ true
   pub zone : IsSome (zone_back (Entry k n fields ∷ earlier))
 
--- what holds of each line after earlier ones
+-- the rules of each line after earlier ones
 abbrev pub IsGoodLine : List Line → Line → Type 0
 IsGoodLine earlier (Note text) = (is_note text ≡ true) × (list_all is_inner text ≡ true)
 IsGoodLine earlier (Entry k n fields) = IsEntry earlier k n fields
@@ -82,7 +82,7 @@ abbrev pub AreLines : List Line → Type 0
 AreLines [] = Unit {0}
 AreLines (line ∷ earlier) = IsGoodLine earlier line × AreLines earlier
 
--- what holds of the lines of each `Nodelist`
+-- the rules of the lines of each `Nodelist`
 abbrev pub IsNodelist : List Line → Type 0
 IsNodelist lines = AreLines (reverse lines)
 

@@ -23,7 +23,7 @@ abbrev pub Locates : ℕ → List Line → Line → Result Located NodeFault →
 Locates at earlier line (Ok located) = (placed at earlier (Ok line) ≡ Ok line) × IsLocated earlier line located
 Locates at earlier line (Err fault) = placed at earlier (Ok line) ≡ Err fault
 
--- what a reader keeps of the lines that it has read, in their order
+-- the state of a reader after the lines that it has read, in their order
 pub record Follows (lines : List Line) (addresses : List (Option Address)) (place : Option Place) : Type 0 where
   pub stands : IsPlaceAfter (reverse lines) place
   pub address_each : addresses ≡ each_back address_back (reverse lines)

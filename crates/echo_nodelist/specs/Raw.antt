@@ -1,4 +1,4 @@
--- The lines of a nodelist (FTS-5000), before what they say.
+-- The lines of a nodelist (FTS-5000) before they are parsed.
 use Rattle.std.specs.Prelude.{ℕ, ◌==◌, Bool, List, map}
 use Rattle.std.specs.List.{before_first, slice_split}
 use Rattle.std.specs.Io.BufRead.{strip_last}

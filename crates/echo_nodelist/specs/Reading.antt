@@ -1,4 +1,4 @@
--- What reading the lines of a text one by one answers.
+-- The answer of reading the lines of a text one by one.
 use Rattle.std.specs.Prelude.{◌≡◌, ℕ, ◌⊎◌, List, reverse, Result, Ok, Err}
 use Rattle.echo_nodelist.specs.declared.reading.Reading.{Reading}
 use Rattle.echo_nodelist.specs.declared.fault.NodeFault.{NodeFault}
@@ -6,7 +6,7 @@ use Rattle.echo_nodelist.specs.declared.fault.NodeFault.TheVariants.{Memory}
 use Rattle.echo_nodelist.specs.Nodelist.{AreRead, FaultIn}
 use Rattle.echo_nodelist.specs.Place.{Follows}
 
--- what a reader holds belongs to its lines
+-- the state of a reader belongs to its lines
 abbrev pub IsInStep : Reading → Type 0
 IsInStep r = Follows r.lines.items r.addresses.items r.place
 

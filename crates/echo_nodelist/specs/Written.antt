@@ -9,7 +9,7 @@ use Rattle.echo_nodelist.specs.declared.fault.NodeFault.{NodeFault}
 use Rattle.echo_nodelist.specs.declared.fault.NodeFault.TheVariants.{Memory, Write}
 use Rattle.echo_nodelist.specs.Line.{keyword_text}
 
--- a Note as it is; an entry's fields, joined by commas
+-- a Note unchanged; an entry's fields, joined by commas
 abbrev pub line_text : Line → List ℕ
 line_text (Note text) = text
 line_text (Entry k n fields) = join_with_byte 44 (keyword_text k ∷ (decimal n ∷ fields))

@@ -1,7 +1,7 @@
 ghost use Rattle.std.specs.Prelude.{◌≡◌};
 ghost use Rattle.echo_nodelist.specs.Line.{begins_net, is_hub, is_zone, keyword_of, keyword_text};
 
-/// What an entry is (FTS-5000). `Node` has the empty keyword.
+/// The kind of an entry (FTS-5000). `Node` has the empty keyword.
 #[derive(Clone, Copy, Debug, PartialEq, Eq, Hash)]
 pub enum Keyword {
     Zone,

@@ -10,7 +10,7 @@ use crate::keyword::Keyword;
 use echo_addr::{Items, number};
 use std::alloc::{AllocError, Global};
 
-/// A line of a nodelist (FTS-5000), without what ended it.
+/// A line of a nodelist (FTS-5000), without its line end.
 #[derive(Debug, Drop, PartialEq, Eq, Hash)]
 pub enum Line {
     /// An empty line, or one that begins with `;`.
@@ -30,7 +30,7 @@ const LEAST_FIELDS: usize = 5;
 /// The greatest number of an entry.
 const MOST: u32 = 32767;
 
-/// What the bytes of a line say, apart from the lines before it. `line` is its number.
+/// Parses the bytes of a line, apart from the lines before it. `line` is its number.
 pub(crate) fn read_line(alloc: Global, line: usize, bytes: &[u8]) -> Result<Line, NodeFault>
     ensures { Gives result (line_in line bytes.now) }
 {

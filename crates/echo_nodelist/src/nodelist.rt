@@ -85,8 +85,7 @@ impl Nodelist {
         hub_at(&self.lines, &self.addresses, i)
     }
 
-    /// The index of the first line with the address. It goes over the addresses alone, eight bytes a
-    /// line.
+    /// The index of the first line with the address. It searches only the addresses, eight bytes a line.
     pub fn find(&self, address: Address) -> Option<usize>
         ensures { Finds self.now address result }
     {

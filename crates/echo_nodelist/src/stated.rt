@@ -7,7 +7,7 @@ use crate::crc::crc16;
 use crate::cutting::{before_end, cut, without_return};
 use echo_addr::number;
 
-/// What the first line of a nodelist says of the checksum of the bytes after it.
+/// The checksum that the first line of a nodelist states for the bytes after it.
 #[derive(Clone, Copy, Debug, PartialEq, Eq, Hash)]
 pub enum CrcLine {
     /// It doesn't end with a colon, blanks 20 and five decimal digits.

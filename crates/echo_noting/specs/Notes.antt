@@ -40,7 +40,7 @@ said_unless (Some refused) e = codes "\n"
 abbrev pub text_said : List ℕ → List ℕ
 text_said text = said_unless (text_refusal text) (echo_of text)
 
--- the line of a message: its number, the place where it begins, what became of it, its area and its id
+-- the line of a message: its number, its place, its outcome, its area and its id
 abbrev pub note_line : ℕ → ℕ → Outcome → Message → List ℕ
 note_line number place outcome m =
     codes "message " ++ (decimal number ++ (codes " at " ++ (decimal place ++ (codes " " ++ (outcome_word outcome ++ text_said m.text)))))

@@ -1,4 +1,4 @@
--- What reading a packet from a front of the bytes is to answer.
+-- The right answers of reading a packet from a front of the bytes.
 use Rattle.std.specs.Prelude.{◌≡◌, ℕ, ◌≤◌, ◌⊎◌, List, length, take, Result, Ok, Err, Vec}
 use Rattle.std.specs.declared.alloc.Global.{Global}
 use Rattle.echo_packet.specs.declared.header.Header.{Header}

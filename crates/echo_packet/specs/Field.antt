@@ -1,4 +1,4 @@
--- What reading one field takes from a source, and why it fails.
+-- The bytes that reading one field takes from a source, and why it fails.
 use Rattle.std.specs.Prelude.{◌≡◌, ℕ, ◌+◌, ◌<◌, ◌≤◌, List, ◌++◌, length, take, slice_index, Option, Result, Ok, Err}
 use Rattle.std.specs.Io.KnownBytes.{Consumes, IsAtEnd}
 use Rattle.echo_device.specs.declared.fixed.Broken.{Broken}
@@ -71,7 +71,7 @@ FailsInField Cut Past PastText place old new _ = ⊥
 abbrev pub IsShort : ℕ → List ℕ → Type 0
 IsShort size bs = length bs < size
 
--- nothing is so
+-- no bytes
 abbrev pub Never : List ℕ → Type 0
 Never bs = ⊥
 
@@ -120,7 +120,7 @@ abbrev pub long_fault_at : Field → ℕ → PacketFault
 long_fault_at field.Text at = fault.TextTooLong at
 long_fault_at _ at = fault.FieldTooLong at
 
--- behind its number 2 a whole message came from the source, up to the place
+-- after its number 2 a whole message came from the source, up to the place
 pub record TakesMessage (most start : ℕ) (old new : Option (List ℕ)) (m : Message) (at : ℕ) : Type 0 where
   pub came : List ℕ
   pub is : message_bytes m ≡ word 2 ++ came

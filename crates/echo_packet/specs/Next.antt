@@ -56,12 +56,12 @@ FailsInMessage limits given start front old new (fault.TextTooLong at) = LosesUp
 FailsInMessage limits given start front old new (fault.TooManyMessages at) = LosesUpTo limits given start front old new at (IsOfField limits)
 FailsInMessage limits given start front old new _ = ⊥
 
--- why the fields behind the number 2 were not read
+-- why the fields after the number 2 were not read
 pub record FailsBehind (limits : Limits) (given start : ℕ) (old new : Option (List ℕ)) (f : PacketFault) : Type 0 where
   pub fault : IfSome old (λ bs. NextFault limits given start (word 2 ++ bs) f)
   pub inside : FailsInMessage limits given start (word 2) old new f
 
--- the bytes of the message, or 00 00 where there is none
+-- the bytes of the message, or 00 00 for none
 abbrev pub next_bytes : Option Message → List ℕ
 next_bytes (Some m) = message_bytes m
 next_bytes None = word 0
@@ -71,7 +71,7 @@ abbrev pub TakesNext : Option (List ℕ) → Option (List ℕ) → Result (Optio
 TakesNext old new (Ok next) = Consumes old new (next_bytes next)
 TakesNext old new (Err f) = Unit {0}
 
--- a message is within the limits, and fewer than allowed were given before it
+-- a message is within the limits, and fewer than allowed came before it
 abbrev pub IsWithin : Limits → ℕ → Option Message → Type 0
 IsWithin limits given (Some m) = IsMessage limits.text m × (given < limits.messages)
 IsWithin limits given None = Unit {0}

@@ -1,4 +1,4 @@
--- What a `Packed` holds.
+-- The parts of a `Packed`.
 use Rattle.echo_packet.specs.declared.packed.Packed.TheInside.{Inside}
 use Rattle.echo_packet.specs.Message.{Message}
 

@@ -1,4 +1,4 @@
--- What a packet is (FTS-0001).
+-- The bytes of a packet (FTS-0001).
 use Rattle.std.specs.Prelude.{◌≡◌, ℕ, List, ◌++◌}
 use Rattle.echo_packet.specs.declared.header.Header.{Header}
 use Rattle.echo_packet.specs.declared.limits.Limits.{Limits}

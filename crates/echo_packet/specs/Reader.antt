@@ -1,4 +1,4 @@
--- What a clause reads of a `PacketReader`, and what its calls are to answer.
+-- The parts of a `PacketReader` that clauses name, and the right answers of its calls.
 use Rattle.std.specs.Prelude.{◌≡◌, ◌≢◌, ℕ, ◌+◌, ◌<◌, ◌≤◌, List, length, Option, None, Some, Result, Ok, Err}
 use Rattle.echo_packet.specs.declared.header.Header.{Header}
 use Rattle.echo_packet.specs.declared.limits.Limits.{Limits}
@@ -19,7 +19,7 @@ reader_source p = p.source
 abbrev pub reader_header : {R : Type 0} → PacketReader R → Header
 reader_header p = p.header
 
--- what the caller allows
+-- the limits that the caller sets
 abbrev pub reader_limits : {R : Type 0} → PacketReader R → Limits
 reader_limits p = p.limits
 

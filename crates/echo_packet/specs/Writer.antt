@@ -1,4 +1,4 @@
--- What a clause reads of a `PacketWriter`, and what its calls did.
+-- The parts of a `PacketWriter` that clauses name, and the effects of its calls.
 use Rattle.std.specs.Prelude.{◌≡◌, ℕ, Bool, List, Option}
 use Rattle.echo_device.specs.Device.{Failed, SendsFront}
 use Rattle.echo_packet.specs.declared.writer.PacketWriter.{PacketWriter}

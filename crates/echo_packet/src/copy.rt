@@ -1,4 +1,4 @@
-//! A message for one system, which shares what its copies have in common.
+//! A message for one system, which shares the common parts with other copies.
 ghost use Rattle.std.specs.Prelude.{◌≡◌, IfOk};
 ghost use Rattle.echo_packet.specs.Message.{readdressed};
 

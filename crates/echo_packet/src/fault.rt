@@ -71,8 +71,7 @@ impl<T: Drop> From<AllocFailed<T>> for PacketFault {
     }
 }
 
-/// A call that took a device by value answered this fault, and gives the device back as the call left
-/// it.
+/// A call that took a device by value answered this fault, and returns the device as the call left it.
 #[derive(Drop)]
 pub struct Unfinished<D> {
     pub fault: PacketFault,

@@ -20,12 +20,12 @@ pub(crate) enum Piece {
     TooLong,
 }
 
-/// What one more step took of a string.
+/// The part of a string that one more step took.
 #[derive(Clone, Copy, Debug, PartialEq, Eq)]
 pub(crate) enum Taken {
     /// Some bytes, and more are to come.
     Part,
-    /// The last bytes, and the 00 behind them.
+    /// The last bytes, and the 00 after them.
     Whole,
     /// One byte more than there is room for, and no 00.
     TooLong,

@@ -36,14 +36,14 @@ pub fn written_packet_reads_back()
 pub fn whole_runs()
     // `open` read the header.
     ensures opens { (limits : Limits) (bs : List ℕ) (h : Header) (rest : List ℕ) → IsHeader h → bs ≡ header_bytes h ++ rest → SoFar limits bs h [] rest 0 58 }
-    // `next` gave a message.
+    // `next` answered a message.
     ensures gives { (limits : Limits) (bs : List ℕ) (h : Header) (ms : List Message) (left rest : List ℕ) (given at : ℕ) (m : Message) → SoFar limits bs h ms left given at →
         left ≡ message_bytes m ++ rest → IsMessage limits.text m → given < limits.messages →
         SoFar limits bs h (ms ++ m ∷ []) rest (given + 1) (place_of (at + length (message_bytes m))) }
     // `next` reached the terminator.
     ensures ends { (limits : Limits) (bs : List ℕ) (h : Header) (ms : List Message) (left rest : List ℕ) (given at : ℕ) → SoFar limits bs h ms left given at →
         left ≡ word 0 ++ rest → Describes limits bs (Ok (h, ms, length (packet_bytes h ms))) }
-    // `next` answered a fault: of the bytes, or of the device or of memory.
+    // `next` answered a fault: one of the bytes, of the device or of memory.
     ensures fails { (limits : Limits) (bs : List ℕ) (h : Header) (ms : List Message) (left : List ℕ) (given at : ℕ) (f : PacketFault) → SoFar limits bs h ms left given at →
         NextFault limits given at left f → FaultOf bs limits ms f ⊎ IsOfCall f }
 {}

@@ -4,10 +4,10 @@
 //! it answers the one fault of the input, with its place. A `PacketReader` does the same over any
 //! source, message by message, and takes no byte after the packet.
 //!
-//! Begin with `packed` (one message) and `header` (the 58 bytes in front). `reader` reads a packet
-//! message by message, `reading` reads one in a slice; both use `message` and `field`. `writer`,
-//! `sending` and `encoding` write one, `copy` is a message for one system. `limits` and `fault` say
-//! what is refused, `laws` states the promise.
+//! Begin with `packed` (one message) and `header` (the 58 bytes in front). `reader` reads a packet message by
+//! message, `reading` reads one in a slice; both use `message` and `field`. `writer`, `sending` and `encoding`
+//! write one, `copy` is a message for one system. `limits` and `fault` define refusals, `laws` states the
+//! promise.
 //!
 //! A caller, who reads a packet message by message:
 //!

@@ -10,8 +10,8 @@ use echo_device::are_bytes;
 use memchr::memchr;
 use std::marker::Model;
 
-/// A packed message: three strings and a text without 00, of which the names have at most `MAX_NAME`
-/// bytes and the subject at most `MAX_SUBJECT`.
+/// A packed message: three strings and a text, without 00. The names have at most `MAX_NAME` bytes and the
+/// subject at most `MAX_SUBJECT`.
 #[derive(Debug, Drop)]
 pub struct Packed {
     orig_node: u16,

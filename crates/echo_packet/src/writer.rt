@@ -111,8 +111,8 @@ impl<W: Sink + Drop> PacketWriter<W> {
         }
     }
 
-    /// Writes the terminator 00 00 and gives the writer back, with a fault too. What that holds back
-    /// is left to its owner. Faults are those of `put`: after an error nothing is sent.
+    /// Writes the terminator 00 00 and returns the writer, with a fault too. The owner flushes it. Faults are
+    /// those of `put`: after an error nothing is sent.
     pub fn finish(self) -> Result<W, Unfinished<W>>
         ensures bytes { IfOk result (λ writer. Appends (W.contents (writer_below self)) (W.contents writer) (word 0)) }
         ensures same { IfOk result (λ writer. W.failures writer ≡ W.failures (writer_below self)) }

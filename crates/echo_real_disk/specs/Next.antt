@@ -1,4 +1,4 @@
--- What a disk shows after a call, and what a crash may leave of it then: all that the call allows.
+-- A disk after a call, and all files that a crash may then leave by that call.
 use Rattle.std.specs.Prelude.{◌≡◌, ◌≢◌, ◌≤◌, ◌⊎◌, ℕ, suc, cond, List, bytes_eq, Option, None}
 use Rattle.std.proofs.Common.{inl, inr, ◌∙◌, sym, refl, ap, subst}
 use Rattle.std.proofs.Math.Nat.{lt_irrefl}
@@ -23,7 +23,7 @@ pub was_or_is : (old : DiskState) (leaves : Files → Type 0) (c : Files) → le
 was_or_is old leaves c (inl now) = now
 was_or_is old leaves c (inr was) = absurd (lt_irrefl old.moment was.0)
 
--- the moment after a call
+-- the state after a call
 abbrev pub next : (old : DiskState) (seen : Files) (leaves : Files → Type 0) (named flushed alone : List ℕ → Type 0)
     → ((m : List ℕ) → named m → flushed m → (c : Files) → leaves c → c m ≡ seen m) → DiskState
 next old seen leaves named flushed alone on_disk = record {
@@ -40,15 +40,15 @@ next old seen leaves named flushed alone on_disk = record {
   is_honest = old.is_honest;
 }
 
--- what has a property, but for one path
+-- paths with a property, except this one
 abbrev pub OtherThan : List ℕ → (List ℕ → Type 0) → List ℕ → Type 0
 OtherThan path P m = P m × (m ≢ path)
 
--- what has a property, and this path
+-- paths with a property, and this one
 abbrev pub OrIs : List ℕ → (List ℕ → Type 0) → List ℕ → Type 0
 OrIs path P m = P m ⊎ (m ≡ path)
 
--- the disk where no answer but this was given
+-- the disk after an answer that changed nothing; the disk stays honest if this holds
 abbrev pub answered : Type 0 → DiskState → DiskState
 answered P old = record old { is_honest = old.is_honest × P }
 
@@ -57,7 +57,7 @@ pub others_stay : (old : DiskState) (path : List ℕ) (file : Option (List ℕ))
 others_stay old path file step m other named flushed c left =
     left.2.beside m other (inr named) ∙ old.on_disk m named flushed left.0 left.1 ∙ sym (beside_file path file old.seen m other)
 
--- one file has other bytes, or its path another file, with what a crash may leave of such a step
+-- one file has other bytes, or its path another file, and what a crash may leave of such a step
 abbrev pub changed : DiskState → List ℕ → Option (List ℕ) → (Option (List ℕ) → Option (List ℕ) → Type 0) → (List ℕ → Type 0) → DiskState
 changed old path file step alone =
     next old (with_file path file old.seen) (OneStepOn (ChangesFile old path step) old) old.is_named (OtherThan path old.is_flushed) alone
@@ -80,7 +80,7 @@ rest_stays old from to left_from left_to m one two named flushed c left =
     left.2.beside m one two (inr named) ∙ old.on_disk m named flushed left.0 left.1
     ∙ sym (beside_file to left_to (with_file from left_from old.seen) m two ∙ beside_file from left_from old.seen m one)
 
--- a file has another path, or what a renaming that failed left at both
+-- a file has another path, or a failed rename left other files at both
 abbrev pub moved : (old : DiskState) (from to : List ℕ) (left_from left_to : Option (List ℕ)) (flushed : List ℕ → Type 0) → ((m : List ℕ) → m ≢ to → flushed m → old.is_flushed m) → DiskState
 moved old from to left_from left_to flushed was =
     next old (with_file to left_to (with_file from left_from old.seen)) (OneStepOn (RenamesFile old from to) old) (Neither from to old.is_named) flushed (Neither from to old.is_alone)

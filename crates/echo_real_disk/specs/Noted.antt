@@ -1,7 +1,7 @@
--- What the trace of calls keeps of one.
+-- The record of one call in the trace.
 use Rattle.std.specs.Prelude.{ℕ, List, [], ◌∷◌}
 use Rattle.echo_real_disk.specs.declared.trace.Call.{Call}
 
--- its numbers, of which the last is the answer, a path, another path, and bytes
+-- its numbers, with the answer last, a path, another path, and bytes
 abbrev pub note_of : Call → List ℕ × (List ℕ × (List ℕ × List ℕ))
 note_of call = (call.what ∷ call.at ∷ call.asked ∷ call.answer ∷ [], (call.path.now, (call.other.now, call.bytes.now)))

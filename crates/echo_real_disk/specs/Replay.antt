@@ -1,15 +1,15 @@
--- The calls on files and their answers, and the disk that they tell of.
+-- The calls on files and their answers, and the disk that follows from them.
 use Rattle.std.specs.Prelude.{◌≡◌, ◌≢◌, ◌≤◌, ◌<◌, ℕ, zero, suc, ◌+◌, List, [], ◌∷◌, ◌++◌, length, take, drop, slice_index, Some, None, IsSome}
 use Rattle.std.proofs.Common.{inl, inr}
 use Rattle.echo_disk.specs.Disk.{DiskState, Files, bytes_in}
 use Rattle.echo_disk.specs.Steps.{TornWrite, TornCut, TornMaking, TornRemoval, TornNaming}
 use Rattle.echo_real_disk.specs.Next.{answered, changed, named_anew, moved, synced, folder_synced, OtherThan, OrIs, Neither}
 
--- a call's numbers, of which the last is the answer, a path, another path, and bytes
+-- a call's numbers, with the answer last, a path, another path, and bytes
 abbrev pub Note : Type 0
 Note = List ℕ × (List ℕ × (List ℕ × List ℕ))
 
--- it failed, there is none, or there is one
+-- it failed, there is no file, or there is one
 abbrev pub after_exists : ℕ → List ℕ → DiskState → DiskState
 after_exists zero path old = old
 after_exists (suc zero) path old = answered (IsSome (old.seen path) → ⊥) old
@@ -19,7 +19,7 @@ abbrev pub after_len : ℕ → ℕ → List ℕ → DiskState → DiskState
 after_len zero len path old = old
 after_len (suc n) len path old = answered (len ≡ length (bytes_in (old.seen path))) old
 
--- so many bytes were asked for, and these came
+-- this many bytes were requested, and these came
 pub record CameFrom (file : List ℕ) (at asked : ℕ) (bytes : List ℕ) : Type 0 where
   pub same : bytes ≡ take (length bytes) (drop at file)
   pub within : length bytes ≤ length (drop at file)
@@ -82,7 +82,7 @@ abbrev pub after_folder_sync : ℕ → List ℕ → DiskState → DiskState
 after_folder_sync zero folder old = old
 after_folder_sync (suc n) folder old = folder_synced old folder
 
--- the disk after a call; `unknown` is what stands at a path after a call that failed there
+-- the disk after a call; `unknown` has the files at paths after a call that failed there
 abbrev pub after_call : ℕ → ℕ → ℕ → ℕ → List ℕ → List ℕ → List ℕ → Files → DiskState → DiskState
 after_call zero at asked answer path to bytes unknown old = after_exists answer path old
 after_call (suc zero) len asked answer path to bytes unknown old = after_len answer len path old
@@ -96,7 +96,7 @@ after_call (suc (suc (suc (suc (suc (suc (suc (suc zero)))))))) at asked answer 
 after_call (suc (suc (suc (suc (suc (suc (suc (suc (suc zero))))))))) at asked answer path to bytes unknown old = after_sync answer path old
 after_call (suc (suc (suc (suc (suc (suc (suc (suc (suc (suc n)))))))))) at asked answer path to bytes unknown old = after_folder_sync answer path old
 
--- The disk after these calls, of which the newest comes first.
+-- The disk after these calls, the newest first.
 abbrev pub replay : DiskState → (List Note → Files) → List Note → DiskState
 replay first unknown [] = first
 replay first unknown (call ∷ earlier) =

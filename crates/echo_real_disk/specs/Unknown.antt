@@ -1,8 +1,8 @@
--- What may be supposed of files before the first call.
+-- The possible states of files before the first call.
 use Rattle.std.specs.Prelude.{None}
 use Rattle.echo_disk.specs.Disk.{DiskState}
 
--- there is none; what a crash may leave is not known
+-- no files; what a crash may leave is not known
 abbrev pub no_files : DiskState
 no_files = record {
   seen = λ m. None;
@@ -18,6 +18,6 @@ no_files = record {
   is_honest = Unit {0};
 }
 
--- nothing, so that no answer is known to be what is seen
+-- no knowledge: no answer is known to be right
 abbrev pub nothing_known : DiskState
 nothing_known = record no_files { is_honest = ⊥ }

@@ -1,4 +1,4 @@
-//! Files that stay open from one call to the next, so that many reads and writes of a file open it once.
+//! Files that stay open between calls, so that many reads and writes open a file once.
 use std::mem;
 
 /// A longer path is opened at each call.
@@ -11,7 +11,7 @@ pub(crate) struct Placed<F: Drop> {
     pub(crate) at: u64,
 }
 
-/// A file that is kept with its path.
+/// An open file with its path.
 #[derive(Drop)]
 struct Kept<F: Drop> {
     path: [u8; LONGEST],
@@ -27,7 +27,7 @@ pub(crate) struct KeptFiles<F: Drop> {
     written_before: Option<Kept<F>>,
 }
 
-// The file at the path, taken out, where that is the one that is kept.
+// The file at the path, if it is the open one; it is removed from here.
 fn take<F: Drop>(kept: &mut Option<Kept<F>>, path: &[u8]) -> Option<Placed<F>> {
     let found = kept.take()?;
     if found.path.get(..found.len) == Some(path) {
@@ -37,7 +37,7 @@ fn take<F: Drop>(kept: &mut Option<Kept<F>>, path: &[u8]) -> Option<Placed<F>> {
     None
 }
 
-// A file to be kept with its path, where that is short enough.
+// An open file with its path, if that is short enough.
 fn with_path<F: Drop>(path: &[u8], placed: Placed<F>) -> Option<Kept<F>> {
     if path.len() > LONGEST {
         return None;

@@ -1,10 +1,11 @@
-//! The files of the system, as a disk whose files a crash may cut short.
+//! The files of the system, as a `Disk` that a crash may cut short.
 //!
-//! The contract for the layers above is that of a disk, with no assumption: what it shows is what its calls and
-//! their answers tell, and it is honest as long as each answer is what is seen. So a theorem over it reads: where
-//! the answers are those of such a disk. That each call is the one that is noted is to be read, in `system`.
+//! Promise: that of `Disk`, without an assumption. Its state follows from its calls and their answers, and it
+//! is honest while each answer agrees with that state. So a theorem over it reads: if the answers are those of
+//! such a disk. That each noted call is the one that was made has to be read, in `system`.
 //!
-//! Modules in reading order: `kept` (files that stay open), `system` (the calls), `trace` (what only clauses read), `start` and `real_disk`.
+//! Begin with `real_disk`. `system` makes the calls, `trace` notes them for clauses, `start` names the files
+//! before the first call, `kept` holds open files.
 #![tactic(auto)]
 
 mod kept;

@@ -34,13 +34,13 @@ const SYNC: u64 = 9;
 
 const SYNC_FOLDER: u64 = 10;
 
-/// The files of the system, of which `S` says what they were before the first call.
+/// The files of the system; `S` says what they were before the first call.
 ///
-/// Its state is what its calls and their answers tell. Where an answer is another than what is seen, as where
-/// another program changes the files, it is not honest from then on. After a sync that failed each call fails.
+/// Its state follows from its calls and their answers. It is not honest after an answer that differs from that
+/// state, as when another program changes the files. After a failed sync each call fails.
 #[derive(Drop)]
 pub struct RealDisk<R: Files + Drop, S: Start> {
-    // None after a sync that failed: the system may have dropped what was written, and say so no more.
+    // None after a failed sync: the system may have dropped written bytes, and will not report it again.
     files: Option<R>,
     kept: KeptFiles<R::File>,
     trace: Trace,

@@ -1,19 +1,19 @@
-//! What is supposed of the files before the first call.
+//! The assumption about the files before the first call.
 ghost use Rattle.std.specs.Prelude.{ℕ, List, None};
 ghost use Rattle.echo_disk.specs.Disk.{DiskState, Files};
 ghost use Rattle.echo_real_disk.specs.Replay.{Note};
 ghost use Rattle.echo_real_disk.specs.Unknown.{no_files, nothing_known};
 
-/// The files as they were first, and what stands at a path after a call that failed there, which no code can tell.
-/// A function over `S: Start` is proved for all of them.
+/// The first files, and the files at paths after a call that failed there, which no code can know. A function
+/// over `S: Start` is proved for all of them.
 pub trait Start: Drop {
     ghost first: { DiskState };
 
     ghost unknown: { List Note → Files };
 }
 
-/// For `main` to name, which has to name one: it supposes nothing of the files, not even honest answers. What is
-/// promised of them is the contract of the function over `S: Start` that it calls.
+/// The start that `main` names. It assumes nothing about the files, not even honest answers. The promise about
+/// them is the contract of the function over `S: Start` that `main` calls.
 #[derive(Drop)]
 pub struct Unknown;
 

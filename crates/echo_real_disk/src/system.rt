@@ -1,7 +1,7 @@
-//! The calls of the system. What they do is not known to a contract: this module is to be read.
+//! The calls of the system. Contracts do not know what they do: read this module.
 //!
-//! Where there are no files each call fails. A file that is kept open is at its path still: only the calls of a disk
-//! give paths to other files, and it lets go of all that it kept before it makes one of those.
+//! Without files each call fails. An open file is still at its path: only the calls of a disk give paths to
+//! other files, and those close all open files first.
 ghost use Rattle.std.specs.Prelude.{◌≤◌, length, IfOk};
 
 use crate::kept::{KeptFiles, Placed};
@@ -55,7 +55,7 @@ pub(crate) fn len<R: Files>(files: &Option<R>, path: &[u8]) -> Result<usize, Dis
     measure(files, path).map_err(fault)
 }
 
-// Goes to the place, where the file is not there.
+// Moves to the place, unless the file is there.
 fn go_to<F: Seek + Drop>(placed: &mut Placed<F>, at: u64) -> io::Result<()> {
     if placed.at != at {
         placed.at = placed.file.seek(SeekFrom::Start(at))?;
@@ -147,7 +147,7 @@ pub(crate) fn cut<R: Files>(files: &Option<R>, path: &[u8], len: usize) -> Resul
     set_len(files, path, len).map_err(fault)
 }
 
-// A file that is there is removed first, so that its other paths keep it.
+// It removes an existing file first, so that other paths keep it.
 fn make<R: Files>(files: &Option<R>, path: &[u8]) -> io::Result<()> {
     let (files, name) = (usable(files)?, name(path)?);
     match fs::remove_file(files, name) {

@@ -1,4 +1,4 @@
-//! What was called and answered, for clauses alone: at run time it is nothing.
+//! The calls and their answers, for clauses only: at run time it is empty.
 ghost use Rattle.std.specs.Prelude.{◌≡◌, ℕ, List, [], ◌∷◌};
 ghost use Rattle.std.specs.Borrow.{ftrue};
 
@@ -16,7 +16,7 @@ pub struct Call<'a> {
     pub(crate) bytes: &'a [u8],
 }
 
-/// The calls so far, of which the newest comes first: the numbers of each, its path, another path, and bytes.
+/// The calls so far, the newest first: the numbers of each, its path, another path, and bytes.
 #[derive(Drop)]
 pub struct Trace {
     pub ghost calls: { List (List ℕ × (List ℕ × (List ℕ × List ℕ))) },

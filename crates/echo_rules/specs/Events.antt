@@ -41,7 +41,7 @@ exported [] = []
 exported (Exports m to text ∷ earlier) = m ∷ exported earlier
 exported (other ∷ earlier) = exported earlier
 
--- the copy of a message that goes to x
+-- the copy of a message for x
 abbrev pub copy_to : {A N K C : Type 0} → Filed A N K C → (A → Text N K C) → A → Copy A N K C
 copy_to m text x = record { from = m.at; to = x; text = text x }
 

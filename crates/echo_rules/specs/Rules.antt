@@ -47,8 +47,8 @@ pub record IsTold {A N K C : Type 0} (net : Net A N) (m : Filed A N K C) (to : L
   pub behind : (d : A) → IsTrue (net.carries d) → Beyond net.linked x m.at d → d ≢ x → Among (net.net_node d) seen →
       Among (net.net_node d) m.text.seen
 
--- the simple way to keep this: it lists all receivers, and otherwise only what the message listed, the own system,
--- its links, and what is no system with the area
+-- the simple way to keep this: it lists all receivers, and otherwise only entries of the message, the own system, its
+-- links, and net/nodes of no system with the area
 pub record IsToldPlainly {A N K C : Type 0} (net : Net A N) (m : Filed A N K C) (to : List A) (seen : List N) : Type 0 where
   pub all : (l : A) → Among l to → Among (net.net_node l) seen
   pub only : (n : N) → Among n seen → Among n m.text.seen

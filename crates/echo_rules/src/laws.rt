@@ -21,10 +21,9 @@ pub fn every_run_by_the_rules_is_orderly<A, N, K, C>()
         ((rule : Rule) → Kept net (λ a b. IsTrue (same a b)) run rule) → Orderly net (λ a b. IsTrue (same a b)) run }
 {}
 
-/// A SEEN-BY keeps the fourth rule if it lists all receivers, and otherwise only what it listed
-/// before, the own system, its links and what is no system with the area. The rule asks less: it
-/// may omit receivers that are no links of the addressee, and it must hide no system behind that
-/// one.
+/// A SEEN-BY keeps the fourth rule if it lists all receivers, and otherwise only three kinds of entries: its
+/// old ones, the own system and its links, and net/nodes of no system with the area. The rule asks less: it may
+/// omit receivers that are no links of the addressee, and it must hide no system behind that one.
 pub fn plain_telling_is_enough<A, N, K, C>()
     ensures { (net : Net A N) → Tidy net → (m : Filed A N K C) (to : List A) (x : A) (seen : List N) →
         IsTrue (net.linked m.at x) → IsToldPlainly net m to seen → IsTold net m to x seen }

@@ -1,8 +1,8 @@
 //! Nets in which any tossers run that keep five rules.
 //!
-//! The promise is in `laws`: such nets are orderly, and each rule is needed. Begin with specs/:
-//! `Nets` (addresses and links, and which nets are tidy), `Events` (what happens to the messages of
-//! an area), `Rules` (the five rules) and `Orderly` (what they give).
+//! The promise is in `laws`: such nets are orderly, and each rule is needed. Begin with specs/: `Nets`
+//! (addresses and links, and which nets are tidy) and `Events` (what happens to the messages of an area).
+//! `Rules` has the five rules, `Orderly` the promise.
 #![tactic(auto)]
 
 mod laws;

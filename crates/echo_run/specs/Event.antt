@@ -1,4 +1,4 @@
--- What may happen to a net of tossers.
+-- Events of a net of tossers.
 use Rattle.std.specs.Prelude.{ℕ, List}
 use Rattle.echo_steps.specs.declared.draft.Draft.{Draft}
 use Rattle.echo_steps.specs.declared.stamp.Stamp.{Stamp}
@@ -14,7 +14,7 @@ pub data RunEvent : Type 0 where
   PartDelivery : (packet messages : ℕ) → RunEvent
   Purging : (system : ℕ) → RunEvent
 
--- what an event of the program is in a run
+-- an event of the program as an event of a run
 abbrev pub run_event : Event → RunEvent
 run_event (Post system tag draft serial stamp) = Posting system tag draft serial stamp
 run_event (Scan system stamp) = Scanning system stamp

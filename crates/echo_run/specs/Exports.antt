@@ -34,7 +34,7 @@ abbrev pub event_exports : Run → ℕ → RunEvent → List Export
 event_exports run n (Scanning i stamp) = scan_exports n i stamp (nth i run.systems)
 event_exports run n other = []
 
--- what events make, of which the first has this place
+-- the exports of events; the first event has this place
 abbrev pub exports_after : Run → ℕ → List RunEvent → List Export
 exports_after run n [] = []
 exports_after run n (event ∷ later) = event_exports run n event ++ exports_after (after_event run event) (n + 1) later

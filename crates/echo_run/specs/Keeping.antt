@@ -12,7 +12,7 @@ use Rattle.echo_rules.specs.Events as rules
 use Rattle.echo_run.specs.Run.{System, Run, destination, nth}
 use Rattle.echo_run.specs.Orderly.{copies, origin, sent_count, tag_of}
 
--- what stays of a message on its way: its DateTime, names, subject and kept lines
+-- the parts of a message that stay on its way: its DateTime, names, subject and kept lines
 pub record Content : Type 0 where
   pub date : List ℕ
   pub to_name : List ℕ

@@ -41,7 +41,7 @@ pub record IsPosting (tag : List ℕ) (m : Filed) : Type 0 where
   pub own : m.sender ≡ None
   pub area : m.echo.tag ≡ tag
 
--- no message of the area waits for a scan, and each packet that holds one was delivered
+-- no message of the area waits for a scan, and each packet with one was delivered
 pub record Settled (run : Run) (tag : List ℕ) : Type 0 where
   pub scanned : (s : System) → Among s run.systems → (m : Filed) → Among m (drop s.cursor s.base) → m.echo.tag ≢ tag
   pub delivered : (before : List Packet) (packet : Packet) (after : List Packet) → run.packets ≡ before ++ packet ∷ after →

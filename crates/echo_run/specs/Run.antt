@@ -1,4 +1,4 @@
--- Systems, and what events do to them.
+-- Systems, and the effects of events on them.
 use Rattle.std.specs.Prelude.{◌≡◌, ◌≤◌, ◌==◌, ℕ, zero, suc, List, [], ◌∷◌, ◌++◌, map, length, take, Option, Some, None, if◌then◌else◌}
 use Rattle.std.specs.List.{list_any, position_or_len}
 use Rattle.echo_addr.specs.declared.address.Address.{Address}
@@ -129,7 +129,7 @@ abbrev pub part_delivery : Run → ℕ → Option Packet → Run
 part_delivery run messages None = run
 part_delivery run messages (Some packet) = changing run (receiver run packet) (taking packet messages)
 
--- what an event does; one that names nothing, or is refused, does nothing
+-- the effect of an event; one that names nothing, or is refused, has none
 abbrev pub after_event : Run → RunEvent → Run
 after_event run (Posting i tag draft serial stamp) = changing run i (posting_at tag draft serial stamp)
 after_event run (Scanning i stamp) = scanning run i stamp (nth i run.systems)
@@ -137,7 +137,7 @@ after_event run (Delivery k) = delivery run k (nth k run.packets)
 after_event run (PartDelivery k messages) = part_delivery run messages (nth k run.packets)
 after_event run (Purging i) = changing run i purging_at
 
--- what events do, one after another
+-- the effect of events in order
 abbrev pub after_events : Run → List RunEvent → Run
 after_events run [] = run
 after_events run (event ∷ later) = after_events (after_event run event) later

@@ -1,4 +1,4 @@
--- What one reads off a run: what each system filed, what waits, which packets did not come.
+-- The visible state of a run: the filed messages of each system, those that wait, and the missing packets.
 use Rattle.std.specs.Prelude.{ℕ, ◌+◌, ◌==◌, ◌&&◌, nat_le, Bool, List, [], ◌∷◌, drop, length, count_by, bytes_eq, if◌then◌else◌, option_map, unwrap_or}
 use Rattle.std.specs.List.{list_all, list_any}
 use Rattle.echo_steps.specs.declared.packet.Packet.{Packet}
@@ -13,11 +13,11 @@ area_count tag ms = count_by (λ m. bytes_eq m.echo.tag tag) ms
 abbrev pub filed_at : Run → ℕ → List ℕ → ℕ
 filed_at run i tag = unwrap_or (option_map (λ s. area_count tag s.base) (nth i run.systems)) 0
 
--- how many of them wait for a scan
+-- the number of them that wait for a scan
 abbrev pub waiting_at : Run → ℕ → List ℕ → ℕ
 waiting_at run i tag = unwrap_or (option_map (λ s. area_count tag (drop s.cursor s.base)) (nth i run.systems)) 0
 
--- how many of the packets, of which the first has this index, were not delivered
+-- the number of packets that were not delivered; the first has this index
 abbrev pub missing : List ℕ → ℕ → List Packet → ℕ
 missing delivered k [] = 0
 missing delivered k (packet ∷ later) = (if list_any (λ d. d == k) delivered then 0 else 1) + missing delivered (k + 1) later

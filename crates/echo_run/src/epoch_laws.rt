@@ -27,8 +27,8 @@ pub fn each_message_is_filed_once_over_changes()
         (s : System) → Among s (run_of_epochs epochs).systems → (key : Key) → count key s.base ≤ 1 }
 {}
 
-/// A system that did not have the area when a message was posted is never sent that message and never files
-/// it: one that joins is sent nothing of former times.
+/// A system that did not have the area when a message was posted is never sent that message and never files it.
+/// A system that joins gets no earlier messages.
 pub fn who_joins_is_sent_nothing_older()
     ensures { (epochs : List Epoch) (tag : List ℕ) → TidyThroughout epochs tag →
         (earlier : List Epoch) (epoch : Epoch) (later : List Epoch) → epochs ≡ earlier ++ epoch ∷ later → (m : Filed) → IsOf tag earlier epoch m →

@@ -1,8 +1,8 @@
 use echo_addr::Items;
 use echo_steps::{Draft, Stamp};
 
-/// What happens to a net. Systems go by their index in the list of link files, packets by their order
-/// of export over the whole run, both from 0. An event that names nothing, or is refused, does nothing.
+/// An event of a net. Systems are numbered by their link files, packets by their export over the whole run,
+/// both from 0. An event that names nothing, or is refused, has no effect.
 #[derive(Debug, Drop)]
 pub enum Event {
     /// The system posts a draft in the area of the tag.
@@ -13,7 +13,7 @@ pub enum Event {
         serial: u32,
         stamp: Stamp,
     },
-    /// The system makes packets of what waits.
+    /// The system makes packets of its waiting messages.
     Scan {
         system: usize,
         stamp: Stamp,

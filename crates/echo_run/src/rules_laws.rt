@@ -25,15 +25,15 @@ pub fn this_tosser_keeps_the_rules()
         Always (IsPossible (net_of files tag)) by_rules × ((rule : Rule) → Kept (net_of files tag) (λ a b. a ≡ b) by_rules rule) }
 {}
 
-/// Link files that are tidy in an area say a net that is tidy for any tossers: what these promise where
-/// they keep the rules, they promise on these files.
+/// Link files that are tidy in an area give a net that is tidy for any tossers. The promise of tossers that
+/// keep the rules holds on these files.
 pub fn tidy_files_are_a_tidy_net()
     ensures { (files : List LinkFile) (tag : List ℕ) → Tidy files tag → IsTidyNet files tag }
 {}
 
-/// Where link files are tidy in an area, and the tosser of each system with it keeps the five rules, every run
-/// on these files is orderly. Keys and contents have any types. `same` compares contents and is any reflexive
-/// and transitive relation.
+/// Let link files be tidy in an area, and let the tosser of each system with it keep the five rules. Then every
+/// run on these files is orderly. Keys and contents have any types. `same` compares contents and is any
+/// reflexive and transitive relation.
 pub fn any_tossers_on_tidy_files_are_orderly<K, C>()
     ensures { AreToldApart K → (files : List LinkFile) (tag : List ℕ) → Tidy files tag →
         (same : C → C → Bool) → Compares (λ a b. IsTrue (same a b)) →

@@ -1,8 +1,8 @@
--- What commands take of a packet.
+-- The limits of packets for commands.
 use Rattle.std.specs.Prelude.{ℕ, min}
 use Rattle.echo_packet.specs.declared.limits.Limits.{Limits}
 
--- what `show` and `toss` take: texts of 16 MiB and any number of messages
+-- the limits of `show` and `toss`: texts of 16 MiB and any number of messages
 abbrev pub show_limits : Limits
 show_limits = record { text = 16777216; messages = 18446744073709551615 }
 

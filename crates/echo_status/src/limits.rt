@@ -4,7 +4,7 @@ ghost use Rattle.echo_status.specs.Limits.{limits_for};
 
 use echo_packet::Limits;
 
-/// What `show` and `toss` take of a packet: texts of 16 MiB and any number of messages.
+/// The limits of `show` and `toss`: texts of 16 MiB and any number of messages.
 pub const LIMITS: Limits = Limits {
     text: 16_777_216,
     messages: u64::MAX,

@@ -1,4 +1,4 @@
--- Scanning: which packets are made of the messages that wait.
+-- Scanning: the packets of the waiting messages.
 use Rattle.std.specs.Prelude.{◌≡◌, ℕ, ◌-◌, ◌&&◌, not, Bool, true, false, List, [], ◌∷◌, ◌++◌, map, length, drop, filter, replicate, option_map, unwrap_or, Result, Ok, Err}
 use Rattle.std.specs.List.{flat_map, list_any}
 use Rattle.echo_addr.specs.declared.address.Address.{Address}
@@ -81,7 +81,7 @@ header_to file stamp address = record {
   fill = replicate 20 0;
 }
 
--- whether a message goes to an address
+-- whether an address receives a message
 abbrev pub goes_to : LinkFile → Address → Filed → Bool
 goes_to file address m = list_any (same_address address) (targets file m)
 

@@ -1,4 +1,4 @@
--- The state of a system: what posting, tossing, scanning and purging read and change.
+-- The state of a system, which posting, tossing, scanning and purging read and change.
 use Rattle.std.specs.Prelude.{ℕ, List, [], ◌++◌, Option, option_to_list}
 use Rattle.echo_links.specs.Links.{LinkFile}
 use Rattle.echo_filed.specs.Filed.{Filed}

@@ -1,4 +1,4 @@
--- Tossing: what becomes of a received message.
+-- Tossing: the outcome of a received message.
 use Rattle.std.specs.Prelude.{◌≡◌, ℕ, ◌==◌, not, true, false, List, [], ◌∷◌, ◌++◌, if◌then◌else◌, Option, Some, None, option_to_list, Result, Ok, Err}
 use Rattle.echo_addr.specs.declared.address.Address.{Address}
 use Rattle.echo_packet.specs.declared.header.Header.{Header}
@@ -39,7 +39,7 @@ outcome_after file base sender m None = outcome_of_filed file base sender m
 outcome_after file base sender m (Some text.NotEcho) = outcome.NotEcho
 outcome_after file base sender m (Some refused) = outcome.BadTag
 
--- what becomes of a message: the first outcome that applies
+-- the outcome of a message: the first one that applies
 unfoldable pub toss_outcome : LinkFile → List Filed → Address → Message → Outcome
 toss_outcome file base sender packed =
     outcome_after file base sender (received sender packed) (text_refusal packed.text)
@@ -60,7 +60,7 @@ pub record IsToBeFiled (file : LinkFile) (base : List Filed) (from : Address) (p
   pub link : is_link file (echo_of packed.text).tag from ≡ true
   pub new : is_known base (key_of (received from packed)) ≡ false
 
--- this is what becomes of a message, and no outcome before it applies
+-- this is the outcome of a message, and no outcome before it applies
 abbrev pub IsOutcome : LinkFile → List Filed → Address → Message → Outcome → Type 0
 IsOutcome file base from packed outcome.NotEcho = text_refusal packed.text ≡ Some text.NotEcho
 IsOutcome file base from packed outcome.BadTag = text_refusal packed.text ≡ Some text.BadTag
@@ -84,7 +84,7 @@ tossed file base sender [] = base
 tossed file base sender (packed ∷ later) =
     tossed file (base ++ option_to_list (tossing file base sender packed)) sender later
 
--- what became of each of them
+-- the outcome of each of them
 abbrev pub outcomes : LinkFile → List Filed → Address → List Message → List Outcome
 outcomes file base sender [] = []
 outcomes file base sender (packed ∷ later) =

@@ -50,14 +50,14 @@ pub fn posting_refusals()
         (post_refusal file base tag draft serial stamp ≡ None) ↔ IsAllowed file base tag draft serial stamp }
 {}
 
-/// What becomes of a tossed message is the first outcome that applies.
+/// The outcome of a tossed message is the first one that applies.
 pub fn toss_outcomes()
     ensures { (file : LinkFile) (base : List Filed) (sender : Address) (packed : Message) (outcome : Outcome) →
         (toss_outcome file base sender packed ≡ outcome) ↔ IsOutcome file base sender packed outcome }
 {}
 
-/// A toss files a message exactly if its text is echomail, its area is in the link file, the sender is a link
-/// of the area, and no message of the base has its key.
+/// A toss files a message exactly if four things hold: its text is echomail, its area is in the link file, the
+/// sender is a link of the area, and its key is new.
 pub fn toss_law()
     ensures { (file : LinkFile) (base : List Filed) (sender : Address) (packed : Message) →
         (tossing file base sender packed ≡ Some (received sender packed)) ↔ IsToBeFiled file base sender packed }

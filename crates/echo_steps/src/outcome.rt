@@ -1,4 +1,4 @@
-/// What became of a tossed message: the first of these that applies.
+/// The outcome of a tossed message: the first of these that applies.
 #[derive(Clone, Copy, Debug, PartialEq, Eq)]
 pub enum Outcome {
     /// The text has no AREA line in front.

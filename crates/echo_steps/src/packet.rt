@@ -13,10 +13,10 @@ pub struct Packet {
     pub messages: Items<PackedCopy>,
 }
 
-// The bytes of a packet without its messages: the header, and 00 00.
+// The bytes of a packet beside its messages: the header, and 00 00.
 const AROUND: usize = HEADER_BYTES + 2;
 
-// The bytes of a message without its strings, but with the 00 after each.
+// The bytes of a message beside its strings, the 00 after each among them.
 const FIXED: usize = 38;
 
 // Room for the bytes of a packet with these messages.

@@ -36,7 +36,7 @@ pub record StoreState : Type 1 where
   pub undoes : Type 0
   -- a crash now leaves the base that was committed last
   pub stays : Honestly disk (is_ready → (base : Base) → committed base → (c : Files) → disk.may_leave c → stands base c)
-  -- and it is what is seen
+  -- and it is the base that is seen
   pub shown : Honestly disk (is_ready → (base : Base) → committed base → stands base disk.seen)
 
 -- one message more at the end

@@ -96,9 +96,8 @@ pub trait Store {
 
 /// A store that can purge scanned messages.
 pub trait PurgedStore: Store {
-    /// Replaces each scanned message that has an id by its stub, which keeps only the id, and
-    /// answers how many changed. It may commit what was filed before; the purge itself waits for
-    /// the next commit.
+    /// Replaces each scanned message that has an id by its stub, which keeps only the id, and answers how many
+    /// changed. It may commit messages filed before; the purge itself waits for the next commit.
     fn purge(&mut self) -> Result<u64, StoreError>
         requires { (Self.state self.old).is_ready }
         ensures count { Honestly (Self.state self.new).disk ((base : Base) → (Self.state self.old).keeps base

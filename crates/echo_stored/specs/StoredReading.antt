@@ -1,4 +1,4 @@
--- What an editor wrote as a stored message (FTS-0001), read for posting.
+-- A stored message of an editor (FTS-0001), read for posting.
 use Rattle.std.specs.Prelude.{◌≡◌, ℕ, ◌/◌, ◌%◌, ◌==◌, ◌||◌, ◌&&◌, not, nat_le, Bool, true, false, List, [], length, take, drop, slice_index, if◌then◌else◌, unwrap_or, Result, Ok, Err}
 use Rattle.std.specs.List.{flat_map, prefix_len}
 use Rattle.echo_filed.specs.Filed.{Filed}
@@ -17,7 +17,7 @@ until_zero bytes = take (prefix_len (λ b. not (b == 0)) bytes) bytes
 abbrev pub field_at : ℕ → ℕ → List ℕ → List ℕ
 field_at place size bytes = until_zero (take size (drop place bytes))
 
--- the text behind the numbers
+-- the text after the numbers
 abbrev pub text_in : List ℕ → List ℕ
 text_in bytes = until_zero (drop 190 bytes)
 

@@ -84,7 +84,7 @@ fn field_at(bytes: &[u8], place: usize, size: usize) -> &[u8]
     until_zero(&bytes[place..place + size])
 }
 
-// The text behind the numbers.
+// The text after the numbers.
 fn text_in(bytes: &[u8]) -> &[u8]
     requires { 190 ≤ length bytes.now }
     ensures { result.now ≡ text_in bytes.now }
@@ -162,7 +162,7 @@ fn is_origin(line: &[u8]) -> bool
     begins(b" * Origin: ", line)
 }
 
-// Three hyphens, alone or with a blank 20 behind.
+// Three hyphens, alone or followed by a blank 20.
 #[tactic(auto, unfolding(echo_text::specs::Lines::is_tear))]
 fn is_tear(line: &[u8]) -> bool
     ensures { result ≡ is_tear line.now }
@@ -202,7 +202,7 @@ fn reply_in(text: &[u8]) -> &[u8]
     }
 }
 
-// What follows the colon of the first REPLY line with more than blanks there.
+// The value of the first REPLY line with more than blanks after its colon.
 fn first_reply(text: &[u8]) -> Option<&[u8]>
     ensures { option_copied result ≡ first_after reply_word (lines text.now) }
 {
@@ -225,7 +225,7 @@ fn reply_of_line(line: &[u8]) -> Option<&[u8]>
     if id.is_empty() { None } else { Some(id) }
 }
 
-/// What follows the word, where the line begins with it after line feeds.
+/// The bytes after the word, if the line begins with it after line feeds.
 pub fn after_word<'a>(word: &[u8], line: &'a [u8]) -> Option<&'a [u8]>
     ensures { MatchOption result (begins word.now line.now ≡ false) (λ rest. (begins word.now line.now ≡ true) × (rest.now ≡ after_word word.now line.now)) }
 {

@@ -15,7 +15,7 @@ const LOCAL: u16 = 256;
 
 const LOCAL_SENT: u16 = 264;
 
-/// What fills a field.
+/// The padding of a field.
 const ZEROS: [u8; 72] = [0; 72];
 
 /// Adds the message as a stored one (FTS-0001): the names and the subject, each filled with 00, the DateTime, the

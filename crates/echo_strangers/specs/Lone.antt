@@ -49,7 +49,7 @@ after_lone s (TossHere sender messages) = with_system s (tossing_at sender messa
 after_lone s (ScanHere stamp) = if is_stamp stamp then with_scanned stamp s else s
 after_lone s PurgeHere = record { system = purging_at s.system; sent = s.sent; purged_to = s.system.cursor }
 
--- what events do, one after another
+-- the effect of events in order
 abbrev pub after_all_lone : LoneSystem → List LoneEvent → LoneSystem
 after_all_lone s [] = s
 after_all_lone s (event ∷ later) = after_all_lone (after_lone s event) later

@@ -2,7 +2,7 @@
 //! function that does nothing.
 //!
 //! Some laws require a link file that was read (`IsFile`). Then the own address is in range, so an id of a
-//! posting is found again. The tag of an area is one, so a copy is read back. They also require that no
+//! posting is found again. Its tags are tags of texts, so a copy is read back. They also require that no
 //! received text has 00 (`AreOfPackets`), as in every packet. Senders, ids, areas, SEEN-BY and PATH may be
 //! anything.
 
@@ -77,8 +77,8 @@ pub fn each_link_is_sent_each_message_once()
         (address : Address) → IsOwed file m address → sent_count address (key_of m) (lone_run file (earlier ++ ScanHere stamp ∷ later)).sent ≡ 1 }
 {}
 
-/// Each packet is the system's own; each message in it is echomail, and the copy of one that was filed and
-/// scanned, for an address that is to get that one.
+/// Each packet is the system's own. Each message in it is echomail, and the copy of one that was filed and
+/// scanned, for an address that should get it.
 pub fn packets_hold_what_was_filed()
     ensures own { (file : LinkFile) → IsFile file → (events : List LoneEvent) → AreOfPackets events →
         (packet : Packet) → Among packet (lone_run file events).sent → origin packet ≡ file.system }

@@ -1,4 +1,4 @@
--- What a text says (FTS-0004, FTS-0009), and the text that is written for it.
+-- The parts of a text (FTS-0004, FTS-0009), and the text that is written for them.
 use Rattle.std.specs.Prelude.{◌≡◌, ◌≢◌, ℕ, ◌+◌, nat_lt, ◌↔◌, ◌||◌, ◌&&◌, not, if◌then◌else◌, Bool, true, List, [], ◌∷◌, ◌++◌, length, All, AllPairs, Contains, Option, Some, None, filter, find, map}
 use Rattle.std.specs.List.{AllPass, flat_map, last_or}
 use Rattle.echo_addr.specs.declared.address.NetNode.{NetNode}
@@ -22,7 +22,7 @@ IsLine line = All (λ b. (b ≢ 0) × (b ≢ 13)) line
 abbrev pub is_shed : List ℕ → Bool
 is_shed line = is_seen line || is_path line || is_blank_line line
 
--- what holds of each `EchoText`
+-- the rules of each `EchoText`
 pub record IsEcho (e : EchoText) : Type 0 where
   pub tag_bytes : is_tag e.tag ≡ true
   pub kept_lines : All IsLine e.kept
@@ -36,7 +36,7 @@ pub record IsSetOf (set all : List NetNode) : Type 0 where
   pub ascending : AllPairs ComesBefore set
   pub members : (entry : NetNode) → Contains set entry ↔ Contains all entry
 
--- what the lines after the AREA line say
+-- the parts in the lines after the AREA line
 pub record Says (later kept : List (List ℕ)) (seen path : List NetNode) (dropped : ℕ) : Type 0 where
   pub kept_lines : kept ≡ kept_of later
   pub seen_set : IsSetOf seen (all_entries (seen_lists later))
@@ -69,7 +69,7 @@ pub record TextOf (e : EchoText) (bytes : List ℕ) : Type 0 where
   pub path : ShortLines path_prefix e.path path_lines
   pub whole : bytes ≡ ended (area_word ++ e.tag) ++ (flat_map ended e.kept ++ (seen_lines ++ path_lines))
 
--- what follows the colon of the first line of this kind with more than blanks after it, without blanks at both ends
+-- the value of the first line of this kind with more than blanks after its colon, without blanks at both ends
 abbrev pub first_after : List ℕ → List (List ℕ) → Option (List ℕ)
 first_after word kept =
     find (λ found. nat_lt 0 (length found)) (map (λ line. trimmed (after_word word line)) (filter (begins word) kept))

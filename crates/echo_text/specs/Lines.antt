@@ -28,7 +28,7 @@ later_lines (line ∷ later) = later
 abbrev pub after_feeds : List ℕ → List ℕ
 after_feeds line = drop (prefix_len is_feed line) line
 
--- what lines begin with
+-- the beginnings of lines
 abbrev pub area_word : List ℕ
 area_word = codes "AREA:"
 
@@ -51,7 +51,7 @@ origin_word = codes " * Origin: "
 unfoldable pub begins : List ℕ → List ℕ → Bool
 begins word line = starts_with nat_eq (after_feeds line) word
 
--- what follows the word at the front of a line
+-- the bytes after the word at the front of a line
 unfoldable pub after_word : List ℕ → List ℕ → List ℕ
 after_word word line = drop (length word) (after_feeds line)
 

@@ -1,4 +1,4 @@
--- Why a text is refused, and what a reader answers.
+-- Why a text is refused, and the answer of a reader.
 use Rattle.std.specs.Prelude.{◌≡◌, ℕ, ◌⊎◌, not, List, Option, Some, None, if◌then◌else◌, Result, Ok, Err}
 use Rattle.echo_text.specs.declared.fault.TextFault.{TextFault}
 use Rattle.echo_text.specs.declared.fault.TextFault.TheVariants.{BadTag, Memory, NotEcho}
@@ -16,7 +16,7 @@ refusal_of first =
 unfoldable pub text_refusal : List ℕ → Option TextFault
 text_refusal text = refusal_of (first_line (lines text))
 
--- a reader's answer: what the text says, the text_refusal that applies, or out of memory where none applies
+-- a reader's answer: the parts of the text, the `text_refusal` that applies, or out of memory without a refusal
 abbrev pub TextAnswers : List ℕ → Result (EchoText × ℕ) TextFault → Type 0
 TextAnswers text (Ok read) = EchoOf text read.0 read.1
 TextAnswers text (Err fault) = (text_refusal text ≡ Some fault) ⊎ ((text_refusal text ≡ None) × (fault ≡ Memory))

@@ -6,7 +6,7 @@ use Rattle.echo_addr.specs.Entries.{dropped, entries}
 use Rattle.echo_addr.specs.ShortLines.{path_prefix, seen_prefix}
 use Rattle.echo_text.specs.Lines.{after_word, begins, is_blank_line, is_control, is_path, is_seen}
 
--- a line of which the tail is made
+-- a line of a tail
 abbrev pub is_tail_line : List ℕ → Bool
 is_tail_line line = is_seen line || is_control line || is_blank_line line
 
@@ -28,11 +28,11 @@ is_kept_control line = is_control line && not (is_path line)
 unfoldable pub kept_of : List (List ℕ) → List (List ℕ)
 kept_of later = body later ++ filter is_kept_control (tail later)
 
--- what follows the word in the lines that begin with it
+-- the bytes after the word in the lines that begin with it
 abbrev pub lists_of : List ℕ → List (List ℕ) → List (List ℕ)
 lists_of word lines = map (after_word word) (filter (begins word) lines)
 
--- what follows the colon in the tail's SEEN-BY lines, and in its PATH lines
+-- the bytes after the colon in the tail's SEEN-BY lines, and in its PATH lines
 unfoldable pub seen_lists : List (List ℕ) → List (List ℕ)
 seen_lists later = lists_of seen_prefix (tail later)
 

@@ -32,7 +32,7 @@ impl Lines {
     ghost use Rattle.echo_text.specs.Lines.{lines};
     ghost use Rattle.echo_text.specs.Echo.{HasEndedLines, ended};
 
-    /// The lines of the text, each of which has its 0D.
+    /// The lines of the text; each has its 0D.
     pub fn of_text(text: Vec<u8>) -> Lines
         requires { HasEndedLines text.items }
         ensures { result ≡ lines text.items }

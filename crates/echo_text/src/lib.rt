@@ -3,10 +3,9 @@
 //! Promise: `read_text` of the text that `write_text` made for an `Echo` gives that `Echo`, no
 //! token dropped (`written_text_read_back`).
 //!
-//! Begin with `echo` (a parsed text), then `reading` and `writing`. `area` has the tag, `kept` the
-//! kept lines, `tail` the control tail, `listed` its entries, `found` ids, tear and origin lines,
-//! `msgid` message ids, `fault` the refusals. `words` and `lines` are helpers; `laws` and `id_laws`
-//! state the promises.
+//! Begin with `echo` (a parsed text), then `reading` and `writing`. `area` has the tag, `kept` the kept lines,
+//! `tail` the control tail, `listed` its entries. `found` has ids, tear and origin lines, `msgid` message ids,
+//! `fault` the refusals. `words` and `lines` are helpers; `laws` and `id_laws` state the promises.
 //!
 //! A caller, who adds a system to the PATH of a text:
 //!

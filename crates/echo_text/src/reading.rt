@@ -43,7 +43,7 @@ pub fn read_text(alloc: Global, text: &[u8]) -> Result<(Echo, usize), TextFault>
     Ok((echo, dropped))
 }
 
-/// What the lines after the AREA line say.
+/// The parts in the lines after the AREA line.
 #[derive(Drop)]
 struct Parts<'a> {
     kept: KeptView<'a>,
@@ -52,7 +52,7 @@ struct Parts<'a> {
     dropped: usize,
 }
 
-/// What the lines say, of which `rest` is made.
+/// The parts in the lines of `rest`.
 fn parts_of<'a>(alloc: Global, rest: &'a [u8]) -> Result<Parts<'a>, AllocError>
     ensures { IfOk result (λ p. Says (lines rest.now) p.kept p.seen.items p.path.items p.dropped) }
 {

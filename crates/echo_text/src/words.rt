@@ -5,7 +5,7 @@ ghost use Rattle.echo_text.specs.Tail.{is_kept_control, is_tail_line};
 
 use echo_addr::is_blank;
 
-/// What SEEN-BY, PATH, MSGID, REPLY and origin lines begin with.
+/// The beginnings of SEEN-BY, PATH, MSGID, REPLY and origin lines.
 pub(crate) const SEEN_BY: &[u8] = b"SEEN-BY:";
 
 pub(crate) const PATH: &[u8] = b"\x01PATH:";
@@ -43,7 +43,7 @@ pub(crate) fn begins(word: &[u8], line: &[u8]) -> bool
     after_feeds(line).starts_with(word)
 }
 
-/// What follows the word, where the line begins with it after line feeds.
+/// The bytes after the word, if the line begins with it after line feeds.
 pub(crate) fn after_word<'a>(word: &[u8], line: &'a [u8]) -> Option<&'a [u8]>
     ensures { MatchOption result (begins word.now line.now ≡ false) (λ rest. (begins word.now line.now ≡ true) × (rest.now ≡ after_word word.now line.now)) }
 {
@@ -82,14 +82,14 @@ fn back_blanks(bytes: &[u8]) -> usize
     bytes.iter().rev().take_while(|b| is_blank(**b)).count()
 }
 
-/// Whether the line is a tear line: three hyphens, alone or with a blank 20 behind.
+/// Whether the line is a tear line: three hyphens, alone or followed by a blank 20.
 pub(crate) fn is_tear(line: &[u8]) -> bool
     ensures { result ≡ is_tear line.now }
 {
     begins(b"--- ", line) || (begins(b"---", line) && after_feeds(line).len() == 3)
 }
 
-/// Whether control tails are made of such lines.
+/// Whether a control tail has such lines.
 pub(crate) fn is_tail_line(line: &[u8]) -> bool
     ensures { result ≡ is_tail_line line.now }
 {

@@ -25,8 +25,8 @@ abbrev pub cause_of : PacketFault → TossCause
 cause_of fault.Memory = stop.Memory
 cause_of other = stop.Packet other
 
--- These messages of one sender were tossed, in order: the base has those that were filed, the link file and the cursor
--- stay, and the tally counts what became of each.
+-- These messages of one sender were tossed, in order: the filed ones were appended to the base, the link file and the
+-- cursor stay, and the tally counts each outcome.
 pub record HasTossed (sender : Address) (ms : List Message) (old : SystemState) (tally : Tally) (new : SystemState) : Type 0 where
   pub state : new ≡ record { file = old.file; base = tossed old.file old.base sender ms; cursor = old.cursor }
   pub counts : tally ≡ tally_of (outcomes old.file old.base sender ms)
@@ -110,7 +110,7 @@ abbrev pub CountsToss : Result Tally TossFault → ℕ → ℕ → Type 0
 CountsToss (Ok tally) before after = after ≡ before
 CountsToss (Err f) before after = CountsCause f.cause before after
 
--- the toss of these messages where the reader does not fail: all were tossed, or memory was refused behind the first n
+-- the toss of these messages if the reader does not fail: all were tossed, or memory was refused after the first n
 abbrev pub WholeStep : SystemState → Address → List Message → Result Tally TossFault → SystemState → Type 0
 WholeStep old sender ms (Ok tally) new = HasTossed sender ms old tally new
 WholeStep old sender ms (Err f) new =

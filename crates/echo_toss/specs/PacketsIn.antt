@@ -37,7 +37,7 @@ abbrev pub packet_answer : Result Tally StoppedToss → Result Tally TossFault
 packet_answer (Ok tally) = Ok tally
 packet_answer (Err stopped) = Err (record { tally = stopped.tally; cause = cause_in stopped.stop })
 
--- what stopped it, without its tally
+-- the fault that stopped it, without its tally
 abbrev pub stop_in : Result Tally StoppedToss → Result (Unit {0}) TossStop
 stop_in (Ok tally) = Ok tt
 stop_in (Err stopped) = Err stopped.stop
@@ -48,7 +48,7 @@ toss_answer (Ok done) = Ok tt
 toss_answer (Err (toss.Packet why)) = Ok tt
 toss_answer (Err (toss.Store error)) = Err error
 
--- the store holds this base; where it failed, if it takes back what failed
+-- the store holds this base; after a failure it does so if it undoes failed changes
 abbrev pub HoldsUnlessFailed : {A : Type 0} → StoreState → Result A TossStop → StoreState → Base → Type 0
 HoldsUnlessFailed old (Ok done) new base = new.keeps base
 HoldsUnlessFailed old (Err (toss.Packet why)) new base = new.keeps base
@@ -66,7 +66,7 @@ pub record TossesPacketIn (limits : Limits) (file : LinkFile) (base : Base) (bef
   pub step : PacketStep limits (state_in file base) before after (packet_answer result) (state_in file next)
   pub holds : HoldsUnlessFailed old (stop_in result) new next
 
--- the same of the messages behind a header
+-- the same for the messages after a header
 pub record TossesMessagesIn {A : Type 0} (limits : Limits) (sender : Address) (file : LinkFile) (base : Base) (before after : Option (List ℕ)) (tally : Tally) (old : StoreState) (result : Result A TossStop) (new : StoreState) : Type 0 where
   pub next : Base
   pub step : TossesMessages limits sender (state_in file base) before after tally (messages_answer result) (state_in file next)

@@ -1,4 +1,4 @@
--- What loading a system answers.
+-- The answers of loading a system.
 use Rattle.std.specs.Prelude.{Result, Ok, Err}
 use Rattle.echo_base.specs.declared.fault.BaseFault.{BaseFault}
 use Rattle.echo_base.specs.Base.{Base}

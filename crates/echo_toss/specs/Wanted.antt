@@ -47,7 +47,7 @@ pub record IsNew (file : LinkFile) (base : List Filed) (sender : Address) (packe
   pub own_key : key ≡ key_of m
   pub new : is_known base key ≡ false
 
--- what becomes of a message is so
+-- this is the outcome of a message
 abbrev pub IsVerdict : LinkFile → List Filed → Address → Message → Verdict → Type 0
 IsVerdict file base sender packed (New key m) = IsNew file base sender packed key m
 IsVerdict file base sender packed (Left answer) = (answer ≡ toss_outcome file base sender packed) × (None ≡ tossing file base sender packed)

@@ -43,7 +43,7 @@ impl From<PacketFault> for TossCause {
     }
 }
 
-/// A toss of a packet that stopped, and what became of the messages before. These stay tossed.
+/// A toss of a packet that stopped, and the outcomes of the messages before. These stay tossed.
 #[derive(Clone, Copy, Debug, PartialEq, Eq, Error)]
 #[error("{cause}")]
 pub struct TossFault {

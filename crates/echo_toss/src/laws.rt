@@ -16,7 +16,7 @@ ghost use Rattle.echo_toss.specs.PacketSteps.{CountsToss, IsForUs, PacketStep, W
 
 /// The toss of a packet's bytes, whatever follows them, from a reader that does not fail.
 pub fn packet_laws()
-    // At the system that the packet is for it is the toss of its messages, in order; out of memory comes behind the first of them.
+    // At its destination it is the toss of its messages, in order; out of memory comes after the first of them.
     ensures whole { (limits : Limits) (header : Header) (ms : List Message) (bytes rest : List ℕ) (after : Option (List ℕ)) (old new : SystemState) (result : Result Tally TossFault) →
         PacketOf limits header ms bytes → IsForUs old header → PacketStep limits old (Some (bytes ++ rest)) after result new → CountsToss result 0 0 →
         WholeStep old (sender_of old.file header) ms result new }

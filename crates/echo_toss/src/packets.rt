@@ -76,7 +76,7 @@ impl<S: BuildHasher> Tosser<S> {
     }
 }
 
-// What stopped a toss over a base in memory, which fails only where a growth is refused.
+// The fault of a toss over a base in memory, which fails only if memory is refused.
 fn fault_in(stopped: StoppedToss) -> TossFault
     ensures { result ≡ record { tally = stopped.tally; cause = cause_in stopped.stop } }
 {

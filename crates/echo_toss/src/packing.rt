@@ -136,7 +136,6 @@ fn push_copy(
     Ok(())
 }
 
-// Whether the message goes to the address.
 fn goes_to(one: &Ready, address: Address) -> bool
     ensures { result ≡ goes_ready address one.now }
 {

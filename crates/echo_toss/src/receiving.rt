@@ -85,7 +85,7 @@ pub(crate) fn received(
     requires said { view ≡ echo_of packed.now.text }
     ensures { IfOk result (λ m. m ≡ received sender packed.now) }
 {
-    // For the prover alone: what holds of every packed message.
+    // For the prover: a property of every packed message.
     packed.text();
     let to_name = copied(alloc, packed.to_name())?;
     let from_name = copied(alloc, packed.from_name())?;

@@ -19,8 +19,8 @@ use echo_store::{Store, StoreError};
 use std::alloc::Global;
 use std::hash::BuildHasher;
 
-/// Makes the packets of the messages of the store that wait: one for each address that gets some of them, ascending,
-/// its messages in order of filing. Afterwards no message waits. Nothing is committed.
+/// Makes the packets of the store's waiting messages: one for each address that gets some of them, ascending,
+/// with its messages in order of filing. Then no message waits. Nothing is committed.
 pub fn scan_in<T: Store>(
     alloc: Global,
     links: &LinkFile,
@@ -48,8 +48,8 @@ pub fn scan_in<T: Store>(
 }
 
 impl<S: BuildHasher> Tosser<S> {
-    /// Makes the packets of the messages that wait: one for each address that gets some of them,
-    /// ascending, its messages in order of filing. Afterwards no message waits.
+    /// Makes the packets of the waiting messages: one for each address that gets some of them, ascending, with
+    /// its messages in order of filing. Then no message waits.
     pub fn scan(&mut self, stamp: Stamp) -> Result<Vec<Packet>, ScanFault>
         ensures { ScanStep self.old stamp (listed result) self.new }
     {

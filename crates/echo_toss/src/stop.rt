@@ -104,7 +104,7 @@ impl From<StoreError> for TossStop {
     }
 }
 
-/// A toss of a packet into a store that stopped, and what became of the messages before.
+/// A toss of a packet into a store that stopped, and the outcomes of the messages before.
 #[derive(Clone, Copy, Debug, PartialEq, Eq, Error)]
 #[error("{stop}")]
 pub struct StoppedToss {

@@ -3,7 +3,7 @@ ghost use Rattle.echo_toss.specs.Tallies.{all_counted, tally_with};
 
 use echo_steps::Outcome;
 
-/// What became of the messages of a packet: how many had each outcome.
+/// The outcomes of the messages of a packet: how many had each.
 #[derive(Clone, Copy, Debug, PartialEq, Eq)]
 pub struct Tally {
     pub filed: u64,

@@ -54,7 +54,7 @@ impl<S: BuildHasher> Tosser<S> {
         self.store.base().len()
     }
 
-    /// How many of them were not yet scanned.
+    /// The number of messages that were not scanned yet.
     pub fn waiting(&self) -> usize
         ensures { result ≡ length self.now.base - self.now.cursor }
     {

@@ -60,7 +60,7 @@ impl<S: BuildHasher> Tosser<S> {
     }
 }
 
-/// What becomes of a message.
+/// The decision on a message.
 #[derive(Drop)]
 enum Verdict {
     /// It is to be filed, with this key.
@@ -69,7 +69,7 @@ enum Verdict {
     Left(Outcome),
 }
 
-// What becomes of the message.
+// Decides on a message.
 fn judged<T: Store>(
     alloc: Global,
     links: &LinkFile,

@@ -25,7 +25,7 @@ const AREA: &[u8] = b"AREA";
 /// The most bytes of a name.
 const MOST: usize = 40;
 
-/// What the lines of a link file say so far.
+/// The parts of a link file in the lines so far.
 #[derive(Drop)]
 pub(super) struct Reading {
     pub(super) system: Option<Address>,
@@ -117,7 +117,7 @@ impl Reading {
     }
 }
 
-/// What the lines of a link file say, each line read once.
+/// The parts of a link file, each line read once.
 pub(super) fn read_lines(alloc: Global, bytes: &[u8]) -> Result<Reading, LinkFault>
     ensures { ReadsLinkFile bytes.now result }
 {
