@@ -44,6 +44,7 @@ if [ "${1-}" = all ]; then
 fi
 echo '```'
 awk -F ' *[|] *' '
+  function fault(line) { print line > "/dev/stderr"; bad = 1 }
   NR == FNR {
     if ($0 == "") next
     if ($1 != "") { group++; name = $1 } else name = ""
@@ -55,12 +56,12 @@ awk -F ' *[|] *' '
   }
   /^[a-z_]+:/ {
     split($0, parts, ":")
-    if (!(parts[1] in height)) print "in no group: " parts[1]
+    if (!(parts[1] in height)) fault("in no group: " parts[1])
     count = split(parts[2], lower, " ")
     seen[parts[1]] = 1
     for (i = 1; i <= count; i++)
-      if (lower[i] in height && height[lower[i]] < height[parts[1]]) print parts[1] " uses " lower[i] " of a group above it"
+      if (lower[i] in height && height[lower[i]] < height[parts[1]]) fault(parts[1] " uses " lower[i] " of a group above it")
   }
-  END { for (name in height) if (!(name in seen)) print "no crate: " name }
+  END { for (name in height) if (!(name in seen)) fault("no crate: " name); exit bad }
 ' <(printf '%s\n' "$rows") crates.txt
 echo '```'
