@@ -1,6 +1,7 @@
 #!/usr/bin/env python3
-"""check_docs.py: what documents name exists. In README.md, CONTRIBUTING.md and docs it looks at each word in backquotes that is
-a path of this repository, a crate, a function or a law, a target of make, or an option, and at each link."""
+"""check_docs.py: names in documents exist. In README.md, CONTRIBUTING.md and docs it looks at each word in backquotes that is
+a path of this repository, a crate, a function or a law, a target of make, a command or an option. It also looks at each link with
+its anchor, and at each word in italics that has an underscore: a clause of a contract or a field of a definition."""
 import glob
 import os
 import re
@@ -15,10 +16,14 @@ sources = [
     if "/out/" not in it
 ]
 known = set()
+clauses = set()
 for it in sources:
     known.add(os.path.basename(it).rsplit(".", 1)[0])
     with open(it) as file:
-        known.update(re.findall(r"\w+", file.read()))
+        text = file.read()
+    known.update(re.findall(r"\w+", text))
+    clauses.update(re.findall(r"(?:ensures|requires) (\w+) \{", text))
+    clauses.update(re.findall(r"^ +pub (\w+) :", text, re.M))
 for it in glob.glob("crates/*/must-fail/*.edit") + glob.glob("edits/*/*.edit"):
     known.add(os.path.basename(it).rsplit(".", 1)[0])
 for it in glob.glob("**/*.sh", recursive=True) + glob.glob("**/*.py", recursive=True):
@@ -29,6 +34,15 @@ with open("Makefile") as file:
 with open("crates/echo_words/src/commands.rt") as file:
     options = set(re.findall(r'"([a-z][a-z-]*)"', file.read())) | {"help", "version"}
 wrong = []
+
+
+def anchors(page):
+    """The anchors of a page's headings, as viewers of Markdown make them."""
+    with open(page) as file:
+        heads = re.findall(r"^#+ (.*)$", file.read(), re.M)
+    return {re.sub(r"[^\w -]", "", head.lower()).replace(" ", "-") for head in heads}
+
+
 for page in pages:
     with open(page) as file:
         text = file.read()
@@ -37,11 +51,17 @@ for page in pages:
     for number, line in enumerate(lines, 1):
         if line.startswith("```"):
             fenced = not fenced
-        for name in re.findall(r"\]\(([^)#:\s]+)(?:#[^)]*)?\)", line):
-            if not os.path.exists(os.path.join(os.path.dirname(page), name)):
+        for name, anchor in re.findall(r"\]\(([^)#:\s]*)(?:#([^)]*))?\)", line):
+            target = os.path.join(os.path.dirname(page), name) if name else page
+            if not os.path.exists(target):
                 wrong.append(f"{page}:{number}: no file {name}")
+            elif anchor and anchor not in anchors(target):
+                wrong.append(f"{page}:{number}: no heading {name}#{anchor}")
         if fenced:
             continue
+        for name in re.findall(r"(?<!\*)\*([a-z]+(?:_[a-z]+)+)\*(?!\*)", line):
+            if name not in clauses:
+                wrong.append(f"{page}:{number}: no clause {name}")
         for word in re.findall(r"`([^`]+)`", line):
             first = word.split()[0] if word.split() else ""
             if re.fullmatch(r"(crates|docs|scripts|examples|trials|bench|interop|packaging|edits)/[\w./-]+", first):
@@ -58,6 +78,9 @@ for page in pages:
                     if target not in targets:
                         wrong.append(f"{page}:{number}: no target {target}")
             if first == "echonet":
+                for command in re.findall(r"^echonet ([a-z]+)", word):
+                    if command not in options:
+                        wrong.append(f"{page}:{number}: no command {command}")
                 for option in re.findall(r"--([a-z][a-z-]+)", word):
                     if option not in options:
                         wrong.append(f"{page}:{number}: no option --{option}")
