@@ -25,7 +25,7 @@ fn folded() -> BuildHasherDefault<FoldHasher> {
     BuildHasherDefault::new()
 }
 
-// Whether a reader that fails after so many of the bytes is reported.
+// Whether a reader that fails after `n` bytes is reported.
 fn fails_to_load(alloc: Global, bytes: &[u8], n: usize) -> bool {
     let mut reader = Watched::new(Trial::new(bytes, 7, 1, n as u64));
     matches!(
@@ -34,7 +34,7 @@ fn fails_to_load(alloc: Global, bytes: &[u8], n: usize) -> bool {
     )
 }
 
-// Whether a writer that fails after so many bytes is reported, and how many went.
+// Whether a writer that fails after `n` bytes is reported, with the number of bytes sent.
 fn fails_to_save(alloc: Global, base: &Folded, n: u64) -> bool {
     let mut writer = Watched::new(Trial::new(Vec::new(alloc), 7, 1, n));
     match base.save(&mut writer) {

@@ -38,7 +38,6 @@ fn write_text<S: Sink>(sink: &mut S, sent: &mut u64) -> bool {
     send(&mut by_reference, TEXT, sent).is_ok() && Sink::flush_all(&mut by_reference).is_ok()
 }
 
-// How many bytes stand in front as in the text.
 fn as_in_text(bytes: &[u8]) -> usize {
     bytes.iter().zip(TEXT).take_while(|(a, b)| a == b).count()
 }
@@ -58,8 +57,7 @@ fn read_case(piece: usize, again: u32, left: u64) -> (usize, usize, u64) {
     }
 }
 
-// How many bytes are counted as gone, how many stand there as in the text, and how many failures
-// are counted.
+// The number of bytes counted as sent, of bytes that agree with the text, and of failures.
 fn write_case(piece: usize, again: u32, left: u64) -> (u64, usize, u64) {
     let mut out = [0u8; 20];
     let mut sent = 0;
@@ -102,7 +100,7 @@ fn reads_after_a_failure(rt: HostRuntime) {
     assert_eq!(rt; source.failures(), 2);
 }
 
-// Through a buffer, and through the bound. Where memory is refused once, the next attempt has it.
+// Through a buffer, and through the bound. If memory is refused once, the next attempt gets it.
 #[test]
 fn reads_through_a_buffer(rt: HostRuntime) {
     let made = Buffered::new(rt.alloc(), TEXT, 8).is_ok();
@@ -122,7 +120,7 @@ fn reads_through_a_buffer(rt: HostRuntime) {
     }
 }
 
-// How many bytes the source holds, and the rest of it after those up to the first blank.
+// The number of bytes that the source holds, and its rest after the first blank.
 fn after_blank<S: Source>(source: &mut S) -> (usize, usize) {
     let held = source.held();
     let all = held.len();

@@ -10,7 +10,7 @@ fn same(a: &Key, b: &Key) -> bool
     a == b
 }
 
-// The answers for two keys, if memory is there.
+// The answers for two keys, unless memory is refused.
 fn compared(alloc: Global, tag: &[u8], other: &[u8]) -> Result<bool, AllocError> {
     let key = by_id(alloc, tag, b"1:10/1 00000001")?;
     let next = by_id(alloc, other, b"1:10/1 00000001")?;

@@ -3,7 +3,6 @@ use std::alloc::{AllocError, Global};
 use std::process::Abort;
 use std::test::Fail;
 
-/// Rows of links for these members.
 fn link_all(
     alloc: Global,
     members: usize,
@@ -81,7 +80,7 @@ fn knows_what_is_no_graph(rt: HostRuntime) -> Result<(), Fail> {
     Ok(())
 }
 
-/// Where memory is refused, the call says so, and a second call answers.
+/// If memory is refused, the call says so, and a second call answers.
 #[test]
 fn answers_once_memory_is_there(rt: HostRuntime) -> Result<(), Fail> {
     let Ok(graph) = graph_of(

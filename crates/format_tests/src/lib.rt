@@ -1,5 +1,5 @@
-//! Tests of the formats over what their crates offer to others, of what no row of examples/cases shows:
-//! calls that no command makes, answers that none prints, and devices that fail.
+//! Tests of the formats beyond examples/cases: calls that no command makes, answers that none prints, and
+//! devices that fail.
 #![tactic(auto)]
 
 #[cfg(test)]

@@ -1,4 +1,4 @@
-//! Tags as a link file has them: commands ask for tags in capitals alone.
+//! Tags of a link file: commands ask only for tags in capitals.
 use echo_addr::Address;
 use echo_links::LinkFile;
 use std::test::Fail;

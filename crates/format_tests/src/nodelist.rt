@@ -1,5 +1,5 @@
-//! What no command prints of nodelists: the checksum of bytes that are none, hubs, and nodelists as they are
-//! written, also to devices that fail.
+//! Nodelists beyond what commands print: the checksum of bytes that are no nodelist, hubs, and written
+//! nodelists, also on devices that fail.
 
 use echo_addr::Address;
 use echo_device::{Trial, Watched};
@@ -11,7 +11,7 @@ use std::test::Fail;
 const NESTED: &[u8] =
     b"Zone,1,a,b,c,d,9600\nHost,10,a,b,c,d,9600\nHub,100,a,b,c,d,9600\n,101,a,b,c,d,9600\nPvt,102,a,b,c,d,9600\nRegion,13,a,b,c,d,9600\n,5,a,b,c,d,9600\nHost,20,a,b,c,d,9600\n,1,a,b,c,d,9600\n";
 
-/// A nodelist as it is written.
+/// A nodelist in its written form.
 const WRITTEN: &[u8] = b"Zone,1,a,b,c,d,9600\r\n;n\r\n\r\n,7,a,,c,d,,e\r\n\x1a";
 
 /// Nodelists, and how they are written.
@@ -56,7 +56,7 @@ fn tells_hubs(rt: HostRuntime) -> Result<(), Fail> {
     Ok(())
 }
 
-// What a device that takes pieces and fails after so many bytes gets of the bytes that are wanted.
+// The answer of a device that takes pieces and fails after `left` bytes, and the bytes that it got.
 fn write_case(
     alloc: Global,
     list: &Nodelist,

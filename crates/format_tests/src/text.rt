@@ -1,5 +1,4 @@
-//! The parts of message ids, of which commands say only whether one is an id; and texts that are copied of their
-//! views.
+//! The parts of message ids (commands say only whether one is an id), and copies of texts from their views.
 
 ghost use Rattle.std.specs.Prelude.{IfSome};
 ghost use Rattle.echo_text.specs.Echo.{HasNoZero};
@@ -44,7 +43,7 @@ fn quoted_ids(rt: HostRuntime) -> Result<(), Fail> {
     Ok(())
 }
 
-// Where nothing is named as a reply, none is looked for.
+// Without the name of a reply, nothing is searched.
 #[test]
 fn nothing_is_no_id(rt: HostRuntime) {
     assert!(rt; MsgId::read(b"").is_err());
@@ -61,7 +60,7 @@ fn checked(text: &[u8]) -> Option<&[u8]>
     }
 }
 
-// Commands make a text of its view in place of a copy.
+// Commands make a text from its view instead of a copy.
 #[test]
 fn views_are_copied(rt: HostRuntime) -> Result<(), Fail> {
     let text = checked(b"AREA:T\rx\r\x01FOO\rSEEN-BY: 10/2\r").ok_or("a text has no 00")?;

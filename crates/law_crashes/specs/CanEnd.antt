@@ -1,9 +1,9 @@
--- What stopped scans of a station left beside names can be brought to its end.
+-- The temporary files of a station's stopped scans can be finished.
 use Rattle.std.specs.Prelude.{ℕ}
 use Rattle.law_crashes.specs.Disks.{Disks, HasCursor}
 use Rattle.law_crashes.specs.Stopping.{EndsSome, HasNoneBeside}
 
--- so many steps of a scan bring it to its end, all of it
+-- this many steps of a scan finish all of them
 pub record CanEnd (i : ℕ) (d : Disks) : Type 0 where
   pub steps : ℕ
   pub ended : Disks

@@ -1,17 +1,17 @@
--- What stands on the disks of stations where a command may be stopped: packet files under their names, and files beside such names.
+-- The disks of stations with commands that may be stopped: packet files under their names, and temporary files.
 use Rattle.std.specs.Prelude.{◌≡◌, ℕ, Bool, true, false, List, [], ◌∷◌, ◌++◌, map, Some}
 use Rattle.echo_run.specs.Run.{nth}
 use Rattle.law_stations.specs.Nets.{Net, Station, first_net}
 
--- A file beside the name of a packet: the station that wrote it, the number in the name, which is how many messages the
--- station had scanned before, its bytes, and whether these stand under the name too.
+-- A temporary file of a packet: the station that wrote it, the number in its name, its bytes, and whether the
+-- packet's name has them too. The number is the count of messages that the station had scanned before.
 pub record Beside : Type 0 where
   pub station : ℕ
   pub number : ℕ
   pub bytes : List ℕ
   pub named : Bool
 
--- The stations, with the packet files that got their names, in this order, each once; and the files beside names.
+-- The stations, with the packet files that got their names, in this order, each once; and the temporary files.
 pub record Disks : Type 0 where
   pub net : Net
   pub beside : List Beside

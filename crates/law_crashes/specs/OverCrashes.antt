@@ -1,4 +1,4 @@
--- What the disks of a net are to show, wherever the commands on them were stopped.
+-- The promise about the disks of a net, wherever its commands were stopped.
 use Rattle.std.specs.Prelude.{◌≡◌, ◌≢◌, ◌⊎◌, ◌<◌, ◌≤◌, ℕ, false, IsTrue, List, [], map, Option, Some, Ok}
 use Rattle.echo_status.specs.Devices.{Output}
 use Rattle.echo_graph.specs.Walk.{Among, Different}
@@ -19,7 +19,8 @@ use Rattle.law_stations.specs.Nets.{Net, Paired, first_net}
 use Rattle.law_crashes.specs.Disks.{Beside, Disks, HasCursor, first_disks}
 use Rattle.law_crashes.specs.Stopping.{MayHappenAll}
 
--- A file beside a name that it did not get yet, whose scan came to move the cursor: the next scan of the station is to name it.
+-- A temporary file that did not get its name yet, after its scan moved the cursor: the next scan of the station will
+-- name it.
 pub record IsToBeNamed (d : Disks) (file : Beside) : Type 0 where
   pub stands : Among file d.beside
   pub unnamed : file.named ≡ false
@@ -27,8 +28,9 @@ pub record IsToBeNamed (d : Disks) (file : Beside) : Type 0 where
   pub is_cursor : HasCursor d.net file.station cursor
   pub below : file.number < cursor
 
--- The disks have what a net without crashes has: its stations and postings; each packet file with a name is a packet of its own
--- of that net; each packet of that net has its name or is to be named; and what was tossed whole was so there.
+-- The disks have the contents of a net without crashes: its stations and postings. Each packet file with a name is a
+-- different packet of that net. Each packet of that net has its name or will get it, and the packets tossed whole had
+-- theirs.
 pub record HasNet (d : Disks) (net : Net) : Type 0 where
   pub stations : d.net.stations ≡ net.stations
   pub postings : d.net.postings ≡ net.postings
@@ -51,42 +53,43 @@ pub record IsLikeEvent (event plain : CommandEvent) : Type 0 where
   pub station : plain.station ≡ event.station
   pub command : IsLike event.command plain.command
 
--- whatever stops commands, the disks have the net that such commands lead to where nothing stops any of them inside
+-- whatever stops commands, the disks have a net to which such commands lead without a stop
 abbrev pub CrashesAreNone : Type 0
 CrashesAreNone = (links : List (List ℕ)) (commands : List CommandEvent) (d : Disks) → MayHappenAll commands (first_disks links) d
     → (plain : List CommandEvent) × (net : Net) × Paired IsLikeEvent commands plain × Happen plain (first_net links) net × HasNet d net
 
--- the disks of a net without files beside names
+-- the disks of a net without temporary files
 abbrev pub disks_of : Net → Disks
 disks_of net = record { net = net; beside = [] }
 
--- and what commands do that nothing stops is among what they may do
+-- and the effects of commands without a stop are among the possible effects
 abbrev pub WholeAreAmong : Type 0
 WholeAreAmong = (links : List (List ℕ)) (commands : List CommandEvent) (net : Net) → Happen commands (first_net links) net
     → MayHappenAll commands (first_disks links) (disks_of net)
 
--- what the disks show is sound
+-- the contents of the disks are sound
 abbrev pub SoundOverCrashes : Type 0
 SoundOverCrashes = (links : List (List ℕ)) (files : List LinkFile) → AreLinkFiles links files → Different (map file_address files)
     → (commands : List CommandEvent) (d : Disks) → MayHappenAll commands (first_disks links) d → IsSound commands d.net
 
--- nothing of the area waits for a scan, no packet that holds a message of it is to be named, and each that has its name and
--- holds one was tossed whole
+-- nothing of the area waits for a scan; no packet with a message of it waits for its name, and each one with a name
+-- was tossed whole
 pub record HasSettled (d : Disks) (tag : List ℕ) : Type 0 where
   pub named : IsSettled d.net tag
   pub beside : (file : Beside) (p : Packet) → IsToBeNamed d file → ReadsAs file.bytes p → (m : Filed) → Among m (copies p) → m.echo.tag ≢ tag
 
--- what the disks show of an area that was checked
+-- the promise about a checked area on the disks
 pub record InOrderOverCrashes (commands : List CommandEvent) (d : Disks) (tag : List ℕ) : Type 0 where
   pub sound : IsSound commands d.net
-  -- over all packet files that got their names each station that has the area was sent each message at most once, and none of its own
+  -- over all packet files that got their names each station with the area was sent each message at most once, and
+  -- none that it posted
   pub sent_once : (packets : List Packet) → Paired ReadsAs d.net.packets packets →
       (i : ℕ) (file : LinkFile) (messages : List Filed) (cursor : ℕ) → StationHolds d.net i file messages cursor → IsTrue (has_area file tag) →
       (key : Key) → tag_of key ≡ tag → sent_count file.system key packets ≤ 1
   pub never_own : (packets : List Packet) → Paired ReadsAs d.net.packets packets →
       (i : ℕ) (file : LinkFile) (messages : List Filed) (cursor : ℕ) → StationHolds d.net i file messages cursor → IsTrue (has_area file tag) →
       (m : Filed) → Among m messages → IsPosting tag m → sent_count file.system (key_of m) packets ≡ 0
-  -- and where the area has settled its base has each posting once, unchanged
+  -- and if the area has settled its base has each posting once, unchanged
   pub all_came : HasSettled d tag → (posting : Filed) → Among posting d.net.postings → posting.echo.tag ≡ tag →
       (i : ℕ) (file : LinkFile) (messages : List Filed) (cursor : ℕ) → StationHolds d.net i file messages cursor → IsTrue (has_area file tag) →
       HasUnchanged commands i messages cursor posting

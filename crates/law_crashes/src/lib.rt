@@ -1,8 +1,9 @@
-//! Nets of stations whose commands may be stopped at any moment: what the disks show then is what they would show if
-//! nothing had stopped a command inside.
+//! Laws about nets of stations with crashes: the disks show what they would show if no command had been
+//! stopped.
 //!
-//! The definitions stand in specs/: `Disks` (files under their names, and files beside names), `Stopping` (how far a
-//! command comes), `CanEnd` (what stopped scans left) and `OverCrashes` (what the disks are to show).
+//! The promise is in `laws`. Begin with specs/: `Disks` (files under their names, and temporary files) and
+//! `Stopping` (how far a command gets). `CanEnd` is about the files of stopped scans, `OverCrashes` is the
+//! promise about the disks.
 #![tactic(auto)]
 
 mod laws;

@@ -1,4 +1,4 @@
--- What the disks of one station are to show, whatever came to it, and wherever its commands were stopped.
+-- The promise about the disks of one station, whatever came to it, and wherever its commands were stopped.
 use Rattle.std.specs.Prelude.{◌≡◌, ℕ, List, ◌++◌, Ok}
 use Rattle.echo_links.specs.Links.{LinkFile}
 use Rattle.echo_links.specs.LinkLines.{LinksOf}
@@ -15,13 +15,13 @@ pub record AloneHasOrder (commands : List LoneCommand) (s : LoneDisks) : Type 0 
   pub has : HasNet s.disks net
   pub in_order : IsInOrderAlone commands (on_net s net)
 
--- any commands, whatever stops them, and any files given to `toss` leave it so
+-- any commands, whatever stops them, and any input files of `toss` leave it so
 abbrev pub AloneIsInOrderOverCrashes : Type 0
 AloneIsInOrderOverCrashes = (links : List ℕ) (file : LinkFile) → LinksOf links (Ok file)
     → (commands : List LoneCommand) (s : LoneDisks) → MayHappenAllAlone commands (lone_disks_at_first links) s → AloneHasOrder commands s
 
--- the disks have such nets before and after later commands, of which the later one shows what the earlier one did; and
--- no packet file is taken away from under its name
+-- before and after later commands the disks have nets, and the later net keeps the contents of the earlier one; and
+-- no packet file loses its name
 pub record StaysOverCrashes (later : List LoneCommand) (s new : LoneDisks) : Type 0 where
   pub net : Net
   pub has : HasNet s.disks net

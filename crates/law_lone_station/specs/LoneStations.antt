@@ -10,8 +10,8 @@ use Rattle.echo_changing.specs.Coming.{Coming, Fails, Holds, Unknown}
 use Rattle.law_stations.specs.Commands.{Posts, Purges, Scans, TossesAll}
 use Rattle.law_stations.specs.Nets.{Net, Station, first_net, with_left}
 
--- The net of the station alone, with the packet files that its scans left; and the bytes of all files that `toss` was
--- given, in order, and of those that it tossed whole.
+-- The net of the station alone, with the packet files of its scans; and the bytes of all input files of `toss`, in
+-- order, and of those that it tossed whole.
 pub record LoneStation : Type 0 where
   pub net : Net
   pub came : List (List ℕ)
@@ -40,7 +40,7 @@ abbrev pub tossed_whole : List Coming → Option Fault → List Coming → List 
 tossed_whole files None left = files
 tossed_whole files (Some fault) left = take (length files - (length left + 1)) files
 
--- `toss` is given any files and commits what it filed, also where a fault ended its run
+-- `toss` gets any files and commits the filed messages, even if a fault ended its run
 pub record TossesAny (files : List Coming) (s new : LoneStation) : Type 0 where
   pub any : AreAnyFiles files
   pub station : Station
@@ -55,29 +55,29 @@ pub record TossesAny (files : List Coming) (s new : LoneStation) : Type 0 where
     whole = s.whole ++ held_in (tossed_whole files tosses.stopped tosses.left);
   }
 
--- a command at the station, and what it was given
+-- a command at the station, and its inputs
 pub data LoneCommand : Type 0 where
   PostAlone : (words : NewMessage) (body : List ℕ) → LoneCommand
   ScanAlone : (stamp : Stamp) → LoneCommand
   PurgeAlone : LoneCommand
   TossAny : (files : List Coming) → LoneCommand
 
--- what was given to `toss` is as before
+-- the inputs of `toss` are the same as before
 abbrev pub NothingCame : LoneStation → LoneStation → Type 0
 NothingCame s new = (new.came ≡ s.came) × (new.whole ≡ s.whole)
 
--- the command ends well
+-- the command ends without a fault
 abbrev pub LeadsAlone : LoneCommand → LoneStation → LoneStation → Type 0
 LeadsAlone (PostAlone words body) s new = Posts words body s.net 0 new.net × NothingCame s new
 LeadsAlone (ScanAlone stamp) s new = Scans stamp s.net 0 new.net × NothingCame s new
 LeadsAlone PurgeAlone s new = Purges s.net 0 new.net × NothingCame s new
 LeadsAlone (TossAny files) s new = TossesAny files s new
 
--- What a command may do. Where it is refused, or a device fails before it has committed, all is as before.
+-- The effect of a command. If it is refused, or a device fails before the commit, nothing changes.
 abbrev pub HappensAlone : LoneCommand → LoneStation → LoneStation → Type 0
 HappensAlone command s new = (new ≡ s) ⊎ LeadsAlone command s new
 
--- what commands may do, one after another
+-- the effect of commands in order
 abbrev pub HappenAlone : List LoneCommand → LoneStation → LoneStation → Type 0
 HappenAlone [] s new = new ≡ s
 HappenAlone (command ∷ later) s new = (next : LoneStation) × HappensAlone command s next × HappenAlone later next new

@@ -1,38 +1,37 @@
-//! What holds of the definitions. Each law is the contract of a function that does nothing.
+//! Laws about the definitions. Each law is the contract of a function that does nothing.
 
 ghost use Rattle.law_lone_station.specs.AloneInOrder.{AloneIsInOrder, AloneStays, FaultlessTossIsWhole};
 ghost use Rattle.law_lone_station.specs.AloneOverCrashes.{AloneIsInOrderOverCrashes, AloneStaysOverCrashes};
 
-/// Whatever commands are run on one station that begins with an empty base, refused ones, refused memory and failing
-/// devices among them, and whatever files are given to `toss`: the base has each message at most once, and just what
-/// was posted or came from a link of its area; over all packet files each address is sent each message at most once,
-/// never one that it sent or that had it in its SEEN-BY, and only a link of the area.
+/// Let any commands be run on one station that begins with an empty base, and let `toss` get any files.
+/// Commands may be refused, and memory and devices may fail. The base has each message at most once, and
+/// exactly those that were posted or came from a link of their area. Over all packet files each address is sent
+/// each message at most once. It is a link of the area, did not send the message, and was not in its SEEN-BY.
 pub fn lone_stations_are_in_order()
     ensures { AloneIsInOrder }
 {}
 
-/// Whatever commands are run later, each message stands in the base where it stood, as it was or as a purge leaves it,
-/// and no packet file is taken back.
+/// Whatever commands are run later, each message stays at its place in the base, unchanged or as its stub, and
+/// no packet file is removed.
 pub fn what_lone_stations_show_stays()
     ensures { AloneStays }
 {}
 
-/// A toss that met no fault has tossed the packets of all its files whole: what came in them from links of its
-/// area is in the base.
+/// A toss without a fault has tossed the packets of all its files whole: their messages from links of their
+/// area are in the base.
 pub fn faultless_tosses_are_whole()
     ensures { FaultlessTossIsWhole }
 {}
 
-/// Whatever commands are run on one station that begins with an empty base, whatever stops them at whatever moment, and
-/// whatever files are given to `toss`: the base and the packets of all scans that moved the cursor are in order, as
-/// without crashes; each of these packets has its name or is to be named by the next scan, and nothing else has the
-/// name of one.
+/// Let any commands be run on one station that begins with an empty base, whatever stops them, and let `toss`
+/// get any files. The base and the packets of all scans that moved the cursor are in order, as without crashes.
+/// Each of these packets has its name or will get it by the next scan. Nothing else has such a name.
 pub fn lone_stations_are_in_order_over_crashes()
     ensures { AloneIsInOrderOverCrashes }
 {}
 
-/// Whatever commands are run later, and whatever stops them, each message stands in the base where it stood, as it was
-/// or as a purge leaves it, and no packet file is taken away from under its name.
+/// Whatever commands are run later, and whatever stops them, each message stays at its place in the base,
+/// unchanged or as its stub. No packet file loses its name.
 pub fn what_lone_stations_show_stays_over_crashes()
     ensures { AloneStaysOverCrashes }
 {}

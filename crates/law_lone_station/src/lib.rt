@@ -1,8 +1,9 @@
-//! One station among strangers: what its base and its packet files show, whatever bytes `toss` is given, and wherever its
+//! Laws about one station alone: its base and its packet files, whatever bytes `toss` gets, and wherever its
 //! commands are stopped.
 //!
-//! The definitions stand in specs/: `LoneStations` (the station, and what a command may do to it) and `AloneInOrder`
-//! (what it is to show); `LoneDisks` and `AloneOverCrashes` say the same where commands may be stopped at any moment.
+//! The promise is in `laws`. Begin with specs/: `LoneStations` (the station, and the effect of a command) and
+//! `AloneInOrder` (the promise). `LoneDisks` and `AloneOverCrashes` have the same for commands that may be
+//! stopped at any time.
 #![tactic(auto)]
 
 mod laws;

@@ -30,7 +30,7 @@ pub record HasSystem (station : Station) (s : System) : Type 0 where
 abbrev pub limits_of : List ℕ → Limits
 limits_of bytes = record { text = length bytes; messages = length bytes }
 
--- the bytes are those of the packet, whose header names the zone of the system that it is for
+-- the bytes are those of the packet, and its header names the zone of its receiver
 pub record IsPacketFile (bytes : List ℕ) (p : Packet) : Type 0 where
   pub packet : PacketOf (limits_of bytes) p.header p.messages bytes
   pub zone : p.header.dest_zone ≢ 0
@@ -40,8 +40,8 @@ pub record HasPosting (m : Filed) (s : System) : Type 0 where
   pub filed : Among m s.history
   pub own : m.sender ≡ None
 
--- The stations have the link files and the bases of the systems, the packet files are the bytes of the packets, in order, the same
--- packets were delivered, and just what was posted was filed by its system.
+-- The stations have the link files and the bases of the systems. The packet files are the bytes of the packets, in
+-- order, the same packets were delivered, and just the postings were filed by their systems.
 pub record Agrees (net : Net) (run : Run) : Type 0 where
   pub stations : Paired HasSystem net.stations run.systems
   pub packets : Paired IsPacketFile net.packets run.packets
@@ -56,8 +56,8 @@ own_address s = s.file.system
 abbrev pub file_address : LinkFile → Address
 file_address file = file.system
 
--- what the toss of one packet file may be: no event, where it is refused, the delivery of the packet, or one that
--- stops after its first messages
+-- the toss of one packet file: no event if it is refused, the delivery of the packet, or one that stops after its
+-- first messages
 abbrev pub IsTossOf : ℕ → List RunEvent → Type 0
 IsTossOf k events = (events ≡ []) ⊎ ((events ≡ Delivery k ∷ []) ⊎ ((messages : ℕ) × (events ≡ PartDelivery k messages ∷ [])))
 
@@ -66,20 +66,20 @@ abbrev pub AreTossesOf : List ℕ → List RunEvent → Type 0
 AreTossesOf [] events = events ≡ []
 AreTossesOf (k ∷ later) events = (first : List RunEvent) × (rest : List RunEvent) × (events ≡ first ++ rest) × IsTossOf k first × AreTossesOf later rest
 
--- the events of a run that a command which ends well is: one posting, one scan, one purge, or the tosses of its packets
+-- the events of a command without a fault: one posting, one scan, one purge, or the tosses of its packets
 abbrev pub AreEventsOf : Command → ℕ → List RunEvent → Type 0
 AreEventsOf (Post words body) i events = events ≡ Posting i words.tag.now (draft_given words body) words.serial words.stamp ∷ []
 AreEventsOf (Scan stamp) i events = events ≡ Scanning i stamp ∷ []
 AreEventsOf Purge i events = events ≡ Purging i ∷ []
 AreEventsOf (Toss indexes) i events = AreTossesOf indexes events
 
--- the events of some commands, one after another: those of the first, or none, and then those of the later ones
+-- the events of several commands in order: those of the first, or none, and then those of the later ones
 abbrev pub AreEventsOfAll : List CommandEvent → List RunEvent → Type 0
 AreEventsOfAll [] events = events ≡ []
 AreEventsOfAll (command ∷ later) events =
     (first : List RunEvent) × (rest : List RunEvent) × (events ≡ first ++ rest) × ((first ≡ []) ⊎ AreEventsOf command.command command.station first) × AreEventsOfAll later rest
 
--- A command event that leads from a net to another is these events of the run that the net agrees with, or none.
+-- A command event from one net to another is these events of the run that agrees with the net, or none.
 abbrev pub EventIsEvents : Type 0
 EventIsEvents = (event : CommandEvent) (net new : Net) (run : Run) → Different (map own_address run.systems) → Agrees net run → Happens event net new
     → (events : List RunEvent) × ((events ≡ []) ⊎ AreEventsOf event.command event.station events) × Agrees new (after_events run events)

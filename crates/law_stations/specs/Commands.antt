@@ -1,4 +1,4 @@
--- What a command may do to a net of stations: it makes a base of that of one station, and that is committed there.
+-- The effect of a command on a net of stations: it changes the base of one station, and commits it there.
 use Rattle.std.specs.Prelude.{◌≡◌, ℕ, ◌⊎◌, ◌+◌, ◌-◌, Bool, true, List, [], ◌∷◌, length, map, take, Option, Some, None, Ok}
 use Rattle.std.specs.List.{AllByRecursion}
 use Rattle.echo_base.specs.Base.{Base}
@@ -25,7 +25,7 @@ use Rattle.echo_changing.specs.TossedPacket.{TossRun, TossesPacketBy}
 use Rattle.echo_store_changing.specs.Posted as store
 use Rattle.law_stations.specs.Nets.{Net, Paired, Station, with_left, with_posting, with_tossed}
 
--- the station of the index, and what its link file says
+-- the station of the index, and its parsed link file
 pub record IsAt (net : Net) (i : ℕ) (station : Station) (file : LinkFile) : Type 0 where
   pub there : nth i net.stations ≡ Some station
   pub links : LinksOf station.links (Ok file)
@@ -64,14 +64,14 @@ pub record Purges (net : Net) (i : ℕ) (new : Net) : Type 0 where
 abbrev pub itself : Device → Device
 itself reader = reader
 
--- a file that `toss` is given is the packet file of the index, or it cannot be used
+-- an input of `toss` is the packet file of the index, or cannot be used
 abbrev pub IsPacketAt : List (List ℕ) → ℕ → Coming → Type 0
 IsPacketAt packets k (Holds bytes) = nth k packets ≡ Some bytes
 IsPacketAt packets k (Fails why) = Unit {0}
 IsPacketAt packets k Unknown = ⊥
 
--- The indexes of the packets that were tossed whole: all where nothing stopped the run, else those before the one that
--- did; behind that one are those that are left.
+-- The indexes of the packets that were tossed whole: all if nothing stopped the run, otherwise those before the one
+-- that stopped. The list after that one is left.
 abbrev pub whole_of : List ℕ → Option Fault → List Coming → List ℕ
 whole_of indexes None left = indexes
 whole_of indexes (Some fault) left = take (length indexes - (length left + 1)) indexes
@@ -86,7 +86,7 @@ pub record TossesAll (files : List Coming) (file : LinkFile) (base next : Base) 
   pub each : TossesEachBy (TossesPacketBy noting) itself files (run_begun limits (state_in file base)) stopped left run
   pub state : run.system ≡ state_in file next
 
--- `toss` commits what it filed, also where a fault ended its run
+-- `toss` commits the filed messages, even if a fault ended its run
 pub record Tosses (indexes : List ℕ) (net : Net) (i : ℕ) (new : Net) : Type 0 where
   pub station : Station
   pub file : LinkFile
@@ -97,7 +97,7 @@ pub record Tosses (indexes : List ℕ) (net : Net) (i : ℕ) (new : Net) : Type 
   pub tosses : TossesAll files file station.base next
   pub becomes : new ≡ with_tossed net i next (whole_of indexes tosses.stopped tosses.left)
 
--- A command and what it was given on its command line; packets go by their index in the list of all packet files.
+-- A command and its command line; a packet is named by its index in the list of all packet files.
 pub data Command : Type 0 where
   Post : (words : NewMessage) (body : List ℕ) → Command
   Scan : (stamp : Stamp) → Command
@@ -109,18 +109,18 @@ pub record CommandEvent : Type 0 where
   pub station : ℕ
   pub command : Command
 
--- the command ends well
+-- the command ends without a fault
 abbrev pub Leads : Command → Net → ℕ → Net → Type 0
 Leads (Post words body) net i new = Posts words body net i new
 Leads (Scan stamp) net i new = Scans stamp net i new
 Leads Purge net i new = Purges net i new
 Leads (Toss indexes) net i new = Tosses indexes net i new
 
--- What a command event may do. Where the command is refused, or a device fails before it has committed, all is as before.
+-- The effect of a command event. If the command is refused, or a device fails before the commit, nothing changes.
 abbrev pub Happens : CommandEvent → Net → Net → Type 0
 Happens event net new = (new ≡ net) ⊎ Leads event.command net event.station new
 
--- what command events may do, one after another
+-- the effect of command events in order
 abbrev pub Happen : List CommandEvent → Net → Net → Type 0
 Happen [] net new = new ≡ net
 Happen (event ∷ later) net new = (next : Net) × Happens event net next × Happen later next new

@@ -1,4 +1,4 @@
--- What a net is to show, whatever commands were run.
+-- The promise about a net, whatever commands were run.
 use Rattle.std.specs.Prelude.{◌≡◌, ◌≢◌, ℕ, ◌⊎◌, ◌≤◌, IsTrue, List, drop, map, take, Option, Some, Ok}
 use Rattle.echo_status.specs.Devices.{Output}
 use Rattle.echo_graph.specs.Walk.{Among, Different}
@@ -21,12 +21,12 @@ use Rattle.law_stations.specs.Agreement.{file_address}
 use Rattle.law_stations.specs.Commands.{CommandEvent, Happen, Purge}
 use Rattle.law_stations.specs.Nets.{Net, Paired, Station, first_net}
 
--- what a station says: its link file, and the messages and the cursor of its base
+-- the contents of a station: its link file, and the messages and the cursor of its base
 pub record StationSays (station : Station) (file : LinkFile) (messages : List Filed) (cursor : ℕ) : Type 0 where
   pub links : LinksOf station.links (Ok file)
   pub base : station.base ≡ record { messages = messages; cursor = cursor }
 
--- the station of this index says this
+-- the station of this index has these contents
 pub record StationHolds (net : Net) (i : ℕ) (file : LinkFile) (messages : List Filed) (cursor : ℕ) : Type 0 where
   pub station : Station
   pub there : nth i net.stations ≡ Some station
@@ -40,8 +40,7 @@ ReadsAs bytes p = (limits : Limits) × PacketOf limits p.header p.messages bytes
 abbrev pub WasPurged : List CommandEvent → ℕ → Type 0
 WasPurged commands i = Among (record { station = i; command = Purge }) commands
 
--- A message is what a purge leaves of one with the content of a posting: it was scanned, and `purge` was called at its
--- station.
+-- A message is the stub of one with the content of a posting: it was scanned, and `purge` was called at its station.
 pub record IsLeftByPurge (commands : List CommandEvent) (i : ℕ) (scanned : List Filed) (m posting : Filed) : Type 0 where
   pub purged : WasPurged commands i
   pub scanned_before : Among m scanned
@@ -49,18 +48,18 @@ pub record IsLeftByPurge (commands : List CommandEvent) (i : ℕ) (scanned : Lis
   pub stub : m ≡ stub_of filed
   pub same : SameContent filed posting
 
--- a message of a base has the DateTime, names, subject and kept lines of a posting, or a purge took them
+-- a message of a base has the DateTime, names, subject and kept lines of a posting, unless a purge took them
 abbrev pub IsUnchanged : List CommandEvent → ℕ → List Filed → ℕ → Filed → Filed → Type 0
 IsUnchanged commands i messages cursor m posting = SameContent m posting ⊎ IsLeftByPurge commands i (take cursor messages) m posting
 
--- what a net shows of all areas
+-- the promise about all areas of a net
 pub record IsSound (commands : List CommandEvent) (net : Net) : Type 0 where
-  -- each packet file is a packet, and what each station has is a base
+  -- each packet file is a packet, and each station's messages are a base
   pub packets : (bytes : List ℕ) → Among bytes net.packets → (p : Packet) × ReadsAs bytes p
   pub bases : (station : Station) → Among station net.stations → (file : LinkFile) × (messages : List Filed) × (cursor : ℕ) × StationSays station file messages cursor × IsBase messages cursor
   -- it has each message at most once
   pub filed_once : (i : ℕ) (file : LinkFile) (messages : List Filed) (cursor : ℕ) → StationHolds net i file messages cursor → (key : Key) → count key messages ≤ 1
-  -- and only messages that were posted, unchanged where no purge took what was scanned
+  -- and only messages that were posted, unchanged unless they were scanned and purged
   pub only_posted : (i : ℕ) (file : LinkFile) (messages : List Filed) (cursor : ℕ) → StationHolds net i file messages cursor → (m : Filed) → Among m messages →
       (posting : Filed) × Among posting net.postings × (posting.echo.tag ≡ m.echo.tag) × IsUnchanged commands i messages cursor m posting
 
@@ -75,22 +74,22 @@ pub record HasUnchanged (commands : List CommandEvent) (i : ℕ) (messages : Lis
   pub once : count (key_of posting) messages ≡ 1
   pub same : (m : Filed) → Among m messages → key_of m ≡ key_of posting → IsUnchanged commands i messages cursor m posting
 
--- what a net shows of an area that was checked
+-- the promise about a checked area of a net
 pub record InOrder (commands : List CommandEvent) (net : Net) (tag : List ℕ) : Type 0 where
   pub sound : IsSound commands net
-  -- over all packet files each station that has the area was sent each message at most once, and none of its own
+  -- over all packet files each station with the area was sent each message at most once, and none that it posted
   pub sent_once : (packets : List Packet) → Paired ReadsAs net.packets packets →
       (i : ℕ) (file : LinkFile) (messages : List Filed) (cursor : ℕ) → StationHolds net i file messages cursor → IsTrue (has_area file tag) →
       (key : Key) → tag_of key ≡ tag → sent_count file.system key packets ≤ 1
   pub never_own : (packets : List Packet) → Paired ReadsAs net.packets packets →
       (i : ℕ) (file : LinkFile) (messages : List Filed) (cursor : ℕ) → StationHolds net i file messages cursor → IsTrue (has_area file tag) →
       (m : Filed) → Among m messages → IsPosting tag m → sent_count file.system (key_of m) packets ≡ 0
-  -- and where nothing waits its base has each posting once, unchanged
+  -- and if nothing waits its base has each posting once, unchanged
   pub all_came : IsSettled net tag → (posting : Filed) → Among posting net.postings → posting.echo.tag ≡ tag →
       (i : ℕ) (file : LinkFile) (messages : List Filed) (cursor : ℕ) → StationHolds net i file messages cursor → IsTrue (has_area file tag) →
       HasUnchanged commands i messages cursor posting
 
--- any commands on stations of different addresses leave a net that is sound
+-- any commands on stations of different addresses leave a sound net
 abbrev pub NetsAreSound : Type 0
 NetsAreSound = (links : List (List ℕ)) (files : List LinkFile) → AreLinkFiles links files → Different (map file_address files)
     → (commands : List CommandEvent) (net : Net) → Happen commands (first_net links) net → IsSound commands net

@@ -1,4 +1,4 @@
--- Kinds of command, where just which one it is depends on what it finds.
+-- Kinds of commands; which command it is may depend on what it finds.
 use Rattle.std.specs.Prelude.{◌≡◌, ℕ, List}
 use Rattle.echo_changing.specs.declared.posting.NewMessage.{NewMessage}
 use Rattle.echo_changing.specs.FreeSerial.{with_serial}

@@ -11,13 +11,13 @@ Paired IsSo [] [] = Unit {0}
 Paired IsSo (x ∷ xs) (y ∷ ys) = IsSo x y × Paired IsSo xs ys
 Paired IsSo _ _ = ⊥
 
--- a station: the bytes of its link file, and its base, whatever that is kept in
+-- a station: the bytes of its link file, and its base, whatever holds it
 pub record Station : Type 0 where
   pub links : List ℕ
   pub base : Base
 
--- The stations; the bytes of all packet files that scans left, in order; the indexes of those that were
--- tossed whole where they are for, each once; and the messages that were posted, in order.
+-- The stations; the bytes of all packet files of scans, in order; the indexes of those that their receivers tossed
+-- whole, each once; and the posted messages, in order.
 pub record Net : Type 0 where
   pub stations : List Station
   pub packets : List (List ℕ)
@@ -28,7 +28,7 @@ pub record Net : Type 0 where
 abbrev pub empty_base : Base
 empty_base = record { messages = []; cursor = 0 }
 
--- a station of this link file whose base is empty
+-- a station of this link file with an empty base
 abbrev pub new_station : List ℕ → Station
 new_station links = record { links = links; base = empty_base }
 
@@ -36,7 +36,7 @@ new_station links = record { links = links; base = empty_base }
 abbrev pub first_net : List (List ℕ) → Net
 first_net links = record { stations = map new_station links; packets = []; delivered = []; postings = [] }
 
--- the station with this base in place of the old one
+-- the station with this base instead of the old one
 abbrev pub with_base : Base → Station → Station
 with_base base station = record { links = station.links; base = base }
 
@@ -49,7 +49,7 @@ abbrev pub with_indexes : List ℕ → List ℕ → List ℕ
 with_indexes [] delivered = delivered
 with_indexes (k ∷ later) delivered = with_indexes later (with_index k delivered)
 
--- a command has ended: its packet files stand behind the others, and its base at the station of the index
+-- after a command: its packet files follow the others, and the station of the index has its base
 abbrev pub with_left : Net → ℕ → List PacketFile → Base → Net
 with_left net i packets base = record {
   stations = change i (with_base base) net.stations;

@@ -1,4 +1,4 @@
-//! What holds of the definitions. Each law is the contract of a function that does nothing.
+//! Laws about the definitions. Each law is the contract of a function that does nothing.
 
 ghost use Rattle.std.specs.Prelude.{◌≡◌, Bool, List, Ok, Option};
 ghost use Rattle.echo_base.specs.Base.{Base};
@@ -14,44 +14,46 @@ ghost use Rattle.law_stations.specs.InOrder.{HeadlineOnNets, NetsAreSound};
 
 use echo_device::Source;
 
-/// What `toss` does over readers of any type it does over what is known of them: the same stops it, and the same files
-/// are left.
+/// `toss` does the same over any readers as over the known bytes of them: the same fault stops it, and the same
+/// files remain.
 pub fn tosses_are_what_is_known<R: Source>()
     ensures { (noting : Bool) (limits : Limits) (file : LinkFile) (files : List Coming) (base next : Base) →
         (toss : Tosses noting limits (device_of R.remaining R.failures) file files base next) →
         (known : TossesAll files file base next) × (known.stopped ≡ toss.stopped) × (known.left ≡ toss.left) }
 {}
 
-/// What `toss` answers, where its store did not fail, is what stopped it.
+/// The answer of `toss`, if its store did not fail, is the fault that stopped it.
 pub fn tosses_answer_what_stopped_them<R: Source>()
     ensures { (noting : Bool) (limits : Limits) (file : LinkFile) (files left : List Coming) (base next : Base) (old new : Output) (answer : Option Fault) →
         TossesTo noting limits (device_of R.remaining R.failures) file base files left old new (Ok answer) next →
         (known : TossesAll files file base next) × (known.stopped ≡ answer) × (known.left ≡ left) }
 {}
 
-/// A command at one station of a net is some events of the run that the net agrees with: none, a posting, a scan, a
-/// purge, or for each packet that was tossed a delivery, which may have stopped inside.
+/// A command at one station of a net is some events of the run that agrees with the net. They are none, a
+/// posting, a scan, a purge, or for each tossed packet a delivery, which may have stopped inside.
 pub fn command_is_events()
     ensures { EventIsEvents }
 {}
 
-/// Whatever commands are run on stations that begin with empty bases, refused ones, faulty packets, refused memory and
-/// failing devices among them, the net agrees with some run: each base is a system's, the packet files are the bytes of
-/// the packets, and the same packets were delivered.
+/// Let any commands be run on stations that begin with empty bases: refused ones, faulty packets, refused
+/// memory and failing devices included. Then the net agrees with some run. Each base is a system's, the packet
+/// files are the bytes of the packets, and the same packets were delivered.
 pub fn commands_are_a_run()
     ensures { EventsAreARun }
 {}
 
-/// Whatever commands are run on stations of different addresses, checked or not: each packet file is a packet, each
-/// base has each message at most once, and has only messages that were posted, unchanged where they were not purged.
+/// Let any commands be run on stations of different addresses, checked or not. Each packet file is a packet,
+/// and each base has each message at most once. It has only messages that were posted, unchanged unless they
+/// were purged.
 pub fn nets_are_sound()
     ensures { NetsAreSound }
 {}
 
-/// The headline on stations: where `check` ended with 0 for the link files of the stations and an area, then whatever
-/// commands are run on them, the net is sound; over all packet files each station of the area was sent each message of
-/// it at most once, and none of its own; and where nothing waits and every packet that holds a message of the area was
-/// tossed whole, its base has each posting exactly once, unchanged where it was not purged.
+/// The headline on stations. Let `check` have ended with 0 for the link files of the stations and an area, and
+/// let any commands be run on them. Then the net is sound. Over all packet files each station of the area was
+/// sent each message of it at most once, and none that it posted. Let nothing wait, and let every packet with a
+/// message of the area be tossed whole. Then its base has each posting exactly once, unchanged unless it was
+/// purged.
 pub fn nets_are_in_order()
     ensures { HeadlineOnNets }
 {}

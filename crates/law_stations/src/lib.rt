@@ -1,7 +1,7 @@
-//! Nets of stations: what commands make of their bases is a run of systems.
+//! Laws about nets of stations: their commands make of their bases a run of systems.
 //!
-//! The definitions stand in specs/: `Nets` (stations, packet files), `Commands` (what a command may do to
-//! them), `Agreement` (a net and a run that say the same) and `InOrder` (what a net is to show).
+//! The promise is in `laws`. Begin with specs/: `Nets` (stations, packet files) and `Commands` (the effect of a
+//! command on them). `Agreement` says when a net and a run agree, `InOrder` is the promise about a net.
 #![tactic(auto)]
 
 mod laws;

@@ -1,5 +1,4 @@
-//! What no row of a table shows of the commands: growths that are refused, standard output that fails, and
-//! the line of each fault.
+//! Commands beyond the tables of cases: refused memory, standard output that fails, and the line of each fault.
 mod faults;
 mod refused;
 

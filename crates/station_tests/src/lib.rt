@@ -1,5 +1,5 @@
-//! Tests of what stations do over what the crates offer to others, of what no row of examples/cases shows:
-//! calls that are refused memory, devices that fail, and the lines of faults that these make.
+//! Tests of stations beyond examples/cases: calls that are refused memory, devices that fail, and their lines
+//! of faults.
 #![tactic(auto)]
 
 #[cfg(test)]

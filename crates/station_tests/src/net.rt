@@ -22,7 +22,7 @@ fn net(alloc: Global, systems: u16, links: &[(u16, u16)]) -> Result<Vec<LinkFile
     Ok(files)
 }
 
-/// Where memory is refused, the call says so, and a second call answers.
+/// If memory is refused, the call says so, and a second call answers.
 #[test]
 fn answers_once_memory_is_there(rt: HostRuntime) -> Result<(), Fail> {
     let alloc = rt.alloc();

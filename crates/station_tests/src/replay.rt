@@ -1,5 +1,5 @@
-//! What replays answer that no command prints: base files, packets, and what is asked of systems that are
-//! not there.
+//! Answers of replays that no command prints: base files, packets, and questions about systems that do not
+//! exist.
 mod refused;
 mod saved;
 
@@ -15,7 +15,7 @@ const CHAIN: &[&str] = &[
     "SYSTEM 1:10/3\nAREA TEST 1:10/2",
 ];
 
-/// The chain after the script, if memory is there.
+/// The chain after the script, unless memory is refused.
 fn scripted(rt: &HostRuntime, script: &[u8]) -> Option<World> {
     let alloc = rt.alloc();
     let mut links = Vec::new(alloc);
@@ -28,7 +28,7 @@ fn scripted(rt: &HostRuntime, script: &[u8]) -> Option<World> {
     replay(alloc, links, &events, RandomState::new(rt).ok()?).ok()
 }
 
-/// What happens on the chain of three.
+/// Events on the chain of three.
 const REPLAYED: &[u8] =
     b"POST 0 TEST 00000001 Hello\nSCAN 0\nDELIVER 0\nSCAN 1\nDELIVER 1\nDELIVER 1\nSCAN 2\n";
 

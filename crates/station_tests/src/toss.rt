@@ -48,7 +48,7 @@ fn post(alloc: Global, system: &mut System, serial: u32) -> Result<(), PostFault
     system.post(b"TEST", &hello, serial, STAMP)
 }
 
-/// The packet of two postings, of 364 bytes, if memory is there.
+/// The packet of two postings, of 364 bytes, unless memory is refused.
 fn two(alloc: Global) -> Option<Vec<u8>> {
     let mut alpha = system(alloc, ALPHA).ok()?;
     post(alloc, &mut alpha, 1).ok()?;
@@ -57,7 +57,6 @@ fn two(alloc: Global) -> Option<Vec<u8>> {
     packets.get(0)?.encode(alloc).ok()
 }
 
-/// Tosses the packet at the front of the bytes.
 fn tossed(system: &mut System, packet: &[u8], limits: Limits) -> Result<Tally, TossFault> {
     let mut rest = packet;
     system.toss(&mut rest, limits)

@@ -1,4 +1,4 @@
-//! Which fault an address has: commands say that it is none.
+//! The faults of addresses: commands print only that it is no address.
 use echo_addr::{AddrFault, Address};
 
 #[test]

@@ -1,5 +1,4 @@
-//! Packets from readers that move pieces, fail, or come where memory is refused; and a limit that no command
-//! sets.
+//! Packets from readers that move pieces, fail, or have no memory; and a limit that no command sets.
 use super::{FIRST, SIZE};
 use echo_device::{Source, Trial, Watched};
 use echo_packet::{Limits, PacketFault, PacketReader, read_packet};
@@ -45,7 +44,7 @@ fn readers_in_pieces(rt: HostRuntime) -> Result<(), Fail> {
     Ok(())
 }
 
-// Where the field begins that the first bytes of the packet end in.
+// The start of the field in which the first `count` bytes of the packet end.
 fn place_of_cut(count: usize) -> u64 {
     match count {
         0..58 => 0,

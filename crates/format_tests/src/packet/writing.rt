@@ -1,14 +1,14 @@
-//! Packets that are written to devices that move pieces and fail; and fields that no command hands on.
+//! Packets written to devices that move pieces and fail; and fields that no command passes.
 use super::{FIRST, SIZE};
 use echo_device::{Sink, Trial, Watched};
 use echo_packet::{Field, Packed, PacketFault, PacketWriter, read_header};
 use std::alloc::{AllocError, Global};
 use std::test::Fail;
 
-/// Where the text of its message stands.
+/// The place of its message's text.
 const TEXT: usize = 103;
 
-// A message from 10/1 to 10/2 at its moment, with these strings.
+// A message from 10/1 to 10/2 with the packet's date and these strings.
 fn message(
     alloc: Global,
     to_name: &[u8],
@@ -31,12 +31,10 @@ fn message(
     ))
 }
 
-// The message of the packet.
 fn first_message(alloc: Global) -> Result<Packed, Fail> {
     Ok(message(alloc, b"All", b"Ann", b"Hi", &FIRST[TEXT..209])??)
 }
 
-// The packet with this message, written to the device.
 fn write_packet<W: Sink + Drop>(device: W, message: &Packed) -> Result<W, PacketFault> {
     let header = read_header(&mut &FIRST[..])?;
     let mut packet = PacketWriter::begin(device, &header)?;
@@ -44,7 +42,7 @@ fn write_packet<W: Sink + Drop>(device: W, message: &Packed) -> Result<W, Packet
     Ok(packet.finish()?)
 }
 
-// What a device that takes pieces and fails after so many bytes gets of the packet. The bytes behind
+// The bytes that a device that takes pieces and fails after `left` bytes gets of the packet. The bytes after
 // those stay FF.
 fn write_case(message: &Packed, piece: usize, left: u64) -> (Option<PacketFault>, usize) {
     let mut out = [0xffu8; SIZE];
@@ -76,7 +74,7 @@ fn begin<W: Sink + Drop>(device: W) -> Result<(), PacketFault> {
     Ok(())
 }
 
-// What the device answers to the header, to the message put twice, and to the end.
+// The answers of the device to the header, to the message written twice, and to the end.
 fn put_twice<W: Sink + Drop>(
     device: W,
     message: &Packed,
@@ -88,7 +86,6 @@ fn put_twice<W: Sink + Drop>(
     Ok([first, second, finish(packet).err()])
 }
 
-// The packet without messages, written to the device.
 fn write_empty<W: Sink + Drop>(device: W) -> Result<(), PacketFault> {
     let header = read_header(&mut &FIRST[..])?;
     finish(PacketWriter::begin(device, &header)?)
@@ -99,15 +96,15 @@ fn finish<W: Sink + Drop>(packet: PacketWriter<W>) -> Result<(), PacketFault> {
     Ok(())
 }
 
-// The header stands there twice, and behind it nothing was written.
+// The header is there twice, and nothing was written after it.
 fn holds_two_headers(out: &[u8]) -> bool {
     out.get(..58) == FIRST.get(..58)
         && out.get(58..116) == FIRST.get(..58)
         && out.iter().skip(116).all(|byte| *byte == 0xff)
 }
 
-// A device that fails in each second write and takes all bytes in the others gets nothing between a
-// failed write and the fault, whichever call met it.
+// A device fails in each second write and takes all bytes in the others. It gets nothing between a failed write
+// and the fault, whichever call failed.
 #[test]
 fn sends_nothing_after_a_fault(rt: HostRuntime) -> Result<(), Fail> {
     let message = first_message(rt.alloc())?;
@@ -120,7 +117,7 @@ fn sends_nothing_after_a_fault(rt: HostRuntime) -> Result<(), Fail> {
     assert_eq!(rt; first, Some(PacketFault::Write { bytes: 58 }));
     assert_eq!(rt; second, Some(PacketFault::Stopped));
     assert_eq!(rt; end, Some(PacketFault::Stopped));
-    // The header behind that one, and its terminator, whose write fails.
+    // The header after that one, and its terminator; that write fails.
     assert_eq!(rt;
         write_empty(&mut device),
         Err(PacketFault::Write { bytes: 58 })

@@ -1,5 +1,5 @@
-//! A command that is refused memory says so, after lines that are also printed where it is not, and answers
-//! as before when it is called again. These pass whether or not a growth is refused.
+//! A command that is refused memory says so, perhaps after some first lines, and answers as before when it is
+//! called again. These tests pass whether or not memory is refused.
 use super::*;
 
 /// A packet of 212 bytes with one message.
@@ -10,7 +10,7 @@ const FIRST: &[u8] = b"\x01\x00\x02\x00\xea\x07\x06\x00\x03\x00\x0c\x00\x22\x00\
     AREA:TEST\r\x01MSGID: 1:10/1 00000001\rHello\r--- echonet\r * Origin: Alpha (1:10/1)\r\
     SEEN-BY: 10/1 2\r\x01PATH: 10/1\r\0\0\0";
 
-/// What is printed of it.
+/// Its printed lines.
 const SHOWN: &[u8] = b"packet 1:10/1 to 1:10/2 at 2026-07-03 12:34:56 product 0 serial 0\n\
     password 0000000000000000\nfill 0000000000000000000000000000000000000000\n\
     message 1 at 58: 10/1 to 10/2 attribute 0 cost 0\ndate 03 Jul 26  12:34:56\\x00\nto All\nfrom Ann\n\
@@ -21,7 +21,7 @@ const SHOWN: &[u8] = b"packet 1:10/1 to 1:10/2 at 2026-07-03 12:34:56 product 0 
 const NODELIST: &[u8] =
     b"Zone,1,a,b,c,d,9600\nHost,10,a,b,c,d,9600\nHub,100,a,b,c,d,9600\n,101,a,b,c,d,9600\nHost,20,a,b,c,d,9600\n";
 
-/// What is printed of them.
+/// Their printed lines.
 const LISTED: &[u8] =
     b"crc absent\n1:1/0 Zone a\n1:10/0 Host a\n1:10/100 Hub a\n1:10/101 Node a\n1:20/0 Host a\nentries 5\n";
 
@@ -39,7 +39,7 @@ fn is_right(ending: Ending, lines: &[u8], line: &[u8], whole: &[u8], faults: &[&
     }
 }
 
-// Whether the packet is shown well, and whether it is shown or refused as it is to be.
+// Whether the packet is shown right, and whether it is shown or refused as it should be.
 fn show_once(alloc: Global) -> (bool, bool) {
     let faults: [&[u8]; 3] = [
         b"echonet: P7 Memory\n",

@@ -1,10 +1,10 @@
-//! Scripts and replays that are refused memory say so, and answer as before when they are tried again.
-//! These pass whether or not an allocation is refused.
+//! Scripts and replays that are refused memory say so, and answer as before when they are tried again. These
+//! tests pass whether or not memory is refused.
 use super::*;
 use echo_device::Watched;
 use std::alloc::Global;
 
-// How many messages each of so many systems has and has waiting, and what became of the packets.
+// The messages of each system, those that wait, and the fate of the packets.
 fn text_of(alloc: Global, systems: usize, world: &World) -> Result<String, AllocError> {
     let mut text = String::new(alloc);
     for i in 0..systems {
@@ -21,7 +21,7 @@ fn text_of(alloc: Global, systems: usize, world: &World) -> Result<String, Alloc
     Ok(text)
 }
 
-// What the script of the chain says as events and what is printed after it, if memory is there.
+// The events of the chain's script, and the lines printed after it, unless memory is refused.
 fn answered(rt: &HostRuntime) -> Option<String> {
     let world = scripted(rt, SCRIPT)?;
     text_of(rt.alloc(), 3, &world).ok()
@@ -51,7 +51,7 @@ fn a_refused_replay(rt: HostRuntime) -> Result<(), Fail> {
 
 const POSTING: &[u8] = b"POST 0 TEST 00000001 Hello\n";
 
-// The base file of the first system, if memory is there.
+// The base file of the first system, unless memory is refused.
 fn first_saved(alloc: Global, world: &World) -> Option<Vec<u8>> {
     let mut writer = Watched::new(Vec::new(alloc));
     world.save(0, &mut writer)?.ok()?;

@@ -25,7 +25,7 @@ const BLANKS: &[u8] = b"ECHOBAS2\0\0\0\0\x01\0\0\0\
     \0\0\0\0\0\0\001 Jan 00  00:00:00\0\x03All\x05Sysop\x080000ff0a\x59\0\0\0\
     AREA:TEST\r\x01MSGID: 1:10/1 0000ff0a\r two  blanks \t\r--- echonet\r * Origin: echonet (1:10/1)\r";
 
-/// Scripts on the chain, a system, and its base file, none where there is no such system.
+/// Scripts on the chain, a system, and its base file; none without such a system.
 const SAVED: &[(&[u8], usize, Option<&[u8]>)] = &[
     (b"", 0, Some(EMPTY)),
     (b"POST 0 TEST 00000001 Hello", 0, Some(POSTED)),

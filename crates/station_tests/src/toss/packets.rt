@@ -9,7 +9,7 @@ const ONE_FILED: Tally = Tally {
     ..Tally::NONE
 };
 
-// What stopped the packet that had one message before.
+// The fault that stopped the packet after one message.
 fn stop_after_one(answer: Result<Tally, TossFault>) -> Option<PacketFault> {
     match answer {
         Err(fault) => match fault.cause {
@@ -33,7 +33,7 @@ fn a_limit_of_messages(rt: HostRuntime) -> Result<(), Fail> {
     Ok(())
 }
 
-// What a reader that fails after so many bytes stops it with.
+// The fault with which a reader that fails after `left` bytes stops it.
 fn stop_of_reader(beta: &mut System, packet: &[u8], left: u64) -> Option<PacketFault> {
     let mut reader = Watched::new(Trial::new(packet, 7, 1, left));
     stop_after_one(beta.toss(&mut reader, Limits::NONE))

@@ -1,5 +1,5 @@
-//! Calls that are refused memory leave the system as it was, and answer as before when they are called
-//! again. These pass whether or not an allocation is refused.
+//! Calls that are refused memory leave the system unchanged, and answer as before when they are called again.
+//! These tests pass whether or not memory is refused.
 use super::*;
 
 // A system, also where the first attempt was refused memory.
@@ -31,7 +31,7 @@ fn scans_again(alpha: &mut System) -> Result<bool, ScanFault> {
     Ok(waited == 1 && packets.len() == 1)
 }
 
-// Whether a purge that is refused leaves all as it was, and a second one changes it.
+// Whether a refused purge changes nothing, and a second one changes it.
 fn purges_again(alpha: &mut System) -> Result<bool, AllocError> {
     match alpha.purge() {
         Ok(count) => Ok(count == 1),
@@ -52,7 +52,8 @@ fn a_refused_scan(rt: HostRuntime) -> Result<(), Fail> {
     Ok(())
 }
 
-// What a toss counts, where it filed just what it counts and stopped, if at all, because memory ran out.
+// The counts of a toss, if it filed just the counted messages and stopped, if at all, only because memory ran
+// out.
 fn counted(beta: &mut System, packet: &[u8]) -> Option<Tally> {
     let before = beta.filed() as u64;
     let tally = match tossed(beta, packet, Limits::NONE) {
@@ -67,8 +68,8 @@ fn counted(beta: &mut System, packet: &[u8]) -> Option<Tally> {
     }
 }
 
-// Whether a packet of two messages, tossed three times, of which one may be refused memory, is filed
-// once, and what was filed is known to a later toss.
+// Whether a packet of two messages is filed once though it is tossed three times, one of which may be refused
+// memory. A later toss knows the filed messages.
 fn tosses_again(beta: &mut System, packet: &[u8]) -> bool {
     let Some(first) = counted(beta, packet) else {
         return false;
