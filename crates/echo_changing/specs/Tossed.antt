@@ -9,7 +9,7 @@ use Rattle.echo_status.specs.declared.fault.Fault.{Fault}
 use Rattle.echo_changing.specs.Coming.{Coming, Opens}
 use Rattle.echo_status.specs.Ended.{PassesAll}
 use Rattle.echo_status.specs.Lines.{WritesFront}
-use Rattle.echo_changing.specs.TossedPacket.{TossRun, TossesPacket}
+use Rattle.echo_changing.specs.TossedPacket.{TossRun}
 
 -- a file was opened, and the packet at its front is tossed in this way
 pub record TossesOpened {R : Type 0} (Tosses : TossRun → Device → Device → Option Fault → TossRun → Type 0) (device : R → Device) (file : Coming) (old : TossRun) (stopped : Option Fault) (new : TossRun) : Type 0 where
@@ -35,13 +35,6 @@ TossesEachBy Tosses device [] old stopped left new = (stopped ≡ None) × (left
 TossesEachBy Tosses device (file ∷ later) old stopped left new =
     ((run : TossRun) × TossesFileBy Tosses device file old None run × TossesEachBy Tosses device later run stopped left new)
     ⊎ ((fault : Fault) × (stopped ≡ Some fault) × (left ≡ later) × TossesFileBy Tosses device file old stopped new)
-
--- the same where no message is noted
-abbrev pub TossesFile : {R : Type 0} → (R → Device) → Coming → TossRun → Option Fault → TossRun → Type 0
-TossesFile device file old stopped new = TossesFileBy TossesPacket device file old stopped new
-
-abbrev pub TossesEach : {R : Type 0} → (R → Device) → List Coming → TossRun → Option Fault → List Coming → TossRun → Type 0
-TossesEach device files old stopped left new = TossesEachBy TossesPacket device files old stopped left new
 
 -- all lines are printed, or standard output failed after a beginning of them
 abbrev pub IsRunPrinted : TossRun → Output → Output → Type 0
