@@ -1,9 +1,8 @@
 -- What `post` prints and leaves.
 use Rattle.std.specs.Prelude.{ℕ, ◌==◌, List, [], ◌∷◌, ◌++◌, if◌then◌else◌, Option}
-use Rattle.echo_filed.specs.Filed.{Filed}
 use Rattle.echo_steps.specs.declared.draft.Draft.{Draft}
 use Rattle.echo_steps.specs.declared.fault.PostFault.{PostFault}
-use Rattle.echo_steps.specs.Posting.{post_refusal, posted}
+use Rattle.echo_steps.specs.Posting.{post_refusal}
 use Rattle.echo_steps.specs.SystemState.{SystemState}
 use Rattle.echo_changing.specs.declared.posting.NewMessage.{NewMessage}
 
@@ -29,10 +28,6 @@ draft_given words body = record {
   reply = words.reply.now;
   body = draft_body body;
 }
-
--- the base with one message more
-abbrev pub base_after : SystemState → NewMessage → List ℕ → List Filed
-base_after system words body = system.base ++ posted system.file words.tag.now (draft_given words body) words.serial words.stamp ∷ []
 
 -- no refusal applies, or this is the first that does
 abbrev pub refusal_given : SystemState → NewMessage → List ℕ → Option PostFault

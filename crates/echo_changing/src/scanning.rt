@@ -22,7 +22,7 @@ pub fn packet_files(
 {
     let mut files = Vec::with_capacity(alloc, packets.len())?;
     'packets: for packet in packets {
-        push_packet(alloc, lines, &packet)?;
+        push_packet(lines, &packet)?;
         files.push(packet_file(alloc, packet, before)?)?;
     }
     Ok(files)
@@ -62,10 +62,9 @@ fn packet_name(alloc: Global, to: Address, before: usize) -> Result<Vec<u8>, All
 }
 
 // Adds the line of a packet, with the count of its bytes.
-fn push_packet(alloc: Global, lines: &mut Vec<u8>, packet: &Packet) -> Result<(), AllocError>
+fn push_packet(lines: &mut Vec<u8>, packet: &Packet) -> Result<(), AllocError>
     ensures { OnOk result (lines.new.items ≡ lines.old.items ++ line_sent packet.now) }
 {
     let to = destination(&packet.header);
-    let bytes = packet.encode(alloc)?.len();
-    push_sent(lines, to, packet.messages.len(), bytes)
+    push_sent(lines, to, packet.messages.len(), packet.size()?)
 }

@@ -1,10 +1,10 @@
 -- The bytes of a packet, message by message.
-use Rattle.std.proofs.Common.{◌≡◌, ℕ, ◌+◌, ◌<◌, ◌≤◌, List, [], ◌∷◌, ◌++◌, length, take, get_or, sym, ap, subst, ◌∙◌, arith, append_assoc, length-append}
+use Rattle.std.proofs.Common.{◌≡◌, ℕ, zero, suc, ◌+◌, ◌<◌, ◌≤◌, List, [], ◌∷◌, ◌++◌, length, take, get_or, sym, ap, subst, ◌∙◌, arith, append_assoc, length-append}
 use Rattle.std.specs.List.{AllByRecursion}
 use Rattle.std.proofs.lemmas.List.{take_more}
 use Rattle.echo_packet.specs.declared.header.Header.{Header}
 use Rattle.echo_packet.specs.Header.{IsHeader, header_bytes, word}
-use Rattle.echo_packet.specs.Message.{IsMessage, Message, Text, before, message_bytes, messages_bytes, zero_ended}
+use Rattle.echo_packet.specs.Message.{FromName, IsMessage, Message, Subject, Text, ToName, before, message_bytes, messages_bytes, numbers, zero_ended}
 use Rattle.echo_packet.specs.Packet.{PacketOf, packet_bytes}
 use Rattle.echo_packet.proofs.MessageByMessage.{messages_bytes-push}
 use Rattle.echo_filed.proofs.Plain.{all_append}
@@ -59,6 +59,48 @@ each_longer most (m ∷ ms) all room =
 counted : (ms : List Message) → length ms ≤ length (messages_bytes ms)
 counted [] = omega arith
 counted (m ∷ ms) = omega (arith, length-append (message_bytes m) (messages_bytes ms), text_within m, counted ms)
+
+-- how many bytes a message has
+pub length-message_bytes : (m : Message) → length m.date ≡ 20
+    → length (message_bytes m) ≡ 38 + length m.to_name + length m.from_name + length m.subject + length m.text
+unfolding numbers
+length-message_bytes m date =
+    omega (
+      arith,
+      date,
+      length-append (word 2 ++ numbers m) m.date,
+      length-append (before ToName m) (zero_ended m.to_name),
+      length-append m.to_name (0 ∷ []),
+      length-append (before FromName m) (zero_ended m.from_name),
+      length-append m.from_name (0 ∷ []),
+      length-append (before Subject m) (zero_ended m.subject),
+      length-append m.subject (0 ∷ []),
+      length-append (before Text m) (zero_ended m.text),
+      length-append m.text (0 ∷ []),
+    )
+
+-- how many bytes a header has
+pub header_size : (h : Header) → length h.password ≡ 8 → length h.fill ≡ 20 → length (header_bytes h) ≡ 58
+unfolding header_bytes
+header_size h password fill = omega (arith, password, fill, length-append h.password (word h.orig_zone ++ (word h.dest_zone ++ h.fill)))
+
+-- how many bytes a packet has
+pub packet_size : (h : Header) (ms : List Message) → length (packet_bytes h ms) ≡ length (header_bytes h) + 2 + length (messages_bytes ms)
+packet_size h ms = omega (arith, length-append (header_bytes h) (messages_bytes ms ++ word 0), length-append (messages_bytes ms) (word 0))
+
+-- the bytes of the first messages, and of one more
+pub one_more_counted : (ms : List Message) (i : ℕ) (m : Message) → i < length ms → m ≡ get_or ms i m
+    → length (messages_bytes (take (i + 1) ms)) ≡ length (messages_bytes (take i ms)) + length (message_bytes m)
+one_more_counted ms i m within is =
+    ap (λ l. length (messages_bytes l)) (one_more_message ms i m within is) ∙ ap length (messages_bytes-push (take i ms) m)
+    ∙ length-append (messages_bytes (take i ms)) (message_bytes m)
+
+-- the first messages have no more bytes than all
+pub front_counted : (n : ℕ) (ms : List Message) → length (messages_bytes (take n ms)) ≤ length (messages_bytes ms)
+front_counted zero ms = omega arith
+front_counted (suc n) [] = omega arith
+front_counted (suc n) (m ∷ ms) =
+    omega (arith, front_counted n ms, length-append (message_bytes m) (messages_bytes (take n ms)), length-append (message_bytes m) (messages_bytes ms))
 
 -- written bytes are a packet of the header and the messages
 pub written_packet : (most : ℕ) (h : Header) (ms : List Message) (bytes : List ℕ) → IsHeader h → AllByRecursion IsWhole ms → bytes ≡ packet_bytes h ms → length bytes ≤ most

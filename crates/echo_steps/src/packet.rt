@@ -1,5 +1,7 @@
-ghost use Rattle.std.specs.Prelude.{◌≡◌, [], IfOk};
-ghost use Rattle.echo_packet.specs.Packet.{PacketOf};
+ghost use Rattle.std.specs.Prelude.{◌≡◌, ◌+◌, ◌<◌, length, IfOk, OnErr};
+ghost use Rattle.echo_packet.specs.Header.{header_bytes};
+ghost use Rattle.echo_packet.specs.Message.{message_bytes};
+ghost use Rattle.echo_packet.specs.Packet.{PacketOf, packet_bytes};
 
 use echo_addr::Items;
 use echo_device::Watched;
@@ -13,35 +15,47 @@ pub struct Packet {
     pub messages: Items<PackedCopy>,
 }
 
-// The bytes of a packet beside its messages: the header, and 00 00.
-const AROUND: usize = HEADER_BYTES + 2;
+// How many bytes a packet has beside its messages: those of the header, and 00 00.
+fn size_beside(header: Header) -> usize
+    ensures { result ≡ length (header_bytes header) + 2 }
+{
+    HEADER_BYTES + 2
+}
 
 // The bytes of a message beside its strings, the 00 after each among them.
 const FIXED: usize = 38;
 
-// Room for the bytes of a packet with these messages.
-fn room_for(alloc: Global, messages: &[PackedCopy]) -> Result<Vec<u8>, AllocError>
-    ensures { IfOk result (λ room. room.items ≡ []) }
+// How many bytes a message has.
+fn message_size(copy: &PackedCopy) -> usize
+    ensures { result ≡ length (message_bytes copy.now) }
 {
-    let mut size = AROUND;
-    'messages: for copy in messages {
-        let message = copy.message();
-        size = size
-            .saturating_add(FIXED)
-            .saturating_add(message.to_name().len())
-            .saturating_add(message.from_name().len())
-            .saturating_add(message.subject().len())
-            .saturating_add(message.text().len());
-    }
-    Vec::with_capacity(alloc, size)
+    let message = copy.message();
+    let text = message.text().len();
+    let names = message.to_name().len() + message.from_name().len();
+    FIXED + names + message.subject().len() + text
 }
 
 impl Packet {
+    /// How many bytes the packet has. There is no memory for one of more than `usize::MAX`.
+    pub fn size(&self) -> Result<usize, AllocError>
+        ensures size { IfOk result (λ size. size ≡ length (packet_bytes self.now.header self.now.messages)) }
+        ensures too_long { OnErr result (usize.MAX < length (packet_bytes self.now.header self.now.messages)) }
+    {
+        let mut size = size_beside(self.header);
+        'messages: for copy in self.messages.as_slice() {
+            let Some(more) = size.checked_add(message_size(copy)) else {
+                return Err(AllocError);
+            };
+            size = more;
+        }
+        Ok(size)
+    }
+
     /// The bytes of the packet (FTS-0001): the header, the messages in order, and 00 00.
     pub fn encode(&self, alloc: Global) -> Result<Vec<u8>, AllocError>
         ensures { IfOk result (λ bytes. PacketOf (record { text = usize.MAX; messages = u64.MAX }) self.now.header self.now.messages bytes.items) }
     {
-        let bytes = Watched::new(room_for(alloc, self.messages.as_slice())?);
+        let bytes = Watched::new(Vec::with_capacity(alloc, self.size()?)?);
         let Ok(mut writer) = PacketWriter::begin(bytes, &self.header) else {
             return Err(AllocError);
         };
