@@ -1,6 +1,6 @@
 //! The files of the system, as a scan uses them: packets beside their names are made for their owner alone, and take no
 //! other file's place than that of one that a stopped run left; the base is replaced as in `base_files`. Where a call
-//! failed is noted, to be reported.
+//! failed is noted, to be reported: where the folder gives a packet no second path, that folder.
 
 use crate::base_files::{BaseFiles, system_error, target_beside};
 use cmd_input::Progress;
@@ -26,6 +26,8 @@ pub struct ScanFiles<'p, 'r> {
     // How many packets there are, and how many of them are written.
     packets: Cell<usize>,
     written: Cell<usize>,
+    // The packets that were made beside their names, until the base is to be replaced.
+    made: Cell<Option<Vec<String>>>,
     // Where the first call failed, and the packet's path that another file has.
     failed: Cell<Option<String>>,
     taken: Cell<Option<String>>,
@@ -46,14 +48,21 @@ impl<'p, 'r> ScanFiles<'p, 'r> {
             progress,
             packets: Cell::new(0),
             written: Cell::new(0),
+            made: Cell::new(Some(Vec::new(rt.alloc()))),
             failed: Cell::new(None),
             taken: Cell::new(None),
         }
     }
 
-    /// Removes the file beside the base file, where that has not taken its place.
+    /// Removes the file beside the base file, where that has not taken its place. Where it was not to, the scan was not
+    /// committed, and the packets that stand beside their names go too.
     pub fn tidy(&self) {
         self.bases.tidy();
+        if let Some(made) = self.made.take() {
+            for path in &made {
+                let _ = self.rt.remove_file(path.as_str());
+            }
+        }
     }
 
     /// The path at which the first call failed.
@@ -83,6 +92,23 @@ impl<'p, 'r> ScanFiles<'p, 'r> {
             None => String::from_str(self.rt.alloc(), path).ok(),
         };
         cell.set(kept);
+    }
+
+    // Makes the file of a packet beside its name. Where there is no memory for the path that file stays until the next scan.
+    fn make_packet(&self, path: &str) -> io::Result<File> {
+        let file = make_new(self.rt, path)?;
+        if let Some(mut made) = self.made.take() {
+            if let Ok(kept) = String::from_str(self.rt.alloc(), path) {
+                let _ = made.push(kept);
+            }
+            self.made.set(Some(made));
+        }
+        Ok(file)
+    }
+
+    // Whether it is the path of the folder at which a second path is tried, which stands beside no name.
+    fn is_trial(&self, path: &str) -> bool {
+        target_beside(path) == Some(self.folder)
     }
 
     // Notes where the first call failed.
@@ -139,6 +165,12 @@ impl<'p, 'r> ScanFiles<'p, 'r> {
     }
 }
 
+// Removes the second path of a packet, which a stopped run may have left too.
+fn remove_left(rt: &HostRuntime, path: &str) -> io::Result<()> {
+    check_left(rt.alloc(), rt, path, b"").map_err(system_error)?;
+    rt.remove_file(path)
+}
+
 // The number behind the last dot.
 fn last_number(name: &str) -> Option<u16> {
     let (_, number) = name.rsplit_once('.')?;
@@ -170,7 +202,7 @@ impl Files for ScanFiles<'_, '_> {
             return self.note(path, self.open(how, path));
         }
         if how.asks_create_new() {
-            return self.note(path, make_new(self.rt, path));
+            return self.note(path, self.make_packet(path));
         }
         if how.asks_write() {
             self.tell();
@@ -184,6 +216,9 @@ impl Files for ScanFiles<'_, '_> {
 
     // Whatever has the path of a packet is found, a symbolic link too.
     fn metadata(&self, path: &str) -> io::Result<Metadata> {
+        if self.is_trial(path) {
+            return self.note_found(self.folder, self.rt.symlink_metadata(path));
+        }
         if self.packet_at(path).is_none() {
             return self.note_found(path, self.bases.metadata(path));
         }
@@ -206,17 +241,26 @@ impl Files for ScanFiles<'_, '_> {
     }
 
     fn rename(&self, from: &str, to: &str) -> io::Result<()> {
+        self.made.set(None);
         self.note(to, self.bases.rename(from, to))
     }
 
     fn hard_link(&self, original: &str, link: &str) -> io::Result<()> {
+        let named = if self.is_trial(link) {
+            self.folder
+        } else {
+            link
+        };
         match self.rt.hard_link(original, link) {
             Err(error) if error.kind() == ErrorKind::AlreadyExists => Err(error),
-            linked => self.note(link, linked),
+            linked => self.note(named, linked),
         }
     }
 
     fn remove_file(&self, path: &str) -> io::Result<()> {
+        if self.is_trial(path) {
+            return self.note_found(self.folder, remove_left(self.rt, path));
+        }
         let removed = match self.packet_at(path) {
             None => self.bases.remove_file(path),
             Some(packet) => {

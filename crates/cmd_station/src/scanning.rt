@@ -14,10 +14,12 @@ use cmd_input::{LinkLock, Progress, folder_path, moment_of};
 use echo_device::Sink;
 use echo_disk::Disk;
 use echo_keys::SipDigest;
+use echo_placing::PlacingError;
 use echo_real_disk::{RealDisk, Unknown};
 use echo_station_files::FileLock;
 use echo_status::{Fault, Status};
 use echo_steps::Stamp;
+use echo_store::StoreError;
 use echo_store_changing::Stop;
 use station::{LendStation, Locks, Nothing, OpenStation};
 use station_file::FileStation;
@@ -130,8 +132,12 @@ fn report_scanned<E: Sink>(
     match done {
         Ok(()) => Status::Good,
         Err(ScanStop::Command(stop)) => fault_of(scan.at, stop).report(errors),
-        Err(ScanStop::Placing(cause) | ScanStop::Staying(cause)) => {
-            report_unplaced(scan, files, cause, errors)
+        Err(ScanStop::TooFar) => {
+            fault_of(scan.at, Stop::Store(StoreError::TooMany)).report(errors)
+        }
+        Err(ScanStop::Placing(cause)) => report_unplaced(scan, files, cause, errors),
+        Err(ScanStop::Staying(cause)) => {
+            report_unplaced(scan, files, PlacingError::from(cause), errors)
         }
     }
 }

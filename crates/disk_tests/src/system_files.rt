@@ -132,6 +132,26 @@ fn removes_what_a_stopped_run_left(rt: HostRuntime) -> Result<(), Fail> {
     Ok(())
 }
 
+/// What this user owns there is removed whatever it holds: a power cut leaves zeros.
+#[test]
+fn removes_what_a_power_cut_left(rt: HostRuntime) -> Result<(), Fail> {
+    let alloc = rt.alloc();
+    for left in ["\0\0\0\0\0\0\0\0", "new!"] {
+        let files = [
+            (BESIDE_PACKET, left.as_bytes()),
+            ("/proc/self", b"".as_slice()),
+        ];
+        let state = state(alloc, (CALLS, CALLS), &files)?;
+        let answer = create_file(alloc, &Disk::new(&state), new_at("a.pkt"));
+        if answer != Err(OutputFault::Memory) {
+            assert_eq!(rt; answer, Ok(()));
+            assert!(rt; holds(&state, BESIDE_PACKET, None)?);
+            assert!(rt; holds(&state, "a.pkt", Some(NEW))?);
+        }
+    }
+    Ok(())
+}
+
 /// Makes a packet on a disk whose calls from one number up to another fail.
 fn created(
     alloc: Global,

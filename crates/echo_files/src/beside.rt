@@ -53,16 +53,21 @@ pub fn make_new<R: Files>(files: &R, path: &str) -> io::Result<R::File> {
         .open(files, path)
 }
 
-/// A fault, unless a stopped run left the file: a regular one that begins like the new bytes, or is too short
-/// to tell.
+/// A fault, unless a stopped run left the file. That is a regular file of this user, whatever it holds,
+/// since a power cut can leave zeros instead of its bytes. A file of another user has to begin like the
+/// new bytes, or be too short to tell.
 pub fn check_left<R: Files>(
     alloc: Global,
     files: &R,
     path: &str,
     start: &[u8],
 ) -> Result<(), OutputFault> {
-    if !fs::symlink_metadata(files, path)?.is_file() {
+    let found = fs::symlink_metadata(files, path)?;
+    if !found.is_file() {
         return Err(OutputFault::Device);
+    }
+    if is_of_this_user(files, found.uid()) {
+        return Ok(());
     }
     let mut first = vec![in alloc; 0u8; start.len()]?;
     let mut device = Watched::new(fs::open(files, path)?);
@@ -72,6 +77,14 @@ pub fn check_left<R: Files>(
         Ok(())
     } else {
         Err(OutputFault::Device)
+    }
+}
+
+// Whether this user owns it, where that can be seen.
+fn is_of_this_user<R: Files>(files: &R, owner: u32) -> bool {
+    match fs::metadata(files, "/proc/self") {
+        Ok(this_run) => this_run.uid() == owner,
+        Err(_) => false,
     }
 }
 

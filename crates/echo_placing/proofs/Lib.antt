@@ -5,4 +5,5 @@ pub mod Ended
 pub mod Named
 pub mod Packets
 pub mod Replaced
+pub mod Tried
 pub mod Whole

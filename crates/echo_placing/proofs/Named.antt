@@ -1,13 +1,12 @@
 -- What a crash leaves while a packet gets its path, by a second path and the removal of the first.
 use Rattle.std.proofs.Common.{◌≡◌, ◌≢◌, ◌⊎◌, inl, inr, ⊎_elim, ◌∙◌, ℕ, List, refl, sym}
 use Rattle.echo_disk.specs.Disk.{DiskState}
-use Rattle.echo_disk.specs.Steps.{ChangesFile, TornNaming, TornRemoval}
-use Rattle.echo_disk.specs.Runs.{ChangesNothing, Elapses, LeavesOneStepOn, LeavesOnly, OneStepOn}
+use Rattle.echo_disk.specs.Steps.{ChangesFile, SameBeside, TornNaming, TornRemoval}
+use Rattle.echo_disk.specs.Runs.{ChangesNothing, Elapses, KeepsAlone, KeepsFlushed, KeepsNamed, LeavesOneStepOn, LeavesOnly, OneStepOn}
 use Rattle.echo_disk.proofs.Moments.{one_call, then_nothing}
 use Rattle.echo_disk.proofs.Tearing.{ChangesFile-none}
-use Rattle.echo_placing.specs.Changes.{ChangesOnly}
-use Rattle.echo_placing.specs.Naming.{Names, StaysThere}
-use Rattle.echo_placing.proofs.Changes.{only_nothing, then_only, then_steps}
+use Rattle.echo_placing.specs.Naming.{Gives, Names}
+use Rattle.echo_placing.proofs.Changes.{only_call, only_nothing, then_only, then_steps}
 
 module _ (path beside : List ℕ) (other : beside ≢ path) where
   -- the second path
@@ -38,11 +37,16 @@ module _ (path beside : List ℕ) (other : beside ≢ path) where
       let same : c path ≡ a beside = q.beside path (λ e. other (sym e)) (inl still) ∙ d1.on_disk path path_named path_flushed b left ∙ is ∙ sym (d0.on_disk beside named flushed a at) in
       record { others = λ m out. q.beside m (λ e. out (inl e)) (inl still) ∙ r.others m out; stands = inl same; either = inr same })
 
--- what a call that gives a path does, whether it could or not
-pub record Gives (old new : DiskState) (path beside : List ℕ) : Type 0 where
-  pub any_moment : LeavesOnly old new (OneStepOn (Names path beside) old)
-  pub changes : ChangesOnly (λ m. (m ≡ beside) ⊎ (m ≡ path)) old new
-  pub stays : StaysThere old new beside
+-- a link is such a call
+pub link_gives : (path beside : List ℕ) → beside ≢ path → (old new : DiskState) → old.is_named beside → old.is_flushed beside → old.is_named path → SameBeside path old.seen new.seen
+    → LeavesOneStepOn (ChangesFile old path (TornNaming (old.seen beside))) old new → KeepsNamed (λ m. m ≡ path) old new → KeepsFlushed (λ m. m ≡ path) old new
+    → KeepsAlone (λ m. (m ≡ beside) ⊎ (m ≡ path)) old new → Elapses old new → Gives old new path beside
+link_gives path beside other old new named flushed free same crash keeps_named keeps_flushed alone time = record {
+  any_moment = linked_run path beside other old new named flushed free time crash;
+  changes = only_call (λ m. (m ≡ beside) ⊎ (m ≡ path)) old new path (TornNaming (old.seen beside)) (inr refl) free same crash
+      (λ m out. keeps_named m (λ e. out (inr e))) (λ m out. keeps_flushed m (λ e. out (inr e))) alone time;
+  stays = record { seen = same beside other; named = keeps_named beside other; flushed = keeps_flushed beside other };
+}
 
 -- the same with calls behind it that change nothing
 pub gives_quiet : (d0 d1 d2 : DiskState) (path beside : List ℕ) → Gives d0 d1 path beside → ChangesNothing d1 d2 → Gives d0 d2 path beside

@@ -4,3 +4,4 @@ pub mod Naming
 pub mod Outgoing
 pub mod Publishing
 pub mod Replacing
+pub mod Trying

@@ -1,7 +1,8 @@
 -- Packets that get their paths.
 use Rattle.std.specs.Prelude.{◌≡◌, ◌≢◌, ◌⊎◌, ℕ, List, All, Some, None, IsSome}
 use Rattle.echo_disk.specs.Disk.{DiskState, Files}
-use Rattle.echo_placing.specs.Changes.{DifferAt, HasOnDisk}
+use Rattle.echo_disk.specs.Runs.{LeavesOnly, OneStepOn}
+use Rattle.echo_placing.specs.Changes.{ChangesOnly, DifferAt, HasOnDisk}
 use Rattle.echo_placing.specs.Outgoing.{IsOfOne}
 use Rattle.echo_placing.specs.declared.outgoing.Outgoing.{Outgoing}
 
@@ -16,6 +17,12 @@ pub record StaysThere (old new : DiskState) (path : List ℕ) : Type 0 where
   pub seen : new.seen path ≡ old.seen path
   pub named : old.is_named path → new.is_named path
   pub flushed : old.is_flushed path → new.is_flushed path
+
+-- What a call does that gives the file beside a path that path, whether it could or not.
+pub record Gives (old new : DiskState) (path beside : List ℕ) : Type 0 where
+  pub any_moment : LeavesOnly old new (OneStepOn (Names path beside) old)
+  pub changes : ChangesOnly (λ m. (m ≡ beside) ⊎ (m ≡ path)) old new
+  pub stays : StaysThere old new beside
 
 -- the file beside the path has the path alone, on the disk
 pub record HasMoved (old new : DiskState) (path beside : List ℕ) : Type 0 where

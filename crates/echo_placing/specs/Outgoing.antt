@@ -13,6 +13,10 @@ IsBesideOne packets m = (p : Outgoing) × Contains packets p × (m ≡ p.beside.
 abbrev pub IsOfOne : List Outgoing → List ℕ → Type 0
 IsOfOne packets m = (p : Outgoing) × Contains packets p × ((m ≡ p.beside.now) ⊎ (m ≡ p.path.now))
 
+-- the path beside that of one of them, or the one at which a second path is tried
+abbrev pub IsAtStaging : List Outgoing → List ℕ → List ℕ → Type 0
+IsAtStaging packets trial m = IsBesideOne packets m ⊎ (m ≡ trial)
+
 -- two packets have no path in common
 pub record AreApart (one other : Outgoing) : Type 0 where
   pub paths : one.path.now ≢ other.path.now

@@ -1,6 +1,6 @@
 //! Packets that stand beside their paths.
-ghost use Rattle.std.specs.Prelude.{◌≡◌, true, false, All, AllPairs, IfOk, OnOk};
-ghost use Rattle.echo_disk.specs.Disk.{Honestly};
+ghost use Rattle.std.specs.Prelude.{◌≡◌, ℕ, List, true, false, All, AllPairs, IfOk, OnOk};
+ghost use Rattle.echo_disk.specs.Disk.{Honestly, IsIn};
 ghost use Rattle.echo_disk.specs.Runs.{ChangesNothing, HasCause, KeepsNamed};
 ghost use Rattle.echo_placing.specs.Changes.{ChangesOnly};
 ghost use Rattle.echo_placing.specs.Outgoing.{AreApart, ArePlaced, SendsBytes, IsBesideOne, IsFilled, IsFree, IsMade, IsNamedBeside, IsStaged};
@@ -72,6 +72,7 @@ pub fn stage_packets<D: Disk>(
     requires { ArePlaced folder.now packets.now }
     ensures bytes { IfOk result (λ free. free ≡ true → All SendsBytes packets.now) }
     ensures staged { IfOk result (λ free. free ≡ true → All (IsStaged (D.state disk.new)) packets.now) }
+    ensures named { IfOk result (λ free. free ≡ true → (m : List ℕ) → IsIn folder.now m → (D.state disk.new).is_named m) }
     ensures free { Honestly (D.state disk.new) (IfOk result (λ free. free ≡ true → All (IsFree (D.state disk.new)) packets.now)) }
     ensures taken { Honestly (D.state disk.new) (IfOk result (λ free. free ≡ false → All (IsFree (D.state disk.old)) packets.now → ⊥)) }
     ensures changes { ChangesOnly (IsBesideOne packets.now) (D.state disk.old) (D.state disk.new) }

@@ -1,8 +1,8 @@
 //! What stands beside the paths of packets is removed.
 ghost use Rattle.std.specs.Prelude.{◌≡◌, ◌≤◌, All, AllPairs, None, OnOk};
-ghost use Rattle.echo_disk.specs.Disk.{Honestly};
+ghost use Rattle.echo_disk.specs.Disk.{Honestly, IsIn};
 ghost use Rattle.echo_placing.specs.Changes.{ChangesOnly};
-ghost use Rattle.echo_placing.specs.Outgoing.{AreApart, ArePlaced, IsBesideOne, IsGoneBeside, IsNamedBeside};
+ghost use Rattle.echo_placing.specs.Outgoing.{AreApart, ArePlaced, IsAtStaging, IsBesideOne, IsGoneBeside, IsNamedBeside, IsOfOne};
 
 use crate::outgoing::Outgoing;
 use echo_disk::{Disk, DiskError, sync_folder_of};
@@ -34,17 +34,22 @@ fn drop_each<D: Disk>(disk: &mut D, packets: &[Outgoing<'_>]) -> Result<(), Disk
     Ok(())
 }
 
-/// Removes what stands beside the paths of the packets, which are of this folder.
+/// Removes what stands beside the paths of the packets, which are of this folder, and at the path that was tried.
 pub fn drop_beside<D: Disk>(
     disk: &mut D,
     folder: &[u8],
+    trial: &[u8],
     packets: &[Outgoing<'_>],
 ) -> Result<(), DiskError>
-    requires { ArePlaced folder.now packets.now }
+    requires placed { ArePlaced folder.now packets.now }
+    requires inside { IsIn folder.now trial.now }
+    requires apart { IsOfOne packets.now trial.now → ⊥ }
     ensures gone { Honestly (D.state disk.new) (OnOk result (All (IsGoneBeside (D.state disk.new)) packets.now)) }
-    ensures changes { ChangesOnly (IsBesideOne packets.now) (D.state disk.old) (D.state disk.new) }
+    ensures trial_gone { Honestly (D.state disk.new) (OnOk result ((D.state disk.new).seen trial.now ≡ None)) }
+    ensures changes { ChangesOnly (IsAtStaging packets.now trial.now) (D.state disk.old) (D.state disk.new) }
     ensures later { D.failures disk.old ≤ D.failures disk.new }
 {
     sync_folder_of(disk, folder)?;
+    drop_one(disk, trial)?;
     drop_each(disk, packets)
 }

@@ -1,9 +1,9 @@
 //! Packets get their paths: each a second path by a link, and then the path beside it goes.
-ghost use Rattle.std.specs.Prelude.{◌≡◌, ◌≢◌, ◌⊎◌, ◌↔◌, ℕ, List, true, false, All, IfOk, OnOk, IsSome};
+ghost use Rattle.std.specs.Prelude.{◌≡◌, ◌≢◌, ◌⊎◌, ◌↔◌, ℕ, List, true, false, All, IfOk, IsTrue, None, OnOk, IsSome};
 ghost use Rattle.echo_disk.specs.Disk.{Honestly, IsIn};
 ghost use Rattle.echo_disk.specs.Runs.{ChangesNothing, HasCause, LeavesOnly, OneStepOn};
 ghost use Rattle.echo_placing.specs.Changes.{ChangesOnly};
-ghost use Rattle.echo_placing.specs.Naming.{HasItsPath, HasMoved, IsTaken, Names, NamesEach, StaysThere};
+ghost use Rattle.echo_placing.specs.Naming.{Gives, HasItsPath, HasMoved, IsTaken, Names, NamesEach, StaysThere};
 ghost use Rattle.echo_placing.specs.Outgoing.{ArePlaced, IsFree, IsOfOne, IsStaged};
 
 use crate::outgoing::Outgoing;
@@ -49,6 +49,27 @@ fn has_both<D: Disk>(
     Ok(true)
 }
 
+/// Gives the file beside a path that path too, and answers `false` where that has a file.
+pub(crate) fn link_path<D: Disk>(
+    disk: &mut D,
+    beside: &[u8],
+    path: &[u8],
+) -> Result<bool, DiskError>
+    requires other { beside.now ≢ path.now }
+    requires there { Honestly (D.state disk.old) (IsSome ((D.state disk.old).seen beside.now)) }
+    requires durable { (D.state disk.old).is_flushed beside.now }
+    requires beside_named { (D.state disk.old).is_named beside.now }
+    requires path_named { (D.state disk.old).is_named path.now }
+    ensures linked { IfOk result (λ linked. linked ≡ true → (D.state disk.new).seen path.now ≡ (D.state disk.old).seen beside.now) }
+    ensures kept { IfOk result (λ linked. linked ≡ true → (D.state disk.new).is_flushed path.now) }
+    ensures free { Honestly (D.state disk.new) (IfOk result (λ linked. IsTrue linked ↔ ((D.state disk.old).seen path.now ≡ None))) }
+    ensures taken { IfOk result (λ linked. linked ≡ false → (D.state disk.new).seen path.now ≡ (D.state disk.old).seen path.now) }
+    ensures gives { Gives (D.state disk.old) (D.state disk.new) path.now beside.now }
+    ensures cause { HasCause (D.failures disk.old) (D.failures disk.new) result }
+{
+    disk.link(beside, path)
+}
+
 // Gives the file beside a path that path too, unless another file has it. It may have it already.
 fn give_path<D: Disk>(
     alloc: Global,
@@ -65,12 +86,10 @@ fn give_path<D: Disk>(
     ensures durable { IfOk result (λ given. given ≡ true → (D.state disk.new).is_flushed path.now) }
     ensures over_none { Honestly (D.state disk.new) (OnOk result (IsSome ((D.state disk.old).seen path.now) → (D.state disk.new).seen path.now ≡ (D.state disk.old).seen path.now)) }
     ensures taken { Honestly (D.state disk.new) (IfOk result (λ given. given ≡ false → IsTaken (D.state disk.old) path.now beside.now)) }
-    ensures any_moment { LeavesOnly (D.state disk.old) (D.state disk.new) (OneStepOn (Names path.now beside.now) (D.state disk.old)) }
-    ensures stays { StaysThere (D.state disk.old) (D.state disk.new) beside.now }
-    ensures changes { ChangesOnly (λ m. (m ≡ beside.now) ⊎ (m ≡ path.now)) (D.state disk.old) (D.state disk.new) }
+    ensures gives { Gives (D.state disk.old) (D.state disk.new) path.now beside.now }
     ensures cause { HasCause (D.failures disk.old) (D.failures disk.new) result }
 {
-    if disk.link(beside, path)? {
+    if link_path(disk, beside, path)? {
         return Ok(true);
     }
     has_both(alloc, disk, beside, path)

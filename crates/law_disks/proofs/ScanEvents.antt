@@ -1,5 +1,5 @@
 -- A scan on a station as a command event.
-use Rattle.std.proofs.Common.{◌≡◌, ◌⊎◌, inl, inr, ⊎_elim, ◌∙◌, refl, sym, subst, ap, ℕ, zero, suc, append-nil, List, [], ◌∷◌, ◌++◌, length, map, Some, Result, Ok, Err}
+use Rattle.std.proofs.Common.{◌≡◌, ◌⊎◌, inl, inr, ⊎_elim, ◌∙◌, ◌<◌, refl, sym, subst, ap, ℕ, zero, suc, append-nil, arith, List, [], ◌∷◌, ◌++◌, length, map, Some, Result, Ok, Err}
 use Rattle.std.specs.Prelude.{All, IfErr, OnOk}
 use Rattle.std.specs.List.{AllByRecursion}
 use Rattle.std.proofs.lemmas.List.Elements.{All-contains, recursion_from_All}
@@ -12,7 +12,7 @@ use Rattle.echo_placing.specs.Finishing.{IsOfLeft}
 use Rattle.echo_placing.specs.declared.finishing.Left.{Left}
 use Rattle.echo_run.specs.Run.{nth}
 use Rattle.echo_run.proofs.Lists.{none_some, some_same}
-use Rattle.echo_station_files.specs.Paths.{dotted}
+use Rattle.echo_station_files.specs.Paths.{dotted, path_beside}
 use Rattle.echo_status.specs.declared.fault.Fault.{Fault}
 use Rattle.echo_status.specs.Devices.{Output}
 use Rattle.echo_steps.specs.PacketFiles.{PacketFile}
@@ -26,10 +26,10 @@ use Rattle.station.specs.Place.{KeepsElsewhere, Place, StandsOrWasLeft}
 use Rattle.station.specs.Running.{IsNotRun, IsStopped}
 use Rattle.station_scan.specs.Left.{IsLeftOf}
 use Rattle.station_scan.specs.Publishing.{KeepsBut}
-use Rattle.station_scan.specs.Scanning.{AreSentOut, IsPutAs, IsPutIn, IsTouched, MayLeave, ScansIn}
+use Rattle.station_scan.specs.Scanning.{AreSentOut, IsOnItsWay, IsPutAs, IsPutIn, IsTaken, IsTouched, MayLeave, ScansIn}
 use Rattle.station_scan.specs.Sending.{HasBytes, IsBesidePacket, IsOfPacket, StandsWhole}
 use Rattle.station_scan.specs.Sends.{IsOfThese}
-use Rattle.station_scan.specs.Stops.{IsOfPlacing, as_scan}
+use Rattle.station_scan.specs.Stops.{IsOfPlacing, as_scan, most}
 use Rattle.station_scan.specs.declared.scan_stop.ScanStop.{ScanStop}
 use Rattle.station_scan.specs.declared.scan_stop.ScanStop.TheVariants.{Command}
 use Rattle.law_stations.specs.Nets.{Station, bytes_of, with_base, with_left}
@@ -51,12 +51,18 @@ left-away is_true Own outbound own found each m away (l, has, is) = by (All-cont
     by (name, called, numbered) (inl e) = away (inr (own, (name, called.plain, inl (e ∙ called.beside))))
     by (name, called, numbered) (inr e) = away (inr (own, (name, called.plain, inr (e ∙ called.path))))
 
--- nor have the packets of a scan
+-- nor has the path that is tried, nor have the packets of a scan
+tried-away : (Own : List ℕ → Type 0) (outbound own : List ℕ) (m : List ℕ) → (IsTouched Own outbound m → ⊥) → m ≡ path_beside outbound own → ⊥
+tried-away Own outbound own m away is =
+    away (inr (own, ([], λ k d lt. absurd (omega (arith, lt)), inl (is ∙ ap (λ (l : List ℕ). path_beside l own) (sym (append-nil outbound))))))
+
 sent-away : (Own : List ℕ → Type 0) (outbound own : List ℕ) (files : List PacketFile) (m : List ℕ) → (IsTouched Own outbound m → ⊥) → IsOfPacket outbound own files m → ⊥
-sent-away Own outbound own files m away (sent, has, plain, is) = away (inr (own, (sent.name, plain, is)))
+sent-away Own outbound own files m away (inl (sent, has, plain, is)) = away (inr (own, (sent.name, plain, is)))
+sent-away Own outbound own files m away (inr is) = tried-away Own outbound own m away is
 
 beside-away : (Own : List ℕ → Type 0) (outbound own : List ℕ) (files : List PacketFile) (m : List ℕ) → (IsTouched Own outbound m → ⊥) → IsBesidePacket outbound own files m → ⊥
-beside-away Own outbound own files m away (sent, has, plain, is) = away (inr (own, (sent.name, plain, inl is)))
+beside-away Own outbound own files m away (inl (sent, has, plain, is)) = away (inr (own, (sent.name, plain, inl is)))
+beside-away Own outbound own files m away (inr is) = tried-away Own outbound own m away is
 
 these-away : (Own : List ℕ → Type 0) (outbound own : List ℕ) (files : List PacketFile) (m : List ℕ) → (IsTouched Own outbound m → ⊥) → IsOfThese Own outbound own files m → ⊥
 these-away Own outbound own files m away these = ⊎_elim (λ (of : Own m). away (inl of)) (λ (of : IsOfPacket outbound own files m). sent-away Own outbound own files m away of) these
@@ -163,33 +169,37 @@ module _ (stamp : Stamp) (place : Place) (links outbound : List ℕ) (i : ℕ) (
 
     module _ (IsTrue : Files → Type 0) (failed : Type 0) (result : Result (Unit {0}) ScanStop) (put : IsPutIn place outbound own IsTrue failed old new base files result) where
       -- files on the way
-      way-away : (c : Files) → MayLeave place outbound own old base put.found files put.opened c → SameAway c
-      way-away c (inl was) m off named flushed = old.on_disk m named flushed c was
-      way-away c (inr (inl (before, opens, prepares))) m off named flushed =
+      way-away : (c : Files) → IsOnItsWay place outbound own old base put.found files put.opened c → SameAway c
+      way-away c (inl (before, opens, prepares)) m off named flushed =
           prepares.writes m (beside-away place.is_own outbound own files m off)
           ∙ prepares.ends.others m (left-away (IsTrue put.opened) place.is_own outbound own put.found put.each m off)
           ∙ opened-away before opens m off named flushed
-      way-away c (inr (inr commits)) m off named flushed =
+      way-away c (inr commits) m off named flushed =
           let off_left = left-away (IsTrue put.opened) place.is_own outbound own put.found put.each m off in
           commits.others m (these-away place.is_own outbound own files m off) (inl ((named, flushed), off_left))
           ∙ commits.beside_them m off_left
           ∙ put.elsewhere m (λ of. off (inl of))
 
-      left-by : (c : Files) → MayLeave place outbound own old base put.found files put.opened c → old.may_leave c ⊎ (ShowsStation place links i c d ⊎ AreAfterScan stamp place links outbound i d ended base c)
-      left-by c (inl was) = inl was
-      left-by c (inr (inl (before, opens, prepares))) =
-          inr (inl (as-it-was c (same-links-in c (way-away c (inr (inl (before, opens, prepares))))) prepares.stands))
-      left-by c (inr (inr commits)) =
-          let linked = same-links-in c (way-away c (inr (inr commits))) in
+      on-way : (c : Files) → IsOnItsWay place outbound own old base put.found files put.opened c → ShowsStation place links i c d ⊎ AreAfterScan stamp place links outbound i d ended base c
+      on-way c (inl prepares) = inl (as-it-was c (same-links-in c (way-away c (inl prepares))) prepares.2.stands)
+      on-way c (inr commits) =
+          let linked = same-links-in c (way-away c (inr commits)) in
           elim commits.either [
-            | inl stays ↦ inr (inl (as-it-was c linked stays.0))
+            | inl stays ↦ inl (as-it-was c linked stays.0)
             | inr comes ↦
                 inr
-                (inr
                 (after c linked comes.2 comes.0
                 (parted (IsAtPath outbound c) (IsBesidePath outbound own c) i base.cursor (length base.messages) files ended.beside (with_left ended.net i [] next) now-has
-                (some-waits file base.messages base.cursor stamp files answers.right.packets) (recursion_from_All (StandsWhole outbound own c) files comes.1))))
+                (some-waits file base.messages base.cursor stamp files answers.right.packets) (recursion_from_All (StandsWhole outbound own c) files comes.1)))
           ]
+
+      may-away : (c : Files) → MayLeave place outbound own old base put.found files put.opened c → SameAway c
+      may-away c (inl was) m off named flushed = old.on_disk m named flushed c was
+      may-away c (inr on) = way-away c on
+
+      left-by : (c : Files) → MayLeave place outbound own old base put.found files put.opened c → old.may_leave c ⊎ (ShowsStation place links i c d ⊎ AreAfterScan stamp place links outbound i d ended base c)
+      left-by c (inl was) = inl was
+      left-by c (inr on) = inr (on-way c on)
 
       -- where it ended well
       module _ (sent : AreSentOut (IsTrue put.opened) place.is_own outbound own (place.stands_for next) base.cursor put.found files put.opened new) where
@@ -218,7 +228,7 @@ module _ (stamp : Stamp) (place : Place) (links outbound : List ℕ) (i : ℕ) (
 
       -- no fault of the command is answered
       placed : (fault : Fault) → result ≡ Err (Command (Met fault)) → ⊥
-      placed fault is = subst (λ (r : Result (Unit {0}) ScanStop). IfErr r (IsOfPlacing failed)) is put.why
+      placed fault is = subst (λ (r : Result (Unit {0}) ScanStop). IfErr r (IsOfPlacing failed (IsTaken place.is_own outbound own base.cursor put.found files put.opened) (most < base.cursor))) is put.why
 
       sent-out : result ≡ Ok tt → AreSentOut (IsTrue put.opened) place.is_own outbound own (place.stands_for next) base.cursor put.found files put.opened new
       sent-out ok = subst (λ (r : Result (Unit {0}) ScanStop). OnOk r (AreSentOut (IsTrue put.opened) place.is_own outbound own (place.stands_for next) base.cursor put.found files put.opened new)) ok put.sent
@@ -228,19 +238,24 @@ module _ (stamp : Stamp) (place : Place) (links outbound : List ℕ) (i : ℕ) (
         crash = λ c since. left-by c (put.crash.each c since);
         done = λ ok. found-so (sent-out ok);
         on_disk = λ ok. whole (sent-out ok);
+        lasts = λ met c left. on-way c (put.lasts c left);
         stopped = λ fault is. absurd (placed fault is);
         same_links = same-links;
         linked = still-linked;
-        elsewhere = record { crash = λ c since. inr (way-away c (put.crash.each c since)); keeps = keeps-elsewhere };
+        elsewhere = record { crash = λ c since. inr (may-away c (put.crash.each c since)); keeps = keeps-elsewhere };
       }
 
   -- where it stopped before
-  stopped-so : (result : Result (Unit {0}) ScanStop) (why : ScanStop) → result ≡ Err why → LeavesOnly old new (StandsOrWasLeft place old base)
+  abbrev Lasts : Result (Unit {0}) ScanStop → Type 0
+  Lasts result = ((fault : Fault) → result ≡ Err (Command (Met fault)) → ⊥) → (c : Files) → new.may_leave c → ShowsStation place links i c d ⊎ AreAfterScan stamp place links outbound i d ended base c
+
+  stopped-so : (result : Result (Unit {0}) ScanStop) (why : ScanStop) → result ≡ Err why → LeavesOnly old new (StandsOrWasLeft place old base) → Lasts result
       → ScansAsEvent stamp place links outbound i d ended base old new result
-  stopped-so result why is leaves = record {
+  stopped-so result why is leaves lasts = record {
     crash = λ c since. ⊎_elim (λ was. inl was) (λ shows. inr (inl shows)) (was-left c (leaves.each c since));
     done = λ ok. absurd (cc (sym ok ∙ is));
     on_disk = λ ok. absurd (cc (sym ok ∙ is));
+    lasts = lasts;
     stopped = λ fault met c since. was-left c (leaves.each c since);
     same_links = same-links;
     linked = still-linked;
@@ -250,15 +265,15 @@ module _ (stamp : Stamp) (place : Place) (links outbound : List ℕ) (i : ℕ) (
   made-so : (file : LinkFile) → LinksOf at.shows.station.links (Ok file) → (out out_now : Output) (IsTrue : Files → Type 0) (failed : Type 0) (result : Result (Unit {0}) ScanStop) (made : Result (List PacketFile) Stop)
       → ScansOn stamp (state_in file base) out out_now made → IsPutAs place outbound (dotted file.system) IsTrue failed old new base made result → ScansAsEvent stamp place links outbound i d ended base old new result
   made-so file says out out_now IsTrue failed result (Ok files) answers put = put-so file says files out out_now answers IsTrue failed result put
-  made-so file says out out_now IsTrue failed result (Err why) answers put = stopped-so result (Command why) put.0 put.1.crash
+  made-so file says out out_now IsTrue failed result (Err why) answers put = stopped-so result (Command why) put.0 put.1.crash (λ met c left. inl (as-it-was c (left-links c left) (put.1.stands c left)))
 
   -- where it was not run
   not-run : (IsShut Stops : Fault → Type 0) (out out_now : Output) (result : Result (Unit {0}) ScanStop) (stopped : Result (Unit {0}) Stop) → result ≡ as_scan stopped
       → IsNotRun place IsShut old new out out_now stopped ⊎ IsStopped place Stops old new out out_now stopped → ScansAsEvent stamp place links outbound i d ended base old new result
   not-run IsShut Stops out out_now result stopped is (inl shut) =
-      stopped-so result (Command (Met shut.fault)) (is ∙ ap as_scan shut.is) (shut.crash base at.shows.stands)
+      let shut_by = is ∙ ap as_scan shut.is in stopped-so result (Command (Met shut.fault)) shut_by (shut.crash base at.shows.stands) (λ met. absurd (met shut.fault shut_by))
   not-run IsShut Stops out out_now result stopped is (inr by) =
-      stopped-so result (Command (Met by.fault)) (is ∙ ap as_scan by.is) (by.stands base at.shows.stands).crash
+      let stopped_by = is ∙ ap as_scan by.is in stopped-so result (Command (Met by.fault)) stopped_by (by.stands base at.shows.stands).crash (λ met. absurd (met by.fault stopped_by))
 
   ran : (Reads : LinkFile → Type 0) (IsShut Stops : Fault → Type 0) (out out_now : Output) (IsTrue : Files → Type 0) (failed : Type 0) (result : Result (Unit {0}) ScanStop) → ReadsLinks Reads links old
       → ScansIn stamp place outbound IsTrue Reads IsShut Stops failed old new out out_now result → ScansAsEvent stamp place links outbound i d ended base old new result

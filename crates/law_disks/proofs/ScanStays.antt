@@ -37,7 +37,7 @@ module _ (place : Place) (outbound links : List ℕ) (i : ℕ) (d : Disks) (old 
   module _ (IsTrue : Files → Type 0) (IsShut Stops : Fault → Type 0) (failed : Type 0) (result : Result (Unit {0}) ScanStop) (fault : Fault) (is : result ≡ Err (Command (Met fault))) where
     -- no placing meets a fault
     put-so : (own : List ℕ) (made : Result (List PacketFile) Stop) → IsPutAs place outbound own IsTrue failed old new at.shows.station.base made result → StandsAsBefore place old new at.shows.station.base
-    put-so own (Ok files) put = absurd (subst (λ (r : Result (Unit {0}) ScanStop). IfErr r (IsOfPlacing failed)) is put.why)
+    put-so own (Ok files) put = absurd (subst (λ (r : Result (Unit {0}) ScanStop). IfErr r (IsOfPlacing failed _ _)) is put.why)
     put-so own (Err why) put = put.1
 
     abbrev is-shut-by : ScanStop → Type 0

@@ -64,6 +64,8 @@ pub record ScansAsEvent (stamp : Stamp) (place : Place) (links outbound : List �
   pub done : result ≡ Ok tt → IsAfterScan stamp place links outbound i d ended base new
   -- and a crash leaves them so
   pub on_disk : result ≡ Ok tt → (c : Files) → new.may_leave c → (after : AreAfterScan stamp place links outbound i d ended base c) × (after.waiting ≡ [])
+  -- however it ended, but for a fault, a crash leaves the station as it was or as after the event
+  pub lasts : ((fault : Fault) → result ≡ Err (Command (Met fault)) → ⊥) → (c : Files) → new.may_leave c → ShowsStation place links i c d ⊎ AreAfterScan stamp place links outbound i d ended base c
   -- where it met a fault a crash meanwhile leaves what one before it might have left, or both as they were
   pub stopped : (fault : Fault) → result ≡ Err (Command (Met fault)) → (c : Files) → new.left_since old.moment c → old.may_leave c ⊎ ShowsStation place links i c d
   -- the link file is as it was, on the disk

@@ -19,7 +19,7 @@ use Rattle.station_scan.specs.Sending.{IsOffOwn}
 use Rattle.station_scan.specs.declared.listing.LeftPacket.{LeftPacket}
 use Rattle.station_scan.specs.declared.finding.LeftPaths.{LeftPaths}
 use Rattle.station_scan.specs.declared.sending.TwoPaths.{TwoPaths}
-use Rattle.station_scan.specs.Left.{AreAllLeft, AreFound, AreLent, EndsLeft, EndsThese, IsBesideThere, IsFound, IsFoundWhere, IsEndedAt, IsLeftOf, IsLent, IsOfNameOff, IsOfPaths, IsToFind}
+use Rattle.station_scan.specs.Left.{AreAllLeft, AreFound, AreFreeLeft, AreLent, EndsLeft, EndsThese, IsBesideThere, IsFound, IsFreeFound, IsFoundWhere, IsEndedAt, IsLeftOf, IsLent, IsOfNameOff, IsOfPaths, IsToFind}
 use Rattle.station_scan.proofs.Names.{four_apart, name_beside_in, name_in}
 
 -- the packet with these paths
@@ -131,6 +131,12 @@ module _ (paths : List LeftPaths) (found : List Left) (lent : AreLent paths foun
       let is = lent.each k no_paths z (within k lt) in
       subst (λ (m : List ℕ). IsSome (disk.seen m)) (sym is.beside) (all k no_paths (within k lt))
 
+  -- nothing has their paths
+  pub are_free : (files : Files) → All (IsFreeFound files) paths → All (λ (l : Left). files l.path.now ≡ None) found
+  are_free files all k z lt =
+      let low = within k lt in
+      ap files (lent.each k no_paths z low).path ∙ all k no_paths low
+
   pub of_paths : (m : List ℕ) → IsOfLeft found m → IsOfPaths paths m
   of_paths m (l, is, at) =
       let one : (w : LeftPaths) × Contains paths w × IsLent w l = All-contains (λ (x : Left). (w : LeftPaths) × Contains paths w × IsLent w x) found l
@@ -199,6 +205,15 @@ module _ (paths : List LeftPaths) (found : List Left) (lent : AreLent paths foun
         Contains-get_or found k nobody_left high,
         (lent.each k w nobody_left lt).path ∙ ap (λ (x : LeftPaths). x.two.path) at ∙ path ∙ ap (λ (n : List ℕ). folder ++ n) same,
       )
+
+-- where nothing has the path of one that was left, nothing has the paths that were found
+pub free_found : (Own : List ℕ → Type 0) (folder own : List ℕ) (named : List LeftPacket) (paths : List LeftPaths) (files : Files) → AreFound Own folder own named paths → All (IsBesideThere files) paths
+    → AreFreeLeft Own folder own files → All (IsFreeFound files) paths
+free_found Own folder own named paths files are there free k z lt =
+    let (p, listed, like) = are.each k z lt in
+    let path = ap (λ (t : TwoPaths). t.path) like.two in
+    let beside = ap (λ (t : TwoPaths). t.beside) like.two in
+    ap files path ∙ free p.name (record { plain = like.plain; off = subst (IsOffOwn Own) like.two like.off; there = subst (λ (m : List ℕ). IsSome (files m)) beside (there k z lt) })
 
 -- a path of one is that of a name
 pub left_of_name : (Own : List ℕ → Type 0) (folder own : List ℕ) (named : List LeftPacket) (paths : List LeftPaths) → AreFound Own folder own named paths → (m : List ℕ) → IsOfPaths paths m → IsOfNameOff Own folder own m

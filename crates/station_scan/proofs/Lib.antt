@@ -4,10 +4,11 @@ mod Lefts
 mod Sent
 mod Lent
 mod Published
+mod Staged
 mod Sends
+mod Stops
 mod Outs
 mod Looked
 mod Through
-mod Stops
 mod Scans
 mod Runs

@@ -8,8 +8,10 @@ use Rattle.echo_placing.specs.declared.finishing.Left.{Left}
 use Rattle.echo_steps.specs.PacketFiles.{PacketFile}
 use Rattle.station_scan.specs.Left.{IsLeftOf}
 use Rattle.station_scan.specs.Publishing.{IsOnDisk}
-use Rattle.station_scan.specs.Scanning.{AreSentOut, CommitsScan, PreparesScan, SendsOut}
+use Rattle.station_scan.specs.Scanning.{AreSentOut, CommitsScan, IsTaken, PreparesScan, SendsOut}
+use Rattle.station_scan.specs.declared.scan_stop.ScanStop.{ScanStop}
 use Rattle.station_scan.proofs.Lefts.{finishes_none}
+use Rattle.station_scan.proofs.Stops.{put_wider}
 
 -- what is seen is the same
 pub same_seen : (a b : DiskState) → ChangesNothing a b → b.seen ≡ a.seen
@@ -48,7 +50,7 @@ module _ (Own : List ℕ → Type 0) (outbound own : List ℕ) (Stays Comes Stay
       (weaker_run d0 d1 d0.may_leave Before quiet.run (λ c left. inl (c, left, record { between = c; ends = finishes_none cursor found c; writes = λ m other. refl; stands = stood c left })))
       run looked_step
 
-  looked_sent : {E : Type 0} (is_true : Type 0) (result : Result (Unit {0}) E) → OnOk result (AreSentOut is_true Own outbound own Came cursor found files d1.seen d2) → OnOk result (AreSentOut is_true Own outbound own Comes cursor found files d0.seen d2)
+  looked_sent : (is_true : Type 0) (result : Result (Unit {0}) ScanStop) → OnOk result (AreSentOut is_true Own outbound own Came cursor found files d1.seen d2) → OnOk result (AreSentOut is_true Own outbound own Comes cursor found files d0.seen d2)
   looked_sent is_true (Ok done) sent =
       let at : AreSentOut is_true Own outbound own Came cursor found files d0.seen d2 =
       subst (λ (f : Files). AreSentOut is_true Own outbound own Came cursor found files f d2) (same_seen d0 d1 quiet) sent in
@@ -67,10 +69,10 @@ module _ (Own : List ℕ → Type 0) (outbound own : List ℕ) (Stays Comes Stay
   looked_sent is_true (Err cause) sent = tt
 
 -- then the packets were sent out
-pub looked_out : {E : Type 0} (Own : List ℕ → Type 0) (outbound own : List ℕ) (Stays Comes Stayed Came : Files → Type 0) (cursor : ℕ) (files : List PacketFile) (d0 d1 d2 : DiskState) → ChangesNothing d0 d1
-    → ((c : Files) → Stayed c → Stays c) → ((c : Files) → Came c → Comes c) → ((c : Files) → d0.may_leave c → Stays c) → (IsTrue : Files → Type 0) (result : Result (Unit {0}) E)
-    → SendsOut (IsTrue d1.seen) Own outbound own Stayed Came cursor files d1 d2 result → SendsOut (IsTrue d0.seen) Own outbound own Stays Comes cursor files d0 d2 result
-looked_out Own outbound own Stays Comes Stayed Came cursor files d0 d1 d2 quiet stays comes stood IsTrue result sends =
+pub looked_out : (Own : List ℕ → Type 0) (outbound own : List ℕ) (Stays Comes Stayed Came : Files → Type 0) (cursor : ℕ) (files : List PacketFile) (d0 d1 d2 : DiskState) → ChangesNothing d0 d1
+    → ((c : Files) → Stayed c → Stays c) → ((c : Files) → Came c → Comes c) → ((c : Files) → d0.may_leave c → Stays c) → (IsTrue : Files → Type 0) (some failed : Type 0) → (some → failed) → (result : Result (Unit {0}) ScanStop)
+    → SendsOut (IsTrue d1.seen) some Own outbound own Stayed Came cursor files d1 d2 result → SendsOut (IsTrue d0.seen) failed Own outbound own Stays Comes cursor files d0 d2 result
+looked_out Own outbound own Stays Comes Stayed Came cursor files d0 d1 d2 quiet stays comes stood IsTrue some failed wider result sends =
     let found = sends.found in
     let seen = same_seen d0 d1 quiet in
     record {
@@ -79,4 +81,5 @@ looked_out Own outbound own Stays Comes Stayed Came cursor files d0 d1 d2 quiet 
       sent = subst (λ (f : Files). OnOk result (AreSentOut (IsTrue f) Own outbound own Comes cursor found files d0.seen d2)) seen
           (looked_sent Own outbound own Stays Comes Stayed Came cursor files d0 d1 d2 quiet stays comes stood found (IsTrue d1.seen) result sends.sent);
       crash = looked_moments Own outbound own Stays Comes Stayed Came cursor files d0 d1 d2 quiet stays comes stood found sends.crash;
+      why = put_wider some failed _ _ _ result wider (λ taken. subst (IsTaken Own outbound own cursor found files) seen taken) sends.why;
     }

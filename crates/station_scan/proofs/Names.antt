@@ -1,7 +1,7 @@
 -- Names of packets, and paths that are not the same.
-use Rattle.std.proofs.Common.{◌≡◌, ◌≢◌, ◌∙◌, ◌+◌, ◌<◌, ℕ, List, ◌++◌, ap, arith, append_assoc, codes, get_or, length, length-append, refl, sym}
+use Rattle.std.proofs.Common.{◌≡◌, ◌≢◌, ◌∙◌, ◌+◌, ◌<◌, ℕ, List, [], ◌++◌, ap, arith, append_assoc, codes, get_or, length, length-append, refl, sym}
 use Rattle.std.specs.Prelude.{All}
-use Rattle.std.proofs.lemmas.List.{append_cancel_left, append_cancel_right, get_or-append-add}
+use Rattle.std.proofs.lemmas.List.{append-nil, append_cancel_left, append_cancel_right, get_or-append-add}
 use Rattle.echo_disk.specs.Disk.{IsIn}
 use Rattle.echo_station_files.specs.Paths.{path_beside}
 use Rattle.echo_station_files.proofs.BesidePaths.{beside_in}
@@ -32,6 +32,17 @@ four_apart folder own n k is_n is_k other = record {
   path_beside_other = λ e. not_beside own n k is_n (append_cancel_left folder n (k ++ ending own) (e ∙ append_assoc folder k (ending own)));
   beside_path = λ e. not_beside own k n is_k (append_cancel_left folder k (n ++ ending own) (sym e ∙ append_assoc folder n (ending own)));
 }
+
+-- the path that is tried is in the folder, and no packet's
+pub trial_in : (folder own : List ℕ) → All (λ b. b ≢ 47) own → IsIn folder (path_beside folder own)
+trial_in folder own plain = beside_in folder folder own (record { name = []; parts = sym (append-nil folder); plain = λ k d lt. absurd (omega (arith, lt)) }) plain
+
+module _ (folder own n : List ℕ) where
+  pub trial_no_path : All IsNameByte n → path_beside folder own ≢ folder ++ n
+  trial_no_path plain e = not_beside own n [] plain (append_cancel_left folder n (ending own) (sym e))
+
+  pub trial_not_beside : n ≢ [] → path_beside folder own ≢ path_beside (folder ++ n) own
+  trial_not_beside some e = some (append_cancel_left folder n [] (sym (append_cancel_right folder (folder ++ n) (ending own) e) ∙ sym (append-nil folder)))
 
 -- a packet of this name is in the folder, and so is what is beside it
 pub name_in : (folder n : List ℕ) → All IsNameByte n → IsIn folder (folder ++ n)

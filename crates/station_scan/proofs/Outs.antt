@@ -1,7 +1,8 @@
 -- What earlier scans left comes to its end, and then the packets of a scan and the commit of its store are put on the disk.
-use Rattle.std.proofs.Common.{◌≡◌, ◌⊎◌, inl, inr, ⊎_elim, ◌∙◌, ℕ, List, All, get_or, refl, subst, sym}
-use Rattle.std.specs.Prelude.{Err, Ok, OnOk, Result}
+use Rattle.std.proofs.Common.{◌≡◌, ◌<◌, ◌⊎◌, inl, inr, ⊎_elim, ◌∙◌, ℕ, List, [], All, ap, arith, get_or, refl, subst, sym}
+use Rattle.std.specs.Prelude.{Err, IfErr, Ok, OnOk, Result}
 use Rattle.std.proofs.lemmas.Bool.{cases_lt}
+use Rattle.std.proofs.lemmas.List.{append-nil}
 use Rattle.std.proofs.lemmas.List.Elements.{All-contains}
 use Rattle.echo_base.specs.Base.{Base}
 use Rattle.echo_disk.specs.Disk.{DiskState, Files}
@@ -10,16 +11,25 @@ use Rattle.echo_disk.proofs.Moments.{left_now, then_run, weaker_run}
 use Rattle.echo_placing.specs.Finishing.{FinishesEach, IsOfLeft, IsOver}
 use Rattle.echo_placing.specs.declared.finishing.Left.{Left}
 use Rattle.echo_placing.specs.declared.placing_error.PlacingError.{PlacingError}
+use Rattle.echo_placing.specs.declared.placing_error.PlacingError.TheVariants.{Device, Taken}
+use Rattle.echo_station_files.specs.Paths.{path_beside}
 use Rattle.echo_steps.specs.PacketFiles.{PacketFile}
 use Rattle.echo_store.specs.Store.{StoreState}
+use Rattle.echo_store.proofs.Runs.{same_twice}
+use Rattle.station.specs.Beneath.{HoldsAsBefore}
 use Rattle.station_scan.specs.Beneath.{IsUsedAt}
-use Rattle.station_scan.specs.Left.{EndsLeft, IsEnded, IsLeftOf, IsOfNameOff}
+use Rattle.station_scan.specs.Fitting.{AreTaken}
+use Rattle.station_scan.specs.Left.{AreFreeLeft, EndsLeft, IsEnded, IsLeftOf, IsOfNameOff}
 use Rattle.station_scan.specs.Publishing.{IsOnDisk, KeepsStoreBut}
-use Rattle.station_scan.specs.Scanning.{AreSentOut, CommitsScan, PreparesScan, SendsOut}
-use Rattle.station_scan.specs.Sends.{AreSentOn, IsOfThese, SendsThese}
-use Rattle.station_scan.specs.Stops.{scan_done}
+use Rattle.station_scan.specs.Scanning.{AreSentOut, CommitsScan, IsTaken, IsTouched, PreparesScan, SendsOut}
+use Rattle.station_scan.specs.Sends.{AreSentOn, IsOfThese, SendsThese, WasTriedFor}
+use Rattle.station_scan.specs.Stops.{IsOfPlacing, most, scan_done}
 use Rattle.station_scan.specs.declared.scan_stop.ScanStop.{ScanStop}
+use Rattle.station_scan.specs.declared.scan_stop.ScanStop.TheVariants.{Placing}
 use Rattle.station_scan.specs.declared.unpublished.Unpublished.{Unpublished}
+use Rattle.station_scan.proofs.Published.{holds_still, keeps_only, keeps_then, keeps_wider}
+use Rattle.station_scan.proofs.Staged.{tried_after}
+use Rattle.station_scan.proofs.Stops.{placing_why, put_wider}
 
 -- one that is over, by what is seen
 is_ended : (cursor : ℕ) (d0 d1 : DiskState) (l : Left) → IsOver cursor d0 d1 l → IsEnded cursor d0.seen d1.seen l
@@ -35,7 +45,7 @@ left_off Own is_true outbound own found each m is (l, among, at) =
     let (name, like, numbered) = All-contains (IsLeftOf is_true Own outbound own) found l each among in
     ⊎_elim (λ e. like.off.beside_path (subst Own (e ∙ like.beside) is)) (λ e. like.off.path (subst Own (e ∙ like.path) is)) at
 
-module _ (Own : List ℕ → Type 0) (outbound own : List ℕ) (is_true : Type 0) (cursor : ℕ) (files : List PacketFile) (s0 s1 : StoreState) (inside : (m : List ℕ) → s0.is_own m → Own m)
+module _ (Own : List ℕ → Type 0) (outbound own : List ℕ) (is_true failed : Type 0) (cursor : ℕ) (files : List PacketFile) (s0 s1 : StoreState) (inside : (m : List ℕ) → s0.is_own m → Own m)
     (used : IsUsedAt (IsOfNameOff Own outbound own) s0 s1) (ready : s0.is_ready) (honest0 : s0.disk.is_honest) (first next : Base) (was : s0.committed first) where
   abbrev Stays : Files → Type 0
   Stays = s0.stands first
@@ -60,8 +70,8 @@ module _ (Own : List ℕ → Type 0) (outbound own : List ℕ) (is_true : Type 0
         (λ c step. inl (step.0, step.1, record { between = c; ends = step.2; writes = λ m other. refl; stands = stands_ended step.0 c step.1 step.2 }))
 
     -- it stopped before
-    pub not_sent : {E : Type 0} (cause : E) → SendsOut is_true Own outbound own Stays Comes cursor files s0.disk s1.disk (Err cause)
-    not_sent cause = record { found = found; each = ends.each; sent = tt; crash = ended_moments }
+    pub not_sent : (cause : PlacingError) → (cause ≡ Device → failed) → (cause ≡ Taken → AreFreeLeft Own outbound own s0.disk.seen → ⊥) → SendsOut is_true failed Own outbound own Stays Comes cursor files s0.disk s1.disk (Err (Placing cause))
+    not_sent cause device taken = record { found = found; each = ends.each; sent = tt; crash = ended_moments; why = placing_why failed (IsTaken Own outbound own cursor found files s0.disk.seen) (most < cursor) cause device (λ is. inl (taken is)) }
 
   -- they are at their end
   module _ (ends : EndsLeft is_true Own outbound own cursor s0.disk s1.disk (Ok tt)) (s2 : StoreState) (honest2 : s2.disk.is_honest) (kept : KeepsStoreBut (IsOfThese s1.is_own outbound own files) s1 s2) (is : s0.keeps next) where
@@ -113,13 +123,45 @@ module _ (Own : List ℕ → Type 0) (outbound own : List ℕ) (is_true : Type 0
           bytes = sent.bytes;
         }
 
-    sent_if : {E : Type 0} (result : Result (Unit {0}) E) → OnOk result (AreSentOn outbound own files s1 s2) → OnOk result (AreSentOut is_true Own outbound own Comes cursor these files s0.disk.seen s2.disk)
+    sent_if : (result : Result (Unit {0}) ScanStop) → OnOk result (AreSentOn outbound own files s1 s2) → OnOk result (AreSentOut is_true Own outbound own Comes cursor these files s0.disk.seen s2.disk)
     sent_if (Ok done) sent = sent_out sent
     sent_if (Err cause) sent = tt
 
-    pub sends_out : {E : Type 0} (result : Result (Unit {0}) E) → OnOk result (AreSentOn outbound own files s1 s2) → LeavesOnly s1.disk s2.disk (SendsThese s1 outbound own files first next)
-        → SendsOut is_true Own outbound own Stays Comes cursor files s0.disk s2.disk result
-    sends_out result sent run = record { found = these; each = ends.each; sent = sent_if result sent; crash = sent_crash run }
+    pub sends_out : (result : Result (Unit {0}) ScanStop) → OnOk result (AreSentOn outbound own files s1 s2) → LeavesOnly s1.disk s2.disk (SendsThese s1 outbound own files first next)
+        → IfErr result (IsOfPlacing failed (AreTaken Own outbound own files s1.disk.seen) (most < cursor)) → SendsOut is_true failed Own outbound own Stays Comes cursor files s0.disk s2.disk result
+    sends_out result sent run why = record {
+      found = these;
+      each = ends.each;
+      sent = sent_if result sent;
+      crash = sent_crash run;
+      why = put_wider failed failed _ _ _ result (λ f. f) (λ taken. inr (s1.disk.seen, all_ended, ends.changes.seen, taken)) why;
+    }
+
+-- it was tried once they were at their end
+pub tried_ended : {D : Type 0} (state : D → DiskState) (Own : List ℕ → Type 0) (outbound own : List ℕ) (files : List PacketFile) (s0 s1 s2 : StoreState) → IsUsedAt (IsOfNameOff Own outbound own) s0 s1
+    → HoldsAsBefore s1 s2 ⊎ WasTriedFor state Own outbound own files s1.disk → HoldsAsBefore s0 s2 ⊎ WasTriedFor state Own outbound own files s0.disk
+tried_ended state Own outbound own files s0 s1 s2 used (inl holds) = inl (holds_still s0 s1 s2 used.holds holds)
+tried_ended state Own outbound own files s0 s1 s2 used (inr (inl none)) = inr (inl none)
+tried_ended state Own outbound own files s0 s1 s2 used (inr (inr was)) =
+    let at = IsOfNameOff Own outbound own in
+    inr (inr (tried_after state at at (path_beside outbound own) s0.disk s1.disk (λ m is. is) used.changes.seen was))
+
+-- what it touches
+these_touched : (Own : List ℕ → Type 0) (outbound own : List ℕ) (files : List PacketFile) (m : List ℕ) → IsOfThese Own outbound own files m → IsTouched Own outbound m
+these_touched Own outbound own files m (inl o) = inl o
+these_touched Own outbound own files m (inr (inl (sent, has, plain, at))) = inr (own, (sent.name, plain, at))
+these_touched Own outbound own files m (inr (inr e)) = inr (own, ([], λ k d lt. absurd (omega (arith, lt)), inl (e ∙ ap (λ (l : List ℕ). path_beside l own) (sym (append-nil outbound)))))
+
+pub out_keeps : (Own : List ℕ → Type 0) (outbound own : List ℕ) (files : List PacketFile) (s0 s1 s2 : StoreState) → IsUsedAt (IsOfNameOff Own outbound own) s0 s1 → KeepsStoreBut (IsOfThese s1.is_own outbound own files) s1 s2
+    → KeepsStoreBut (IsTouched s0.is_own outbound) s0 s2
+out_keeps Own outbound own files s0 s1 s2 used kept =
+    let at = IsTouched s0.is_own outbound in
+    record {
+      same = same_twice s0 s1 s2 used.same kept.same;
+      keeps =
+          keeps_then at s0.disk s1.disk s2.disk (keeps_wider (IsOfNameOff Own outbound own) at s0.disk s1.disk (λ m is. inr (own, is.0)) (keeps_only (IsOfNameOff Own outbound own) s0.disk s1.disk used.changes))
+          (keeps_wider (IsOfThese s1.is_own outbound own files) at s1.disk s2.disk (λ m is. ⊎_elim (λ o. inl ((used.same.own m).0 o)) (λ name. inr name) (these_touched s1.is_own outbound own files m is)) kept.keeps);
+    }
 
 -- what was sent where the publishing ended well was where the scan did
 pub scan_sent : (P : Type 0) (done : Result (Unit {0}) Unpublished) (result : Result (Unit {0}) ScanStop) → result ≡ scan_done done → OnOk done P → OnOk result P

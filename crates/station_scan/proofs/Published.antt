@@ -1,32 +1,32 @@
 -- Packets and the commit of a store.
-use Rattle.std.proofs.Common.{◌≡◌, inl, inr, ⊎_elim, ◌∙◌, ℕ, List, get_or, refl, subst, sym}
+use Rattle.std.proofs.Common.{◌≡◌, inl, inr, ⊎_elim, ◌∙◌, ◌<◌, ℕ, List, get_or, length, refl, subst, sym}
 use Rattle.std.specs.Prelude.{All, Bool, Err, false, IfOk, Ok, OnOk, Result, true}
 use Rattle.std.proofs.lemmas.List.Elements.{All-contains}
 use Rattle.echo_base.specs.Base.{Base}
-use Rattle.echo_disk.specs.Disk.{DiskState, Honestly}
+use Rattle.echo_disk.specs.Disk.{DiskState, Files, Honestly}
 use Rattle.echo_disk.specs.declared.disk_error.DiskError.{DiskError}
 use Rattle.echo_disk.specs.Runs.{ChangesNothing, LeavesOnly, OneStepOn}
 use Rattle.echo_disk.proofs.Moments.{then_run, weaker_run}
 use Rattle.echo_placing.specs.Changes.{ChangesOnly, DifferAt}
 use Rattle.echo_placing.specs.Naming.{HasItsPath, NamesEach}
-use Rattle.echo_placing.specs.Outgoing.{ArePlaced, IsBesideOne, IsOfOne, SendsBytes}
+use Rattle.echo_placing.specs.Outgoing.{IsAtStaging, IsFilled, IsOfOne, SendsBytes}
 use Rattle.echo_placing.specs.Publishing.{IsApartFrom}
 use Rattle.echo_placing.specs.declared.outgoing.Outgoing.{Outgoing}
 use Rattle.echo_store.specs.Store.{Commits, MayCommit, StandsForEither, StoreState}
+use Rattle.echo_store.proofs.Runs.{same_twice}
 use Rattle.station.specs.Beneath.{HoldsAsBefore}
 use Rattle.station_scan.specs.Beneath.{IsUsedAt}
-use Rattle.station_scan.specs.Publishing.{ArePublished, AreStaged, CommitsWith, IsClear, IsNamedAs, KeepsBut, KeepsStoreBut, PublishesOn, StagesOver}
+use Rattle.station_scan.specs.Publishing.{AreGoing, ArePublished, AreStaged, CommitsWith, IsClear, IsGoingAt, IsNamedAs, IsPublishedAt, KeepsBut, KeepsStoreBut, PublishesOn}
 use Rattle.station_scan.specs.declared.unpublished.Unpublished.{Unpublished}
 
 -- none of the store's own paths is a packet's
-module _ (s : StoreState) (packets : List Outgoing) (apart : All (IsApartFrom s.is_own) packets) where
-  pub own_not_of : (m : List ℕ) → s.is_own m → IsOfOne packets m → ⊥
-  own_not_of m own (p, is, at) =
-      let away : IsApartFrom s.is_own p = All-contains (IsApartFrom s.is_own) packets p apart is in
-      ⊎_elim (λ e. away.beside (subst s.is_own e own)) (λ e. away.path (subst s.is_own e own)) at
+pub own_not_of : (s : StoreState) (packets : List Outgoing) → All (IsApartFrom s.is_own) packets → (m : List ℕ) → s.is_own m → IsOfOne packets m → ⊥
+own_not_of s packets apart m own (p, is, at) =
+    let away : IsApartFrom s.is_own p = All-contains (IsApartFrom s.is_own) packets p apart is in
+    ⊎_elim (λ e. away.beside (subst s.is_own e own)) (λ e. away.path (subst s.is_own e own)) at
 
-  pub own_not_beside : (m : List ℕ) → s.is_own m → IsBesideOne packets m → ⊥
-  own_not_beside m own (p, is, at) = own_not_of m own (p, is, inl at)
+pub own_not_staging : (s : StoreState) (outbound trial : List ℕ) (packets : List Outgoing) → AreGoing s.is_own outbound trial packets → (m : List ℕ) → s.is_own m → IsAtStaging packets trial m → ⊥
+own_not_staging s outbound trial packets going m own at = ⊎_elim (λ b. own_not_of s packets going.apart m own (b.0, b.1, inl b.2)) (λ e. going.off (subst s.is_own e own)) at
 
 -- ---- what stands still
 
@@ -77,73 +77,105 @@ commits_still s0 s1 s2 commits holds honest = record {
   honest = λ is. commits.honest (honest is);
 }
 
+pub holds_still : (s0 s1 s2 : StoreState) → HoldsAsBefore s0 s1 → HoldsAsBefore s1 s2 → HoldsAsBefore s0 s2
+holds_still s0 s1 s2 one two = record { ready = two.ready; keeps = λ base h. two.keeps base (one.keeps base h); committed = λ base h. two.committed base (one.committed base h) }
+
+pub holds_now : (s : StoreState) → s.is_ready → HoldsAsBefore s s
+holds_now s ready = record { ready = ready; keeps = λ base h. h; committed = λ base h. h }
+
 -- ---- what a crash leaves
 
-module _ (outbound : List ℕ) (packets : List Outgoing) (placed : ArePlaced outbound packets) (s0 : StoreState) (apart : All (IsApartFrom s0.is_own) packets) (ready : s0.is_ready) where
-  -- packets are written beside their paths
-  pub staging : (s1 : StoreState) → IsUsedAt (IsBesideOne packets) s0 s1 → s0.disk.is_honest → (first : Base) → s0.committed first → LeavesOnly s0.disk s1.disk (StagesOver s0 packets first)
-  staging s1 used honest first is =
-      weaker_run s0.disk s1.disk (OneStepOn (DifferAt (IsBesideOne packets)) s0.disk) (StagesOver s0 packets first) used.changes.any_moment
-      (λ c step. record {
-        staged = step;
-        stands = used.settled first step.0 c (λ m own. step.2 m (own_not_beside s0 packets apart m own)) (s0.stays honest ready first is step.0 step.1);
+-- packets stand beside their paths, and the store is committed
+module _ (packets : List Outgoing) (s0 : StoreState) (apart : All (IsApartFrom s0.is_own) packets) (s1 : StoreState) (may : MayCommit s0 s1) (staged : AreStaged packets s0.disk) where
+  filled_still : (k : ℕ) (z : Outgoing) → k < length packets → IsFilled s1.disk (get_or packets k z)
+  filled_still k z lt =
+      let file = (staged.staged k z lt).file in
+      let off = (apart k z lt).beside in
+      record { seen = may.beside.seen _ off ∙ file.seen; named = may.beside.named _ off file.named; flushed = may.beside.flushed _ off file.flushed }
+
+  -- where that failed they stay there
+  pub all_filled : All (IsFilled s1.disk) packets
+  all_filled k z lt = filled_still k z lt
+
+  committing : s1.disk.is_honest → (first next : Base) → s0.committed first → s0.keeps next → LeavesOnly s0.disk s1.disk (CommitsWith s0 (IsOfOne packets) packets first next)
+  committing honest first next was is =
+      let clear : All (IsClear s0.disk) packets = staged.clear (may.beside.honest honest) in
+      weaker_run s0.disk s1.disk (StandsForEither s0 first next) (CommitsWith s0 (IsOfOne packets) packets first next) (may.any_moment honest first next was is)
+      (λ c either. record {
+        others = λ m out other on. either.beside m out on.0 on.1;
+        either =
+            ⊎_elim
+            (λ stands. inl (stands, λ k z lt. let none = clear k z lt in either.beside (get_or packets k z).path.now (apart k z lt).path none.named none.flushed ∙ none.none))
+            (λ stands. inr (
+              stands,
+              λ k z lt. let file = (staged.staged k z lt).file in inr (either.beside (get_or packets k z).beside.now (apart k z lt).beside file.named file.flushed ∙ file.seen),
+              staged.bytes,
+            ))
+            either.stands;
       })
 
-  -- once they stand there the store is committed
-  module _ (s1 : StoreState) (may : MayCommit s0 s1) (staged : AreStaged packets s0.disk) where
-    committing : s1.disk.is_honest → (first next : Base) → s0.committed first → s0.keeps next → LeavesOnly s0.disk s1.disk (CommitsWith s0 packets first next)
-    committing honest first next was is =
-        let clear : All (IsClear s0.disk) packets = staged.clear (may.beside.honest honest) in
-        weaker_run s0.disk s1.disk (StandsForEither s0 first next) (CommitsWith s0 packets first next) (may.any_moment honest first next was is)
-        (λ c either. record {
-          others = λ m out other on. either.beside m out on.0 on.1;
-          either =
-              ⊎_elim
-              (λ stands. inl (stands, λ k z lt. let none = clear k z lt in either.beside (get_or packets k z).path.now (apart k z lt).path none.named none.flushed ∙ none.none))
-              (λ stands. inr (
-                stands,
-                λ k z lt. let file = (staged.staged k z lt).file in inr (either.beside (get_or packets k z).beside.now (apart k z lt).beside file.named file.flushed ∙ file.seen),
-                staged.bytes,
-              ))
-              either.stands;
-        })
+  -- and then they get their paths
+  pub naming : (s2 : StoreState) → Commits s0 s1 → IsUsedAt (IsOfOne packets) s1 s2 → s1.disk.is_honest → LeavesOnly s1.disk s2.disk (OneStepOn (NamesEach packets) s1.disk) → (first next : Base) → s0.committed first
+      → s0.keeps next → LeavesOnly s0.disk s2.disk (CommitsWith s0 (IsOfOne packets) packets first next)
+  naming s2 commits used honest names first next was is =
+      let next_committed = commits.committed honest next is in
+      let own_not : (m : List ℕ) → s1.is_own m → IsOfOne packets m → ⊥ = λ m own. own_not_of s0 packets apart m ((may.same.own m).0 own) in
+      then_run s0.disk s1.disk s2.disk (CommitsWith s0 (IsOfOne packets) packets first next) (OneStepOn (NamesEach packets) s1.disk) (committing honest first next was is) names
+      (λ c step. record {
+        others = λ m out other on.
+            step.2.others m other ∙ s1.disk.on_disk m (may.beside.named m out on.0) (may.beside.flushed m out on.1) step.0 step.1 ∙ may.beside.seen m out;
+        either = inr (
+          (may.same.stands next c).0 (used.settled next step.0 c (λ m own. step.2.others m (own_not m own)) (s1.stays honest commits.ready next next_committed step.0 step.1)),
+          step.2.whole,
+          staged.bytes,
+        );
+      })
 
-    -- and then they get their paths
-    pub naming : (s2 : StoreState) → Commits s0 s1 → IsUsedAt (IsOfOne packets) s1 s2 → s1.disk.is_honest → LeavesOnly s1.disk s2.disk (OneStepOn (NamesEach packets) s1.disk) → (first next : Base) → s0.committed first
-        → s0.keeps next → LeavesOnly s0.disk s2.disk (CommitsWith s0 packets first next)
-    naming s2 commits used honest names first next was is =
-        let next_committed = commits.committed honest next is in
-        let own_not : (m : List ℕ) → s1.is_own m → IsOfOne packets m → ⊥ = λ m own. own_not_of s0 packets apart m ((may.same.own m).0 own) in
-        then_run s0.disk s1.disk s2.disk (CommitsWith s0 packets first next) (OneStepOn (NamesEach packets) s1.disk) (committing honest first next was is) names
-        (λ c step. record {
-          others = λ m out other on.
-              step.2.others m other ∙ s1.disk.on_disk m (may.beside.named m out on.0) (may.beside.flushed m out on.1) step.0 step.1 ∙ may.beside.seen m out;
-          either = inr (
-            (may.same.stands next c).0 (used.settled next step.0 c (λ m own. step.2.others m (own_not m own)) (s1.stays honest commits.ready next next_committed step.0 step.1)),
-            step.2.whole,
-            staged.bytes,
-          );
-        })
+-- packets are written beside their paths, and a path is tried
+module _ (outbound trial : List ℕ) (packets : List Outgoing) (s0 : StoreState) (going : AreGoing s0.is_own outbound trial packets) (ready : s0.is_ready) (s1 : StoreState) (used : IsUsedAt (IsAtStaging packets trial) s0 s1) where
+  abbrev May : Base → Base → Files → Type 0
+  May first next c = PublishesOn s0 packets trial first next c
+
+  -- it stopped before the commit
+  pub stopping : s1.disk.is_honest → (first next : Base) → s0.committed first → LeavesOnly s0.disk s1.disk (May first next)
+  stopping honest first next was =
+      weaker_run s0.disk s1.disk (OneStepOn (DifferAt (IsAtStaging packets trial)) s0.disk) (May first next) used.changes.any_moment
+      (λ c step. inl (record {
+        staged = step;
+        stands = used.settled first step.0 c (λ m own. step.2 m (own_not_staging s0 outbound trial packets going m own)) (s0.stays (used.changes.honest honest) ready first was step.0 step.1);
+      }))
+
+  going_at : (m : List ℕ) → IsAtStaging packets trial m → IsGoingAt packets trial m
+  going_at m at = ⊎_elim (λ b. inl (b.0, b.1, inl b.2)) (λ e. inr e) at
 
   -- all of it
-  pub publishing : (s1 s2 : StoreState) → IsUsedAt (IsBesideOne packets) s0 s1 → s1.disk.is_honest → (first next : Base) → s0.committed first → s0.keeps next → LeavesOnly s1.disk s2.disk (CommitsWith s1 packets first next)
-      → LeavesOnly s0.disk s2.disk (PublishesOn s0 packets first next)
-  publishing s1 s2 used honest first next was is commits =
+  pub publishing : (s2 : StoreState) → s1.disk.is_honest → (first next : Base) → s0.committed first → LeavesOnly s1.disk s2.disk (CommitsWith s1 (IsOfOne packets) packets first next) → LeavesOnly s0.disk s2.disk (May first next)
+  publishing s2 honest first next was commits =
       let run = used.changes in
-      let not : (m : List ℕ) → (IsOfOne packets m → ⊥) → IsBesideOne packets m → ⊥ = λ m other o. other (o.0, o.1, inl o.2) in
-      then_run s0.disk s1.disk s2.disk (PublishesOn s0 packets first next) (CommitsWith s1 packets first next)
-      (weaker_run s0.disk s1.disk (StagesOver s0 packets first) (PublishesOn s0 packets first next) (staging s1 used (run.honest honest) first was) (λ c over. inl over))
-      commits
+      let not : (m : List ℕ) → (IsGoingAt packets trial m → ⊥) → IsAtStaging packets trial m → ⊥ = λ m other at. other (going_at m at) in
+      then_run s0.disk s1.disk s2.disk (May first next) (CommitsWith s1 (IsOfOne packets) packets first next) (stopping honest first next was) commits
       (λ c with. inr (record {
         others = λ m out other on.
-            with.others m (λ own. out ((used.same.own m).0 own)) other (run.named m (not m other) on.0, run.flushed m (not m other) on.1) ∙ run.seen m (not m other);
+            with.others m (λ own. out ((used.same.own m).0 own)) (λ of. other (inl of)) (run.named m (not m other) on.0, run.flushed m (not m other) on.1) ∙ run.seen m (not m other);
         either = ⊎_elim (λ none. inl ((used.same.stands first c).0 none.0, none.1)) (λ all. inr ((used.same.stands next c).0 all.0, all.1, all.2)) with.either;
       }))
 
-  -- it stopped before the commit
-  pub stopping : (s1 : StoreState) → IsUsedAt (IsBesideOne packets) s0 s1 → s1.disk.is_honest → (first next : Base) → s0.committed first → LeavesOnly s0.disk s1.disk (PublishesOn s0 packets first next)
-  stopping s1 used honest first next was =
-      weaker_run s0.disk s1.disk (StagesOver s0 packets first) (PublishesOn s0 packets first next) (staging s1 used (used.changes.honest honest) first was) (λ c over. inl over)
+  -- and what it touches
+  pub publish_keeps : (s2 : StoreState) → KeepsStoreBut (IsPublishedAt s1 (IsOfOne packets)) s1 s2 → KeepsStoreBut (IsPublishedAt s0 (IsGoingAt packets trial)) s0 s2
+  publish_keeps s2 kept =
+      let at = IsPublishedAt s0 (IsGoingAt packets trial) in
+      record {
+        same = same_twice s0 s1 s2 used.same kept.same;
+        keeps =
+            keeps_then at s0.disk s1.disk s2.disk (keeps_wider (IsAtStaging packets trial) at s0.disk s1.disk (λ m is. inr (going_at m is)) (keeps_only (IsAtStaging packets trial) s0.disk s1.disk used.changes))
+            (keeps_wider (IsPublishedAt s1 (IsOfOne packets)) at s1.disk s2.disk (λ m is. ⊎_elim (λ o. inl ((used.same.own m).0 o)) (λ of. inr (inl of)) is) kept.keeps);
+      }
+
+  pub staging_keeps : KeepsStoreBut (IsPublishedAt s0 (IsGoingAt packets trial)) s0 s1
+  staging_keeps = record {
+    same = used.same;
+    keeps = keeps_wider (IsAtStaging packets trial) (IsPublishedAt s0 (IsGoingAt packets trial)) s0.disk s1.disk (λ m is. inr (going_at m is)) (keeps_only (IsAtStaging packets trial) s0.disk s1.disk used.changes);
+  }
 
 -- whether all got their paths
 pub published_if : (packets : List Outgoing) (s0 s2 : StoreState) (named : Result Bool DiskError) (result : Result (Unit {0}) Unpublished) → IsNamedAs named result

@@ -16,9 +16,10 @@ use Rattle.echo_store_changing.specs.declared.stop.Stop.{Stop}
 use Rattle.station.specs.Opening.{IsOpenFor}
 use Rattle.station.specs.Place.{IsOfPlace, KeepsElsewhere, Place, StandsAlone, StandsOrWasLeft}
 use Rattle.station.proofs.Ran.{stopped_on}
+use Rattle.station_scan.specs.Fitting.{AreFit}
 use Rattle.station_scan.specs.Left.{AreAllLeft, IsLeftOf}
 use Rattle.station_scan.specs.Publishing.{IsOnDisk, KeepsBut, KeepsStoreBut}
-use Rattle.station_scan.specs.Scanning.{AreSentOut, CommitsScan, IsPutAs, IsPutIn, IsPutOn, IsScanOn, IsSentOn, IsTouched, MayLeave, PreparesScan, ScansOnStore, SendsOut}
+use Rattle.station_scan.specs.Scanning.{AreSentOut, CommitsScan, IsPutAs, IsOnItsWay, IsPutIn, IsPutOn, IsScanOn, IsTaken, IsTouched, MayLeave, PreparesScan, ScansOnStore, SendsOut}
 use Rattle.station_scan.specs.Sends.{IsOfThese}
 use Rattle.station_scan.specs.declared.scan_stop.ScanStop.{ScanStop}
 use Rattle.station_scan.proofs.Lefts.{finishes_none}
@@ -48,6 +49,21 @@ module _ (Own Own2 : List ℕ → Type 0) (out : (m : List ℕ) → Own2 m → O
         there = to.there;
       })
 
+  fit_as : (files : List PacketFile) → AreFit Own2 outbound own files → ((m : List ℕ) → Own m → Own2 m) → AreFit Own outbound own files
+  fit_as files fit into = record {
+    names = fit.names;
+    differ = fit.differ;
+    off = λ k z lt. let off = fit.off k z lt in record { path = λ o. off.path (into _ o); beside_path = λ o. off.beside_path (into _ o) };
+    trial = λ o. fit.trial (into _ o);
+  }
+
+  -- what has a path
+  taken_as : (cursor : ℕ) (found : List Left) (files : List PacketFile) (seen : Files) → ((m : List ℕ) → Own m → Own2 m) → IsTaken Own outbound own cursor found files seen → IsTaken Own2 outbound own cursor found files seen
+  taken_as cursor found files seen into (inl left) =
+      inl (λ free. left (λ name to. free name (record { plain = to.plain; off = record { path = λ o. to.off.path (out _ o); beside_path = λ o. to.off.beside_path (out _ o) }; there = to.there })))
+  taken_as cursor found files seen into (inr (between, ended, same, taken)) =
+      inr (between, ended, same, ⊎_elim (λ held. inl held) (λ unfit. inr (λ fit. unfit (fit_as files fit into))) taken)
+
   these_as : (files : List PacketFile) → ((m : List ℕ) → Own m → Own2 m) → (m : List ℕ) → IsOfThese Own outbound own files m → IsOfThese Own2 outbound own files m
   these_as files into m of = ⊎_elim (λ o. inl (into m o)) (λ p. inr p) of
 
@@ -69,12 +85,19 @@ module _ (place : Place) (d0 d2 : DiskState) (s1 s2 : StoreState) (begun : IsOpe
     abbrev Comes : Files → Type 0
     Comes = place.stands_for (all_scanned base)
 
-    module _ (files : List PacketFile) (is_true : Type 0) (result : Result (Unit {0}) ScanStop) (sends : SendsOut is_true Own outbound own (s1.stands base) (s1.stands (all_scanned base)) base.cursor files s1.disk s2.disk result) where
+    module _ (files : List PacketFile) (is_true : Type 0) (some : Type 0) (result : Result (Unit {0}) ScanStop) (sends : SendsOut is_true some Own outbound own (s1.stands base) (s1.stands (all_scanned base)) base.cursor files s1.disk s2.disk result) where
       abbrev found : List Left
       found = sends.found
 
       abbrev May : Files → Type 0
       May = MayLeave place outbound own d0 base found files s1.disk.seen
+
+      abbrev On_way : Files → Type 0
+      On_way = IsOnItsWay place outbound own d0 base found files s1.disk.seen
+
+      abbrev Sends : Files → Type 0
+      Sends c = OneStepOn (PreparesScan outbound own (s1.stands base) base.cursor found files) s1.disk c
+          ⊎ CommitsScan Own outbound own (IsOnDisk s1.disk) (s1.stands base) (s1.stands (all_scanned base)) base.cursor found files s1.disk.seen c
 
       opened_may : (c : Files) → StandsOrWasLeft place d0 base c → May c
       opened_may c left =
@@ -86,16 +109,15 @@ module _ (place : Place) (d0 d2 : DiskState) (s1 s2 : StoreState) (begun : IsOpe
       on_disk_still : (m : List ℕ) → (place.is_own m → ⊥) → IsOnDisk d0 m → IsOnDisk s1.disk m
       on_disk_still m out on = (of.elsewhere.named m out on.0, of.elsewhere.flushed m out on.1)
 
-      sent_may : (c : Files) → OneStepOn (PreparesScan outbound own (s1.stands base) base.cursor found files) s1.disk c
-          ⊎ CommitsScan Own outbound own (IsOnDisk s1.disk) (s1.stands base) (s1.stands (all_scanned base)) base.cursor found files s1.disk.seen c → May c
-      sent_may c (inl step) =
+      sent_on : (c : Files) → Sends c → On_way c
+      sent_on c (inl step) =
           let prep = step.2 in
-          inr (inl (
+          inl (
             step.0,
             left_now d0 s1.disk (StandsOrWasLeft place d0 base) (begun.run base stands) step.0 step.1,
             record { between = prep.between; ends = prep.ends; writes = prep.writes; stands = (of.stands base c).0 prep.stands },
-          ))
-      sent_may c (inr with) = inr (inr (record {
+          )
+      sent_on c (inr with) = inr (record {
         between = with.between;
         ended = with.ended;
         beside_them = with.beside_them;
@@ -103,16 +125,16 @@ module _ (place : Place) (d0 d2 : DiskState) (s1 s2 : StoreState) (begun : IsOpe
             with.others m (λ these. other (these_as Own place.is_own in_own outbound own files own_in m these))
             (⊎_elim (λ is. inl (on_disk_still m (λ o. other (inl o)) is.0, is.1)) (λ ended. inr ended) on);
         either = ⊎_elim (λ none. inl ((of.stands base c).0 none.0, none.1)) (λ all. inr ((of.stands (all_scanned base) c).0 all.0, all.1, all.2)) with.either;
-      }))
+      })
 
       put_crash : LeavesOnly d0 d2 May
       put_crash =
           then_nothing d0 s2.disk d2 May
-          (then_run d0 s1.disk s2.disk May
-          (λ c. OneStepOn (PreparesScan outbound own (s1.stands base) base.cursor found files) s1.disk c
-          ⊎ CommitsScan Own outbound own (IsOnDisk s1.disk) (s1.stands base) (s1.stands (all_scanned base)) base.cursor found files s1.disk.seen c)
-          (weaker_run d0 s1.disk (StandsOrWasLeft place d0 base) May (begun.run base stands) opened_may) sends.crash sent_may)
+          (then_run d0 s1.disk s2.disk May Sends (weaker_run d0 s1.disk (StandsOrWasLeft place d0 base) May (begun.run base stands) opened_may) sends.crash (λ c on. inr (sent_on c on)))
           quiet
+
+      put_lasts : (c : Files) → d2.may_leave c → On_way c
+      put_lasts c left = sent_on c (left_now s1.disk s2.disk Sends sends.crash c (quiet.no_more c left))
 
       put_sent : (r : Result (Unit {0}) ScanStop) → OnOk r (AreSentOut is_true Own outbound own (s1.stands (all_scanned base)) base.cursor found files s1.disk.seen s2.disk)
           → OnOk r (AreSentOut is_true place.is_own outbound own Comes base.cursor found files s1.disk.seen d2)
@@ -134,18 +156,17 @@ module _ (place : Place) (d0 d2 : DiskState) (s1 s2 : StoreState) (begun : IsOpe
       put_sent (Err why) sent = tt
 
     put_in : (files : List PacketFile) (IsTrue : Files → Type 0) (some failed : Type 0) (result : Result (Unit {0}) ScanStop) → (some → failed)
-        → IsSentOn Own outbound own IsTrue some s1 s2 base files result → IsPutIn place outbound own IsTrue failed d0 d2 base files result
-    put_in files IsTrue some failed result wider sent =
-        let sends = sent.sends in
-        record {
-          opened = s1.disk.seen;
-          elsewhere = of.elsewhere.seen;
-          found = sends.found;
-          each = λ k z lt. left_as Own place.is_own in_own outbound own (IsTrue s1.disk.seen) (get_or sends.found k z) (sends.each k z lt);
-          sent = put_sent files (IsTrue s1.disk.seen) result sends result sends.sent;
-          crash = put_crash files (IsTrue s1.disk.seen) result sends;
-          why = put_wider some failed result wider sent.why;
-        }
+        → SendsOut (IsTrue s1.disk.seen) some Own outbound own (s1.stands base) (s1.stands (all_scanned base)) base.cursor files s1.disk s2.disk result → IsPutIn place outbound own IsTrue failed d0 d2 base files result
+    put_in files IsTrue some failed result wider sends = record {
+      opened = s1.disk.seen;
+      elsewhere = of.elsewhere.seen;
+      found = sends.found;
+      each = λ k z lt. left_as Own place.is_own in_own outbound own (IsTrue s1.disk.seen) (get_or sends.found k z) (sends.each k z lt);
+      sent = put_sent files (IsTrue s1.disk.seen) some result sends result sends.sent;
+      crash = put_crash files (IsTrue s1.disk.seen) some result sends;
+      lasts = put_lasts files (IsTrue s1.disk.seen) some result sends;
+      why = put_wider some failed _ _ _ result wider (taken_as Own place.is_own in_own outbound own base.cursor sends.found files s1.disk.seen own_in) sends.why;
+    }
 
     put_as : (IsTrue : Files → Type 0) (some failed : Type 0) (made : Result (List PacketFile) Stop) (result : Result (Unit {0}) ScanStop) → (some → failed) → s1.is_ready → s1.disk.is_honest
         → IsPutOn Own outbound own IsTrue some s1 s2 base made result → IsPutAs place outbound own IsTrue failed d0 d2 base made result

@@ -1,6 +1,6 @@
 -- A scan of a store.
-use Rattle.std.proofs.Common.{◌≡◌, ℕ, List, [], Result, Ok, arith, inl, refl, subst}
-use Rattle.std.specs.Prelude.{Err, IfErr}
+use Rattle.std.proofs.Common.{◌≡◌, ◌<◌, ℕ, List, [], Result, Ok, arith, inl, refl, subst}
+use Rattle.std.specs.Prelude.{Err}
 use Rattle.echo_base.specs.Base.{Base}
 use Rattle.echo_disk.specs.Disk.{DiskState, Files}
 use Rattle.echo_disk.specs.Runs.{ChangesNothing}
@@ -13,40 +13,38 @@ use Rattle.echo_steps.specs.declared.stamp.Stamp.{Stamp}
 use Rattle.echo_store.specs.Store.{IsSameStore, StoreState, all_scanned}
 use Rattle.echo_store_changing.specs.Scanned.{ScansOn}
 use Rattle.echo_toss.specs.PacketsIn.{state_in}
-use Rattle.station_scan.specs.Scanning.{ScansOnStore, SendsOut}
-use Rattle.station_scan.specs.Stops.{IsOfPlacing}
+use Rattle.station_scan.specs.Scanning.{IsTaken, ScansOnStore, SendsOut}
+use Rattle.station_scan.specs.Stops.{IsOfPlacing, most}
 use Rattle.station_scan.specs.declared.scan_stop.ScanStop.{ScanStop}
 use Rattle.station_scan.proofs.Lefts.{finishes_none}
 use Rattle.station_scan.proofs.Looked.{looked_out}
 use Rattle.station_scan.proofs.Stops.{put_whole}
 
 -- nothing was sent
-pub sends_nothing : {E : Type 0} (is_true : Type 0) (Own : List ℕ → Type 0) (outbound own : List ℕ) (Stays Comes : Files → Type 0) (cursor : ℕ) (files : List PacketFile) (d : DiskState) (cause : E)
-    → ((c : Files) → d.may_leave c → Stays c) → SendsOut is_true Own outbound own Stays Comes cursor files d d (Err cause)
-sends_nothing is_true Own outbound own Stays Comes cursor files d cause stays = record {
+pub sends_nothing : (is_true failed : Type 0) (Own : List ℕ → Type 0) (outbound own : List ℕ) (Stays Comes : Files → Type 0) (cursor : ℕ) (files : List PacketFile) (d : DiskState) (cause : ScanStop)
+    → ((c : Files) → d.may_leave c → Stays c) → IsOfPlacing failed (IsTaken Own outbound own cursor [] files d.seen) (most < cursor) cause → SendsOut is_true failed Own outbound own Stays Comes cursor files d d (Err cause)
+sends_nothing is_true failed Own outbound own Stays Comes cursor files d cause stays why = record {
   found = [];
   each = λ k z lt. absurd (omega (arith, lt));
   sent = tt;
   crash = no_call d _ (λ c left. inl (c, left, record { between = c; ends = finishes_none cursor [] c; writes = λ m other. refl; stands = stays c left }));
+  why = why;
 }
 
 -- the packets that were made were sent out
-pub scans_ok : (stamp : Stamp) (Own : List ℕ → Type 0) (outbound : List ℕ) (IsTrue : Files → Type 0) (failed : Type 0) (s1 sA s2 : StoreState) (out now : Output) (file : LinkFile) (base : Base) (files : List PacketFile) (result : Result (Unit {0}) ScanStop)
-    → s1.disk.is_honest → s1.is_ready → s1.committed base → IsSameStore s1 sA → ChangesNothing s1.disk sA.disk → ScansOn stamp (state_in file base) out now (Ok files) → (cursor : ℕ) → cursor ≡ base.cursor
-    → SendsOut (IsTrue sA.disk.seen) Own outbound (dotted file.system) (sA.stands base) (sA.stands (all_scanned base)) cursor files sA.disk s2.disk result → IfErr result (IsOfPlacing failed)
+pub scans_ok : (stamp : Stamp) (Own : List ℕ → Type 0) (outbound : List ℕ) (IsTrue : Files → Type 0) (some failed : Type 0) → (some → failed) → (s1 sA s2 : StoreState) (out now : Output) (file : LinkFile) (base : Base) (files : List PacketFile)
+    (result : Result (Unit {0}) ScanStop) → s1.disk.is_honest → s1.is_ready → s1.committed base → IsSameStore s1 sA → ChangesNothing s1.disk sA.disk → ScansOn stamp (state_in file base) out now (Ok files) → (cursor : ℕ) → cursor ≡ base.cursor
+    → SendsOut (IsTrue sA.disk.seen) some Own outbound (dotted file.system) (sA.stands base) (sA.stands (all_scanned base)) cursor files sA.disk s2.disk result
     → ScansOnStore stamp Own outbound IsTrue failed s1 s2 out now file base result
-scans_ok stamp Own outbound IsTrue failed s1 sA s2 out now file base files result honest ready is same quiet answer cursor at sends why =
+scans_ok stamp Own outbound IsTrue some failed wider s1 sA s2 out now file base files result honest ready is same quiet answer cursor at sends =
     let own = dotted file.system in
     let next = all_scanned base in
     record {
       made = Ok files;
       answer = answer;
-      put = record {
-        sends =
-            looked_out Own outbound own (s1.stands base) (s1.stands next) (sA.stands base) (sA.stands next) base.cursor files s1.disk sA.disk s2.disk quiet (λ c stood. (same.stands base c).0 stood) (λ c came. (same.stands next c).0 came)
-            (λ c left. s1.stays honest ready base is c left) IsTrue result
-            (subst (λ (n : ℕ). SendsOut (IsTrue sA.disk.seen) Own outbound own (sA.stands base) (sA.stands next) n files sA.disk s2.disk result) at sends);
-        why = why;
-      };
-      whole = put_whole failed result why;
+      put =
+          looked_out Own outbound own (s1.stands base) (s1.stands next) (sA.stands base) (sA.stands next) base.cursor files s1.disk sA.disk s2.disk quiet (λ c stood. (same.stands base c).0 stood) (λ c came. (same.stands next c).0 came)
+          (λ c left. s1.stays honest ready base is c left) IsTrue some failed wider result
+          (subst (λ (n : ℕ). SendsOut (IsTrue sA.disk.seen) some Own outbound own (sA.stands base) (sA.stands next) n files sA.disk s2.disk result) at sends);
+      whole = put_whole some _ _ result sends.why;
     }

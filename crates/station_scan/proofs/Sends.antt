@@ -1,60 +1,103 @@
 -- The packets of a scan and the commit of a store.
-use Rattle.std.proofs.Common.{◌≢◌, inl, inr, ⊎_elim, ℕ, List}
-use Rattle.std.specs.Prelude.{All}
+use Rattle.std.proofs.Common.{◌≡◌, ◌≢◌, ◌∙◌, inl, inr, ⊎_elim, ℕ, List, [], ◌++◌, ap, arith, length, map, refl, subst, sym}
+use Rattle.std.specs.Prelude.{All, Contains}
+use Rattle.std.proofs.lemmas.List.{append-nil}
+use Rattle.std.proofs.lemmas.List.Elements.{All-contains}
 use Rattle.echo_base.specs.Base.{Base}
-use Rattle.echo_disk.specs.Disk.{DiskState, Files}
+use Rattle.echo_disk.specs.Disk.{DiskState, Files, IsIn}
 use Rattle.echo_disk.specs.Runs.{LeavesOnly}
 use Rattle.echo_disk.proofs.Moments.{weaker_run}
-use Rattle.echo_placing.specs.Outgoing.{ArePlaced}
+use Rattle.echo_placing.specs.Outgoing.{ArePlaced, IsAtStaging, IsFree, IsOfOne}
+use Rattle.echo_placing.specs.Trying.{WasTried}
 use Rattle.echo_placing.specs.Publishing.{IsApartFrom}
 use Rattle.echo_placing.specs.declared.outgoing.Outgoing.{Outgoing}
+use Rattle.echo_station_files.specs.Paths.{path_beside}
 use Rattle.echo_steps.specs.PacketFiles.{PacketFile}
 use Rattle.echo_store.specs.Store.{StoreState}
-use Rattle.station_scan.specs.Fitting.{AreFitting}
-use Rattle.station_scan.specs.Publishing.{ArePublished, IsPublishedAt, KeepsStoreBut, PublishesOn}
-use Rattle.station_scan.specs.Sends.{AreSentOn, IsOfThese, SendsThese}
+use Rattle.station_scan.specs.declared.sending.TwoPaths.{TwoPaths}
+use Rattle.station_scan.specs.Fitting.{AreFitting, AreTaken}
+use Rattle.station_scan.specs.Left.{IsOfNameOff}
+use Rattle.station_scan.specs.Publishing.{AreGoing, ArePublished, IsGoingAt, IsPublishedAt, IsTriedWith, KeepsStoreBut, PublishesOn}
+use Rattle.station_scan.specs.Sending.{IsBesidePacket, IsNameByte, IsNamed, IsOfPacket, file_paths}
+use Rattle.station_scan.specs.Sends.{AreSentOn, IsOfThese, SendsThese, WasTriedFor}
+use Rattle.station_scan.proofs.Names.{trial_in, trial_no_path, trial_not_beside}
 use Rattle.station_scan.proofs.Published.{store_wider}
-use Rattle.station_scan.proofs.Sent.{are_apart_from, are_placed, at_its_path, files_bytes, have_none, is_beside_file, is_of_file, none_beside, stand_whole}
+use Rattle.station_scan.proofs.Sent.{are_apart_from, are_placed, at_its_path, files_bytes, free_packets, have_none, is_beside_file, is_of_file, none_beside, stand_whole}
+use Rattle.station_scan.proofs.Staged.{tried_after}
 
-module _ (Own : List ℕ → Type 0) (outbound own : List ℕ) (files : List PacketFile) (packets : List Outgoing) (fit : AreFitting Own outbound own files packets) where
-  pub fit_placed : All (λ b. b ≢ 47) own → ArePlaced outbound packets
-  fit_placed plain = are_placed outbound own files fit.paths packets fit.are fit.sent fit.names plain fit.differ
+module _ (Own : List ℕ → Type 0) (outbound own : List ℕ) (files : List PacketFile) (packets : List Outgoing) (fitting : AreFitting Own outbound own files packets) (trial : List ℕ) (at_end : trial ≡ path_beside outbound own) where
+  abbrev paths : List TwoPaths
+  paths = map (file_paths outbound own) files
 
-  pub fit_apart : (s : StoreState) → ((m : List ℕ) → s.is_own m → Own m) → All (IsApartFrom s.is_own) packets
-  fit_apart s inside k z lt =
-      let away = are_apart_from outbound own files fit.paths packets fit.are fit.sent Own fit.off k z lt in
-      record { path = λ o. away.path (inside _ o); beside = λ o. away.beside (inside _ o) }
+  names : All (λ (file : PacketFile). All IsNameByte file.name) files
+  names k f lt = (fitting.fit.names k f lt).plain
+
+  apart : All (IsApartFrom Own) packets
+  apart = are_apart_from outbound own files paths packets refl fitting.sent Own fitting.fit.off
+
+  off_trial : IsOfOne packets trial → ⊥
+  off_trial of =
+      let (f, has, plain, at) = is_of_file outbound own files paths packets refl fitting.sent names trial of in
+      let is : IsNamed f = All-contains IsNamed files f fitting.fit.names has in
+      ⊎_elim (λ (e : trial ≡ path_beside (outbound ++ f.name) own). trial_not_beside outbound own f.name is.some (sym at_end ∙ e)) (λ (e : trial ≡ outbound ++ f.name). trial_no_path outbound own f.name plain (sym at_end ∙ e)) at
+
+  -- they may go there
+  pub fit_going : (s : StoreState) → ((m : List ℕ) → s.is_own m → Own m) → All (λ b. b ≢ 47) own → AreGoing s.is_own outbound trial packets
+  fit_going s inside plain = record {
+    placed = are_placed outbound own files paths packets refl fitting.sent names plain fitting.fit.differ;
+    apart = λ k z lt. record { path = λ o. (apart k z lt).path (inside _ o); beside = λ o. (apart k z lt).beside (inside _ o) };
+    is_trial = record { inside = subst (IsIn outbound) (sym at_end) (trial_in outbound own plain); off = off_trial };
+    off = λ o. fitting.fit.trial (subst Own at_end (inside _ o));
+  }
+
+  of_name : (m : List ℕ) → IsAtStaging packets trial m → IsOfNameOff Own outbound own m
+  of_name m (inl (p, is, at)) =
+      let (f, has, plain, e) = is_beside_file outbound own files paths packets refl fitting.sent names m (p, is, at) in
+      let away : IsApartFrom Own p = All-contains (IsApartFrom Own) packets p apart is in
+      ((f.name, plain, inl e), λ o. away.beside (subst Own at o))
+  of_name m (inr e) =
+      (([], λ k d lt. absurd (omega (arith, lt)), inl (e ∙ at_end ∙ ap (λ (l : List ℕ). path_beside l own) (sym (append-nil outbound)))), λ o. fitting.fit.trial (subst Own (e ∙ at_end) o))
+
+  pub fit_tried : {D : Type 0} (state : D → DiskState) (old : DiskState) → IsTriedWith state packets trial old → WasTriedFor state Own outbound own files old
+  fit_tried state old tried =
+      ⊎_elim (λ none. inl (sym fitting.sent.as_many ∙ none))
+      (λ was. inr (subst (λ (t : List ℕ). WasTried state (IsOfNameOff Own outbound own) t old) at_end (tried_after state (IsAtStaging packets trial) (IsOfNameOff Own outbound own) trial old old of_name (λ m out. refl) was))) tried
+
+  pub fit_taken : (disk : DiskState) → (All (IsFree disk) packets → ⊥) → AreTaken Own outbound own files disk.seen
+  fit_taken disk taken = inl (λ all. taken (free_packets outbound own files paths packets refl fitting.sent disk all))
 
   pub fit_sent : (s t : StoreState) → ArePublished packets s t → AreSentOn outbound own files s t
   fit_sent s t are = record {
     committed = are.committed;
-    packets = λ honest. at_its_path outbound own files fit.paths packets fit.are fit.sent t.disk (are.named honest);
-    gone = λ honest. none_beside outbound own files fit.paths packets fit.are fit.sent t.disk (are.named honest);
-    bytes = files_bytes outbound own files fit.paths packets fit.are fit.sent are.bytes;
+    packets = λ honest. at_its_path outbound own files paths packets refl fitting.sent t.disk (are.named honest);
+    gone = λ honest. none_beside outbound own files paths packets refl fitting.sent t.disk (are.named honest);
+    bytes = files_bytes outbound own files paths packets refl fitting.sent are.bytes;
   }
 
-  fit_of : (s : StoreState) (m : List ℕ) → IsPublishedAt s packets m → IsOfThese s.is_own outbound own files m
-  fit_of s m is = ⊎_elim (λ o. inl o) (λ of. inr (is_of_file outbound own files fit.paths packets fit.are fit.sent fit.names m of)) is
+  of_packet : (m : List ℕ) → IsGoingAt packets trial m → IsOfPacket outbound own files m
+  of_packet m (inl of) = inl (is_of_file outbound own files paths packets refl fitting.sent names m of)
+  of_packet m (inr e) = inr (e ∙ at_end)
 
-  pub fit_keeps : (s t : StoreState) → KeepsStoreBut (IsPublishedAt s packets) s t → KeepsStoreBut (IsOfThese s.is_own outbound own files) s t
-  fit_keeps s t kept = store_wider (IsPublishedAt s packets) (IsOfThese s.is_own outbound own files) s t (fit_of s) kept
+  beside_packet : (m : List ℕ) → IsAtStaging packets trial m → IsBesidePacket outbound own files m
+  beside_packet m (inl at) = inl (is_beside_file outbound own files paths packets refl fitting.sent names m at)
+  beside_packet m (inr e) = inr (e ∙ at_end)
 
-  fit_moment : (s : StoreState) (first next : Base) (c : Files) → PublishesOn s packets first next c → SendsThese s outbound own files first next c
+  pub fit_keeps : (s t : StoreState) → KeepsStoreBut (IsPublishedAt s (IsGoingAt packets trial)) s t → KeepsStoreBut (IsOfThese s.is_own outbound own files) s t
+  fit_keeps s t kept =
+      store_wider (IsPublishedAt s (IsGoingAt packets trial)) (IsOfThese s.is_own outbound own files) s t (λ m is. ⊎_elim (λ o. inl o) (λ of. inr (of_packet m of)) is) kept
+
+  fit_moment : (s : StoreState) (first next : Base) (c : Files) → PublishesOn s packets trial first next c → SendsThese s outbound own files first next c
   fit_moment s first next c (inl over) = inl (record {
-    writes = (
-      over.staged.0,
-      over.staged.1,
-      λ m other. over.staged.2 m (λ at. other (is_beside_file outbound own files fit.paths packets fit.are fit.sent fit.names m at)),
-    );
+    writes = (over.staged.0, over.staged.1, λ m other. over.staged.2 m (λ at. other (beside_packet m at)));
     stands = over.stands;
   })
   fit_moment s first next c (inr with) = inr (record {
-    others = λ m other on. with.others m (λ o. other (inl o)) (λ of. other (fit_of s m (inr of))) on;
+    others = λ m other on. with.others m (λ o. other (inl o)) (λ of. other (inr (of_packet m of))) on;
     either =
-        ⊎_elim (λ none. inl (none.0, have_none outbound own files fit.paths packets fit.are fit.sent c none.1))
-        (λ all. inr (all.0, stand_whole outbound own files fit.paths packets fit.are fit.sent c all.1, files_bytes outbound own files fit.paths packets fit.are fit.sent all.2))
+        ⊎_elim (λ none. inl (none.0, have_none outbound own files paths packets refl fitting.sent c none.1))
+        (λ all. inr (all.0, stand_whole outbound own files paths packets refl fitting.sent c all.1, files_bytes outbound own files paths packets refl fitting.sent all.2))
         with.either;
   })
 
-  pub fit_moments : (s : StoreState) (d : DiskState) (first next : Base) → LeavesOnly s.disk d (PublishesOn s packets first next) → LeavesOnly s.disk d (SendsThese s outbound own files first next)
-  fit_moments s d first next run = weaker_run s.disk d (PublishesOn s packets first next) (SendsThese s outbound own files first next) run (fit_moment s first next)
+  pub fit_moments : (s : StoreState) (d : DiskState) (first next : Base) → LeavesOnly s.disk d (PublishesOn s packets trial first next) → LeavesOnly s.disk d (SendsThese s outbound own files first next)
+  fit_moments s d first next run = weaker_run s.disk d (PublishesOn s packets trial first next) (SendsThese s outbound own files first next) run (fit_moment s first next)

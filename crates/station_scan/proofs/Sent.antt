@@ -1,5 +1,5 @@
 -- Packets that go out, as the files of a scan.
-use Rattle.std.proofs.Common.{◌≡◌, ◌≢◌, inl, inr, ⊎_elim, ◌∙◌, ◌<◌, ℕ, List, [], ◌++◌, get_or, length, map, sym, subst, ap, Some, arith}
+use Rattle.std.proofs.Common.{◌≡◌, ◌≢◌, ◌⊎◌, inl, inr, ⊎_elim, ◌∙◌, ◌<◌, ℕ, List, [], ◌++◌, get_or, length, map, sym, subst, ap, Some, arith}
 use Rattle.std.specs.Prelude.{All, AllPairs, Contains}
 use Rattle.std.proofs.lemmas.List.{get_or-map, length-map}
 use Rattle.std.proofs.lemmas.List.Elements.{All-contains, Contains-get_or}
@@ -16,7 +16,7 @@ use Rattle.echo_station_files.specs.Paths.{path_beside}
 use Rattle.echo_station_files.proofs.BesidePaths.{beside_other}
 use Rattle.station_scan.specs.declared.sending.TwoPaths.{TwoPaths}
 use Rattle.station_scan.specs.Publishing.{IsFreeIn}
-use Rattle.station_scan.specs.Sending.{AreSent, HasBytes, HaveOtherPaths, IsAtItsPath, IsBesidePacket, IsFreeAt, IsGoneBeside, IsNameByte, IsOfPacket, IsOffOwn, StandsWhole, file_paths}
+use Rattle.station_scan.specs.Sending.{AreSent, HasBytes, HaveOtherPaths, IsAtItsPath, IsFreeAt, IsGoneBeside, IsNameByte, IsOffOwn, StandsWhole, file_paths}
 use Rattle.station_scan.proofs.Names.{four_apart, name_beside_in, name_in}
 
 -- no file
@@ -114,7 +114,8 @@ module _ (folder own : List ℕ) (files : List PacketFile) (paths : List TwoPath
   files_bytes all k f lt = subst AreBytes (goes k f nobody lt).bytes (all k nobody (back k lt))
 
   -- a path of a packet is one of a file
-  pub is_of_file : All (λ (file : PacketFile). All IsNameByte file.name) files → (m : List ℕ) → IsOfOne packets m → IsOfPacket folder own files m
+  pub is_of_file : All (λ (file : PacketFile). All IsNameByte file.name) files → (m : List ℕ) → IsOfOne packets m
+      → (f : PacketFile) × Contains files f × All IsNameByte f.name × ((m ≡ path_beside (folder ++ f.name) own) ⊎ (m ≡ folder ++ f.name))
   is_of_file names m (p, is, at) =
       let found : (f : PacketFile) × Contains files f × All IsNameByte f.name × (p.beside.now ≡ path_beside (folder ++ f.name) own) × (p.path.now ≡ folder ++ f.name) =
       All-contains (λ (q : Outgoing). (f : PacketFile) × Contains files f × All IsNameByte f.name × (q.beside.now ≡ path_beside (folder ++ f.name) own) × (q.path.now ≡ folder ++ f.name)) packets p
@@ -125,7 +126,8 @@ module _ (folder own : List ℕ) (files : List PacketFile) (paths : List TwoPath
       (found.0, found.1, found.2, ⊎_elim (λ e. inl (e ∙ found.3)) (λ e. inr (e ∙ found.4)) at)
 
   -- and one beside is beside a file
-  pub is_beside_file : All (λ (file : PacketFile). All IsNameByte file.name) files → (m : List ℕ) → IsBesideOne packets m → IsBesidePacket folder own files m
+  pub is_beside_file : All (λ (file : PacketFile). All IsNameByte file.name) files → (m : List ℕ) → IsBesideOne packets m
+      → (f : PacketFile) × Contains files f × All IsNameByte f.name × (m ≡ path_beside (folder ++ f.name) own)
   is_beside_file names m (p, is, at) =
       let found : (f : PacketFile) × Contains files f × All IsNameByte f.name × (p.beside.now ≡ path_beside (folder ++ f.name) own) =
       All-contains (λ (q : Outgoing). (f : PacketFile) × Contains files f × All IsNameByte f.name × (q.beside.now ≡ path_beside (folder ++ f.name) own)) packets p
@@ -145,6 +147,9 @@ module _ (folder own : List ℕ) (files : List PacketFile) (paths : List TwoPath
 
   pub none_beside : (disk : DiskState) → All (HasItsPath disk) packets → All (IsGoneBeside folder own disk.seen) files
   none_beside disk all k f lt = ap disk.seen (sym (goes k f nobody lt).beside) ∙ (all k nobody (back k lt)).gone
+
+  pub free_packets : (disk : DiskState) → All (IsFreeAt folder disk.seen) files → All (outgoing.IsFree disk) packets
+  free_packets disk all k z lt = let high = within k lt in ap disk.seen (goes k no_file z high).path ∙ all k no_file high
 
   pub have_none : (c : Files) → All (IsFreeIn c) packets → All (IsFreeAt folder c) files
   have_none c all k f lt = ap c (sym (goes k f nobody lt).path) ∙ all k nobody (back k lt)

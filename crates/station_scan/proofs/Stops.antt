@@ -1,61 +1,67 @@
 -- Why a scan stopped.
-use Rattle.std.proofs.Common.{◌≡◌, ◌⊎◌, inl, inr, ⊎_elim, refl, subst}
+use Rattle.std.proofs.Common.{◌≡◌, ◌⊎◌, inl, inr, ⊎_elim, refl, subst, sym}
 use Rattle.std.specs.Prelude.{Err, IfErr, IsErrOf, Ok, Result}
+use Rattle.echo_disk.specs.declared.disk_error.DiskError.TheVariants as disk
 use Rattle.echo_placing.specs.declared.placing_error.PlacingError.{PlacingError}
 use Rattle.echo_placing.specs.declared.placing_error.PlacingError.TheVariants as placing
 use Rattle.echo_store.specs.declared.store_error.StoreError.TheVariants as error
 use Rattle.echo_store_changing.specs.declared.stop.Stop.TheVariants.{Met, Store}
-use Rattle.station_scan.specs.Stops.{IsOfPlacing, stop_of}
+use Rattle.station_scan.specs.Stops.{IsOfPlacing, scan_done, stop_of}
 use Rattle.station_scan.specs.declared.scan_stop.ScanStop.{ScanStop}
-use Rattle.station_scan.specs.declared.scan_stop.ScanStop.TheVariants.{Command, Placing, Staying}
+use Rattle.station_scan.specs.declared.scan_stop.ScanStop.TheVariants.{Command, Placing, Staying, TooFar}
 use Rattle.station_scan.specs.declared.unpublished.Unpublished.{Unpublished}
 use Rattle.station_scan.specs.declared.unpublished.Unpublished.TheVariants.{Base as OfBase, Beside, Packets}
 
--- what stopped the publishing, as what stopped the scan
-pub stop_why : (failed : Type 0) (why : Unpublished) → (why ≡ OfBase error.Damaged → ⊥) → (why ≡ Packets placing.Device → failed) → (why ≡ Beside placing.Device → failed) → (why ≡ OfBase error.Device → failed) → IsOfPlacing failed (stop_of why)
-stop_why failed (Packets placing.Device) whole packets beside base = packets refl
-stop_why failed (Packets placing.Memory) whole packets beside base = tt
-stop_why failed (Packets placing.Taken) whole packets beside base = tt
-stop_why failed (Beside placing.Device) whole packets beside base = beside refl
-stop_why failed (Beside placing.Memory) whole packets beside base = tt
-stop_why failed (Beside placing.Taken) whole packets beside base = tt
-stop_why failed (OfBase error.Device) whole packets beside base = base refl
-stop_why failed (OfBase error.Damaged) whole packets beside base = whole refl
-stop_why failed (OfBase error.Memory) whole packets beside base = tt
-stop_why failed (OfBase error.TooMany) whole packets beside base = tt
+module _ (failed taken far : Type 0) where
+  -- what stopped the publishing, as what stopped the scan
+  stop_why : (why : Unpublished) → (why ≡ Packets placing.Device → failed) → (why ≡ Packets placing.Taken → taken) → (why ≡ Beside disk.Device → failed) → (why ≡ OfBase error.Device → failed) → (why ≡ OfBase error.Damaged → ⊥)
+      → IsOfPlacing failed taken far (stop_of why)
+  stop_why (Packets placing.Device) packets free beside base whole = packets refl
+  stop_why (Packets placing.Memory) packets free beside base whole = tt
+  stop_why (Packets placing.Taken) packets free beside base whole = free refl
+  stop_why (Beside disk.Device) packets free beside base whole = beside refl
+  stop_why (Beside disk.Memory) packets free beside base whole = tt
+  stop_why (OfBase error.Device) packets free beside base whole = base refl
+  stop_why (OfBase error.Damaged) packets free beside base whole = absurd (whole refl)
+  stop_why (OfBase error.Memory) packets free beside base whole = tt
+  stop_why (OfBase error.TooMany) packets free beside base whole = tt
 
-pub placing_why : (failed : Type 0) (cause : PlacingError) → (cause ≡ placing.Device → failed) → IsOfPlacing failed (Placing cause)
-placing_why failed placing.Device device = device refl
-placing_why failed placing.Memory device = tt
-placing_why failed placing.Taken device = tt
+  pub sent_why : (done : Result (Unit {0}) Unpublished) (result : Result (Unit {0}) ScanStop) → result ≡ scan_done done → (IsErrOf done (Packets placing.Device) → failed) → (IsErrOf done (Packets placing.Taken) → taken)
+      → (IsErrOf done (Beside disk.Device) → failed) → (IsErrOf done (OfBase error.Device) → failed) → (IsErrOf done (OfBase error.Damaged) → ⊥) → IfErr result (IsOfPlacing failed taken far)
+  sent_why (Ok done) result is packets free beside base whole = subst (λ (r : Result (Unit {0}) ScanStop). IfErr r (IsOfPlacing failed taken far)) (sym is) tt
+  sent_why (Err why) result is packets free beside base whole =
+      subst (λ (r : Result (Unit {0}) ScanStop). IfErr r (IsOfPlacing failed taken far)) (sym is)
+      (stop_why why (λ e. packets (cc e)) (λ e. free (cc e)) (λ e. beside (cc e)) (λ e. base (cc e)) (λ e. whole (cc e)))
+
+  -- what earlier scans left was not brought to its end
+  pub placing_why : (cause : PlacingError) → (cause ≡ placing.Device → failed) → (cause ≡ placing.Taken → taken) → IsOfPlacing failed taken far (Placing cause)
+  placing_why placing.Device device free = device refl
+  placing_why placing.Memory device free = tt
+  placing_why placing.Taken device free = free refl
 
 -- more may have failed
-why_wider : (some more : Type 0) (why : ScanStop) → (some → more) → IsOfPlacing some why → IsOfPlacing more why
-why_wider some more (Command (Met fault)) gives is = is
-why_wider some more (Command (Store error.Device)) gives is = gives is
-why_wider some more (Command (Store error.Damaged)) gives is = is
-why_wider some more (Command (Store error.Memory)) gives is = tt
-why_wider some more (Command (Store error.TooMany)) gives is = tt
-why_wider some more (Placing placing.Device) gives is = gives is
-why_wider some more (Placing placing.Memory) gives is = tt
-why_wider some more (Placing placing.Taken) gives is = tt
-why_wider some more (Staying placing.Device) gives is = gives is
-why_wider some more (Staying placing.Memory) gives is = tt
-why_wider some more (Staying placing.Taken) gives is = tt
+why_wider : (some more taken held far : Type 0) (why : ScanStop) → (some → more) → (taken → held) → IsOfPlacing some taken far why → IsOfPlacing more held far why
+why_wider some more taken held far (Command (Met fault)) gives free is = is
+why_wider some more taken held far (Command (Store error.Device)) gives free is = gives is
+why_wider some more taken held far (Command (Store error.Damaged)) gives free is = is
+why_wider some more taken held far (Command (Store error.Memory)) gives free is = tt
+why_wider some more taken held far (Command (Store error.TooMany)) gives free is = tt
+why_wider some more taken held far (Placing placing.Device) gives free is = gives is
+why_wider some more taken held far (Placing placing.Memory) gives free is = tt
+why_wider some more taken held far (Placing placing.Taken) gives free is = free is
+why_wider some more taken held far (Staying disk.Device) gives free is = gives is
+why_wider some more taken held far (Staying disk.Memory) gives free is = tt
+why_wider some more taken held far TooFar gives free is = is
 
 -- what failed of a disk, or what else did
 pub failed_too : (some disk locks listing : Type 0) → (some → disk) → some ⊎ listing → (disk ⊎ locks) ⊎ listing
 failed_too some disk locks listing gives failed = ⊎_elim (λ of. inl (inl (gives of))) (λ of. inr of) failed
 
-pub put_wider : (some more : Type 0) (result : Result (Unit {0}) ScanStop) → (some → more) → IfErr result (IsOfPlacing some) → IfErr result (IsOfPlacing more)
-put_wider some more (Ok done) gives is = tt
-put_wider some more (Err why) gives is = why_wider some more why gives is
+pub put_wider : (some more taken held far : Type 0) (result : Result (Unit {0}) ScanStop) → (some → more) → (taken → held) → IfErr result (IsOfPlacing some taken far) → IfErr result (IsOfPlacing more held far)
+put_wider some more taken held far (Ok done) gives free is = tt
+put_wider some more taken held far (Err why) gives free is = why_wider some more taken held far why gives free is
 
 -- no message is damaged where the packets were put in place
-pub put_whole : (failed : Type 0) (result : Result (Unit {0}) ScanStop) → IfErr result (IsOfPlacing failed) → IsErrOf result (Command (Store error.Damaged)) → ⊥
-put_whole failed (Ok done) is damaged = absurd (cc damaged)
-put_whole failed (Err why) is damaged = let same : why ≡ Command (Store error.Damaged) = cc damaged in subst (IsOfPlacing failed) same is
-
-pub put_device : (failed : Type 0) (result : Result (Unit {0}) ScanStop) → IfErr result (IsOfPlacing failed) → IsErrOf result (Command (Store error.Device)) → failed
-put_device failed (Ok done) is device = absurd (cc device)
-put_device failed (Err why) is device = let same : why ≡ Command (Store error.Device) = cc device in subst (IsOfPlacing failed) same is
+pub put_whole : (failed taken far : Type 0) (result : Result (Unit {0}) ScanStop) → IfErr result (IsOfPlacing failed taken far) → IsErrOf result (Command (Store error.Damaged)) → ⊥
+put_whole failed taken far (Ok done) is damaged = absurd (cc damaged)
+put_whole failed taken far (Err why) is damaged = let same : why ≡ Command (Store error.Damaged) = cc damaged in subst (IsOfPlacing failed taken far) same is

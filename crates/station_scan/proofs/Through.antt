@@ -1,6 +1,6 @@
 -- What is so of a disk once nothing more has changed, and before.
 use Rattle.std.proofs.Common.{inl, inr, ⊎_elim, ◌∙◌, ℕ, List, get_or, refl, subst, sym}
-use Rattle.std.specs.Prelude.{All, Err, IfOk, Ok, OnOk, Result}
+use Rattle.std.specs.Prelude.{All, Bool, Err, IfErr, IfOk, Ok, OnOk, Result}
 use Rattle.echo_disk.specs.Disk.{DiskState, Files}
 use Rattle.echo_disk.specs.Runs.{ChangesNothing, LeavesOnly, OneStepOn}
 use Rattle.echo_disk.proofs.Moments.{then_nothing, then_run, weaker_run}
@@ -14,7 +14,9 @@ use Rattle.echo_placing.specs.declared.placing_error.PlacingError.{PlacingError}
 use Rattle.echo_placing.proofs.Changes.{left_there, only_nothing, then_only}
 use Rattle.echo_placing.proofs.Ended.{quiet_then}
 use Rattle.station_scan.specs.Left.{AreAllLeft, EndsLeft, IsEndedAt, IsLeftOf}
-use Rattle.station_scan.specs.Publishing.{AreStaged}
+use Rattle.station_scan.specs.Publishing.{AreStaged, NoneStays}
+use Rattle.station_scan.specs.declared.unpublished.Unpublished.{Unpublished}
+use Rattle.station_scan.specs.declared.unpublished.Unpublished.TheVariants.{Base, Beside, Packets}
 use Rattle.station_scan.proofs.Lefts.{finishes_none, on_ok_over, over_still}
 use Rattle.station_scan.proofs.Looked.{same_seen}
 
@@ -49,6 +51,16 @@ module _ (d e : DiskState) (quiet : ChangesNothing d e) where
   have_their_paths packets all k z lt =
       let p = get_or packets k z in
       record { file = file_through p.path.now p.file.now.bytes (all k z lt).file; gone = quiet.seen p.beside.now ∙ (all k z lt).gone }
+
+  -- what was removed is gone still
+  none_through : (packets : List Outgoing) (trial : List ℕ) (why : Unpublished) → NoneStays packets trial d why → NoneStays packets trial e why
+  none_through packets trial (Packets cause) gone = (λ k z lt. quiet.seen (get_or packets k z).beside.now ∙ gone.0 k z lt, quiet.seen trial ∙ gone.1)
+  none_through packets trial (Beside cause) gone = tt
+  none_through packets trial (Base cause) gone = gone
+
+  pub gone_through : (packets : List Outgoing) (trial : List ℕ) (r : Result Bool Unpublished) → IfErr r (NoneStays packets trial d) → IfErr r (NoneStays packets trial e)
+  gone_through packets trial (Ok free) gone = tt
+  gone_through packets trial (Err why) gone = none_through packets trial why gone
 
 -- a run between two that change nothing
 module _ (a d e b : DiskState) (before : ChangesNothing a d) (after : ChangesNothing e b) where

@@ -1,22 +1,30 @@
 -- Packets that go to paths of their own.
 use Rattle.std.specs.Prelude.{◌≡◌, ◌⊎◌, ℕ, List, All, AllPairs, map}
+use Rattle.echo_disk.specs.Disk.{Files}
 use Rattle.echo_placing.specs.declared.outgoing.Outgoing.{Outgoing}
 use Rattle.echo_placing.specs.declared.placing_error.PlacingError.TheVariants.{Memory, Taken}
+use Rattle.echo_station_files.specs.Paths.{path_beside}
 use Rattle.echo_steps.specs.PacketFiles.{PacketFile}
-use Rattle.station_scan.specs.Sending.{AreSent, HaveOtherPaths, IsNameByte, IsOffOwn, file_paths}
-use Rattle.station_scan.specs.declared.sending.TwoPaths.{TwoPaths}
+use Rattle.station_scan.specs.Sending.{AreSent, HaveOtherPaths, IsFreeAt, IsNamed, IsOffOwn, file_paths}
 use Rattle.station_scan.specs.declared.unpublished.Unpublished.{Unpublished}
 use Rattle.station_scan.specs.declared.unpublished.Unpublished.TheVariants.{Packets}
 
--- the packets are these files, each with two paths of its own, none of which is one of these
-pub record AreFitting (Own : List ℕ → Type 0) (outbound own : List ℕ) (files : List PacketFile) (packets : List Outgoing) : Type 0 where
-  pub paths : List TwoPaths
-  pub are : paths ≡ map (file_paths outbound own) files
-  pub sent : AreSent files paths packets
-  pub names : All (λ file. All IsNameByte file.name) files
-  pub differ : AllPairs HaveOtherPaths paths
-  pub off : All (IsOffOwn Own) paths
+-- Each file goes to two paths of its own. Neither they nor the path that is tried are of the station's own files.
+pub record AreFit (Own : List ℕ → Type 0) (outbound own : List ℕ) (files : List PacketFile) : Type 0 where
+  pub names : All IsNamed files
+  pub differ : AllPairs HaveOtherPaths (map (file_paths outbound own) files)
+  pub off : All (IsOffOwn Own) (map (file_paths outbound own) files)
+  pub trial : Own (path_beside outbound own) → ⊥
 
--- a path is taken, or there is no memory
-abbrev pub IsUnfit : Unpublished → Type 0
-IsUnfit why = (why ≡ Packets Taken) ⊎ (why ≡ Packets Memory)
+-- and the packets are these files
+pub record AreFitting (Own : List ℕ → Type 0) (outbound own : List ℕ) (files : List PacketFile) (packets : List Outgoing) : Type 0 where
+  pub fit : AreFit Own outbound own files
+  pub sent : AreSent files (map (file_paths outbound own) files) packets
+
+-- they have no paths of their own, or there is no memory
+abbrev pub IsUnfit : (List ℕ → Type 0) → List ℕ → List ℕ → List PacketFile → Unpublished → Type 0
+IsUnfit Own outbound own files why = ((why ≡ Packets Taken) × (AreFit Own outbound own files → ⊥)) ⊎ (why ≡ Packets Memory)
+
+-- a file has the path of a packet, or the packets have no paths of their own
+abbrev pub AreTaken : (List ℕ → Type 0) → List ℕ → List ℕ → List PacketFile → Files → Type 0
+AreTaken Own outbound own files seen = (All (IsFreeAt outbound seen) files → ⊥) ⊎ (AreFit Own outbound own files → ⊥)

@@ -27,6 +27,10 @@ IsFound Own folder own named l = (packet : LeftPacket) × Contains named packet 
 abbrev pub IsBesideThere : Files → LeftPaths → Type 0
 IsBesideThere files l = IsSome (files l.two.beside)
 
+-- nothing has its path
+abbrev pub IsFreeFound : Files → LeftPaths → Type 0
+IsFreeFound files l = files l.two.path ≡ None
+
 -- two have two paths that are not the same
 abbrev pub HaveOtherLeft : LeftPaths → LeftPaths → Type 0
 HaveOtherLeft one other = one.two.path ≢ other.two.path
@@ -40,6 +44,10 @@ pub record IsToFind (Own : List ℕ → Type 0) (folder own : List ℕ) (files :
   pub plain : All IsNameByte name
   pub off : IsOffOwn Own (two_paths folder own name)
   pub there : StandsBeside folder own files name
+
+-- nothing has the path of one of these
+abbrev pub AreFreeLeft : (List ℕ → Type 0) → List ℕ → List ℕ → Files → Type 0
+AreFreeLeft Own folder own files = (name : List ℕ) → IsToFind Own folder own files name → files (folder ++ name) ≡ None
 
 -- what was to be found was
 abbrev pub IsFoundWhere : (List ℕ → Type 0) → List ℕ → List ℕ → Files → List LeftPaths → LeftPacket → Type 0

@@ -1,14 +1,16 @@
 -- Packets and the commit of a store.
-use Rattle.std.specs.Prelude.{◌≡◌, ◌≤◌, ◌⊎◌, ℕ, List, Bool, true, false, All, None, Result, Ok, Err, IsErrOf}
+use Rattle.std.specs.Prelude.{◌≡◌, ◌≤◌, ◌⊎◌, ℕ, List, length, Bool, true, false, All, None, Result, Ok, Err, IsErrOf}
 use Rattle.echo_base.specs.Base.{Base}
 use Rattle.echo_device.specs.Device.{Failed}
-use Rattle.echo_disk.specs.Disk.{DiskState, Files, Honestly}
+use Rattle.echo_disk.specs.Disk.{DiskState, Files, Honestly, IsIn}
 use Rattle.echo_disk.specs.declared.disk_error.DiskError.{DiskError}
+use Rattle.echo_disk.specs.declared.disk_error.DiskError.TheVariants as disk_error
 use Rattle.echo_disk.specs.Runs.{KeepsAlone, KeepsFlushed, KeepsNamed, LeavesOnly, OneStepOn}
 use Rattle.echo_placing.specs.Changes.{DifferAt}
 use Rattle.echo_placing.specs.Naming.{HasItsPath, StandsWhole}
-use Rattle.echo_placing.specs.Outgoing.{IsBesideOne, IsFree, IsGoneBeside, IsOfOne, IsStaged, SendsBytes}
-use Rattle.echo_placing.specs.Publishing.{placing_cause}
+use Rattle.echo_placing.specs.Outgoing.{ArePlaced, IsAtStaging, IsFilled, IsFree, IsGoneBeside, IsOfOne, IsStaged, SendsBytes}
+use Rattle.echo_placing.specs.Publishing.{IsApartFrom, placing_cause}
+use Rattle.echo_placing.specs.Trying.{WasTried}
 use Rattle.echo_placing.specs.declared.outgoing.Outgoing.{Outgoing}
 use Rattle.echo_placing.specs.declared.placing_error.PlacingError.TheVariants as placing
 use Rattle.echo_store.specs.Store.{Commits, IsSameStore, StoreState}
@@ -30,9 +32,29 @@ pub record KeepsBut (paths : List ℕ → Type 0) (old new : DiskState) : Type 0
   pub alone : KeepsAlone paths old new
   pub honest : new.is_honest → old.is_honest
 
--- Before the commit packets are written beside their paths: the base that was committed stands.
-pub record StagesOver (old : StoreState) (packets : List Outgoing) (first : Base) (c : Files) : Type 0 where
-  pub staged : OneStepOn (DifferAt (IsBesideOne packets)) old.disk c
+-- none of the packets has this path of the folder
+pub record IsTrial (outbound : List ℕ) (packets : List Outgoing) (trial : List ℕ) : Type 0 where
+  pub inside : IsIn outbound trial
+  pub off : IsOfOne packets trial → ⊥
+
+-- packets that go into the folder, and a path of it that is tried: these paths are apart, and none is the store's own
+pub record AreGoing (Own : List ℕ → Type 0) (outbound trial : List ℕ) (packets : List Outgoing) : Type 0 where
+  pub placed : ArePlaced outbound packets
+  pub apart : All (IsApartFrom Own) packets
+  pub is_trial : IsTrial outbound packets trial
+  pub off : Own trial → ⊥
+
+-- one of their paths, or the one that is tried
+abbrev pub IsGoingAt : List Outgoing → List ℕ → List ℕ → Type 0
+IsGoingAt packets trial m = IsOfOne packets m ⊎ (m ≡ trial)
+
+-- where there are packets it was tried before anything else was done whether a file gets a second path
+abbrev pub IsTriedWith : {D : Type 0} → (D → DiskState) → List Outgoing → List ℕ → DiskState → Type 0
+IsTriedWith state packets trial old = (length packets ≡ 0) ⊎ WasTried state (IsAtStaging packets trial) trial old
+
+-- Before the commit packets are written beside their paths, and a path is tried: the base that was committed stands.
+pub record StagesOver (old : StoreState) (packets : List Outgoing) (trial : List ℕ) (first : Base) (c : Files) : Type 0 where
+  pub staged : OneStepOn (DifferAt (IsAtStaging packets trial)) old.disk c
   pub stands : old.stands first c
 
 -- nothing has the packet's path
@@ -40,34 +62,38 @@ abbrev pub IsFreeIn : Files → Outgoing → Type 0
 IsFreeIn c p = c p.path.now ≡ None
 
 -- From the commit on: the base that was committed before, and nothing has the path of a packet of these; or the one that was held, and
--- each packet, which is bytes, stands whole at its path or beside it. What else was on the disk is as it was seen.
-pub record CommitsWith (old : StoreState) (packets : List Outgoing) (first next : Base) (c : Files) : Type 0 where
-  pub others : (m : List ℕ) → (old.is_own m → ⊥) → (IsOfOne packets m → ⊥) → IsOnDisk old.disk m → c m ≡ old.disk.seen m
+-- each packet, which is bytes, stands whole at its path or beside it. What else was on the disk, but for these paths, is as it was seen.
+pub record CommitsWith (old : StoreState) (paths : List ℕ → Type 0) (packets : List Outgoing) (first next : Base) (c : Files) : Type 0 where
+  pub others : (m : List ℕ) → (old.is_own m → ⊥) → (paths m → ⊥) → IsOnDisk old.disk m → c m ≡ old.disk.seen m
   pub either : (old.stands first c × All (IsFreeIn c) packets) ⊎ (old.stands next c × All (StandsWhole c) packets × All SendsBytes packets)
 
 -- what a crash meanwhile may leave
-abbrev pub PublishesOn : StoreState → List Outgoing → Base → Base → Files → Type 0
-PublishesOn old packets first next c = StagesOver old packets first c ⊎ CommitsWith old packets first next c
+abbrev pub PublishesOn : StoreState → List Outgoing → List ℕ → Base → Base → Files → Type 0
+PublishesOn old packets trial first next c = StagesOver old packets trial first c ⊎ CommitsWith old (IsGoingAt packets trial) packets first next c
 
 -- a crash at any moment leaves such files
-abbrev pub MayPublish : List Outgoing → StoreState → StoreState → Type 0
-MayPublish packets old new =
-    Honestly new.disk ((first next : Base) → old.committed first → old.keeps next → LeavesOnly old.disk new.disk (PublishesOn old packets first next))
+abbrev pub MayPublish : List Outgoing → List ℕ → StoreState → StoreState → Type 0
+MayPublish packets trial old new =
+    Honestly new.disk ((first next : Base) → old.committed first → old.keeps next → LeavesOnly old.disk new.disk (PublishesOn old packets trial first next))
+
+-- nothing stands beside their paths, nor at the path that was tried
+abbrev pub AreGone : List Outgoing → List ℕ → DiskState → Type 0
+AreGone packets trial disk = All (IsGoneBeside disk) packets × (disk.seen trial ≡ None)
 
 -- What stands where it failed. Where a packet stopped it the base is as it was, with none beside its path unless this one was taken, or is
--- committed; where packets stay beside their paths that is said.
-abbrev pub StopsPublishing : List Outgoing → StoreState → StoreState → Unpublished → Type 0
-StopsPublishing packets old new (Packets placing.Taken) = HoldsAsBefore old new ⊎ Commits old new
-StopsPublishing packets old new (Packets cause) = (HoldsAsBefore old new × All (IsGoneBeside new.disk) packets) ⊎ Commits old new
-StopsPublishing packets old new (Beside cause) = HoldsAsBefore old new
-StopsPublishing packets old new (OfBase cause) = Unit {0}
+-- committed; where packets stay beside their paths that is said. Where the base stopped it each stays whole there, since it may be committed.
+abbrev pub StopsPublishing : List Outgoing → List ℕ → StoreState → StoreState → Unpublished → Type 0
+StopsPublishing packets trial old new (Packets placing.Taken) = HoldsAsBefore old new ⊎ Commits old new
+StopsPublishing packets trial old new (Packets cause) = (HoldsAsBefore old new × AreGone packets trial new.disk) ⊎ Commits old new
+StopsPublishing packets trial old new (Beside cause) = HoldsAsBefore old new
+StopsPublishing packets trial old new (OfBase cause) = All (IsFilled new.disk) packets
 
 -- A failure of the device is answered only where its count of failures rose, and damage, on an honest disk, only of a store that holds no
 -- base.
 pub record HasPublishCause {T : Type 0} (old new : StoreState) (before now : ℕ) (result : Result T Unpublished) : Type 0 where
   pub later : before ≤ now
   pub packets : IsErrOf result (Packets placing.Device) → Failed before now
-  pub beside : IsErrOf result (Beside placing.Device) → Failed before now
+  pub beside : IsErrOf result (Beside disk_error.Device) → Failed before now
   pub base : IsErrOf result (OfBase store.Device) → Failed before now
   pub damaged : Honestly new.disk (IsErrOf result (OfBase store.Damaged) → (base : Base) → old.keeps base → ⊥)
 
@@ -84,16 +110,16 @@ pub record AreStaged (packets : List Outgoing) (disk : DiskState) : Type 0 where
   pub clear : Honestly disk (All (IsClear disk) packets)
 
 -- where a packet was not staged none stays beside its path, unless that is said
-abbrev pub NoneStays : List Outgoing → DiskState → Unpublished → Type 0
-NoneStays packets new (Packets cause) = All (IsGoneBeside new) packets
-NoneStays packets new (Beside cause) = Unit {0}
-NoneStays packets new (OfBase cause) = ⊥
+abbrev pub NoneStays : List Outgoing → List ℕ → DiskState → Unpublished → Type 0
+NoneStays packets trial new (Packets cause) = AreGone packets trial new
+NoneStays packets trial new (Beside cause) = Unit {0}
+NoneStays packets trial new (OfBase cause) = ⊥
 
 -- A failure of the device is answered only where its count of failures rose; neither that a path is taken nor a failure of the base is.
 pub record HasStageCause {T : Type 0} (before now : ℕ) (result : Result T Unpublished) : Type 0 where
   pub later : before ≤ now
   pub packets : IsErrOf result (Packets placing.Device) → Failed before now
-  pub beside : IsErrOf result (Beside placing.Device) → Failed before now
+  pub beside : IsErrOf result (Beside disk_error.Device) → Failed before now
   pub free : IsErrOf result (Packets placing.Taken) → ⊥
   pub staging : (cause : StoreError) → IsErrOf result (OfBase cause) → ⊥
 
@@ -108,20 +134,20 @@ pub record KeepsStoreBut (paths : List ℕ → Type 0) (old new : StoreState) : 
   pub same : IsSameStore old new
   pub keeps : KeepsBut paths old.disk new.disk
 
--- one of the store's own paths, or one of the two paths of a packet
-abbrev pub IsPublishedAt : StoreState → List Outgoing → List ℕ → Type 0
-IsPublishedAt s packets m = s.is_own m ⊎ IsOfOne packets m
+-- one of the store's own paths, or one of these
+abbrev pub IsPublishedAt : StoreState → (List ℕ → Type 0) → List ℕ → Type 0
+IsPublishedAt s paths m = s.is_own m ⊎ paths m
 
 -- a crash at any moment from the commit on leaves such files
 abbrev pub MayCommitWith : List Outgoing → StoreState → StoreState → Type 0
 MayCommitWith packets old new =
-    Honestly new.disk ((first next : Base) → old.committed first → old.keeps next → LeavesOnly old.disk new.disk (CommitsWith old packets first next))
+    Honestly new.disk ((first next : Base) → old.committed first → old.keeps next → LeavesOnly old.disk new.disk (CommitsWith old (IsOfOne packets) packets first next))
 
--- where a packet stopped it the base is committed
-abbrev pub StopsCommitting : StoreState → StoreState → Unpublished → Type 0
-StopsCommitting old new (Packets cause) = Commits old new
-StopsCommitting old new (Beside cause) = ⊥
-StopsCommitting old new (OfBase cause) = Unit {0}
+-- where a packet stopped it the base is committed, and where the base did each packet stays beside its path
+abbrev pub StopsCommitting : List Outgoing → StoreState → StoreState → Unpublished → Type 0
+StopsCommitting packets old new (Packets cause) = Commits old new
+StopsCommitting packets old new (Beside cause) = ⊥
+StopsCommitting packets old new (OfBase cause) = All (IsFilled new.disk) packets
 
 -- whether all packets got their paths, as it is answered
 abbrev pub IsNamedAs : Result Bool DiskError → Result (Unit {0}) Unpublished → Type 0

@@ -1,5 +1,5 @@
 -- A scan is run on a station.
-use Rattle.std.specs.Prelude.{◌≡◌, ◌⊎◌, ℕ, List, Result, Ok, Err, All, IfErr, IsErrOf, OnOk}
+use Rattle.std.specs.Prelude.{◌≡◌, ◌⊎◌, ◌<◌, ℕ, List, Result, Ok, Err, All, IfErr, IsErrOf, OnOk}
 use Rattle.echo_base.specs.Base.{Base}
 use Rattle.echo_disk.specs.Disk.{DiskState, Files}
 use Rattle.echo_disk.specs.Runs.{ChangesNothing, LeavesOnly, OneStepOn}
@@ -20,11 +20,12 @@ use Rattle.echo_store_changing.specs.declared.stop.Stop.TheVariants.{Store}
 use Rattle.echo_toss.specs.PacketsIn.{state_in}
 use Rattle.station.specs.Place.{Place, StandsOrWasLeft}
 use Rattle.station.specs.Running.{IsNotRun, IsStopped, StandsAsBefore}
-use Rattle.station_scan.specs.Left.{AreAllLeft, IsEnded, IsEndedAt, IsLeftOf, IsOfName}
+use Rattle.station_scan.specs.Fitting.{AreTaken}
+use Rattle.station_scan.specs.Left.{AreAllLeft, AreFreeLeft, IsEnded, IsEndedAt, IsLeftOf, IsOfName}
 use Rattle.station_scan.specs.Publishing.{IsOnDisk}
 use Rattle.station_scan.specs.Sending.{HasBytes, IsAtItsPath, IsBesidePacket, IsFreeAt, IsGoneBeside, StandsWhole}
 use Rattle.station_scan.specs.Sends.{IsOfThese}
-use Rattle.station_scan.specs.Stops.{IsOfPlacing, as_scan}
+use Rattle.station_scan.specs.Stops.{IsOfPlacing, as_scan, most}
 use Rattle.station_scan.specs.declared.scan_stop.ScanStop.{ScanStop}
 use Rattle.station_scan.specs.declared.scan_stop.ScanStop.TheVariants.{Command}
 
@@ -68,21 +69,24 @@ pub record AreSentOut (is_true : Type 0) (Own : List ℕ → Type 0) (outbound o
   pub others : DifferAt (IsOfThese Own outbound own files) between new.seen
   pub bytes : All HasBytes files
 
+-- a file has the path of a packet that an earlier scan left, or once these are at their end that of one of this scan
+abbrev pub IsTaken : (List ℕ → Type 0) → List ℕ → List ℕ → ℕ → List Left → List PacketFile → Files → Type 0
+IsTaken Own outbound own cursor found files seen =
+    (AreFreeLeft Own outbound own seen → ⊥)
+    ⊎ ((between : Files) × All (IsEnded cursor seen between) found × DifferAt (IsOfLeft found) seen between × AreTaken Own outbound own files between)
+
 -- These packets and the new base are sent out: found is what earlier scans left.
-pub record SendsOut {E : Type 0} (is_true : Type 0) (Own : List ℕ → Type 0) (outbound own : List ℕ) (Stays Comes : Files → Type 0) (cursor : ℕ) (files : List PacketFile) (old new : DiskState) (result : Result (Unit {0}) E) : Type 0 where
+pub record SendsOut (is_true failed : Type 0) (Own : List ℕ → Type 0) (outbound own : List ℕ) (Stays Comes : Files → Type 0) (cursor : ℕ) (files : List PacketFile) (old new : DiskState) (result : Result (Unit {0}) ScanStop) : Type 0 where
   pub found : List Left
   pub each : All (IsLeftOf is_true Own outbound own) found
   pub sent : OnOk result (AreSentOut is_true Own outbound own Comes cursor found files old.seen new)
   pub crash : LeavesOnly old new (λ c. OneStepOn (PreparesScan outbound own Stays cursor found files) old c ⊎ CommitsScan Own outbound own (IsOnDisk old) Stays Comes cursor found files old.seen c)
-
--- the store was looked through, and then the packets were sent out with the commit of its base
-pub record IsSentOn (Own : List ℕ → Type 0) (outbound own : List ℕ) (IsTrue : Files → Type 0) (failed : Type 0) (old new : StoreState) (base : Base) (files : List PacketFile) (result : Result (Unit {0}) ScanStop) : Type 0 where
-  pub sends : SendsOut (IsTrue old.disk.seen) Own outbound own (old.stands base) (old.stands (all_scanned base)) base.cursor files old.disk new.disk result
-  pub why : IfErr result (IsOfPlacing failed)
+  pub why : IfErr result (IsOfPlacing failed (IsTaken Own outbound own cursor found files old.seen) (most < cursor))
 
 -- The packets that a scan of a store answered are sent out, once the store was looked through; where the scan stopped nothing has changed.
 abbrev pub IsPutOn : (List ℕ → Type 0) → List ℕ → List ℕ → (Files → Type 0) → Type 0 → StoreState → StoreState → Base → Result (List PacketFile) Stop → Result (Unit {0}) ScanStop → Type 0
-IsPutOn Own outbound own IsTrue failed old new base (Ok files) result = IsSentOn Own outbound own IsTrue failed old new base files result
+IsPutOn Own outbound own IsTrue failed old new base (Ok files) result =
+    SendsOut (IsTrue old.disk.seen) failed Own outbound own (old.stands base) (old.stands (all_scanned base)) base.cursor files old.disk new.disk result
 IsPutOn Own outbound own IsTrue failed old new base (Err why) result = (result ≡ Err (Command why)) × ChangesNothing old.disk new.disk
 
 -- What is so of a scan of a store that held this base, and had committed it.
@@ -92,13 +96,15 @@ pub record ScansOnStore (stamp : Stamp) (Own : List ℕ → Type 0) (outbound : 
   pub put : IsPutOn Own outbound (dotted file.system) IsTrue failed old new base made result
   pub whole : IsErrOf result (Command (Store Damaged)) → ⊥
 
--- What a crash at any moment of a scan of this base may leave: what one might have left before, or what a scan does before the commit, or
--- from there on. These files were seen once the station was open.
+-- What a scan of this base does before the commit, or from there on. These files were seen once the station was open.
+abbrev pub IsOnItsWay : Place → List ℕ → List ℕ → DiskState → Base → List Left → List PacketFile → Files → Files → Type 0
+IsOnItsWay place outbound own old base found files opened c =
+    ((before : Files) × StandsOrWasLeft place old base before × PreparesScan outbound own (place.stands_for base) base.cursor found files before c)
+    ⊎ CommitsScan place.is_own outbound own (IsOnDisk old) (place.stands_for base) (place.stands_for (all_scanned base)) base.cursor found files opened c
+
+-- what a crash at any moment of it may leave: that, or what one might have left before
 abbrev pub MayLeave : Place → List ℕ → List ℕ → DiskState → Base → List Left → List PacketFile → Files → Files → Type 0
-MayLeave place outbound own old base found files opened c =
-    old.may_leave c
-    ⊎ (((before : Files) × StandsOrWasLeft place old base before × PreparesScan outbound own (place.stands_for base) base.cursor found files before c)
-    ⊎ CommitsScan place.is_own outbound own (IsOnDisk old) (place.stands_for base) (place.stands_for (all_scanned base)) base.cursor found files opened c)
+MayLeave place outbound own old base found files opened c = old.may_leave c ⊎ IsOnItsWay place outbound own old base found files opened c
 
 -- The packets that were made of this base, and the base with its cursor at the end, are put in place, once what earlier scans left is at
 -- its end.
@@ -110,7 +116,9 @@ pub record IsPutIn (place : Place) (outbound own : List ℕ) (IsTrue : Files →
   pub each : All (IsLeftOf (IsTrue opened) place.is_own outbound own) found
   pub sent : OnOk result (AreSentOut (IsTrue opened) place.is_own outbound own (place.stands_for (all_scanned base)) base.cursor found files opened new)
   pub crash : LeavesOnly old new (MayLeave place outbound own old base found files opened)
-  pub why : IfErr result (IsOfPlacing failed)
+  -- however it ended, the base that was read is on the disk, or the new one
+  pub lasts : (c : Files) → new.may_leave c → IsOnItsWay place outbound own old base found files opened c
+  pub why : IfErr result (IsOfPlacing failed (IsTaken place.is_own outbound own base.cursor found files opened) (most < base.cursor))
 
 -- What the scan answered is put in place; where it stopped that is answered, and the files stand for the base from before.
 abbrev pub IsPutAs : Place → List ℕ → List ℕ → (Files → Type 0) → Type 0 → DiskState → DiskState → Base → Result (List PacketFile) Stop → Result (Unit {0}) ScanStop → Type 0

@@ -1,5 +1,5 @@
 -- The packets of a scan, on their way to their paths.
-use Rattle.std.specs.Prelude.{◌≡◌, ◌≢◌, ◌⊎◌, ◌<◌, ℕ, List, ◌++◌, length, get_or, All, Contains, Some, None}
+use Rattle.std.specs.Prelude.{◌≡◌, ◌≢◌, ◌⊎◌, ◌<◌, ℕ, List, [], ◌++◌, length, get_or, All, Contains, Some, None}
 use Rattle.echo_device.specs.Fixed.{AreBytes}
 use Rattle.echo_disk.specs.Disk.{DiskState, Files}
 use Rattle.echo_steps.specs.PacketFiles.{PacketFile}
@@ -16,6 +16,11 @@ pub record IsNameByte (b : ℕ) : Type 0 where
 -- the path that a packet of this name is to have in the folder, and the one beside it, at which it stands before
 abbrev pub two_paths : List ℕ → List ℕ → List ℕ → TwoPaths
 two_paths folder own name = record { path = folder ++ name; beside = path_beside (folder ++ name) own }
+
+-- a packet's name: it is not empty
+pub record IsNamed (sent : PacketFile) : Type 0 where
+  pub some : sent.name ≢ []
+  pub plain : All IsNameByte sent.name
 
 -- those of a packet's file
 abbrev pub file_paths : List ℕ → List ℕ → PacketFile → TwoPaths
@@ -61,10 +66,10 @@ IsFreeAt folder c sent = c (folder ++ sent.name) ≡ None
 abbrev pub IsGoneBeside : List ℕ → List ℕ → Files → PacketFile → Type 0
 IsGoneBeside folder own c sent = c (path_beside (folder ++ sent.name) own) ≡ None
 
--- one of the two paths of a packet
+-- one of the two paths of a packet, or that which is tried: it stands beside no name
 abbrev pub IsOfPacket : List ℕ → List ℕ → List PacketFile → List ℕ → Type 0
-IsOfPacket folder own files m = (sent : PacketFile) × Contains files sent × All IsNameByte sent.name × ((m ≡ path_beside (folder ++ sent.name) own) ⊎ (m ≡ folder ++ sent.name))
+IsOfPacket folder own files m = ((sent : PacketFile) × Contains files sent × All IsNameByte sent.name × ((m ≡ path_beside (folder ++ sent.name) own) ⊎ (m ≡ folder ++ sent.name))) ⊎ (m ≡ path_beside folder own)
 
--- the path beside that of a packet
+-- the path beside that of a packet, or that which is tried
 abbrev pub IsBesidePacket : List ℕ → List ℕ → List PacketFile → List ℕ → Type 0
-IsBesidePacket folder own files m = (sent : PacketFile) × Contains files sent × All IsNameByte sent.name × (m ≡ path_beside (folder ++ sent.name) own)
+IsBesidePacket folder own files m = ((sent : PacketFile) × Contains files sent × All IsNameByte sent.name × (m ≡ path_beside (folder ++ sent.name) own)) ⊎ (m ≡ path_beside folder own)

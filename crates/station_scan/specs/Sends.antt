@@ -1,13 +1,20 @@
 -- The packets of a scan and the commit of a store.
-use Rattle.std.specs.Prelude.{◌≡◌, ◌⊎◌, ℕ, List, All}
+use Rattle.std.specs.Prelude.{◌≡◌, ◌⊎◌, ℕ, List, length, All, Result, IsErrOf}
 use Rattle.echo_base.specs.Base.{Base}
-use Rattle.echo_disk.specs.Disk.{Files, Honestly}
+use Rattle.echo_disk.specs.Disk.{DiskState, Files, Honestly}
 use Rattle.echo_disk.specs.Runs.{LeavesOnly, OneStepOn}
 use Rattle.echo_placing.specs.Changes.{DifferAt}
+use Rattle.echo_placing.specs.Trying.{WasTried}
+use Rattle.echo_placing.specs.declared.placing_error.PlacingError.TheVariants as placing
+use Rattle.echo_station_files.specs.Paths.{path_beside}
 use Rattle.echo_steps.specs.PacketFiles.{PacketFile}
 use Rattle.echo_store.specs.Store.{Commits, StoreState}
-use Rattle.station_scan.specs.Publishing.{IsOnDisk}
+use Rattle.station_scan.specs.Fitting.{AreTaken}
+use Rattle.station_scan.specs.Left.{IsOfNameOff}
+use Rattle.station_scan.specs.Publishing.{HasPublishCause, IsOnDisk}
 use Rattle.station_scan.specs.Sending.{HasBytes, IsAtItsPath, IsBesidePacket, IsFreeAt, IsGoneBeside, IsOfPacket, StandsWhole}
+use Rattle.station_scan.specs.declared.unpublished.Unpublished.{Unpublished}
+use Rattle.station_scan.specs.declared.unpublished.Unpublished.TheVariants.{Packets}
 
 -- one of these paths, or one of the two paths of a packet
 abbrev pub IsOfThese : (List ℕ → Type 0) → List ℕ → List ℕ → List PacketFile → List ℕ → Type 0
@@ -39,3 +46,12 @@ pub record AreSentOn (outbound own : List ℕ) (files : List PacketFile) (old ne
   pub packets : Honestly new.disk (All (IsAtItsPath outbound new.disk) files)
   pub gone : Honestly new.disk (All (IsGoneBeside outbound own new.disk.seen) files)
   pub bytes : All HasBytes files
+
+-- where there are packets it was tried whether a file of the folder gets a second path, before anything but that was done there
+abbrev pub WasTriedFor : {D : Type 0} → (D → DiskState) → (List ℕ → Type 0) → List ℕ → List ℕ → List PacketFile → DiskState → Type 0
+WasTriedFor state Own outbound own files old = (length files ≡ 0) ⊎ WasTried state (IsOfNameOff Own outbound own) (path_beside outbound own) old
+
+-- Why the packets were not sent: that a path is taken is answered only where one was.
+pub record HasSendCause {T : Type 0} (Own : List ℕ → Type 0) (outbound own : List ℕ) (files : List PacketFile) (old new : StoreState) (before now : ℕ) (result : Result T Unpublished) : Type 0 where
+  pub causes : HasPublishCause old new before now result
+  pub taken : Honestly new.disk (IsErrOf result (Packets placing.Taken) → AreTaken Own outbound own files old.disk.seen)

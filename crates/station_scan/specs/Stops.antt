@@ -1,11 +1,12 @@
 -- Why a scan stopped.
-use Rattle.std.specs.Prelude.{Result, Ok, Err}
+use Rattle.std.specs.Prelude.{ℕ, Result, Ok, Err}
+use Rattle.echo_disk.specs.declared.disk_error.DiskError.TheVariants as disk
 use Rattle.echo_placing.specs.declared.placing_error.PlacingError.TheVariants as placing
 use Rattle.echo_store.specs.declared.store_error.StoreError.TheVariants as store
 use Rattle.echo_store_changing.specs.declared.stop.Stop.{Stop}
 use Rattle.echo_store_changing.specs.declared.stop.Stop.TheVariants.{Met, Store}
 use Rattle.station_scan.specs.declared.scan_stop.ScanStop.{ScanStop}
-use Rattle.station_scan.specs.declared.scan_stop.ScanStop.TheVariants.{Command, Placing, Staying}
+use Rattle.station_scan.specs.declared.scan_stop.ScanStop.TheVariants.{Command, Placing, Staying, TooFar}
 use Rattle.station_scan.specs.declared.unpublished.Unpublished.{Unpublished}
 use Rattle.station_scan.specs.declared.unpublished.Unpublished.TheVariants.{Base, Beside, Packets}
 
@@ -15,17 +16,28 @@ stop_of (Packets cause) = Placing cause
 stop_of (Beside cause) = Staying cause
 stop_of (Base cause) = Command (Store cause)
 
--- Its packets were not put in place, or its base was not committed: a device failed, there was no memory, a path is taken, or there are
--- too many messages.
-abbrev pub IsOfPlacing : Type 0 → ScanStop → Type 0
-IsOfPlacing failed (Command (Met fault)) = ⊥
-IsOfPlacing failed (Command (Store store.Device)) = failed
-IsOfPlacing failed (Command (Store store.Damaged)) = ⊥
-IsOfPlacing failed (Command (Store _)) = Unit {0}
-IsOfPlacing failed (Placing placing.Device) = failed
-IsOfPlacing failed (Placing _) = Unit {0}
-IsOfPlacing failed (Staying placing.Device) = failed
-IsOfPlacing failed (Staying _) = Unit {0}
+-- the base was not committed
+abbrev pub IsOfBase : Unpublished → Type 0
+IsOfBase (Base cause) = Unit {0}
+IsOfBase _ = ⊥
+
+-- how many scanned messages the number in a packet's name can have, as it is read again: it has four bytes
+abbrev pub most : ℕ
+most = 4294967295
+
+-- Its packets were not put in place, or its base was not committed: a device failed, there was no memory, a path is taken, too many
+-- messages were scanned before, or the store has too many bytes.
+abbrev pub IsOfPlacing : Type 0 → Type 0 → Type 0 → ScanStop → Type 0
+IsOfPlacing failed taken far (Command (Met fault)) = ⊥
+IsOfPlacing failed taken far (Command (Store store.Device)) = failed
+IsOfPlacing failed taken far (Command (Store store.Damaged)) = ⊥
+IsOfPlacing failed taken far (Command (Store _)) = Unit {0}
+IsOfPlacing failed taken far (Placing placing.Device) = failed
+IsOfPlacing failed taken far (Placing placing.Taken) = taken
+IsOfPlacing failed taken far (Placing placing.Memory) = Unit {0}
+IsOfPlacing failed taken far (Staying disk.Device) = failed
+IsOfPlacing failed taken far (Staying disk.Memory) = Unit {0}
+IsOfPlacing failed taken far TooFar = far
 
 -- how a scan ended, where it was published so
 abbrev pub scan_done : Result (Unit {0}) Unpublished → Result (Unit {0}) ScanStop

@@ -4,11 +4,11 @@ ghost use Rattle.echo_device.specs.Device.{Failed};
 ghost use Rattle.echo_disk.specs.Disk.{Honestly};
 ghost use Rattle.echo_disk.specs.Runs.{HasCause, LeavesOnly, OneStepOn};
 ghost use Rattle.echo_placing.specs.Naming.{HasItsPath, NamesEach};
-ghost use Rattle.echo_placing.specs.Outgoing.{ArePlaced, IsBesideOne, IsFree, IsOfOne, IsStaged};
+ghost use Rattle.echo_placing.specs.Outgoing.{ArePlaced, IsAtStaging, IsFree, IsOfOne, IsStaged};
 ghost use Rattle.echo_placing.specs.Publishing.{IsApartFrom};
 ghost use Rattle.station_scan.specs.Beneath.{IsUsedAt};
-ghost use Rattle.station_scan.specs.Left.{EndsLeft, IsOfNameOff};
-ghost use Rattle.station_scan.specs.Publishing.{AreStaged, HasStageCause, NoneStays};
+ghost use Rattle.station_scan.specs.Left.{AreFreeLeft, EndsLeft, IsOfNameOff};
+ghost use Rattle.station_scan.specs.Publishing.{AreGoing, AreStaged, HasStageCause, IsTriedWith, NoneStays};
 
 use crate::finishing::finish_left;
 use crate::listing::Listing;
@@ -28,25 +28,26 @@ pub struct Used<S, A> {
     pub done: A,
 }
 
-/// Writes each packet beside its path.
+/// Writes each packet beside its path, and tries whether files there get second paths.
 pub(crate) fn stage_on<'a, D: Disk, P: LendStation<'a, D>>(
     alloc: Global,
     store: P::Kept,
     outbound: &[u8],
+    trial: &[u8],
     packets: &[Outgoing<'_>],
 ) -> Used<P::Kept, Result<bool, Unpublished>>
     requires ready { (P.Kept.state store).is_ready }
-    requires placed { ArePlaced outbound.now packets.now }
-    requires apart { All (IsApartFrom (P.Kept.state store).is_own) packets.now }
-    ensures used { IsUsedAt (IsBesideOne packets.now) (P.Kept.state store) (P.Kept.state result.store) }
+    requires going { AreGoing (P.Kept.state store).is_own outbound.now trial.now packets.now }
+    ensures used { IsUsedAt (IsAtStaging packets.now trial.now) (P.Kept.state store) (P.Kept.state result.store) }
     ensures staged { IfOk result.done (λ free. free ≡ true → AreStaged packets.now (P.Kept.state result.store).disk) }
+    ensures tried { IfOk result.done (λ free. free ≡ true → IsTriedWith D.state packets.now trial.now (P.Kept.state store).disk) }
     ensures taken { Honestly (P.Kept.state result.store).disk (IfOk result.done (λ free. free ≡ false → All (IsFree (P.Kept.state store).disk) packets.now → ⊥)) }
-    ensures gone { Honestly (P.Kept.state result.store).disk (IfErr result.done (NoneStays packets.now (P.Kept.state result.store).disk)) }
+    ensures gone { Honestly (P.Kept.state result.store).disk (IfErr result.done (NoneStays packets.now trial.now (P.Kept.state result.store).disk)) }
     ensures cause { HasStageCause (P.Kept.failures store) (P.Kept.failures result.store) result.done }
 {
     let (disk, rest) = P::lend(store);
     let mut disk = disk;
-    let done = stage_or_drop(alloc, &mut disk, outbound, packets);
+    let done = stage_or_drop(alloc, &mut disk, outbound, trial, packets);
     let store = P::give_back(alloc, disk, rest);
     Used { store, done }
 }
@@ -90,6 +91,7 @@ pub(crate) fn finish_on<'a, D: Disk, P: LendStation<'a, D>, G: Listing>(
     ensures used { IsUsedAt (IsOfNameOff (P.Paths.is_own paths.now) sending.entry.outbound.now sending.entry.own.now) (P.Kept.state store) (P.Kept.state result.store) }
     ensures ends { Honestly (P.Kept.state result.store).disk (EndsLeft (G.is_true listing.new (P.Kept.state store).disk.seen) (P.Paths.is_own paths.now) sending.entry.outbound.now sending.entry.own.now cursor
         (P.Kept.state store).disk (P.Kept.state result.store).disk result.done) }
+    ensures taken { Honestly (P.Kept.state result.store).disk (IsErrOf result.done PlacingError.Taken → AreFreeLeft (P.Paths.is_own paths.now) sending.entry.outbound.now sending.entry.own.now (P.Kept.state store).disk.seen → ⊥) }
     ensures later { P.Kept.failures store ≤ P.Kept.failures result.store }
     ensures listing_later { G.failures listing.old ≤ G.failures listing.new }
     ensures failed { IsErrOf result.done PlacingError.Device → Failed (P.Kept.failures store) (P.Kept.failures result.store) ⊎ Failed (G.failures listing.old) (G.failures listing.new) }

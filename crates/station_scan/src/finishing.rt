@@ -6,7 +6,7 @@ ghost use Rattle.echo_placing.specs.Changes.{ChangesOnly};
 ghost use Rattle.echo_placing.specs.Finishing.{AreLeftIn};
 ghost use Rattle.echo_placing.specs.Publishing.{HasPlacingCause};
 ghost use Rattle.echo_placing.specs.declared.finishing.Left.{Left};
-ghost use Rattle.station_scan.specs.Left.{AreLent, EndsLeft, EndsThese, IsBesideThere, IsOfNameOff, IsOfPaths};
+ghost use Rattle.station_scan.specs.Left.{AreFreeLeft, AreLent, EndsLeft, EndsThese, IsBesideThere, IsFreeFound, IsOfNameOff, IsOfPaths};
 
 use crate::finding::{LeftPaths, find_left};
 use crate::listing::Listing;
@@ -42,6 +42,7 @@ fn end_these<D: Disk>(
     requires placed { (found : List Left) → AreLent paths.now found → AreLeftIn folder.now found }
     requires there { Honestly (D.state disk.old) (All (IsBesideThere (D.state disk.old).seen) paths.now) }
     ensures ends { Honestly (D.state disk.new) (EndsThese cursor paths.now (D.state disk.old) (D.state disk.new) result) }
+    ensures taken { Honestly (D.state disk.new) (IsErrOf result PlacingError.Taken → All (IsFreeFound (D.state disk.old).seen) paths.now → ⊥) }
     ensures changes { ChangesOnly (IsOfPaths paths.now) (D.state disk.old) (D.state disk.new) }
     ensures cause { HasPlacingCause (D.failures disk.old) (D.failures disk.new) result }
 {
@@ -67,6 +68,7 @@ pub(crate) fn finish_left<D: Disk, O: OwnPaths, G: Listing>(
 ) -> Result<(), PlacingError>
     requires { All (λ b. b ≢ 47) own.now }
     ensures ends { Honestly (D.state disk.new) (EndsLeft (G.is_true listing.new (D.state disk.old).seen) (O.is_own paths.now) folder.now own.now cursor (D.state disk.old) (D.state disk.new) result) }
+    ensures taken { Honestly (D.state disk.new) (IsErrOf result PlacingError.Taken → AreFreeLeft (O.is_own paths.now) folder.now own.now (D.state disk.old).seen → ⊥) }
     ensures changes { ChangesOnly (IsOfNameOff (O.is_own paths.now) folder.now own.now) (D.state disk.old) (D.state disk.new) }
     ensures later { D.failures disk.old ≤ D.failures disk.new }
     ensures listing_later { G.failures listing.old ≤ G.failures listing.new }

@@ -1,8 +1,10 @@
 //! Whether packets go to paths of their own.
-ghost use Rattle.std.specs.Prelude.{◌≡◌, ◌≢◌, true, false, All, AllPairs};
-ghost use Rattle.station_scan.specs.Sending.{HaveOtherPaths, IsNameByte, IsOffOwn};
+ghost use Rattle.std.specs.Prelude.{◌≡◌, ◌≢◌, true, false, All, AllPairs, map};
+ghost use Rattle.echo_station_files.specs.Paths.{path_beside};
+ghost use Rattle.station_scan.specs.Fitting.{AreFit};
+ghost use Rattle.station_scan.specs.Sending.{HaveOtherPaths, IsNameByte, IsNamed, IsOffOwn, file_paths};
 
-use crate::sending::TwoPaths;
+use crate::sending::{Sending, TwoPaths};
 use echo_steps::PacketFile;
 use station::OwnPaths;
 
@@ -19,12 +21,25 @@ pub(crate) fn is_name(name: &[u8]) -> bool
     true
 }
 
-/// Whether that is so of each file's name.
-pub(crate) fn are_names(files: &[PacketFile]) -> bool
-    ensures { result ≡ true → All (λ file. All IsNameByte file.name) files.now }
+// Whether the file has such a name, and it is not empty.
+fn is_named(file: &PacketFile) -> bool
+    ensures yes { result ≡ true → IsNamed file.now }
+    ensures no { result ≡ false → IsNamed file.now → ⊥ }
+{
+    let name = file.name.as_slice();
+    if name.is_empty() {
+        return false;
+    }
+    is_name(name)
+}
+
+// Whether each has.
+fn are_named(files: &[PacketFile]) -> bool
+    ensures yes { result ≡ true → All IsNamed files.now }
+    ensures no { result ≡ false → All IsNamed files.now → ⊥ }
 {
     'files: for file in files {
-        if !is_name(file.name.as_slice()) {
+        if !is_named(file) {
             return false;
         }
     }
@@ -41,7 +56,8 @@ pub(crate) fn differ(one: &[u8], other: &[u8]) -> bool
 
 // Whether the path is none of these.
 fn is_new(one: &TwoPaths, others: &[TwoPaths]) -> bool
-    ensures { result ≡ true → All (HaveOtherPaths one.now) others.now }
+    ensures yes { result ≡ true → All (HaveOtherPaths one.now) others.now }
+    ensures no { result ≡ false → All (HaveOtherPaths one.now) others.now → ⊥ }
 {
     'others: for other in others {
         if !differ(one.path.as_slice(), other.path.as_slice()) {
@@ -51,9 +67,10 @@ fn is_new(one: &TwoPaths, others: &[TwoPaths]) -> bool
     true
 }
 
-/// Whether no two of the paths are the same.
-pub(crate) fn all_differ(paths: &[TwoPaths]) -> bool
-    ensures { result ≡ true → AllPairs HaveOtherPaths paths.now }
+// Whether no two of the paths are the same.
+fn all_differ(paths: &[TwoPaths]) -> bool
+    ensures yes { result ≡ true → AllPairs HaveOtherPaths paths.now }
+    ensures no { result ≡ false → AllPairs HaveOtherPaths paths.now → ⊥ }
 {
     'paths: for i in 0..paths.len() {
         if !is_new(&paths[i], &paths[i + 1..]) {
@@ -71,9 +88,10 @@ pub(crate) fn is_off_own<O: OwnPaths>(own: &O, two: &TwoPaths) -> bool
     !own.owns(two.path.as_slice()) && !own.owns(two.beside.as_slice())
 }
 
-/// Whether that is so of each.
-pub(crate) fn are_off_own<O: OwnPaths>(own: &O, paths: &[TwoPaths]) -> bool
-    ensures { result ≡ true → All (IsOffOwn (O.is_own own.now)) paths.now }
+// Whether that is so of each.
+fn are_off_own<O: OwnPaths>(own: &O, paths: &[TwoPaths]) -> bool
+    ensures yes { result ≡ true → All (IsOffOwn (O.is_own own.now)) paths.now }
+    ensures no { result ≡ false → All (IsOffOwn (O.is_own own.now)) paths.now → ⊥ }
 {
     'paths: for two in paths {
         if !is_off_own(own, two) {
@@ -81,4 +99,29 @@ pub(crate) fn are_off_own<O: OwnPaths>(own: &O, paths: &[TwoPaths]) -> bool
         }
     }
     true
+}
+
+/// Whether each file goes to two paths of its own, which are these, and neither they nor the path that is tried are of the
+/// station's own files.
+pub(crate) fn are_fit<O: OwnPaths>(
+    own: &O,
+    sending: Sending<'_>,
+    paths: &[TwoPaths],
+    trial: &[u8],
+) -> bool
+    requires paths { paths.now ≡ map (file_paths sending.outbound.now sending.own.now) sending.files.now }
+    requires trial { trial.now ≡ path_beside sending.outbound.now sending.own.now }
+    ensures yes { result ≡ true → AreFit (O.is_own own.now) sending.entry.outbound.now sending.entry.own.now sending.entry.files.now }
+    ensures no { result ≡ false → AreFit (O.is_own own.now) sending.entry.outbound.now sending.entry.own.now sending.entry.files.now → ⊥ }
+{
+    if !are_named(sending.files) {
+        return false;
+    }
+    if !all_differ(paths) {
+        return false;
+    }
+    if !are_off_own(own, paths) {
+        return false;
+    }
+    !own.owns(trial)
 }

@@ -1,5 +1,7 @@
 //! The packets of a scan go out with the commit of its store, once what earlier scans left is at its end.
 ghost use Rattle.std.specs.Prelude.{◌≡◌, ◌≢◌, ◌≤◌, ◌⊎◌, ℕ, List, All, IfErr, IfOk, IsErrOf, OnOk, map};
+ghost use Rattle.echo_station_files.specs.Paths.{path_beside};
+ghost use Rattle.station.specs.Beneath.{HoldsAsBefore};
 ghost use Rattle.echo_base.specs.Base.{Base};
 ghost use Rattle.echo_device.specs.Device.{Failed};
 ghost use Rattle.echo_disk.specs.Disk.{Honestly};
@@ -8,11 +10,11 @@ ghost use Rattle.station_scan.specs.Fitting.{AreFitting, IsUnfit};
 ghost use Rattle.station_scan.specs.Publishing.{HasPublishCause, KeepsStoreBut};
 ghost use Rattle.station_scan.specs.Scanning.{IsTouched, SendsOut};
 ghost use Rattle.station_scan.specs.Sending.{file_paths};
-ghost use Rattle.station_scan.specs.Sends.{AreSentOn, IsOfThese, MaySendThese};
-ghost use Rattle.station_scan.specs.Stops.{IsOfPlacing, scan_done};
+ghost use Rattle.station_scan.specs.Sends.{AreSentOn, HasSendCause, IsOfThese, MaySendThese, WasTriedFor};
+ghost use Rattle.station_scan.specs.Stops.{IsOfBase, scan_done};
 
 use crate::beneath::{Used, finish_on};
-use crate::fitting::{all_differ, are_names, are_off_own};
+use crate::fitting::are_fit;
 use crate::listing::Listing;
 use crate::publishing::publish;
 use crate::scan_stop::ScanStop;
@@ -20,6 +22,7 @@ use crate::sending::{Sending, TwoPaths, outgoing_of, paths_of};
 use crate::unpublished::Unpublished;
 use echo_disk::Disk;
 use echo_placing::{Outgoing, PlacingError};
+use echo_station_files::path_beside;
 use echo_store::{Store, StoreError};
 use echo_store_changing::Stop;
 use station::{LendStation, OwnPaths};
@@ -30,6 +33,7 @@ fn commit_alone<'a, D: Disk, P: LendStation<'a, D>>(
     store: P::Kept,
 ) -> Used<P::Kept, Result<(), Unpublished>>
     requires { (P.Kept.state store).is_ready }
+    ensures base { IfErr result.done IsOfBase }
     ensures committed { OnOk result.done (Commits (P.Kept.state store) (P.Kept.state result.store)) }
     ensures either { MayCommit (P.Kept.state store) (P.Kept.state result.store) }
     ensures cause { HasPublishCause (P.Kept.state store) (P.Kept.state result.store) (P.Kept.failures store) (P.Kept.failures result.store) result.done }
@@ -53,12 +57,14 @@ fn fitting_packets<'p, O: OwnPaths>(
     paths: &O,
     sending: Sending<'p>,
     two: &'p [TwoPaths],
+    trial: &[u8],
 ) -> Result<Vec<Outgoing<'p>>, Unpublished>
-    requires { two.now ≡ map (file_paths sending.outbound.now sending.own.now) sending.files.now }
+    requires paths { two.now ≡ map (file_paths sending.outbound.now sending.own.now) sending.files.now }
+    requires trial { trial.now ≡ path_beside sending.outbound.now sending.own.now }
     ensures fit { IfOk result (λ packets. AreFitting (O.is_own paths.now) sending.entry.outbound.now sending.entry.own.now sending.entry.files.now packets.items) }
-    ensures err { IfErr result IsUnfit }
+    ensures err { IfErr result (IsUnfit (O.is_own paths.now) sending.entry.outbound.now sending.entry.own.now sending.entry.files.now) }
 {
-    if !are_names(sending.files) || !all_differ(two) || !are_off_own(paths, two) {
+    if !are_fit(paths, sending, two, trial) {
         return Err(Unpublished::Packets(PlacingError::Taken));
     }
     Ok(outgoing_of(alloc, sending.files, two)?)
@@ -77,7 +83,8 @@ fn publish_packets<'a, D: Disk, P: LendStation<'a, D>>(
     ensures sent { OnOk result.done (AreSentOn sending.entry.outbound.now sending.entry.own.now sending.entry.files.now (P.Kept.state store) (P.Kept.state result.store)) }
     ensures any_moment { MaySendThese sending.entry.outbound.now sending.entry.own.now sending.entry.files.now (P.Kept.state store) (P.Kept.state result.store) }
     ensures keeps { KeepsStoreBut (IsOfThese (P.Kept.state store).is_own sending.entry.outbound.now sending.entry.own.now sending.entry.files.now) (P.Kept.state store) (P.Kept.state result.store) }
-    ensures cause { HasPublishCause (P.Kept.state store) (P.Kept.state result.store) (P.Kept.failures store) (P.Kept.failures result.store) result.done }
+    ensures tried { HoldsAsBefore (P.Kept.state store) (P.Kept.state result.store) ⊎ WasTriedFor D.state (P.Paths.is_own paths.now) sending.entry.outbound.now sending.entry.own.now sending.entry.files.now (P.Kept.state store).disk }
+    ensures cause { HasSendCause (P.Paths.is_own paths.now) sending.entry.outbound.now sending.entry.own.now sending.entry.files.now (P.Kept.state store) (P.Kept.state result.store) (P.Kept.failures store) (P.Kept.failures result.store) result.done }
 {
     let two = match paths_of(alloc, sending.outbound, sending.own, sending.files) {
         Ok(two) => two,
@@ -88,7 +95,16 @@ fn publish_packets<'a, D: Disk, P: LendStation<'a, D>>(
             };
         }
     };
-    let packets = match fitting_packets(alloc, paths, sending, &two) {
+    let trial = match path_beside(alloc, sending.outbound, sending.own) {
+        Ok(trial) => trial,
+        Err(refused) => {
+            return Used {
+                store,
+                done: Err(Unpublished::from(refused)),
+            };
+        }
+    };
+    let packets = match fitting_packets(alloc, paths, sending, &two, &trial) {
         Ok(packets) => packets,
         Err(why) => {
             return Used {
@@ -97,7 +113,7 @@ fn publish_packets<'a, D: Disk, P: LendStation<'a, D>>(
             };
         }
     };
-    publish::<D, P>(alloc, store, sending.outbound, &packets)
+    publish::<D, P>(alloc, store, sending.outbound, &trial, &packets)
 }
 
 // Puts the packets of a scan, and the commit of its store, on the disk. Where there is no packet the folder need not be
@@ -114,7 +130,8 @@ fn publish_files<'a, D: Disk, P: LendStation<'a, D>>(
     ensures sent { OnOk result.done (AreSentOn sending.entry.outbound.now sending.entry.own.now sending.entry.files.now (P.Kept.state store) (P.Kept.state result.store)) }
     ensures any_moment { MaySendThese sending.entry.outbound.now sending.entry.own.now sending.entry.files.now (P.Kept.state store) (P.Kept.state result.store) }
     ensures keeps { KeepsStoreBut (IsOfThese (P.Kept.state store).is_own sending.entry.outbound.now sending.entry.own.now sending.entry.files.now) (P.Kept.state store) (P.Kept.state result.store) }
-    ensures cause { HasPublishCause (P.Kept.state store) (P.Kept.state result.store) (P.Kept.failures store) (P.Kept.failures result.store) result.done }
+    ensures tried { HoldsAsBefore (P.Kept.state store) (P.Kept.state result.store) ⊎ WasTriedFor D.state (P.Paths.is_own paths.now) sending.entry.outbound.now sending.entry.own.now sending.entry.files.now (P.Kept.state store).disk }
+    ensures cause { HasSendCause (P.Paths.is_own paths.now) sending.entry.outbound.now sending.entry.own.now sending.entry.files.now (P.Kept.state store) (P.Kept.state result.store) (P.Kept.failures store) (P.Kept.failures result.store) result.done }
 {
     if sending.files.is_empty() {
         commit_alone::<D, P>(store)
@@ -137,12 +154,14 @@ pub(crate) fn send_out<'a, D: Disk, P: LendStation<'a, D>, G: Listing>(
     requires ready { (P.Kept.state store).is_ready }
     requires own { (m : List ℕ) → (P.Kept.state store).is_own m → P.Paths.is_own paths.now m }
     ensures sends { Honestly (P.Kept.state result.store).disk ((first next : Base) → (P.Kept.state store).committed first → (P.Kept.state store).keeps next
-        → SendsOut (G.is_true listing.new (P.Kept.state store).disk.seen) (P.Paths.is_own paths.now) sending.entry.outbound.now sending.entry.own.now
-        ((P.Kept.state store).stands first) ((P.Kept.state store).stands next) cursor sending.entry.files.now (P.Kept.state store).disk (P.Kept.state result.store).disk result.done) }
+        → SendsOut (G.is_true listing.new (P.Kept.state store).disk.seen) (Failed (P.Kept.failures store) (P.Kept.failures result.store) ⊎ Failed (G.failures listing.old) (G.failures listing.new)) (P.Paths.is_own paths.now)
+        sending.entry.outbound.now sending.entry.own.now ((P.Kept.state store).stands first) ((P.Kept.state store).stands next) cursor sending.entry.files.now (P.Kept.state store).disk (P.Kept.state result.store).disk result.done) }
+
+    // Where files of the folder get no second path nothing is committed.
+    ensures tried { HoldsAsBefore (P.Kept.state store) (P.Kept.state result.store) ⊎ WasTriedFor D.state (P.Paths.is_own paths.now) sending.entry.outbound.now sending.entry.own.now sending.entry.files.now (P.Kept.state store).disk }
     ensures keeps { KeepsStoreBut (IsTouched (P.Kept.state store).is_own sending.entry.outbound.now) (P.Kept.state store) (P.Kept.state result.store) }
     ensures later { P.Kept.failures store ≤ P.Kept.failures result.store }
     ensures listing_later { G.failures listing.old ≤ G.failures listing.new }
-    ensures why { Honestly (P.Kept.state result.store).disk ((next : Base) → (P.Kept.state store).keeps next → IfErr result.done (IsOfPlacing (Failed (P.Kept.failures store) (P.Kept.failures result.store) ⊎ Failed (G.failures listing.old) (G.failures listing.new)))) }
     ensures device { IsErrOf result.done (ScanStop.Command (Stop.Store StoreError.Device)) → Failed (P.Kept.failures store) (P.Kept.failures result.store) }
 {
     let Used { store, done } = finish_on::<D, P, G>(alloc, store, paths, listing, cursor, sending);

@@ -1,12 +1,13 @@
 //! The packets that were taken of a store are put in place.
-ghost use Rattle.std.specs.Prelude.{◌≡◌, ◌≤◌, ◌⊎◌, ℕ, List, IfErr, IsErrOf};
+ghost use Rattle.std.specs.Prelude.{◌≡◌, ◌≤◌, ◌⊎◌, ℕ, List, IsErrOf};
 ghost use Rattle.echo_base.specs.Base.{Base};
 ghost use Rattle.echo_device.specs.Device.{Failed};
 ghost use Rattle.echo_disk.specs.Disk.{Honestly};
 ghost use Rattle.echo_station_files.specs.Paths.{dotted};
+ghost use Rattle.station.specs.Beneath.{HoldsAsBefore};
 ghost use Rattle.station_scan.specs.Publishing.{KeepsStoreBut};
 ghost use Rattle.station_scan.specs.Scanning.{IsTouched, SendsOut};
-ghost use Rattle.station_scan.specs.Stops.{IsOfPlacing};
+ghost use Rattle.station_scan.specs.Sends.{WasTriedFor};
 
 use crate::beneath::Used;
 use crate::listing::Listing;
@@ -39,19 +40,18 @@ pub(crate) fn put_taken<'a, 's, D: Disk, P: LendStation<'a, D>, G: Listing, T>(
     requires ready { (P.Kept.state store).is_ready }
     requires own { (m : List ℕ) → (P.Kept.state store).is_own m → P.Paths.is_own paths.now m }
     ensures sends { Honestly (P.Kept.state result.store).disk ((first next : Base) → (P.Kept.state store).committed first → (P.Kept.state store).keeps next
-        → SendsOut (G.is_true scan.new.listing (P.Kept.state store).disk.seen) (P.Paths.is_own paths.now) scan.old.outbound.now (dotted links.now.system)
-        ((P.Kept.state store).stands first) ((P.Kept.state store).stands next) cursor files.now (P.Kept.state store).disk (P.Kept.state result.store).disk result.done) }
+        → SendsOut (G.is_true scan.new.listing (P.Kept.state store).disk.seen) (Failed (P.Kept.failures store) (P.Kept.failures result.store) ⊎ Failed (G.failures scan.old.listing) (G.failures scan.new.listing))
+        (P.Paths.is_own paths.now) scan.old.outbound.now (dotted links.now.system) ((P.Kept.state store).stands first) ((P.Kept.state store).stands next) cursor files.now (P.Kept.state store).disk (P.Kept.state result.store).disk result.done) }
+    ensures tried { HoldsAsBefore (P.Kept.state store) (P.Kept.state result.store) ⊎ WasTriedFor D.state (P.Paths.is_own paths.now) scan.old.outbound.now (dotted links.now.system) files.now (P.Kept.state store).disk }
     ensures keeps { KeepsStoreBut (IsTouched (P.Kept.state store).is_own scan.old.outbound.now) (P.Kept.state store) (P.Kept.state result.store) }
     ensures later { P.Kept.failures store ≤ P.Kept.failures result.store }
     ensures listing_later { G.failures scan.old.listing ≤ G.failures scan.new.listing }
-    ensures why { Honestly (P.Kept.state result.store).disk ((next : Base) → (P.Kept.state store).keeps next
-        → IfErr result.done (IsOfPlacing (Failed (P.Kept.failures store) (P.Kept.failures result.store) ⊎ Failed (G.failures scan.old.listing) (G.failures scan.new.listing)))) }
     ensures device { IsErrOf result.done (ScanStop.Command (Stop.Store StoreError.Device)) → Failed (P.Kept.failures store) (P.Kept.failures result.store) }
 {
     if cursor > MOST {
         return Used {
             store,
-            done: Err(ScanStop::Command(Stop::Store(StoreError::TooMany))),
+            done: Err(ScanStop::TooFar),
         };
     }
     let own = match system_name(alloc, links) {

@@ -1,5 +1,6 @@
 //! Why a scan was not put in place.
 use crate::unpublished::Unpublished;
+use echo_disk::DiskError;
 use echo_placing::PlacingError;
 use echo_store_changing::Stop;
 use std::alloc::AllocError;
@@ -12,7 +13,9 @@ pub enum ScanStop<'a> {
     /// What earlier scans left was not brought to its end, or the packets were not put in place.
     Placing(PlacingError),
     /// The packets were not put in place, and some may stay beside their paths.
-    Staying(PlacingError),
+    Staying(DiskError),
+    /// More messages were scanned than the number in a packet's name can have.
+    TooFar,
 }
 
 impl<'a> From<Unpublished> for ScanStop<'a> {

@@ -1,57 +1,89 @@
 //! Packets that are put beside their paths before a commit.
-ghost use Rattle.std.specs.Prelude.{◌≡◌, true, false, All, IfErr, IfOk};
-ghost use Rattle.echo_disk.specs.Disk.{Honestly};
+ghost use Rattle.std.specs.Prelude.{◌≡◌, ◌≢◌, ℕ, List, true, false, All, IfErr, IfOk, None};
+ghost use Rattle.echo_disk.specs.Disk.{Honestly, IsIn};
 ghost use Rattle.echo_disk.specs.Runs.{HasCause};
 ghost use Rattle.echo_placing.specs.Changes.{ChangesOnly};
-ghost use Rattle.echo_placing.specs.Outgoing.{ArePlaced, IsBesideOne, IsFree};
-ghost use Rattle.station_scan.specs.Publishing.{AreStaged, HasStageCause, NoneStays};
+ghost use Rattle.echo_placing.specs.Outgoing.{ArePlaced, IsAtStaging, IsFree, IsStaged};
+ghost use Rattle.station_scan.specs.Publishing.{AreStaged, HasStageCause, IsTrial, IsTriedWith, NoneStays};
 
 use crate::unpublished::Unpublished;
 use echo_disk::{Disk, DiskError, sync_folder_of};
-use echo_placing::{Outgoing, PlacingError, drop_beside, stage_packets};
+use echo_placing::{Outgoing, PlacingError, drop_beside, stage_packets, try_link};
 use std::alloc::Global;
 
-// Writes each packet beside its path, and puts it on the disk, with that nothing has the path.
-fn stage_synced<D: Disk>(
+// Gives the first of the packets, which stand beside their paths, the path that is tried, and takes that away again. Then what
+// the folder has is on the disk.
+fn try_first<D: Disk>(
+    disk: &mut D,
+    outbound: &[u8],
+    trial: &[u8],
+    packets: &[Outgoing<'_>],
+) -> Result<bool, DiskError>
+    requires placed { ArePlaced outbound.now packets.now }
+    requires trial { IsTrial outbound.now packets.now trial.now }
+    requires staged { All (IsStaged (D.state disk.old)) packets.now }
+    requires named { (D.state disk.old).is_named trial.now }
+    ensures tried { IfOk result (λ tried. tried ≡ true → IsTriedWith D.state packets.now trial.now (D.state disk.old)) }
+    ensures taken { Honestly (D.state disk.new) (IfOk result (λ tried. tried ≡ false → ⊥)) }
+    ensures gone { IfOk result (λ tried. tried ≡ true → (m : List ℕ) → IsIn outbound.now m → m ≢ trial.now → (D.state disk.new).seen m ≡ None → (D.state disk.new).is_flushed m) }
+    ensures staged { All (IsStaged (D.state disk.new)) packets.now }
+    ensures changes { ChangesOnly (IsAtStaging packets.now trial.now) (D.state disk.old) (D.state disk.new) }
+    ensures cause { HasCause (D.failures disk.old) (D.failures disk.new) result }
+{
+    if packets.is_empty() {
+        sync_folder_of(disk, outbound)?;
+        return Ok(true);
+    }
+    let first = &packets[0];
+    try_link(disk, outbound, first.beside, trial)
+}
+
+// Writes each packet beside its path, and puts it on the disk, with that nothing has the path. Then it is tried whether files
+// of the folder get second paths.
+fn stage_tried<D: Disk>(
     alloc: Global,
     disk: &mut D,
     outbound: &[u8],
+    trial: &[u8],
     packets: &[Outgoing<'_>],
 ) -> Result<bool, DiskError>
-    requires { ArePlaced outbound.now packets.now }
+    requires placed { ArePlaced outbound.now packets.now }
+    requires trial { IsTrial outbound.now packets.now trial.now }
     ensures staged { IfOk result (λ free. free ≡ true → AreStaged packets.now (D.state disk.new)) }
+    ensures tried { IfOk result (λ free. free ≡ true → IsTriedWith D.state packets.now trial.now (D.state disk.old)) }
     ensures taken { Honestly (D.state disk.new) (IfOk result (λ free. free ≡ false → All (IsFree (D.state disk.old)) packets.now → ⊥)) }
-    ensures changes { ChangesOnly (IsBesideOne packets.now) (D.state disk.old) (D.state disk.new) }
+    ensures changes { ChangesOnly (IsAtStaging packets.now trial.now) (D.state disk.old) (D.state disk.new) }
     ensures cause { HasCause (D.failures disk.old) (D.failures disk.new) result }
 {
-    let free = stage_packets(alloc, disk, outbound, packets)?;
-    sync_folder_of(disk, outbound)?;
-    Ok(free)
+    if !stage_packets(alloc, disk, outbound, packets)? {
+        return Ok(false);
+    }
+    try_first(disk, outbound, trial, packets)
 }
 
-/// Writes each packet beside its path, and puts it on the disk. Where a path is taken it answers `false`, and writes
-/// none. Where one cannot be written, what stands beside the paths is removed.
+/// Writes each packet beside its path, puts it on the disk, and tries whether files of the folder get second paths. Where a path
+/// is taken it answers `false`, and writes none. Where that cannot be done, what stands beside the paths is removed.
 pub(crate) fn stage_or_drop<D: Disk>(
     alloc: Global,
     disk: &mut D,
     outbound: &[u8],
+    trial: &[u8],
     packets: &[Outgoing<'_>],
 ) -> Result<bool, Unpublished>
-    requires { ArePlaced outbound.now packets.now }
+    requires placed { ArePlaced outbound.now packets.now }
+    requires trial { IsTrial outbound.now packets.now trial.now }
     ensures staged { IfOk result (λ free. free ≡ true → AreStaged packets.now (D.state disk.new)) }
+    ensures tried { IfOk result (λ free. free ≡ true → IsTriedWith D.state packets.now trial.now (D.state disk.old)) }
     ensures taken { Honestly (D.state disk.new) (IfOk result (λ free. free ≡ false → All (IsFree (D.state disk.old)) packets.now → ⊥)) }
-    ensures gone { Honestly (D.state disk.new) (IfErr result (NoneStays packets.now (D.state disk.new))) }
-    ensures changes { ChangesOnly (IsBesideOne packets.now) (D.state disk.old) (D.state disk.new) }
+    ensures gone { Honestly (D.state disk.new) (IfErr result (NoneStays packets.now trial.now (D.state disk.new))) }
+    ensures changes { ChangesOnly (IsAtStaging packets.now trial.now) (D.state disk.old) (D.state disk.new) }
     ensures cause { HasStageCause (D.failures disk.old) (D.failures disk.new) result }
 {
-    match stage_synced(alloc, disk, outbound, packets) {
+    match stage_tried(alloc, disk, outbound, trial, packets) {
         Ok(free) => Ok(free),
-        Err(cause) => {
-            let cause = PlacingError::from(cause);
-            match drop_beside(disk, outbound, packets) {
-                Ok(()) => Err(Unpublished::Packets(cause)),
-                Err(_) => Err(Unpublished::Beside(cause)),
-            }
-        }
+        Err(cause) => match drop_beside(disk, outbound, trial, packets) {
+            Ok(()) => Err(Unpublished::Packets(PlacingError::from(cause))),
+            Err(_) => Err(Unpublished::Beside(cause)),
+        },
     }
 }

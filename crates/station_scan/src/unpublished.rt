@@ -1,4 +1,5 @@
 //! Why packets and a base were not put on the disk.
+use echo_disk::DiskError;
 use echo_placing::PlacingError;
 use echo_store::StoreError;
 use std::alloc::AllocError;
@@ -12,7 +13,7 @@ pub enum Unpublished {
     Packets(PlacingError),
     /// A packet was not put beside its path, and some may stay beside theirs.
     #[error("{0}")]
-    Beside(PlacingError),
+    Beside(DiskError),
     /// The base was not committed.
     #[error("{0}")]
     Base(StoreError),

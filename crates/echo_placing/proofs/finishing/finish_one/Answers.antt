@@ -2,13 +2,16 @@ use Rattle.std.proofs.Common.{◌≡◌, inl, ◌∙◌, true, false, arith, ref
 use Rattle.std.specs.Prelude.{IsSome}
 use Rattle.std.proofs.lemmas.Result.{IfOk-weaker, on_ok_weaker}
 use Rattle.echo_disk.specs.Steps.{TornRemoval}
-use Rattle.echo_disk.specs.Runs.{OneStepOn}
+use Rattle.echo_disk.specs.Runs.{LeavesOnly, OneStepOn}
 use Rattle.echo_disk.proofs.Moments.{weaker_run}
+use Rattle.echo_placing.specs.Changes.{ChangesOnly}
 use Rattle.echo_placing.specs.Finishing.{Finishes, IsFreeOf, IsOver}
 use Rattle.echo_placing.specs.Naming.{HasMoved, IsTaken, Names}
 use Rattle.echo_placing.proofs.Changes.{only_call, only_nothing, then_only}
 use Rattle.echo_placing.proofs.Ended.{AtLeft, ends_same, named_finishes, quiet_then, removed_finishes}
 use Rattle.echo_placing.proofs.Whole.{none_is_not_there}
+use Rattle.echo_placing.proofs.finishing.finish_one.Given as given
+use Rattle.echo_placing.proofs.finishing.finish_one.Goals.{After-remove}
 use Rattle.echo_placing.proofs.finishing.finish_one.Goals as goal
 
 pub name_packet-requires-clause-there : goal.name_packet-requires-clause-there
@@ -16,43 +19,32 @@ name_packet-requires-clause-there g c honest =
     let quiet = c.sync.ensures.quiet in
     subst (λ f. IsSome f) (sym (quiet.seen c.args.left.now.beside.now)) (c.requires.there (quiet.honest honest))
 
-pub returns-in_err-remove-clause-changes : goal.returns-in_err-remove-clause-changes
-returns-in_err-remove-clause-changes g c =
+removed : (g : given.Over) (c : After-remove g) → ChangesOnly (AtLeft c.args.left.now) (g.D.Disk.state c.args.disk.now) (g.D.Disk.state c.remove.new.self)
+removed g c =
     let l = c.args.left.now in
-    let d0 = g.D.Disk.state c.args.disk.now in
-    let d1 = g.D.Disk.state c.remove.new.self in
     let now = c.remove.ensures in
-    only_call (AtLeft l) d0 d1 l.beside.now TornRemoval (inl refl) c.requires.named.beside now.beside now.crash (λ m out. now.named m (λ e. out (inl e))) (λ m out. now.flushed m (λ e. out (inl e))) (λ m out. now.alone m (λ e. out (inl e))) now.time
+    only_call (AtLeft l) (g.D.Disk.state c.args.disk.now) (g.D.Disk.state c.remove.new.self) l.beside.now TornRemoval (inl refl) c.requires.named.beside now.beside now.crash
+    (λ m out. now.named m (λ e. out (inl e))) (λ m out. now.flushed m (λ e. out (inl e))) (λ m out. now.alone m (λ e. out (inl e))) now.time
+
+removal : (g : given.Over) (c : After-remove g) → LeavesOnly (g.D.Disk.state c.args.disk.now) (g.D.Disk.state c.remove.new.self) (OneStepOn (Finishes c.args.cursor c.args.left.now) (g.D.Disk.state c.args.disk.now))
+removal g c =
+    removed_finishes c.args.cursor c.args.left.now c.if-left-cursor.true c.requires.placed.other (g.D.Disk.state c.args.disk.now) (g.D.Disk.state c.remove.new.self) c.requires.named.beside c.remove.ensures.time c.remove.ensures.crash
+
+pub returns-in_err-remove-clause-changes : goal.returns-in_err-remove-clause-changes
+returns-in_err-remove-clause-changes g c = removed g (goal.at.returns-in_err-remove-clause-changes g c).After-remove
 
 pub returns-in_err-remove-clause-any_moment : goal.returns-in_err-remove-clause-any_moment
-returns-in_err-remove-clause-any_moment g c honest =
-    let l = c.args.left.now in
-    let d0 = g.D.Disk.state c.args.disk.now in
-    let d1 = g.D.Disk.state c.remove.new.self in
-    let now = c.remove.ensures in
-    removed_finishes c.args.cursor l c.if-left-cursor.true c.requires.placed.other d0 d1 c.requires.named.beside now.time now.crash
+returns-in_err-remove-clause-any_moment g c honest = removal g (goal.at.returns-in_err-remove-clause-any_moment g c).After-remove
 
 pub returns-then-left-cursor-clause-changes : goal.returns-then-left-cursor-clause-changes
-returns-then-left-cursor-clause-changes g c =
-    let l = c.args.left.now in
-    let d0 = g.D.Disk.state c.args.disk.now in
-    let d1 = g.D.Disk.state c.remove.new.self in
-    let now = c.remove.ensures in
-    only_call (AtLeft l) d0 d1 l.beside.now TornRemoval (inl refl) c.requires.named.beside now.beside now.crash (λ m out. now.named m (λ e. out (inl e))) (λ m out. now.flushed m (λ e. out (inl e))) (λ m out. now.alone m (λ e. out (inl e))) now.time
+returns-then-left-cursor-clause-changes g c = removed g (goal.at.returns-then-left-cursor-clause-changes g c).After-remove
 
 pub returns-then-left-cursor-clause-any_moment : goal.returns-then-left-cursor-clause-any_moment
-returns-then-left-cursor-clause-any_moment g c honest =
-    let l = c.args.left.now in
-    let d0 = g.D.Disk.state c.args.disk.now in
-    let d1 = g.D.Disk.state c.remove.new.self in
-    let now = c.remove.ensures in
-    removed_finishes c.args.cursor l c.if-left-cursor.true c.requires.placed.other d0 d1 c.requires.named.beside now.time now.crash
+returns-then-left-cursor-clause-any_moment g c honest = removal g (goal.at.returns-then-left-cursor-clause-any_moment g c).After-remove
 
 pub returns-then-left-cursor-clause-over : goal.returns-then-left-cursor-clause-over
 returns-then-left-cursor-clause-over g c honest is =
     let l = c.args.left.now in
-    let d0 = g.D.Disk.state c.args.disk.now in
-    let d1 = g.D.Disk.state c.remove.new.self in
     let now = c.remove.ensures in
     record {
       committed = λ lt. absurd (omega (arith, c.if-left-cursor.true));
@@ -63,8 +55,6 @@ returns-then-left-cursor-clause-over g c honest is =
 pub returns-then-left-cursor-clause-kept : goal.returns-then-left-cursor-clause-kept
 returns-then-left-cursor-clause-kept g c honest some =
     let l = c.args.left.now in
-    let d0 = g.D.Disk.state c.args.disk.now in
-    let d1 = g.D.Disk.state c.remove.new.self in
     let now = c.remove.ensures in
     now.beside l.path.now (λ e. c.requires.placed.other (sym e))
 
@@ -122,9 +112,6 @@ returns-clause-over g c honest =
 pub returns-clause-kept : goal.returns-clause-kept
 returns-clause-kept g c honest =
     let l = c.args.left.now in
-    let d0 = g.D.Disk.state c.args.disk.now in
-    let d1 = g.D.Disk.state c.sync.new.self in
-    let d2 = g.D.Disk.state c.name_packet.new.disk in
     let quiet = c.sync.ensures.quiet in
     let now = c.name_packet.ensures in
     on_ok_weaker c.name_packet.result (λ keeps some. keeps (subst (λ f. IsSome f) (sym (quiet.seen l.path.now)) some) ∙ quiet.seen l.path.now) (now.over_none honest)
@@ -134,7 +121,6 @@ returns-clause-taken g c honest =
     let l = c.args.left.now in
     let d0 = g.D.Disk.state c.args.disk.now in
     let d1 = g.D.Disk.state c.sync.new.self in
-    let d2 = g.D.Disk.state c.name_packet.new.disk in
     let quiet = c.sync.ensures.quiet in
     let now = c.name_packet.ensures in
     IfOk-weaker c.name_packet.result (λ b. b ≡ false → IsTaken d1 l.path.now l.beside.now) (λ b. b ≡ false → IsFreeOf d0 l → ⊥)

@@ -2,13 +2,16 @@ use Rattle.std.proofs.Common.{◌<◌, ◌+◌, ◌∙◌, get_or, ⊎_elim, len
 use Rattle.std.specs.Prelude.{IsSome}
 use Rattle.std.proofs.lemmas.Bool.{and_parts}
 use Rattle.std.proofs.lemmas.List.Elements.{AllWithin-none}
-use Rattle.echo_disk.specs.Runs.{OneStepOn}
+use Rattle.echo_disk.specs.Disk.{Honestly}
+use Rattle.echo_disk.specs.Runs.{LeavesOnly, OneStepOn}
 use Rattle.echo_disk.proofs.Moments.{then_nothing}
 use Rattle.echo_placing.specs.Finishing.{AreAway, AreNamed, FinishesEach, IsOfLeft, IsOver, KeepsFile}
 use Rattle.echo_placing.proofs.Changes.{only_nothing, then_only, weaker_steps}
 use Rattle.echo_placing.proofs.Each.{ahead, behind, here}
 use Rattle.echo_placing.proofs.Ended.{away_back, finished_more, FinishesSome, IsSameLeft, keeps_now, none_finished, nothing_left, one_of_left, over_now, some_finishes, still_keeps, still_named, still_over, still_same}
 use Rattle.echo_placing.proofs.Whole.{one_false}
+use Rattle.echo_placing.proofs.finishing.finish_stopped.Given as given
+use Rattle.echo_placing.proofs.finishing.finish_stopped.Goals.{After-sync_folder_of-2}
 use Rattle.echo_placing.proofs.finishing.finish_stopped.Goals as goal
 
 pub found-init : goal.found-init
@@ -98,8 +101,9 @@ found-preserved g c =
       cause = omega (arith, c.finish_one.ensures.cause.later, inv.cause);
     }
 
-pub returns-in_err-sync_folder_of-2-clause-any_moment : goal.returns-in_err-sync_folder_of-2-clause-any_moment
-returns-in_err-sync_folder_of-2-clause-any_moment g c honest =
+moments : (g : given.Over) (c : After-sync_folder_of-2 g) → Honestly (g.D.Disk.state c.sync_folder_of-2.new.disk)
+    (LeavesOnly (g.D.Disk.state c.args.disk.now) (g.D.Disk.state c.sync_folder_of-2.new.disk) (OneStepOn (FinishesEach c.args.cursor c.args.found.now) (g.D.Disk.state c.args.disk.now)))
+moments g c honest =
     let found = c.args.found.now in
     let cursor = c.args.cursor in
     let i = c.found.left-index in
@@ -109,13 +113,8 @@ returns-in_err-sync_folder_of-2-clause-any_moment g c honest =
     then_nothing d0 d (g.D.Disk.state c.sync_folder_of-2.new.disk) (OneStepOn (FinishesEach cursor found) d0)
     (weaker_steps d0 d (FinishesSome cursor found i) (FinishesEach cursor found) (c.found.invariant.any_moment (quiet.honest honest)) (some_finishes cursor found i)) quiet
 
+pub returns-in_err-sync_folder_of-2-clause-any_moment : goal.returns-in_err-sync_folder_of-2-clause-any_moment
+returns-in_err-sync_folder_of-2-clause-any_moment g c = moments g (goal.at.returns-in_err-sync_folder_of-2-clause-any_moment g c).After-sync_folder_of-2
+
 pub returns-clause-any_moment : goal.returns-clause-any_moment
-returns-clause-any_moment g c honest =
-    let found = c.args.found.now in
-    let cursor = c.args.cursor in
-    let i = c.found.left-index in
-    let d0 = g.D.Disk.state c.args.disk.now in
-    let d = g.D.Disk.state c.found.disk in
-    let quiet = c.sync_folder_of-2.ensures.quiet in
-    then_nothing d0 d (g.D.Disk.state c.sync_folder_of-2.new.disk) (OneStepOn (FinishesEach cursor found) d0)
-    (weaker_steps d0 d (FinishesSome cursor found i) (FinishesEach cursor found) (c.found.invariant.any_moment (quiet.honest honest)) (some_finishes cursor found i)) quiet
+returns-clause-any_moment g c = moments g (goal.at.returns-clause-any_moment g c).After-sync_folder_of-2

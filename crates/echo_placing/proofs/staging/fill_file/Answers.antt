@@ -1,27 +1,29 @@
 use Rattle.std.proofs.Common.{◌≡◌, ◌∙◌, ℕ, List, length, refl}
 use Rattle.std.proofs.lemmas.Result.{on_ok_weaker}
 use Rattle.echo_disk.specs.Steps.{TornWrite}
+use Rattle.echo_placing.specs.Changes.{ChangesOnly}
 use Rattle.echo_placing.proofs.Changes.{only_call, only_nothing, then_only}
 use Rattle.echo_placing.proofs.Whole.{written_whole}
+use Rattle.echo_placing.proofs.staging.fill_file.Given as given
+use Rattle.echo_placing.proofs.staging.fill_file.Goals.{After-write_at}
 use Rattle.echo_placing.proofs.staging.fill_file.Goals as goal
 
-pub returns-in_err-write_at-clause-changes : goal.returns-in_err-write_at-clause-changes
-returns-in_err-write_at-clause-changes g c =
+written : (g : given.Over) (c : After-write_at g) → ChangesOnly (λ m. m ≡ c.args.path.now) (g.D.Disk.state c.args.disk.now) (g.D.Disk.state c.write_at.new.self)
+written g c =
     let path = c.args.path.now in
+    let now = c.write_at.ensures in
     only_call (λ (m : List ℕ). m ≡ path) (g.D.Disk.state c.args.disk.now) (g.D.Disk.state c.write_at.new.self) path (TornWrite 0 (length c.args.bytes.now)) refl c.requires.named
-    c.write_at.ensures.beside c.write_at.ensures.crash (λ m other. c.write_at.ensures.named m (λ h. h)) c.write_at.ensures.flushed (λ m other. c.write_at.ensures.alone m (λ h. h)) c.write_at.ensures.time
+    now.beside now.crash (λ m other. now.named m (λ h. h)) now.flushed (λ m other. now.alone m (λ h. h)) now.time
+
+pub returns-in_err-write_at-clause-changes : goal.returns-in_err-write_at-clause-changes
+returns-in_err-write_at-clause-changes g c = written g (goal.at.returns-in_err-write_at-clause-changes g c).After-write_at
 
 pub returns-clause-changes : goal.returns-clause-changes
 returns-clause-changes g c =
-    let path = c.args.path.now in
-    let at = λ (m : List ℕ). m ≡ path in
-    let d0 = g.D.Disk.state c.args.disk.now in
+    let at = λ (m : List ℕ). m ≡ c.args.path.now in
     let d1 = g.D.Disk.state c.write_at.new.self in
     let d2 = g.D.Disk.state c.sync.new.self in
-    then_only at d0 d1 d2
-    (only_call at d0 d1 path (TornWrite 0 (length c.args.bytes.now)) refl c.requires.named
-    c.write_at.ensures.beside c.write_at.ensures.crash (λ m other. c.write_at.ensures.named m (λ h. h)) c.write_at.ensures.flushed (λ m other. c.write_at.ensures.alone m (λ h. h)) c.write_at.ensures.time)
-    (only_nothing at d1 d2 c.sync.ensures.quiet)
+    then_only at (g.D.Disk.state c.args.disk.now) d1 d2 (written g (goal.at.returns-clause-changes g c).After-write_at) (only_nothing at d1 d2 c.sync.ensures.quiet)
 
 pub returns-clause-filled : goal.returns-clause-filled
 returns-clause-filled g c =

@@ -1,7 +1,10 @@
 use Rattle.std.proofs.Common.{◌≡◌, ◌∙◌, ℕ, List, refl}
 use Rattle.std.proofs.lemmas.Result.{on_ok_weaker}
 use Rattle.echo_disk.specs.Steps.{TornMaking}
+use Rattle.echo_placing.specs.Changes.{ChangesOnly}
 use Rattle.echo_placing.proofs.Changes.{only_call, only_nothing, then_only}
+use Rattle.echo_placing.proofs.staging.stage_file.Given as given
+use Rattle.echo_placing.proofs.staging.stage_file.Goals.{After-create, After-sync_folder_of-2}
 use Rattle.echo_placing.proofs.staging.stage_file.Goals as goal
 
 pub fill_file-requires-clause-empty : goal.fill_file-requires-clause-empty
@@ -17,28 +20,30 @@ pub returns-in_err-sync_folder_of-clause-changes : goal.returns-in_err-sync_fold
 returns-in_err-sync_folder_of-clause-changes g c =
     only_nothing (λ (m : List ℕ). m ≡ c.args.path.now) (g.D.Disk.state c.args.disk.now) (g.D.Disk.state c.sync_folder_of.new.disk) c.sync_folder_of.ensures.quiet
 
-pub returns-in_err-create-clause-changes : goal.returns-in_err-create-clause-changes
-returns-in_err-create-clause-changes g c =
+created : (g : given.Over) (c : After-create g) → ChangesOnly (λ m. m ≡ c.args.path.now) (g.D.Disk.state c.args.disk.now) (g.D.Disk.state c.create.new.self)
+created g c =
     let path = c.args.path.now in
     let at = λ (m : List ℕ). m ≡ path in
     let d0 = g.D.Disk.state c.args.disk.now in
     let d1 = g.D.Disk.state c.sync_folder_of.new.disk in
     let d2 = g.D.Disk.state c.create.new.self in
+    let now = c.create.ensures in
     then_only at d0 d1 d2 (only_nothing at d0 d1 c.sync_folder_of.ensures.quiet)
-    (only_call at d1 d2 path TornMaking refl (c.in_ok-sync_folder_of.ensures.durable path c.requires) c.create.ensures.beside c.create.ensures.crash c.create.ensures.named c.create.ensures.flushed c.create.ensures.alone c.create.ensures.time)
+    (only_call at d1 d2 path TornMaking refl (c.in_ok-sync_folder_of.ensures.durable path c.requires) now.beside now.crash now.named now.flushed now.alone now.time)
 
-pub returns-in_err-sync_folder_of-2-clause-changes : goal.returns-in_err-sync_folder_of-2-clause-changes
-returns-in_err-sync_folder_of-2-clause-changes g c =
-    let path = c.args.path.now in
-    let at = λ (m : List ℕ). m ≡ path in
-    let d0 = g.D.Disk.state c.args.disk.now in
-    let d1 = g.D.Disk.state c.sync_folder_of.new.disk in
+flushed : (g : given.Over) (c : After-sync_folder_of-2 g) → ChangesOnly (λ m. m ≡ c.args.path.now) (g.D.Disk.state c.args.disk.now) (g.D.Disk.state c.create.new.self)
+    → ChangesOnly (λ m. m ≡ c.args.path.now) (g.D.Disk.state c.args.disk.now) (g.D.Disk.state c.sync_folder_of-2.new.disk)
+flushed g c before =
+    let at = λ (m : List ℕ). m ≡ c.args.path.now in
     let d2 = g.D.Disk.state c.create.new.self in
     let d3 = g.D.Disk.state c.sync_folder_of-2.new.disk in
-    then_only at d0 d1 d3 (only_nothing at d0 d1 c.sync_folder_of.ensures.quiet)
-    (then_only at d1 d2 d3
-    (only_call at d1 d2 path TornMaking refl (c.in_ok-sync_folder_of.ensures.durable path c.requires) c.create.ensures.beside c.create.ensures.crash c.create.ensures.named c.create.ensures.flushed c.create.ensures.alone c.create.ensures.time)
-    (only_nothing at d2 d3 c.sync_folder_of-2.ensures.quiet))
+    then_only at (g.D.Disk.state c.args.disk.now) d2 d3 before (only_nothing at d2 d3 c.sync_folder_of-2.ensures.quiet)
+
+pub returns-in_err-create-clause-changes : goal.returns-in_err-create-clause-changes
+returns-in_err-create-clause-changes g c = created g (goal.at.returns-in_err-create-clause-changes g c).After-create
+
+pub returns-in_err-sync_folder_of-2-clause-changes : goal.returns-in_err-sync_folder_of-2-clause-changes
+returns-in_err-sync_folder_of-2-clause-changes g c = flushed g (goal.at.returns-in_err-sync_folder_of-2-clause-changes g c).After-sync_folder_of-2 (created g (goal.at.returns-in_err-sync_folder_of-2-clause-changes g c).After-create)
 
 pub returns-clause-named : goal.returns-clause-named
 returns-clause-named g c =
@@ -46,14 +51,4 @@ returns-clause-named g c =
 
 pub returns-clause-changes : goal.returns-clause-changes
 returns-clause-changes g c =
-    let path = c.args.path.now in
-    let at = λ (m : List ℕ). m ≡ path in
-    let d0 = g.D.Disk.state c.args.disk.now in
-    let d1 = g.D.Disk.state c.sync_folder_of.new.disk in
-    let d2 = g.D.Disk.state c.create.new.self in
-    let d3 = g.D.Disk.state c.sync_folder_of-2.new.disk in
-    let d4 = g.D.Disk.state c.fill_file.new.disk in
-    then_only at d0 d1 d4 (only_nothing at d0 d1 c.sync_folder_of.ensures.quiet)
-    (then_only at d1 d2 d4
-    (only_call at d1 d2 path TornMaking refl (c.in_ok-sync_folder_of.ensures.durable path c.requires) c.create.ensures.beside c.create.ensures.crash c.create.ensures.named c.create.ensures.flushed c.create.ensures.alone c.create.ensures.time)
-    (then_only at d2 d3 d4 (only_nothing at d2 d3 c.sync_folder_of-2.ensures.quiet) c.fill_file.ensures.changes))
+    then_only (λ (m : List ℕ). m ≡ c.args.path.now) (g.D.Disk.state c.args.disk.now) (g.D.Disk.state c.sync_folder_of-2.new.disk) (g.D.Disk.state c.fill_file.new.disk) (flushed g (goal.at.returns-clause-changes g c).After-sync_folder_of-2 (created g (goal.at.returns-clause-changes g c).After-create)) c.fill_file.ensures.changes

@@ -1,5 +1,6 @@
-use Rattle.std.proofs.Common.{refl}
-use Rattle.station_scan.specs.Left.{IsOfNameOff}
+use Rattle.std.proofs.Common.{refl, subst, sym}
+use Rattle.station_scan.specs.Left.{AreFreeLeft, IsOfNameOff}
+use Rattle.station_scan.proofs.Looked.{same_seen}
 use Rattle.station_scan.proofs.Through.{ends_through}
 use Rattle.station_scan.proofs.Lent.{held, used}
 use Rattle.station_scan.proofs.beneath.finish_on.Goals as goal
@@ -40,3 +41,8 @@ returns-clause-ends g c = λ honest.
     let quiet = c.give_back-store.ensures.quiet in
     ends_through s0.disk d0 d1 e c.lend-disk.ensures.quiet quiet (g.G.Listing.is_true c.finish_left-done.new.listing) (g.P.Paths.OwnPaths.is_own c.args.paths.now) c.args.sending.outbound.now c.args.sending.own.now c.args.cursor c.finish_left-done.result
     (c.finish_left-done.ensures.ends (quiet.honest honest))
+
+pub returns-clause-taken : goal.returns-clause-taken
+returns-clause-taken g c = λ honest is free.
+    c.finish_left-done.ensures.taken (c.give_back-store.ensures.quiet.honest honest) is
+    (subst (AreFreeLeft (g.P.Paths.OwnPaths.is_own c.args.paths.now) c.args.sending.outbound.now c.args.sending.own.now) (sym (same_seen (g.P.Kept.Store.state c.args.store).disk (g.D.Disk.state c.lend-disk.result.0) c.lend-disk.ensures.quiet)) free)

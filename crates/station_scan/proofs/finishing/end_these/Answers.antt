@@ -3,7 +3,7 @@ use Rattle.std.proofs.lemmas.Result.{err_from_is_err_and}
 use Rattle.echo_placing.specs.Finishing.{IsOfLeft}
 use Rattle.echo_placing.proofs.Changes.{only_nothing, then_only, wider}
 use Rattle.station_scan.specs.Left.{AreLent, IsOfPaths}
-use Rattle.station_scan.proofs.Lefts.{are_there, nothing_these, of_paths, quiet_start, settled_these, unsettled_these}
+use Rattle.station_scan.proofs.Lefts.{are_free, are_there, nothing_these, of_paths, quiet_start, settled_these, unsettled_these}
 use Rattle.station_scan.proofs.finishing.end_these.Goals as goal
 
 pub finish_stopped-requires-clause-there : goal.finish_stopped-requires-clause-there
@@ -68,3 +68,8 @@ returns-clause-ends g c = λ honest.
     let h1 = c.sync_folder_of.ensures.quiet.honest honest in
     settled_these c.args.cursor c.args.folder.now found (c.requires.placed found lent) d0 d1 d2 c.sync_folder_of.ensures.quiet c.args.paths.now lent c.in_ok-sync_folder_of.ensures.gone
     (c.in_ok-finish_stopped.ensures.over h1 c.if-not-branch.false) c.in_ok-finish_stopped.ensures.named (c.finish_stopped.ensures.any_moment h1) c.finish_stopped.ensures.changes
+
+pub returns-then-not-branch-clause-taken : goal.returns-then-not-branch-clause-taken
+returns-then-not-branch-clause-taken g c honest is free =
+    let lent = subst (AreLent c.args.paths.now) (sym c.deref.ensures.value) c.in_ok-found.ensures in
+    c.in_ok-finish_stopped.ensures.taken honest c.if-not-branch.true (are_free c.args.paths.now c.deref.result.now lent (g.D.Disk.state c.args.disk.now).seen free)

@@ -1,11 +1,11 @@
-use Rattle.std.proofs.Common.{◌≡◌, ◌∙◌, All, List, arith, subst, sym, vec_len}
+use Rattle.std.proofs.Common.{◌≡◌, ◌∙◌, All, List, arith, get_or, subst, sym, vec_len}
 use Rattle.std.proofs.lemmas.Bool.{eqb-true}
 use Rattle.std.proofs.lemmas.Result.{err_from_is_err_and}
 use Rattle.echo_placing.proofs.Changes.{only_nothing, then_only, wider}
 use Rattle.station_scan.specs.declared.finding.LeftPaths.{LeftPaths}
 use Rattle.station_scan.specs.declared.listing.LeftPacket.{LeftPacket}
-use Rattle.station_scan.specs.Left.{AreFound, EndsThese, IsFoundWhere, IsOfNameOff, IsOfPaths}
-use Rattle.station_scan.proofs.Lefts.{are_left_in, left_of_name, none_left, nothing_left, quiet_start, these_left}
+use Rattle.station_scan.specs.Left.{AreFound, EndsThese, IsBesideThere, IsFoundWhere, IsOfNameOff, IsOfPaths}
+use Rattle.station_scan.proofs.Lefts.{are_left_in, free_found, left_of_name, none_left, nothing_left, quiet_start, these_left}
 use Rattle.station_scan.proofs.finishing.finish_left.Goals as goal
 
 pub returns-in_err-named-clause-ends : goal.returns-in_err-named-clause-ends
@@ -72,3 +72,16 @@ returns-clause-changes g c =
     let paths = c.deref-2.result.now in
     let are = subst (λ (l : List LeftPaths). AreFound Own folder own c.deref.result.now l) (sym c.deref-2.ensures.value) c.in_ok-found.ensures.found in
     then_only at d d1 d3 (only_nothing at d d1 c.find_left.ensures.quiet) (wider (IsOfPaths paths) at d1 d3 (left_of_name Own folder own c.deref.result.now paths are) c.end_these.ensures.changes)
+
+pub returns-clause-taken : goal.returns-clause-taken
+returns-clause-taken g c honest is free =
+    let Own = g.O.OwnPaths.is_own c.args.paths.now in
+    let folder = c.args.folder.now in
+    let own = c.args.own.now in
+    let d = g.D.Disk.state c.args.disk.now in
+    let d1 = g.D.Disk.state c.find_left.new.disk in
+    let paths = c.deref-2.result.now in
+    let are = subst (λ (l : List LeftPaths). AreFound Own folder own c.deref.result.now l) (sym c.deref-2.ensures.value) c.in_ok-found.ensures.found in
+    let there = subst (λ (l : List LeftPaths). All (IsBesideThere d.seen) l) (sym c.deref-2.ensures.value) (c.in_ok-found.ensures.there (c.end_these.ensures.changes.honest honest)) in
+    let all = free_found Own folder own c.deref.result.now paths d.seen are there free in
+    c.end_these.ensures.taken honest is (λ k z lt. c.find_left.ensures.quiet.seen (get_or paths k z).two.path ∙ all k z lt)

@@ -1,4 +1,4 @@
-use Rattle.station_scan.proofs.Published.{commits_still, naming, published_if}
+use Rattle.station_scan.proofs.Published.{all_filled, commits_still, naming, published_if}
 use Rattle.station_scan.proofs.publishing.commit_staged.Goals as goal
 
 pub returns-in-Ok-clause-published : goal.returns-in-Ok-clause-published
@@ -16,5 +16,9 @@ returns-in-Ok-clause-any_moment g c = λ honest first next was is.
     let s1 = g.P.Kept.Store.state c.commit.new.self in
     let s2 = g.P.Kept.Store.state c.name_on-store.result.store in
     let used = c.name_on-store.ensures.used in
-    naming c.args.outbound.now c.args.packets.now c.requires.placed s0 c.requires.apart c.requires.ready s1 c.commit.ensures.either c.requires.staged s2 c.in-Ok.ensures.committed used (used.changes.honest honest)
+    naming c.args.packets.now s0 c.requires.apart s1 c.commit.ensures.either c.requires.staged s2 c.in-Ok.ensures.committed used (used.changes.honest honest)
     (c.name_on-store.ensures.any_moment honest) first next was is
+
+pub returns-in-Err-clause-left : goal.returns-in-Err-clause-left
+returns-in-Err-clause-left g c =
+    all_filled c.args.packets.now (g.P.Kept.Store.state c.args.store) c.requires.apart (g.P.Kept.Store.state c.commit.new.self) c.commit.ensures.either c.requires.staged

@@ -1,5 +1,6 @@
-use Rattle.std.proofs.Common.{◌≤◌, List, Result, ⊎_elim, arith, inl, inr, subst}
+use Rattle.std.proofs.Common.{◌⊎◌, ◌≤◌, List, Result, ⊎_elim, arith, inl, inr, subst}
 use Rattle.std.specs.Prelude.{OnOk}
+use Rattle.echo_device.specs.Device.{Failed}
 use Rattle.echo_status.specs.Devices.{output_of}
 use Rattle.echo_steps.specs.PacketFiles.{PacketFile}
 use Rattle.echo_store.specs.Store.{GoesOn, all_scanned}
@@ -10,7 +11,6 @@ use Rattle.echo_store_changing.specs.declared.stop.Stop.{Stop}
 use Rattle.echo_toss.specs.PacketsIn.{state_in}
 use Rattle.station_scan.specs.Scanning.{SendsOut}
 use Rattle.station_scan.proofs.Scans.{scans_ok}
-use Rattle.station_scan.proofs.Stops.{put_wider}
 use Rattle.station_scan.proofs.scanning.scan_kept.Goals as goal
 
 pub returns-in-Ok-clause-scans : goal.returns-in-Ok-clause-scans
@@ -33,11 +33,12 @@ returns-in-Ok-clause-scans g c = λ honest base keeps committed.
     let outbound = c.args.scan.now.outbound.now in
     let result = c.put_taken.result.done in
     let cursor = c.cursor-cursor.result in
-    let sends = subst (λ (f : List PacketFile). SendsOut (IsTrue sA.disk.seen) Own outbound (dotted c.args.links.now.system) (sA.stands base) (sA.stands next) cursor f sA.disk s2.disk result) c.as_slice.ensures
-    (put.sends honest base next (on.committed honestA base committed) moved) in
     let f1 = g.P.Kept.Store.failures c.args.store in
     let fA = g.P.Kept.Store.failures c.take_waiting-store.result.store in
     let f2 = g.P.Kept.Store.failures c.put_taken.result.store in
     let later : f1 ≤ fA = took.cause.later in
-    scans_ok c.args.scan.now.stamp Own outbound IsTrue _ s1 sA s2 out now c.args.links.now base c.in-Ok.files result honest1 c.requires.ready committed took.same took.quiet answer cursor (c.cursor-cursor.ensures honest1 base keeps) sends
-    (put_wider _ _ result (λ failed. ⊎_elim (λ disk. inl (failed_wider f1 fA f2 f2 later (omega arith) disk)) (λ listing. inr listing) failed) (put.why honest next moved))
+    let listed = Failed (g.G.Listing.failures c.args.scan.now.listing) (g.G.Listing.failures c.put_taken.new.scan.listing) in
+    let sends = subst (λ (f : List PacketFile). SendsOut (IsTrue sA.disk.seen) (Failed fA f2 ⊎ listed) Own outbound (dotted c.args.links.now.system) (sA.stands base) (sA.stands next) cursor f sA.disk s2.disk result) c.as_slice.ensures
+    (put.sends honest base next (on.committed honestA base committed) moved) in
+    scans_ok c.args.scan.now.stamp Own outbound IsTrue (Failed fA f2 ⊎ listed) (Failed f1 f2 ⊎ listed) (λ failed. ⊎_elim (λ disk. inl (failed_wider f1 fA f2 f2 later (omega arith) disk)) (λ at. inr at) failed) s1 sA s2 out now
+    c.args.links.now base c.in-Ok.files result honest1 c.requires.ready committed took.same took.quiet answer cursor (c.cursor-cursor.ensures honest1 base keeps) sends

@@ -1,0 +1,73 @@
+-- Packets that stand beside their paths, while a path is tried with the first of them.
+use Rattle.std.proofs.Common.{◌≡◌, ◌≢◌, ◌⊎◌, inl, inr, ⊎_elim, ◌∙◌, ◌<◌, ◌≤◌, ℕ, List, ap, arith, get_or, length, subst, sym}
+use Rattle.std.specs.Prelude.{All, Contains}
+use Rattle.std.proofs.lemmas.Bool.{cases_lt}
+use Rattle.std.proofs.lemmas.List.{get_or_default}
+use Rattle.std.proofs.lemmas.List.Elements.{All-contains, Contains-get_or}
+use Rattle.echo_disk.specs.Disk.{DiskState}
+use Rattle.echo_placing.specs.Changes.{ChangesOnly, DifferAt, HasOnDisk}
+use Rattle.echo_placing.specs.Outgoing.{ArePlaced, IsAtStaging, IsStaged}
+use Rattle.echo_placing.specs.Trying.{Tries, WasTried}
+use Rattle.echo_placing.specs.declared.outgoing.Outgoing.{Outgoing}
+use Rattle.echo_placing.proofs.Changes.{stays_on_disk, wider}
+use Rattle.echo_placing.proofs.Packets.{path_not_beside}
+use Rattle.station_scan.specs.Publishing.{IsTrial}
+
+-- it was tried after a run at these paths
+pub tried_after : {D : Type 0} (state : D → DiskState) (few paths : List ℕ → Type 0) (trial : List ℕ) (d0 d1 : DiskState) → ((m : List ℕ) → few m → paths m) → DifferAt paths d0.seen d1.seen
+    → WasTried state few trial d1 → WasTried state paths trial d0
+tried_after state few paths trial d0 d1 more run was = record {
+  from = was.from;
+  before = was.before;
+  after = was.after;
+  free = was.free;
+  given = was.given;
+  stays = was.stays;
+  at_once = was.at_once;
+  elsewhere = λ m out. was.elsewhere m (λ is. out (more m is)) ∙ run m out;
+}
+
+module _ (outbound trial : List ℕ) (packets : List Outgoing) (placed : ArePlaced outbound packets) (of : IsTrial outbound packets trial) where
+  -- the path of one is none at which packets are staged
+  pub path_off : (k : ℕ) (z : Outgoing) → k < length packets → IsAtStaging packets trial (get_or packets k z).path.now → ⊥
+  path_off k z lt at = ⊎_elim (λ b. path_not_beside outbound packets placed k z lt b) (λ t. of.off (get_or packets k z, Contains-get_or packets k z lt, inr (sym t))) at
+
+  module _ (x : Outgoing) (is : x ≡ get_or packets 0 x) (some : 0 < length packets) where
+    has : Contains packets x
+    has = (0, some, sym is)
+
+    pub first_other : x.beside.now ≢ trial
+    first_other e = of.off (x, has, inl (sym e))
+
+    pub first_staged : (d : DiskState) → All (IsStaged d) packets → IsStaged d x
+    first_staged d all = All-contains (IsStaged d) packets x all has
+
+    pub at_staging : (m : List ℕ) → (m ≡ x.beside.now) ⊎ (m ≡ trial) → IsAtStaging packets trial m
+    at_staging m at = ⊎_elim (λ b. inl (x, has, b)) (λ t. inr t) at
+
+    module _ (d e : DiskState) (tries : Tries d e trial x.beside.now) where
+      pub tried_changes : ChangesOnly (IsAtStaging packets trial) d e
+      tried_changes = wider (λ m. (m ≡ x.beside.now) ⊎ (m ≡ trial)) (IsAtStaging packets trial) d e at_staging tries.changes
+
+      file_still : All (IsStaged d) packets → (k : ℕ) (z : Outgoing) → k < length packets → HasOnDisk e (get_or packets k z).beside.now (get_or packets k z).file.now.bytes
+      file_still all k z lt =
+          let p = get_or packets k z in
+          let first : get_or packets 0 z ≡ x = get_or_default packets 0 z x some ∙ sym is in
+          let was = (first_staged d all).file in
+          ⊎_elim
+          (λ (later : 0 < k).
+          stays_on_disk (λ m. (m ≡ x.beside.now) ⊎ (m ≡ trial)) d e p.beside.now p.file.now.bytes tries.changes
+          (λ at.
+          ⊎_elim (λ b. (placed.apart 0 k z later lt).besides (ap (λ (q : Outgoing). q.beside.now) first ∙ sym b)) (λ t. of.off (p, Contains-get_or packets k z lt, inl (sym t))) at)
+          (all k z lt).file)
+          (λ (low : k ≤ 0).
+          let zero : k ≡ 0 = omega arith in
+          subst (λ (q : Outgoing). HasOnDisk e q.beside.now q.file.now.bytes) (sym (ap (λ (n : ℕ). get_or packets n z) zero ∙ first))
+          (record { seen = tries.stays.seen ∙ was.seen; named = tries.stays.named was.named; flushed = tries.stays.flushed was.flushed }))
+          (cases_lt 0 k)
+
+      pub still_staged : All (IsStaged d) packets → All (IsStaged e) packets
+      still_staged all k z lt = record {
+        file = file_still all k z lt;
+        named = tries.changes.named (get_or packets k z).path.now (λ at. path_off k z lt (at_staging _ at)) (all k z lt).named;
+      }
