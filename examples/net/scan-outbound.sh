@@ -36,16 +36,16 @@ own=$(awk '
 # last second stands in a file that is replaced at once, so that it is not forgotten whatever stops this.
 new_name() {
   last=$(cat "$station/last-name" 2> /dev/null || true)
-  number=$(date +%s)
+  number=$(date +%s) && sum=$(printf '%s' "$own" | cksum) || return 1
   if [ "$number" -le "${last:-0}" ]; then number=$((last + 1)); fi
-  address=$(printf '%s' "$own" | cksum | cut -d ' ' -f 1)
+  address=${sum%% *}
   name=$(printf '%08x.pkt' $(((number + address) % 4294967296)))
   while [ -e "$packets/$name" ]; do
     number=$((number + 1))
     name=$(printf '%08x.pkt' $(((number + address) % 4294967296)))
   done
   echo "$number" > "$station/last-name.new" && sync "$station/last-name.new" &&
-    mv "$station/last-name.new" "$station/last-name" && echo "$name"
+    mv "$station/last-name.new" "$station/last-name" && sync "$station" && echo "$name"
 }
 
 # The flow file of a packet's link, without its ending. Words: zone, net, node.
@@ -120,7 +120,8 @@ counts_of() {
 }
 
 # Hands one packet to the mailer. The line comes first: whatever stops this, the packet is handed over by
-# a later run or stands under its new name. Who may read it is as the umask says.
+# a later run or stands under its new name. It has that name on the disk before the link is let go, since what the mailer
+# sent must not be there again after a power cut. Who may read it is as the umask says.
 hand_over() {
   name=$(basename "$1")
   zone=${name%%.*}
@@ -139,7 +140,7 @@ hand_over() {
   counts=$(counts_of "$zone:$net/$node" "$1")
   failed=0
   name=$(new_name) && new=$packets/$name && chmod '=rw' "$1" &&
-    add_line "$flow.flo" "^$new" && mv "$1" "$new" || failed=3
+    add_line "$flow.flo" "^$new" && mv "$1" "$new" && sync "$packets" "${1%/*}" || failed=3
   release
   trap - EXIT
   if [ $failed -eq 0 ]; then log "sent $name to $zone:$net/$node $counts"; fi
