@@ -4,6 +4,8 @@
 2. Commands that wait for the lock while the base is turned into one of the other kind go on with what is there then.
 3. A scan into a folder that has no hard links is refused, and changes nothing; the next one into a good folder does all.
    Where strace is installed the call is refused; where a file system without hard links can be mounted it is tried, too.
+4. What stopped runs and power cuts leave under temporary names goes, whatever it holds; what is no regular file of this
+   user stays, and is a fault.
 """
 import fcntl
 import os
@@ -14,7 +16,7 @@ import tempfile
 import threading
 import time
 
-from judge import LINKS, PROGRAM, Judge, Message, content, files_of, texts_of
+from judge import LINKS, PROGRAM, Judge, Message, content, files_of, packet_of, texts_of
 
 TRIED = []
 
@@ -140,10 +142,59 @@ def try_no_links(judge, folder):
         subprocess.run(["umount", disk], check=True)
 
 
+def try_left(judge, folder):
+    """Files with the temporary names of this station."""
+    own, packets = "base.~1.10.1~.new", ["1.10.%d.%d.pkt.~1.10.1~.new" % name for name in ((2, 0), (3, 0), (2, 7), (9, 0))]
+    whole = packet_of([Message("toss", 1, 80)])
+    number, messages, is_folder = 0, [], os.path.isdir(os.path.join(folder, "base"))
+    for left in (b"", bytes(300), bytes(9000), b"precious", whole[:40], whole[:100], whole + bytes(4096)):
+        number += 1
+        messages.append(Message("post", number, 80))
+        copy = "copy.%d" % number
+        for name in [] if is_folder else [own]:
+            write(os.path.join(folder, name), left)
+        do(judge, folder, "post", messages[-1:])
+        for name in packets:
+            write(os.path.join(folder, "out", name.replace(".0.", ".%d." % (number - 1)).replace(".7.", ".%d." % (number + 6))), left)
+        do(judge, folder, "scan")
+        write(os.path.join(folder, copy + ".~base~.new"), left)
+        judge.run(folder, PROGRAM, "convert", "base", copy)
+        judge.texts("a copy beside what was left", texts_of(os.path.join(folder, copy)), messages, messages)
+        stays = [name for place in ("", "out") for name in files_of(os.path.join(folder, place), ".new")]
+        judge.expect("of %r stays %s" % (left[:20], stays), not stays)
+        for name in stays:
+            for place in ("", "out"):
+                if os.path.exists(os.path.join(folder, place, name)):
+                    os.remove(os.path.join(folder, place, name))
+    judge.packets("beside what was left", files_of(os.path.join(folder, "out"), ".pkt"), messages, messages)
+    for deed in (os.mkdir, lambda path: os.symlink("links", path), os.mkfifo) + ((others,) if os.geteuid() == 0 else ()):
+        for what, path in (("post", own), ("scan", "out/1.10.2.%d.pkt.~1.10.1~.new" % number)):
+            if what == "scan" or not is_folder:
+                deed(os.path.join(folder, path))
+                before = os.lstat(os.path.join(folder, path))
+                do(judge, folder, what, [Message("post", 100, 80)] if what == "post" else [], 3)
+                is_there = os.path.lexists(os.path.join(folder, path))
+                judge.expect("%s does not stay" % path, is_there and os.lstat(os.path.join(folder, path)).st_ino == before.st_ino)
+                if is_there:
+                    (os.rmdir if deed is os.mkdir else os.remove)(os.path.join(folder, path))
+
+
+def write(path, given):
+    """Makes a file."""
+    with open(path, "wb") as file:
+        file.write(given)
+
+
+def others(path):
+    """Makes a file of another user."""
+    write(path, b"precious")
+    os.chown(path, 65534, 65534)
+
+
 def main():
     """Each of them, with both kinds of bases."""
     faults = []
-    for trial in (try_replaced, try_turned, try_no_links):
+    for trial in (try_replaced, try_turned, try_no_links, try_left):
         for is_folder in (False, True):
             with tempfile.TemporaryDirectory(prefix="echonet-unlucky.") as work:
                 judge = Judge(work)
