@@ -13,6 +13,7 @@ PROGRAM = os.path.realpath(os.environ.get("ECHONET", os.path.join(TOP, "bin", "e
 LINKED = (making.UPLINK, *making.DOWNLINKS)
 LINKS = making.link_file(making.OWN, [("TEST", LINKED)], "Alpha")
 MSGID = re.compile(rb"\x01MSGID: [^\r]*\r")
+STUB = re.compile(rb"AREA:TEST\r\x01MSGID: ([^\r]*)\r")
 
 
 class Message(NamedTuple):
@@ -83,7 +84,8 @@ def texts_of(path):
         whole = content(path)
     else:
         return []
-    return [message[4] for message in making.read_base(whole)[1]]
+    # A folder that `convert` made may have a purged message as a text with nothing in it but the id.
+    return [stub[1] if (stub := STUB.fullmatch(message[4])) else message[4] for message in making.read_base(whole)[1]]
 
 
 class Judge:
