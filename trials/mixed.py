@@ -1,7 +1,7 @@
 """Many commands at once on one station, some of them killed at any moment, and then a look at what is there (judge.py).
 
-They post, toss, scan, purge, list, export and convert, on a base file and on a base folder. Meanwhile the base is turned
-from one into the other under the lock of the link file, or the link file is replaced by another one of its name. What
+They post, toss, scan, purge, list, export and convert, on a base file and on a base folder: alone, while the base is turned
+from one into the other under the lock of the link file, and while the link file is replaced by another one of its name. What
 ended with 0 is there once, of what was killed all or nothing, no command is refused, and each packet is whole.
 Words: how many seconds (20), how many commands at once (8). SEED makes the same choices again.
 """
@@ -24,8 +24,8 @@ MOVE = """if [ -d base ]; then rm -f new; else rm -rf new && mkdir new; fi &&
 class Mixed:
     """A station on which many commands run."""
 
-    def __init__(self, judge, folder, is_moved):
-        self.judge, self.folder, self.is_moved = judge, folder, is_moved
+    def __init__(self, judge, folder, change):
+        self.judge, self.folder, self.change = judge, folder, change
         self.done, self.maybe, self.count, self.killed, self.lock = [], [], 0, 0, threading.Lock()
 
     def messages(self, what, chance):
@@ -51,7 +51,7 @@ class Mixed:
         with self.lock:
             (self.done if run.returncode == 0 else self.maybe).append(messages)
             self.killed += run.returncode == -9
-        is_away = self.is_moved and what in ("list", "mbox", "convert") and err == b"echonet: cannot use base\n"
+        is_away = self.change == "turned" and what in ("list", "mbox", "convert") and err == b"echonet: cannot use base\n"
         self.judge.expect("%s ends with %d: %r" % (what, run.returncode, out[-100:] + err), run.returncode in (0, -9) or is_away)
         if what == "convert" and run.returncode == 0:
             seen = {number_of(text) for text in texts_of(os.path.join(self.folder, copy))}
@@ -59,15 +59,15 @@ class Mixed:
             self.judge.expect("a copy lost %s" % lost, not lost)
             os.remove(os.path.join(self.folder, copy))
 
-    def change(self, chance, number):
+    def disturb(self, chance, number):
         """Turns the base into one of the other kind, or replaces the link file."""
-        if self.is_moved:
+        if self.change == "turned":
             self.judge.run(self.folder, "flock", "links", "sh", "-c", MOVE, PROGRAM)
-            return
-        path = os.path.join(self.folder, "links")
-        with open(path + ".new", "wb") as file:
-            file.write(b"; %d\n" % number + LINKS)
-        os.rename(path + ".new", path)
+        elif self.change == "replaced":
+            path = os.path.join(self.folder, "links")
+            with open(path + ".new", "wb") as file:
+                file.write(b"; %d\n" % number + LINKS)
+            os.rename(path + ".new", path)
         time.sleep(chance.random() * 0.02)
 
     def work(self, seed, until, deed):
@@ -97,7 +97,7 @@ class Mixed:
         return len(there)
 
 
-def run_mixed(seed, seconds, count, is_folder, is_moved):
+def run_mixed(seed, seconds, count, is_folder, change):
     """A station, many commands, and a look. Answers the number of faults."""
     with tempfile.TemporaryDirectory(prefix="echonet-mixed.") as work:
         judge, folder = Judge(work), os.path.join(work, "station")
@@ -106,7 +106,7 @@ def run_mixed(seed, seconds, count, is_folder, is_moved):
             os.mkdir(os.path.join(folder, "base"))
         with open(os.path.join(folder, "links"), "wb") as file:
             file.write(LINKS)
-        mixed, until = Mixed(judge, folder, is_moved), time.time() + seconds
+        mixed, until = Mixed(judge, folder, change), time.time() + seconds
         first = Message("post", 1, 80)
         words, given = judge.words("post", [first])
         judge.run(folder, PROGRAM, *words, given=given)
@@ -114,7 +114,7 @@ def run_mixed(seed, seconds, count, is_folder, is_moved):
         mixed.count = 8
         threads = [threading.Thread(target=mixed.work, args=("%s %d" % (seed, number), until, lambda chance, _, own=number: mixed.command(chance, own)))
                    for number in range(count)]
-        threads.append(threading.Thread(target=mixed.work, args=(seed, until, mixed.change)))
+        threads.append(threading.Thread(target=mixed.work, args=(seed, until, mixed.disturb)))
         for thread in threads:
             thread.start()
         for thread in threads:
@@ -122,18 +122,18 @@ def run_mixed(seed, seconds, count, is_folder, is_moved):
         there = mixed.look()
         for fault in judge.faults[:8]:
             print("failed: %s" % fault, file=sys.stderr)
-        print("%s, %s: %d commands, %d killed, %d messages, %d faults" % (
-            "base folder" if is_folder else "base file", "turned into the other kind" if is_moved else "link file replaced",
+        print("base %s, %s: %d commands, %d killed, %d messages, %d faults" % (
+            "folder" if is_folder else "file", {"": "alone", "turned": "turned into the other kind", "replaced": "link file replaced"}[change],
             len(mixed.done) + len(mixed.maybe), mixed.killed, there, len(judge.faults)), flush=True)
         return len(judge.faults)
 
 
 def main(words):
-    """Both kinds, with both changes."""
+    """Both kinds, alone and with both changes."""
     seconds, count = float(words[0]) if words else 20, int(words[1]) if len(words) > 1 else 8
     seed = os.environ.get("SEED", str(random.randrange(2 ** 32)))
     print("seed %s" % seed)
-    faults = [run_mixed(seed, seconds / 4, count, is_folder, is_moved) for is_folder in (False, True) for is_moved in (False, True)]
+    faults = [run_mixed(seed, seconds / 6, count, is_folder, change) for is_folder in (False, True) for change in ("", "turned", "replaced")]
     print("mixed.py: %.0f s, %d faults" % (seconds, sum(faults)))
     return 1 if any(faults) else 0
 

@@ -197,10 +197,12 @@ class Disk:
         add(self.log, MARK, words.encode())
 
     def cuts(self, chance, count):
-        """Cuts the power so many times: what was marked before, and the image of the disk, in the order of the log."""
+        """Cuts the power so many times, half of them just behind a flush: what was marked before, and the image of the disk,
+        in the order of the log."""
         log = list(entries(self.log_path))
         first = next(number for number, (at, _) in enumerate(log) if at == MARK)
-        places = sorted(chance.randrange(first + 1, len(log) + 1) for _ in range(count))
+        flushes = [number for number, (at, _) in enumerate(log) if at == FLUSH and number > first] or [first]
+        places = sorted(chance.choice((chance.randrange(first, len(log)), chance.choice(flushes))) + 1 for _ in range(count))
         durable, image = (os.open(path, os.O_RDWR) for path in (self.start, self.image))
         marks, pending, number = [], [], 0
         for place in places:
