@@ -12,7 +12,7 @@ import subprocess
 import sys
 import tempfile
 
-from folder_station import COMMANDS, PROGRAM, content_of, expect, filled_station, finish, is_orderly, packets_in, put
+from folder_station import COMMANDS, HELD, PROGRAM, content_of, filled_station, finish, is_orderly, packets_in, put
 from judge import texts_of
 
 READING = {"list": ("list", "base"), "export": ("export", "base"), "convert": ("convert", "base", "made")}
@@ -42,6 +42,13 @@ class Odd:
         self.files = {name: content_of(os.path.join(self.station, "base", name)) for name in ("log", "messages." + self.number, "keys." + self.number)}
         self.program = shutil.copy(PROGRAM, os.path.join(work, "program"))
         self.folders = self.runs = 0
+        self.wrong = []
+
+    def expect(self, what, held):
+        """Counts what held."""
+        HELD[bool(held)] += 1
+        if not held:
+            self.wrong.append(what)
 
     def run(self, words):
         """Runs a command: status, output, fault. One that waits is killed, and has the status None."""
@@ -73,20 +80,23 @@ class Odd:
             ended = self.run(EVERY[name])
             after, told = tree(self.base), "%s: %s: %r" % (what, name, ended)
             if wanted in ("same", "empty") or wanted == "either" and ended[0] == 0:
-                expect(told, ended[0] == 0 and (name not in READING or before == after))
+                self.expect(told, ended[0] == 0 and (name not in READING or before == after))
                 texts = texts_of(self.base) if ended[0] == 0 and not self.before else None
                 if texts is not None and wanted != "empty" and name != "purge":
-                    expect("%s: lost messages" % told, set(self.texts) <= set(texts))
+                    self.expect("%s: lost messages" % told, set(self.texts) <= set(texts))
                 if name == "list":
                     count = 0 if wanted == "empty" else len(self.texts)
-                    expect("%s: other messages" % told, ended[1].split(b"\n")[-2].startswith(b"end %d messages," % count))
+                    self.expect("%s: other messages" % told, ended[1].split(b"\n")[-2].startswith(b"end %d messages," % count))
             else:
                 fault = b"echonet: " + (wanted.encode() if wanted[0] == "F" else b"")
-                expect(told, is_orderly(ended) and ended[0] and ended[2].startswith(fault))
-                expect("%s: the folder changed" % told, before == after)
-                expect("%s: packets" % told, not packets_in(os.path.join(self.place, "out")))
+                self.expect(told, is_orderly(ended) and ended[0] and ended[2].startswith(fault))
+                self.expect("%s: the folder changed" % told, before == after)
+                self.expect("%s: packets" % told, not packets_in(os.path.join(self.place, "out")))
             if before != after or os.path.exists(os.path.join(self.place, "made")):
                 self.fresh(spoil)
+        if self.wrong:
+            print("failed: %s (%d in all)" % (self.wrong[0], len(self.wrong)), file=sys.stderr, flush=True)
+            self.wrong.clear()
 
     def some(self):
         """`list` and two other commands, others each time."""

@@ -2,7 +2,8 @@
 
 A FUSE file system of one file, served here by /dev/fuse alone, has the image; a loop device stands on that file, and a
 file system of the kernel on it. The log is played again up to a cut: all that was written before the last flush is on
-the disk, and of what was written behind it any part, in sectors of 512 bytes. Only root can do this.
+the disk, and of what was written behind it any part, in sectors: of 512 bytes, but of 4096 for btrfs, whose super block must
+not be torn. Only root can do this.
 """
 import contextlib
 import ctypes
@@ -14,16 +15,15 @@ import subprocess
 import sys
 import time
 
-SECTOR = 512
 FLUSH, MARK = 2 ** 64 - 1, 2 ** 64 - 2
 LOOKUP_ERRORS = {2, 36, 42}  # FORGET, INTERRUPT, BATCH_FORGET: nobody waits for an answer
 PATH = os.environ.get("PATH", "") + ":/usr/sbin:/sbin"
 LIBC = ctypes.CDLL(None, use_errno=True)
-# How each file system is made and mounted, and the bytes of its image.
+# How each file system is made and mounted, the bytes of its image and of its sectors.
 KINDS = {
-    "ext4": (["mkfs.ext4", "-q", "-E", "nodiscard,lazy_itable_init=0,lazy_journal_init=0"], "", 64 << 20),
-    "xfs": (["mkfs.xfs", "-q", "-K"], "nouuid,nodiscard", 300 << 20),
-    "btrfs": (["mkfs.btrfs", "-q", "-K", "--mixed", "-m", "single"], "nodiscard", 96 << 20),
+    "ext4": (["mkfs.ext4", "-q", "-E", "nodiscard,lazy_itable_init=0,lazy_journal_init=0"], "", 64 << 20, 512),
+    "xfs": (["mkfs.xfs", "-q", "-K"], "nouuid,nodiscard", 300 << 20, 512),
+    "btrfs": (["mkfs.btrfs", "-q", "-K", "--mixed", "-m", "single"], "nodiscard", 96 << 20, 4096),
 }
 
 
@@ -46,7 +46,7 @@ def enter():
 def kinds(chosen=()):
     """The file systems that can be made here, of the chosen ones or of all."""
     found = []
-    for kind, (words, _, _) in KINDS.items():
+    for kind, (words, *_) in KINDS.items():
         if not chosen or kind in chosen:
             if shutil.which(words[0], path=PATH):
                 found.append(kind)
@@ -160,7 +160,7 @@ class Disk:
         self.log_path, self.start, self.image = (os.path.join(folder, name) for name in ("log", "start", "image"))
         self.file = os.path.join(folder, "file")
         os.makedirs(self.at)
-        words, _, size = KINDS[kind]
+        words, _, size, self.sector = KINDS[kind]
         with open(self.image, "wb") as file:
             file.truncate(size)
         subprocess.run([*words, self.image], check=True, stdout=subprocess.DEVNULL, stderr=subprocess.DEVNULL,
@@ -217,14 +217,14 @@ class Disk:
                     pending.append((at, content))
             number = place
             copy_sparse(durable, image)
-            for at, content in kept_of(chance, pending):
+            for at, content in kept_of(chance, pending, self.sector):
                 os.pwrite(image, content, at)
             yield marks, self.image
         os.close(durable)
         os.close(image)
 
 
-def kept_of(chance, pending):
+def kept_of(chance, pending, sector):
     """What a disk keeps of writes that were not flushed: the first ones, or any of them, some of them torn."""
     way = chance.choice(("all", "none", "first", "some", "torn"))
     if way == "first":
@@ -233,6 +233,6 @@ def kept_of(chance, pending):
         if way in ("some", "torn") and chance.random() < 0.5:
             if way == "some":
                 continue
-            cut = SECTOR * chance.randrange(len(content) // SECTOR + 1)
+            cut = sector * chance.randrange(len(content) // sector + 1)
             at, content = chance.choice(((at, content[:cut]), (at + cut, content[cut:])))
         yield at, content

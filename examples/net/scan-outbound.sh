@@ -67,11 +67,17 @@ is_left() {
   fi
 }
 
-# Whether a hold is one that a run of this station left. Ours has a second name, `second`, for as long as it is held,
-# and no other run holds a link while this one does. So what is in the file does not matter.
-is_ours() {
-  # shellcheck disable=SC3013
-  [ "$1" -ef "$second" ]
+# Lets go the links that a stopped run of this station held, so that the mailer goes on. Our hold has a second name for as
+# long as it is held, and no other run holds a link while this one does. So what is in the file does not matter.
+second_name="~$(printf '%s' "$own" | tr ':/' '..')~.hold"
+release_left() {
+  for second in "$outbound"/*."$second_name" "$outbound".*/*."$second_name"; do
+    if [ ! -e "$second" ]; then continue; fi
+    left=${second%".$second_name"}.bsy
+    # shellcheck disable=SC3013
+    if [ "$left" -ef "$second" ]; then rm -f "$left"; fi
+    rm -f "$second"
+  done
 }
 
 # Holds a link; a hold that was left is taken over. The status is 1 where somebody else holds it, and 3 where
@@ -79,9 +85,8 @@ is_ours() {
 # its ending.
 hold() {
   held=0
-  second=$1.~$(printf '%s' "$own" | tr ':/' '..')~.hold
-  if [ -e "$1.bsy" ] && { is_ours "$1.bsy" || is_left "$1.bsy"; }; then rm -f "$1.bsy"; fi
-  rm -f "$second"
+  second=$1.$second_name
+  if [ -e "$1.bsy" ] && is_left "$1.bsy"; then rm -f "$1.bsy"; fi
   if ! { echo $$ > "$second" && sync "$second"; }; then
     held=3
   elif ! ln "$second" "$1.bsy" 2> /dev/null; then
@@ -153,6 +158,7 @@ refuse_to_hand_over() {
   if [ $status -eq 0 ]; then status=2; fi
 }
 
+release_left
 status=0
 scanned=$("$program" scan --at now "$station/links" "$station/base" "$station/scanned") || status=$?
 if [ -n "$scanned" ]; then printf '%s\n' "$scanned" || status=3; fi
