@@ -1,4 +1,4 @@
-"""What stands on a disk, judged by docs/FORMATS.md alone: the messages that trials post, toss or have written, in bases and in packets."""
+"""What stands on a disk, judged by docs/FORMATS.md alone: messages that trials post, toss or write, in bases and packets."""
 import os
 import re
 import struct
@@ -34,7 +34,9 @@ class Message(NamedTuple):
 
     def filed(self):
         """Its text in the base."""
-        return making.arrived(self.serial, self.size) if self.way == "toss" else making.text(b"TEST", self.kept(), [], [])
+        if self.way == "toss":
+            return making.arrived(self.serial, self.size)
+        return making.text(b"TEST", self.kept(), [], [])
 
     def sent(self):
         """Its text in a packet of a scan."""
@@ -115,8 +117,8 @@ class Judge:
         for text in texts:
             serial = number_of(text)
             self.expect("%s: %r comes twice" % (what, serial), serial not in seen)
-            self.expect("%s: %r is strange or not whole" % (what, text[:60] if serial is None else serial), serial in known and (
-                b"\r" not in text or known[serial].is_whole(text, form)))
+            is_good = serial in known and (b"\r" not in text or known[serial].is_whole(text, form))
+            self.expect("%s: %r is strange or not whole" % (what, text[:60] if serial is None else serial), is_good)
             seen.add(serial)
         lost = [message.serial for message in wanted if message.serial not in seen]
         self.expect("%s: lost %s" % (what, lost), not lost)
@@ -139,7 +141,7 @@ class Judge:
         """The words of a command of a station, and its standard input; a packet of the messages is made."""
         if what == "post":
             return ("post", "--area", "TEST", "--to", "All", "--from", "Ann", "--subject", "Hi", "--serial",
-                    "%08x" % messages[0].serial, "--at", making.STAMP, "links", "base"), b"\n".join(messages[0].body()) + b"\n"
+                    "%08x" % messages[0].serial, "--at", making.STAMP, "links", "base"), lines_of(messages[0])
         if what == "toss":
             packet = os.path.join(self.work, packet)
             with open(packet, "wb") as file:
@@ -151,6 +153,12 @@ class Judge:
                 "jam": ("export", "--jam", "jam", "--area", "TEST", "base")}[what], b""
 
 
+def lines_of(message):
+    """The body of a message as standard input."""
+    return b"\n".join(message.body()) + b"\n"
+
+
 def packet_of(messages):
     """The packet of these from the uplink."""
-    return making.packet(making.UPLINK, making.OWN, [making.packed(making.UPLINK, making.OWN, message.filed()) for message in messages])
+    ends = making.UPLINK, making.OWN
+    return making.packet(*ends, [making.packed(*ends, message.filed()) for message in messages])

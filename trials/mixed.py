@@ -40,9 +40,12 @@ class Mixed:
         what = chance.choices(list(CHANCES), CHANCES.values())[0]
         messages = self.messages(what, chance)
         copy = "copy.%d.%d" % (number, self.count)
-        words, given = (("convert", "base", copy), b"") if what == "convert" else self.judge.words(what, messages, "%d.pkt" % number)
+        words, given = ("convert", "base", copy), b""
+        if what != "convert":
+            words, given = self.judge.words(what, messages, "%d.pkt" % number)
         before = list(self.done)
-        with subprocess.Popen([PROGRAM, *words], cwd=self.folder, stdin=subprocess.PIPE, stdout=subprocess.PIPE, stderr=subprocess.PIPE) as run:
+        pipes = {name: subprocess.PIPE for name in ("stdin", "stdout", "stderr")}
+        with subprocess.Popen([PROGRAM, *words], cwd=self.folder, **pipes) as run:
             killer = threading.Timer(chance.random() ** 2 * 0.1, run.kill)
             if chance.random() < 0.4:
                 killer.start()
@@ -92,7 +95,8 @@ class Mixed:
             self.judge.expect("a part of a packet", len({message.serial in seen for message in messages}) < 2)
         there = [message for message in may if message.serial in seen]
         self.judge.packets("out", files_of(os.path.join(self.folder, "out"), ".pkt"), there, there)
-        left = [name for place in ("", "out") for name in files_of(os.path.join(self.folder, place), "~.new") if not name.startswith("copy.")]
+        left = [name for place in ("", "out") for name in files_of(os.path.join(self.folder, place), "~.new")
+                if not name.startswith("copy.")]
         self.judge.expect("left %s" % left, not left)
         return len(there)
 
@@ -112,9 +116,9 @@ def run_mixed(seed, seconds, count, is_folder, change):
         judge.run(folder, PROGRAM, *words, given=given)
         mixed.done.append([first])
         mixed.count = 8
-        threads = [threading.Thread(target=mixed.work, args=("%s %d" % (seed, number), until, lambda chance, _, own=number: mixed.command(chance, own)))
-                   for number in range(count)]
-        threads.append(threading.Thread(target=mixed.work, args=(seed, until, mixed.disturb)))
+        deeds = [lambda chance, _, own=number: mixed.command(chance, own) for number in range(count)] + [mixed.disturb]
+        threads = [threading.Thread(target=mixed.work, args=("%s %d" % (seed, number), until, deed))
+                   for number, deed in enumerate(deeds)]
         for thread in threads:
             thread.start()
         for thread in threads:
@@ -123,7 +127,8 @@ def run_mixed(seed, seconds, count, is_folder, change):
         for fault in judge.faults[:8]:
             print("failed: %s" % fault, file=sys.stderr)
         print("base %s, %s: %d commands, %d killed, %d messages, %d faults" % (
-            "folder" if is_folder else "file", {"": "alone", "turned": "turned into the other kind", "replaced": "link file replaced"}[change],
+            "folder" if is_folder else "file",
+            {"": "alone", "turned": "turned into the other kind", "replaced": "link file replaced"}[change],
             len(mixed.done) + len(mixed.maybe), mixed.killed, there, len(judge.faults)), flush=True)
         return len(judge.faults)
 
@@ -133,7 +138,8 @@ def main(words):
     seconds, count = float(words[0]) if words else 20, int(words[1]) if len(words) > 1 else 8
     seed = os.environ.get("SEED", str(random.randrange(2 ** 32)))
     print("seed %s" % seed)
-    faults = [run_mixed(seed, seconds / 6, count, is_folder, change) for is_folder in (False, True) for change in ("", "turned", "replaced")]
+    faults = [run_mixed(seed, seconds / 6, count, is_folder, change)
+              for is_folder in (False, True) for change in ("", "turned", "replaced")]
     print("mixed.py: %.0f s, %d faults" % (seconds, sum(faults)))
     return 1 if any(faults) else 0
 

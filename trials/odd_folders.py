@@ -38,8 +38,10 @@ class Odd:
         self.work, self.station, self.place = work, filled_station(os.path.join(work, "station")), os.path.join(work, "place")
         self.base, self.before, self.turn = os.path.join(self.place, "base"), (), 0
         self.texts = texts_of(os.path.join(self.station, "base"))
-        self.number = next(name for name in os.listdir(os.path.join(self.station, "base")) if name.startswith("messages."))[-1]
-        self.files = {name: content_of(os.path.join(self.station, "base", name)) for name in ("log", "messages." + self.number, "keys." + self.number)}
+        whole = os.path.join(self.station, "base")
+        self.number = next(name for name in os.listdir(whole) if name.startswith("messages."))[-1]
+        names = ("log", "messages." + self.number, "keys." + self.number)
+        self.files = {name: content_of(os.path.join(whole, name)) for name in names}
         self.program = shutil.copy(PROGRAM, os.path.join(work, "program"))
         self.folders = self.runs = 0
         self.wrong = []
@@ -54,8 +56,8 @@ class Odd:
         """Runs a command: status, output, fault. One that waits is killed, and has the status None."""
         self.runs += 1
         try:
-            ended = subprocess.run([*self.before, self.program, *words], cwd=self.place, stdin=subprocess.DEVNULL, capture_output=True,
-                                   timeout=20, check=False)
+            ended = subprocess.run([*self.before, self.program, *words], cwd=self.place, stdin=subprocess.DEVNULL,
+                                   capture_output=True, timeout=60, check=False)
         except subprocess.TimeoutExpired:
             return None, b"", b"waits"
         return ended.returncode, ended.stdout, ended.stderr
@@ -72,7 +74,8 @@ class Odd:
                     os.chown(path, 65534, 65534, follow_symlinks=False)
 
     def attempt(self, what, spoil, wanted, names=EVERY):
-        """Tries commands on a base that is spoiled. Wanted is a fault, `refused`, `same`, `empty`, or `either` refused or the same."""
+        """Tries commands on a base that is spoiled. Wanted is a fault, `refused`, `same`, `empty`, or `either` refused or
+        the same."""
         self.folders += 1
         self.fresh(spoil)
         for name in names:
@@ -122,6 +125,10 @@ class Odd:
             deed(path, copy)
         return spoil
 
+    def with_mode(self, name, mode):
+        """Gives a file of the folder, or the folder, this mode."""
+        return lambda base: os.chmod(os.path.join(base, name), mode)
+
     def only(self, contents):
         """A folder with these files alone."""
         def spoil(base):
@@ -139,7 +146,8 @@ def try_cuts(odd, step):
         for found, what in ((None, "missing"), (b"", "empty")):
             odd.attempt("%s is %s" % (name, what), odd.replaced(name, found), "F1 NotBase\n" if name == "log" else "F2 Truncated record ")
         for cut in range(1, len(content), step if name.startswith("messages") else 1):
-            odd.attempt("%s cut at %d of %d" % (name, cut, len(content)), odd.replaced(name, content[:cut]), "F2 Truncated record ", odd.some())
+            odd.attempt("%s cut at %d of %d" % (name, cut, len(content)), odd.replaced(name, content[:cut]),
+                        "F2 Truncated record ", odd.some())
         for more in (b"\0", b"\xff", bytes(50), bytes(51), b"\xff" * 51, bytes(1000)):
             is_log_too_long = name == "log" and len(more) > 50
             odd.attempt("%s longer by %d of %02x" % (name, len(more), more[0]), odd.replaced(name, content + more),
@@ -181,10 +189,10 @@ def try_kinds(odd):
         odd.before = OTHER
     for name in odd.files:
         for mode in (0o000, 0o200):
-            odd.attempt("%s of mode %o" % (name, mode), lambda base, name=name, mode=mode: os.chmod(os.path.join(base, name), mode), "refused")
-        odd.attempt("%s of mode 444" % name, lambda base, name=name: os.chmod(os.path.join(base, name), 0o444), "same", READING)
-    odd.attempt("a folder of mode 000", lambda base: os.chmod(base, 0o000), "refused")
-    odd.attempt("a folder of mode 555", lambda base: os.chmod(base, 0o555), "same", READING)
+            odd.attempt("%s of mode %o" % (name, mode), odd.with_mode(name, mode), "refused")
+        odd.attempt("%s of mode 444" % name, odd.with_mode(name, 0o444), "same", READING)
+    odd.attempt("a folder of mode 000", odd.with_mode("", 0o000), "refused")
+    odd.attempt("a folder of mode 555", odd.with_mode("", 0o555), "same", READING)
 
 
 def main(words):

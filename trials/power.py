@@ -16,7 +16,6 @@ import sys
 import time
 
 FLUSH, MARK = 2 ** 64 - 1, 2 ** 64 - 2
-LOOKUP_ERRORS = {2, 36, 42}  # FORGET, INTERRUPT, BATCH_FORGET: nobody waits for an answer
 PATH = os.environ.get("PATH", "") + ":/usr/sbin:/sbin"
 LIBC = ctypes.CDLL(None, use_errno=True)
 # How each file system is made and mounted, the bytes of its image and of its sectors.
@@ -106,7 +105,7 @@ class Served:
                     continue
                 return
             _, kind, unique = struct.unpack_from("<2IQ", request)
-            if kind in LOOKUP_ERRORS:
+            if kind in (2, 36, 42):  # FORGET, INTERRUPT, BATCH_FORGET: nobody waits for an answer
                 continue
             answer = self.answer(kind, request[40:])
             code, content = (answer, b"") if isinstance(answer, int) else (0, answer)
@@ -165,9 +164,8 @@ class Disk:
             file.truncate(size)
         subprocess.run([*words, self.image], check=True, stdout=subprocess.DEVNULL, stderr=subprocess.DEVNULL,
                        env={**os.environ, "PATH": PATH})
-        subprocess.run(["cp", "--sparse=always", self.image, self.start], check=True)
-        os.replace(self.start, self.image)
-        subprocess.run(["cp", "--sparse=always", self.image, self.start], check=True)
+        for source, target in ((self.image, self.start), (self.start, self.image)):
+            subprocess.run(["cp", "--sparse=always", source, target], check=True)
         open(self.file, "wb").close()
         self.log = os.open(self.log_path, os.O_CREAT | os.O_WRONLY | os.O_APPEND, 0o600)
 

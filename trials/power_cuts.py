@@ -16,6 +16,7 @@ import sys
 import tempfile
 import threading
 import time
+from os.path import join
 from typing import NamedTuple
 
 import jam
@@ -74,10 +75,10 @@ class Plain:
     def begin(self, folder):
         """Makes its files."""
         for name in ("out", "msg", "inbound", "packets", "outbound", "read"):
-            os.makedirs(os.path.join(folder, name))
-        make(os.path.join(folder, "links"), LINKS)
+            os.makedirs(join(folder, name))
+        make(join(folder, "links"), LINKS)
         if self.is_folder:
-            os.mkdir(os.path.join(folder, "base"))
+            os.mkdir(join(folder, "base"))
 
     def step(self, chance, serials, number, is_first=False):
         """What it does next."""
@@ -89,37 +90,40 @@ class Plain:
 
     def do(self, judge, folder, step, wanted=0):
         """Does a step, and answers its status."""
-        has_base = os.path.exists(os.path.join(folder, "base"))
+        has_base = os.path.exists(join(folder, "base"))
         if step.what not in ("post", "toss", "scan", "purge") and not has_base:
             return 0
         if step.what == "convert":
             if step.name.endswith("folder"):
-                os.makedirs(os.path.join(folder, step.name), exist_ok=True)
+                os.makedirs(join(folder, step.name), exist_ok=True)
             return judge.run(folder, PROGRAM, "convert", "base", step.name, wanted=wanted)
         words, given = judge.words(step.what, step.messages)
         return judge.run(folder, PROGRAM, *words, given=given, wanted=wanted)
 
     def look(self, judge, folder, done, opened):
         """Looks at what stands on the disk after these steps, and at some moment of the opened one."""
-        seen = judge.texts(self.name + ": base", texts_of(os.path.join(folder, "base")), all_of(done), all_of(done) + opened.messages)
-        judge.expect("%s: a part of %s" % (self.name, opened.what), len({message.serial in seen for message in opened.messages}) < 2)
+        may = all_of(done) + opened.messages
+        seen = judge.texts(self.name + ": base", texts_of(join(folder, "base")), all_of(done), may)
+        is_whole = len({message.serial in seen for message in opened.messages}) < 2
+        judge.expect("%s: a part of %s" % (self.name, opened.what), is_whole)
         self.look_beside(judge, folder, done, opened)
 
     def look_beside(self, judge, folder, done, opened):
         """Looks at packets and copies."""
-        judge.packets(self.name, files_of(os.path.join(folder, "out"), ".pkt"), all_of(before_last(done, "scan")), all_of(done) + opened.messages)
+        packets, may = files_of(join(folder, "out"), ".pkt"), all_of(done) + opened.messages
+        judge.packets(self.name, packets, all_of(before_last(done, "scan")), may)
         for number, step in enumerate(done):
             if step.what == "convert":
                 wanted = all_of(done[:number])
-                judge.texts("%s: %s" % (self.name, step.name), texts_of(os.path.join(folder, step.name)), wanted, wanted)
+                judge.texts("%s: %s" % (self.name, step.name), texts_of(join(folder, step.name)), wanted, wanted)
 
     def again(self, judge, folder, done, opened):
         """Goes on with the step that was cut; answers the steps that are done."""
-        base = os.path.join(folder, "base")
+        base = join(folder, "base")
         seen = {number_of(text) for text in texts_of(base)}
         if not opened.what or opened.messages and opened.messages[0].serial in seen:
             return done + [opened]
-        target = os.path.join(folder, opened.name)
+        target = join(folder, opened.name)
         is_made = opened.what == "convert" and (bool(texts_of(target)) if os.path.isdir(target) else os.path.exists(target))
         self.do(judge, folder, opened, 3 if is_made and os.path.exists(base) else 0)
         return done + [opened]
@@ -136,7 +140,7 @@ class Plain:
             self.do(judge, folder, step)
             done = done + [step]
         self.look(judge, folder, done, Step(self, ""))
-        left = [name for place, end in self.passing for name in files_of(os.path.join(folder, place), end) if not name.startswith("copy.")]
+        left = [name for place, end in self.passing for name in files_of(join(folder, place), end) if name[:5] != "copy."]
         judge.expect("%s: left %s" % (self.name, left), not left)
 
 
@@ -146,11 +150,11 @@ class Exports(Plain):
 
     def look_beside(self, judge, folder, done, opened):
         may = all_of(done) + opened.messages
-        look_at_stored(judge, self.name, os.path.join(folder, "msg"), all_of(before_last(done, "msg")), may)
+        look_at_stored(judge, self.name, join(folder, "msg"), all_of(before_last(done, "msg")), may)
         if not all_of(before_last(done, "jam")):
             return
         try:
-            texts = [b"\r" + message.text for message in jam.Jam(os.path.join(folder, "jam")).messages]
+            texts = [b"\r" + message.text for message in jam.Jam(join(folder, "jam")).messages]
         except (SystemExit, struct.error) as fault:
             # Entries of zeros may stand there while a run goes on.
             judge.expect("%s: jam: %r" % (self.name, fault), opened.what == "jam")
@@ -159,12 +163,13 @@ class Exports(Plain):
                     lambda message: b"".join(line + b"\r" for line in [b"", *message.kept()[1:]]))
 
     def fresh(self, serials):
-        return [Step(self, "post", [Message("post", next(serials), 300)])] + [Step(self, what) for what in ("msg", "jam", "mbox", "list")]
+        return super().fresh(serials)[:1] + [Step(self, what) for what in ("msg", "jam", "mbox", "list")]
 
 
 def look_at_stored(judge, what, folder, wanted, may):
     """Looks at stored messages."""
-    texts = [b"AREA:TEST\r" + stored.Stored(file).text if len(file) > 190 else file for file in files_of(folder, ".msg").values()]
+    files = files_of(folder, ".msg").values()
+    texts = [b"AREA:TEST\r" + stored.Stored(file).text if len(file) > 190 else file for file in files]
     judge.texts("%s: %s" % (what, os.path.basename(folder)), texts, wanted, may)
 
 
@@ -172,7 +177,8 @@ class Scripts(Plain):
     """A station that the scripts of examples/net run, with a mailer and an editor who flush their files."""
     chances = {"arrive": 4, "toss": 3, "scan": 3, "mail": 2, "write": 3, "read": 3}
     comes = {"arrive": "toss", "write": "write"}
-    passing = [("inbound", ".pkt"), ("tossing", ""), ("scanned", ""), ("bad", ""), ("outbound", (".bsy", ".hold")), ("read", ("posting", "~.new"))]
+    passing = [("inbound", ".pkt"), ("tossing", ""), ("scanned", ""), ("bad", ""), ("outbound", (".bsy", ".hold")),
+               ("read", ("posting", "~.new"))]
     words = {"toss": ("toss-inbound.sh", "."), "scan": ("scan-outbound.sh", "."), "read": ("reader.sh", ".", "TEST", "read")}
 
     def __init__(self, name, is_folder):
@@ -182,28 +188,28 @@ class Scripts(Plain):
     def do(self, judge, folder, step, wanted=0):
         if step.what in self.words:
             script, *others = self.words[step.what]
-            return judge.run(folder, os.path.join(TOP, "examples", "net", script), *others)
+            return judge.run(folder, join(TOP, "examples", "net", script), *others)
         if step.what == "arrive":
-            make(os.path.join(folder, "inbound", "%d.pkt" % step.messages[0].serial), packet_of(step.messages))
+            make(join(folder, "inbound", "%d.pkt" % step.messages[0].serial), packet_of(step.messages))
         elif step.what == "write":
-            number = max((int(name[:-4]) for name in files_of(os.path.join(folder, "read"), ".msg")), default=1) + 1
+            number = max((int(name[:-4]) for name in files_of(join(folder, "read"), ".msg")), default=1) + 1
             fields = b"".join(field.ljust(size, b"\0") for field, size in ((b"Ann", 36), (b"All", 36), (b"Hi", 72), (making.DATE, 42)))
-            make(os.path.join(folder, "read", "%d.msg" % number), fields + b"\0\1\0\0" + b"\r".join(step.messages[0].body()) + b"\r\0")
+            make(join(folder, "read", "%d.msg" % number), fields + b"\0\1\0\0" + b"\r".join(step.messages[0].body()) + b"\r\0")
         elif step.what == "mail":
             self.mail(folder, step)
         return 0
 
     def mail(self, folder, step):
         """Sends what the flow files name, as a mailer does."""
-        packets, outbound = (os.path.join(folder, name) for name in ("packets", "outbound"))
+        packets, outbound = (join(folder, name) for name in ("packets", "outbound"))
         for flow, lines in files_of(outbound, ".flo").items():
             for line in lines.decode().split():
-                path = os.path.join(packets, os.path.basename(line))
+                path = join(packets, os.path.basename(line))
                 if os.path.exists(path):
                     self.mailed[os.path.basename(path)] = step, content(path)
                     os.remove(path)
             flush(packets)
-            os.remove(os.path.join(outbound, flow))
+            os.remove(join(outbound, flow))
         flush(outbound)
 
     def filed(self, done):
@@ -213,16 +219,17 @@ class Scripts(Plain):
 
     def look(self, judge, folder, done, opened):
         may = all_of(done) + opened.messages
-        judge.texts(self.name + ": base", texts_of(os.path.join(folder, "base")), self.filed(done), may)
+        judge.texts(self.name + ": base", texts_of(join(folder, "base")), self.filed(done), may)
         packets = {name: packet for name, (step, packet) in self.mailed.items() if step in done or step is opened}
-        packets.update(files_of(os.path.join(folder, "packets"), ".pkt"))
+        packets.update(files_of(join(folder, "packets"), ".pkt"))
         judge.packets(self.name, packets, self.filed(before_last(done, "scan")), may)
 
     def again(self, judge, folder, done, opened):
-        texts = {number_of(text) for text in texts_of(os.path.join(folder, "base"))}
+        texts = {number_of(text) for text in texts_of(join(folder, "base"))}
         for place in ("inbound", "tossing", "read"):
-            for file in files_of(os.path.join(folder, place), (".pkt", ".msg")).values():
-                texts.update(message.serial for message in opened.messages if b"\r%08x x" % message.serial in b"\r" + file.replace(b"\0", b"\r"))
+            for file in files_of(join(folder, place), (".pkt", ".msg")).values():
+                came = b"\r" + file.replace(b"\0", b"\r")
+                texts.update(message.serial for message in opened.messages if b"\r%08x x" % message.serial in came)
         # What was on its way to this disk may not have come.
         return done + [opened] if not opened.messages or opened.messages[0].serial in texts else done
 
@@ -230,21 +237,21 @@ class Scripts(Plain):
         return [Step(self, what) for what in ("toss", "scan", "read", "toss", "scan")]
 
     def mend(self, judge, folder, done, opened, serials):
-        for name in files_of(os.path.join(folder, "outbound"), ".bsy"):
+        for name in files_of(join(folder, "outbound"), ".bsy"):
             if next(serials) % 2:  # by now the number in it is that of another process
-                with open(os.path.join(folder, "outbound", name), "w", encoding="ascii") as file:
+                with open(join(folder, "outbound", name), "w", encoding="ascii") as file:
                     file.write("%d\n" % os.getpid())
         super().mend(judge, folder, done, opened, serials)
-        lines = b"".join(files_of(os.path.join(folder, "outbound"), ".flo").values()).decode()
-        unnamed = [name for name in files_of(os.path.join(folder, "packets"), "") if name not in lines]
+        lines = b"".join(files_of(join(folder, "outbound"), ".flo").values()).decode()
+        unnamed = [name for name in files_of(join(folder, "packets"), "") if name not in lines]
         judge.expect("%s: no flow file names %s" % (self.name, unnamed), not unnamed)
         filed = all_of(done + [opened])
-        look_at_stored(judge, self.name, os.path.join(folder, "read"), self.filed(done + [Step(self, what) for what in ("toss", "read")]), filed)
+        look_at_stored(judge, self.name, join(folder, "read"), self.filed(done + [Step(self, what) for what in ("toss", "read")]), filed)
 
 
 def disturb(at, chance, stop):
     """Another program that writes and flushes files of its own on the disk."""
-    with open(os.path.join(at, "other"), "wb", buffering=0) as file:
+    with open(join(at, "other"), "wb", buffering=0) as file:
         while not stop.wait(chance.choice((0, 0.001, 0.004, 0.02))):
             file.seek(0 if file.tell() > 1 << 20 else file.tell())
             file.write(bytes(chance.choice((100, 5000))))
@@ -258,7 +265,7 @@ def fill(judge, disk, stations, steps, chance, is_quiet):
     """Does the steps on a disk, with marks in its log, and mostly beside another program."""
     with disk.recording() as at:
         for station in stations:
-            station.begin(os.path.join(at, station.name))
+            station.begin(join(at, station.name))
         flush(at, True)
         disk.mark("begin")
         stop = threading.Event()
@@ -268,7 +275,7 @@ def fill(judge, disk, stations, steps, chance, is_quiet):
         other.start()
         for number, step in enumerate(steps):
             disk.mark("%d" % number)
-            status = step.station.do(judge, os.path.join(at, step.station.name), step)
+            status = step.station.do(judge, join(at, step.station.name), step)
             disk.mark("%d %d" % (number, status))
         stop.set()
         other.join()
@@ -282,7 +289,7 @@ def judge_cut(judge, at, stations, steps, marks, chance, serials):
     for station in stations:
         done = [step for number, step in enumerate(steps) if number in ended and step.station is station]
         running = opened if opened and opened.station is station else Step(station, "")
-        folder = os.path.join(at, station.name)
+        folder = join(at, station.name)
         try:
             station.look(judge, folder, done, running)
             if station in mended:
@@ -295,7 +302,7 @@ def session(kind, stations, chance, count, cuts, is_lazy=False):
     """Fills a disk by so many steps, and cuts its power so many times. Answers how many cuts did harm."""
     began, serials, bad = time.time(), iter(range(1, 1 << 30)), 0
     with tempfile.TemporaryDirectory(prefix="echonet-power.", dir="/dev/shm" if os.path.isdir("/dev/shm") else None) as work:
-        judge, disk = Judge(work), power.Disk(os.path.join(work, "disk"), kind)
+        judge, disk = Judge(work), power.Disk(join(work, "disk"), kind)
         steps = [station.step(chance, serials, number, True) for number, station in enumerate(stations)]
         steps += [chance.choice(stations).step(chance, serials, number) for number in range(len(steps), count)]
         judge.preload = no_flush(work) if is_lazy else ""
@@ -311,26 +318,22 @@ def session(kind, stations, chance, count, cuts, is_lazy=False):
             for fault in [] if is_lazy else judge.faults[:4]:
                 print("failed: %s, cut %d, %s runs: %s" % (kind, number, running, fault), file=sys.stderr, flush=True)
             judge.faults.clear()
-    print("%s: %d steps of %s, %d cuts, %d with harm%s (%d s)" % (
-        kind, count, ", ".join(station.name for station in stations), cuts, bad, ", without flushes" * is_lazy, time.time() - began), flush=True)
+    print("%s: %d steps of %s, %d cuts, %d with harm%s (%d s)" % (kind, count, ", ".join(station.name for station in stations), cuts,
+          bad, ", without flushes" * is_lazy, time.time() - began), flush=True)
     return bad
 
 
 def no_flush(work):
     """Makes what is loaded in front of the C library, so that nothing is flushed."""
-    path = os.path.join(work, "no_flush.so")
+    path = join(work, "no_flush.so")
     subprocess.run(["cc", "-shared", "-fPIC", "-x", "c", "-o", path, "-"], input=NO_FLUSH, check=True)
     return path
 
 
-def commands():
-    """Stations whose commands are called by themselves."""
-    return [Plain("file", False), Plain("folder", True), Exports("out_of_file", False), Exports("out_of_folder", True)]
-
-
-def scripts():
-    """Stations of the scripts."""
-    return [Scripts("scripts_file", False), Scripts("scripts_folder", True)]
+# Stations whose commands are called by themselves, and those of the scripts; the steps of each disk.
+STATIONS = {
+    "commands": (120, lambda: [Plain("file", False), Plain("folder", True), Exports("out_of_file", False), Exports("out_of_folder", True)]),
+    "scripts": (60, lambda: [Scripts("scripts_file", False), Scripts("scripts_folder", True)])}
 
 
 def main(words):
@@ -344,13 +347,13 @@ def main(words):
     print("seed %d" % seed)
     for kind in there:
         share = count if len(there) == 1 else count / 2 if kind == there[0] else count / 2 / (len(there) - 1)
-        for stations, part, steps in ((commands, 0.75, 120), (scripts, 0.25, 60)):
-            left = round(share * part)
+        for what, (steps, stations) in STATIONS.items():
+            left = round(share * (0.75 if what == "commands" else 0.25))
             while left > 0:
-                some, chance = min(left, 125), random.Random("%d %s %s %d" % (seed, kind, stations.__name__, left))
+                some, chance = min(left, 125), random.Random("%d %s %s %d" % (seed, kind, what, left))
                 bad += session(kind, stations(), chance, steps, some)
                 left, done = left - some, done + some
-    harm = session(there[0], commands(), random.Random(seed), 60, 40, True) if shutil.which("cc") else None
+    harm = session(there[0], STATIONS["commands"][1](), random.Random(seed), 60, 40, True) if shutil.which("cc") else None
     print("no cuts without flushes: there is no C compiler" if harm is None else "without flushes %d of 40 cuts did harm" % harm)
     print("power_cuts.py: %d cuts on %s, %d with harm" % (done, ", ".join(there), bad))
     return 1 if bad or harm is not None and harm < 10 else 0
