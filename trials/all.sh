@@ -27,6 +27,7 @@ each() {
 for name in kept package keys kills crowds beside mailer full_disk devices pieces refusals valgrind; do each trials/$name.sh & done
 for name in kills crowds beside full_disk devices pieces refusals; do each trials/$name.sh folders & done
 for name in folders folder_kills folder_damage; do each python3 trials/$name.py & done
+for name in power_cuts unlucky odd_folders; do each python3 trials/$name.py & done
 each python3 trials/why.py &
 each python3 trials/small_nets.py &
 each python3 trials/export.py &
@@ -36,6 +37,7 @@ each python3 trials/readers.py &
 each python3 trials/answers.py &
 each python3 trials/terminal.py &
 wait
+each python3 trials/mixed.py
 each python3 trials/stations.py 300 "$cores"
 each trials/stores.sh 100 "$cores"
 each python3 trials/hostile.py "$inputs" "$cores"

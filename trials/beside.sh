@@ -112,10 +112,10 @@ head -c 20 1.posted > $beside
 try_beside "a part of a base" goes
 : > $beside
 try_beside "an empty file" goes
-echo precious > $beside
-run post 00000003 1.links base
-expect "another's file stays" [ "$status $(cat $beside)" = "3 precious" ]
-rm -f base $beside
+head -c 5000 /dev/zero > $beside
+try_beside "a file of zeros, as a power cut leaves it," goes
+echo anything > $beside
+try_beside "a file of this user" goes
 mkdir $beside
 try_beside "a folder" stays
 cp 1.posted base.new

@@ -129,6 +129,10 @@ for left in '' $$; do
   expect "its hold is taken over at once ($left)" [ "$status $(wc -l < $flow.flo)" = "0 $lines" ]
 done
 expect "and nothing of it is left" [ "$(ls one/outbound)" = 000a0002.flo ]
+echo $$ > $flow.~1.10.1~.hold
+ln $flow.~1.10.1~.hold $flow.bsy
+run scan
+expect "a hold is let go where no packet waits for its link" [ "$status $(ls one/outbound)" = "0 000a0002.flo" ]
 
 # What the next run needs is on the disk before it goes on: `sync` is called for it.
 printf '#!/bin/sh\nfor file; do echo "${file##*/} $(ls "${file%%/*}" | grep -c "bsy$\\|pkt$")"; done >> "%s"\nexec %s "$@"\n' \

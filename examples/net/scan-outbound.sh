@@ -36,16 +36,16 @@ own=$(awk '
 # last second stands in a file that is replaced at once, so that it is not forgotten whatever stops this.
 new_name() {
   last=$(cat "$station/last-name" 2> /dev/null || true)
-  number=$(date +%s)
+  number=$(date +%s) && sum=$(printf '%s' "$own" | cksum) || return 1
   if [ "$number" -le "${last:-0}" ]; then number=$((last + 1)); fi
-  address=$(printf '%s' "$own" | cksum | cut -d ' ' -f 1)
+  address=${sum%% *}
   name=$(printf '%08x.pkt' $(((number + address) % 4294967296)))
   while [ -e "$packets/$name" ]; do
     number=$((number + 1))
     name=$(printf '%08x.pkt' $(((number + address) % 4294967296)))
   done
   echo "$number" > "$station/last-name.new" && sync "$station/last-name.new" &&
-    mv "$station/last-name.new" "$station/last-name" && echo "$name"
+    mv "$station/last-name.new" "$station/last-name" && sync "$station" && echo "$name"
 }
 
 # The flow file of a packet's link, without its ending. Words: zone, net, node.
@@ -67,11 +67,17 @@ is_left() {
   fi
 }
 
-# Whether a hold is one that a run of this station left. Ours has a second name, `second`, for as long as it is held,
-# and no other run holds a link while this one does. So what is in the file does not matter.
-is_ours() {
-  # shellcheck disable=SC3013
-  [ "$1" -ef "$second" ]
+# Lets go the links that a stopped run of this station held, so that the mailer goes on. Our hold has a second name for as
+# long as it is held, and no other run holds a link while this one does. So what is in the file does not matter.
+second_name="~$(printf '%s' "$own" | tr ':/' '..')~.hold"
+release_left() {
+  for second in "$outbound"/*."$second_name" "$outbound".*/*."$second_name"; do
+    if [ ! -e "$second" ]; then continue; fi
+    left=${second%".$second_name"}.bsy
+    # shellcheck disable=SC3013
+    if [ "$left" -ef "$second" ]; then rm -f "$left"; fi
+    rm -f "$second"
+  done
 }
 
 # Holds a link; a hold that was left is taken over. The status is 1 where somebody else holds it, and 3 where
@@ -79,9 +85,8 @@ is_ours() {
 # its ending.
 hold() {
   held=0
-  second=$1.~$(printf '%s' "$own" | tr ':/' '..')~.hold
-  if [ -e "$1.bsy" ] && { is_ours "$1.bsy" || is_left "$1.bsy"; }; then rm -f "$1.bsy"; fi
-  rm -f "$second"
+  second=$1.$second_name
+  if [ -e "$1.bsy" ] && is_left "$1.bsy"; then rm -f "$1.bsy"; fi
   if ! { echo $$ > "$second" && sync "$second"; }; then
     held=3
   elif ! ln "$second" "$1.bsy" 2> /dev/null; then
@@ -120,7 +125,8 @@ counts_of() {
 }
 
 # Hands one packet to the mailer. The line comes first: whatever stops this, the packet is handed over by
-# a later run or stands under its new name. Who may read it is as the umask says.
+# a later run or stands under its new name. It has that name on the disk before the link is let go, since what the mailer
+# sent must not be there again after a power cut. Who may read it is as the umask says.
 hand_over() {
   name=$(basename "$1")
   zone=${name%%.*}
@@ -139,7 +145,7 @@ hand_over() {
   counts=$(counts_of "$zone:$net/$node" "$1")
   failed=0
   name=$(new_name) && new=$packets/$name && chmod '=rw' "$1" &&
-    add_line "$flow.flo" "^$new" && mv "$1" "$new" || failed=3
+    add_line "$flow.flo" "^$new" && mv "$1" "$new" && sync "$packets" "${1%/*}" || failed=3
   release
   trap - EXIT
   if [ $failed -eq 0 ]; then log "sent $name to $zone:$net/$node $counts"; fi
@@ -152,6 +158,7 @@ refuse_to_hand_over() {
   if [ $status -eq 0 ]; then status=2; fi
 }
 
+release_left
 status=0
 scanned=$("$program" scan --at now "$station/links" "$station/base" "$station/scanned") || status=$?
 if [ -n "$scanned" ]; then printf '%s\n' "$scanned" || status=3; fi

@@ -1,0 +1,363 @@
+"""Cuts the power under the program and the scripts of examples/net, and judges what stands on the disk then.
+
+Stations on one disk post, toss, scan, purge, convert and export, on base files and base folders, or by the scripts, while
+another program flushes files of its own. At each cut (power.py) the file system is mounted again. What ended with status
+0 is there, whole and once; what was running is there wholly or not at all; no message is twice in a base or in the
+packets under their names; and the next commands go on without help (judge.py). At last the same is done with an `fsync`
+that does nothing: there cuts have to do harm.
+Words: how many cuts (2000), and the file systems (ext4 xfs btrfs). SEED makes the same again.
+"""
+import os
+import random
+import shutil
+import struct
+import subprocess
+import sys
+import tempfile
+import threading
+import time
+from os.path import join
+from typing import NamedTuple
+
+import jam
+import making
+import power
+import stored
+from judge import LINKS, PROGRAM, TOP, Judge, Message, content, files_of, number_of, packet_of, texts_of
+
+NO_FLUSH = b"int fsync(int f) { (void)f; return 0; }\nint fdatasync(int f) { (void)f; return 0; }\n"
+
+
+class Step(NamedTuple):
+    """What a station does: a word, the messages that come with it, and a name."""
+    station: object
+    what: str
+    messages: list = []
+    name: str = ""
+
+
+def make(path, given):
+    """Makes a file as a mailer does: it is on the disk then, under its name."""
+    with open(path + ".part", "wb") as file:
+        file.write(given)
+        file.flush()
+        os.fsync(file.fileno())
+    os.rename(path + ".part", path)
+    flush(os.path.dirname(path))
+
+
+def flush(path, is_all=False):
+    """Flushes a folder, or the whole disk that it is on."""
+    found = os.open(path, os.O_RDONLY)
+    (power.LIBC.syncfs if is_all else os.fsync)(found)
+    os.close(found)
+
+
+def all_of(steps):
+    """The messages that came with steps."""
+    return [message for step in steps for message in step.messages]
+
+
+def before_last(steps, what):
+    """The steps before the last one of this word."""
+    return steps[:max((number for number, step in enumerate(steps) if step.what == what), default=0)]
+
+
+class Plain:
+    """A station whose commands are called by themselves."""
+    chances = {"post": 8, "toss": 5, "scan": 4, "purge": 1, "convert": 2}
+    comes = {"post": "post", "toss": "toss"}  # how the messages come that a step has
+    passing = [("", ".new"), ("out", ".new"), ("msg", ".new")]  # what does not stay, by folders and ends of names
+
+    def __init__(self, name, is_folder):
+        self.name, self.is_folder = name, is_folder
+
+    def begin(self, folder):
+        """Makes its files."""
+        for name in ("out", "msg", "inbound", "packets", "outbound", "read"):
+            os.makedirs(join(folder, name))
+        make(join(folder, "links"), LINKS)
+        if self.is_folder:
+            os.mkdir(join(folder, "base"))
+
+    def step(self, chance, serials, number, is_first=False):
+        """What it does next."""
+        what = next(iter(self.chances)) if is_first else chance.choices(list(self.chances), self.chances.values())[0]
+        way = self.comes.get(what)
+        count = {None: 0, "toss": chance.choice((1, 2, 8))}.get(way, 1)
+        messages = [Message(way, next(serials), chance.choice((80, 300, 3000, 9000))) for _ in range(count)]
+        return Step(self, what, messages, "copy.%d.%s" % (number, chance.choice(("file", "folder"))))
+
+    def do(self, judge, folder, step, wanted=0):
+        """Does a step, and answers its status."""
+        has_base = os.path.exists(join(folder, "base"))
+        if step.what not in ("post", "toss", "scan", "purge") and not has_base:
+            return 0
+        if step.what == "convert":
+            if step.name.endswith("folder"):
+                os.makedirs(join(folder, step.name), exist_ok=True)
+            return judge.run(folder, PROGRAM, "convert", "base", step.name, wanted=wanted)
+        words, given = judge.words(step.what, step.messages)
+        return judge.run(folder, PROGRAM, *words, given=given, wanted=wanted)
+
+    def look(self, judge, folder, done, opened):
+        """Looks at what stands on the disk after these steps, and at some moment of the opened one."""
+        may = all_of(done) + opened.messages
+        seen = judge.texts(self.name + ": base", texts_of(join(folder, "base")), all_of(done), may)
+        is_whole = len({message.serial in seen for message in opened.messages}) < 2
+        judge.expect("%s: a part of %s" % (self.name, opened.what), is_whole)
+        self.look_beside(judge, folder, done, opened)
+
+    def look_beside(self, judge, folder, done, opened):
+        """Looks at packets and copies."""
+        packets, may = files_of(join(folder, "out"), ".pkt"), all_of(done) + opened.messages
+        judge.packets(self.name, packets, all_of(before_last(done, "scan")), may)
+        for number, step in enumerate(done):
+            if step.what == "convert":
+                wanted = all_of(done[:number])
+                judge.texts("%s: %s" % (self.name, step.name), texts_of(join(folder, step.name)), wanted, wanted)
+
+    def again(self, judge, folder, done, opened):
+        """Goes on with the step that was cut; answers the steps that are done."""
+        base = join(folder, "base")
+        seen = {number_of(text) for text in texts_of(base)}
+        if not opened.what or opened.messages and opened.messages[0].serial in seen:
+            return done + [opened]
+        target = join(folder, opened.name)
+        is_made = opened.what == "convert" and (bool(texts_of(target)) if os.path.isdir(target) else os.path.exists(target))
+        self.do(judge, folder, opened, 3 if is_made and os.path.exists(base) else 0)
+        return done + [opened]
+
+    def fresh(self, serials):
+        """Steps that have to go after a cut."""
+        steps = [Step(self, way, [Message(way, next(serials), 300)]) for way in ("post", "toss")]
+        return steps + [Step(self, what) for what in ("scan", "purge", "list")]
+
+    def mend(self, judge, folder, done, opened, serials):
+        """Goes on after a cut."""
+        done = self.again(judge, folder, done, opened)
+        for step in self.fresh(serials):
+            self.do(judge, folder, step)
+            done = done + [step]
+        self.look(judge, folder, done, Step(self, ""))
+        left = [name for place, end in self.passing for name in files_of(join(folder, place), end) if name[:5] != "copy."]
+        judge.expect("%s: left %s" % (self.name, left), not left)
+
+
+class Exports(Plain):
+    """A station that exports to readers."""
+    chances = {"post": 8, "toss": 3, "msg": 4, "jam": 4, "mbox": 1}
+
+    def look_beside(self, judge, folder, done, opened):
+        may = all_of(done) + opened.messages
+        look_at_stored(judge, self.name, join(folder, "msg"), all_of(before_last(done, "msg")), may)
+        if not all_of(before_last(done, "jam")):
+            return
+        try:
+            texts = [b"\r" + message.text for message in jam.Jam(join(folder, "jam")).messages]
+        except (SystemExit, struct.error) as fault:
+            # Entries of zeros may stand there while a run goes on.
+            judge.expect("%s: jam: %r" % (self.name, fault), opened.what == "jam")
+            return
+        judge.texts(self.name + ": jam", texts, all_of(before_last(done, "jam")), may,
+                    lambda message: b"".join(line + b"\r" for line in [b"", *message.kept()[1:]]))
+
+    def fresh(self, serials):
+        return super().fresh(serials)[:1] + [Step(self, what) for what in ("msg", "jam", "mbox", "list")]
+
+
+def look_at_stored(judge, what, folder, wanted, may):
+    """Looks at stored messages."""
+    files = files_of(folder, ".msg").values()
+    texts = [b"AREA:TEST\r" + stored.Stored(file).text if len(file) > 190 else file for file in files]
+    judge.texts("%s: %s" % (what, os.path.basename(folder)), texts, wanted, may)
+
+
+class Scripts(Plain):
+    """A station that the scripts of examples/net run, with a mailer and an editor who flush their files."""
+    chances = {"arrive": 4, "toss": 3, "scan": 3, "mail": 2, "write": 3, "read": 3}
+    comes = {"arrive": "toss", "write": "write"}
+    passing = [("inbound", ".pkt"), ("tossing", ""), ("scanned", ""), ("bad", ""), ("outbound", (".bsy", ".hold")),
+               ("read", ("posting", "~.new"))]
+    words = {"toss": ("toss-inbound.sh", "."), "scan": ("scan-outbound.sh", "."), "read": ("reader.sh", ".", "TEST", "read")}
+
+    def __init__(self, name, is_folder):
+        super().__init__(name, is_folder)
+        self.mailed = {}  # the packets that the mailer took, and by which step
+
+    def do(self, judge, folder, step, wanted=0):
+        if step.what in self.words:
+            script, *others = self.words[step.what]
+            return judge.run(folder, join(TOP, "examples", "net", script), *others)
+        if step.what == "arrive":
+            make(join(folder, "inbound", "%d.pkt" % step.messages[0].serial), packet_of(step.messages))
+        elif step.what == "write":
+            number = max((int(name[:-4]) for name in files_of(join(folder, "read"), ".msg")), default=1) + 1
+            fields = b"".join(field.ljust(size, b"\0") for field, size in ((b"Ann", 36), (b"All", 36), (b"Hi", 72), (making.DATE, 42)))
+            make(join(folder, "read", "%d.msg" % number), fields + b"\0\1\0\0" + b"\r".join(step.messages[0].body()) + b"\r\0")
+        elif step.what == "mail":
+            self.mail(folder, step)
+        return 0
+
+    def mail(self, folder, step):
+        """Sends what the flow files name, as a mailer does."""
+        packets, outbound = (join(folder, name) for name in ("packets", "outbound"))
+        for flow, lines in files_of(outbound, ".flo").items():
+            for line in lines.decode().split():
+                path = join(packets, os.path.basename(line))
+                if os.path.exists(path):
+                    self.mailed[os.path.basename(path)] = step, content(path)
+                    os.remove(path)
+            flush(packets)
+            os.remove(join(outbound, flow))
+        flush(outbound)
+
+    def filed(self, done):
+        """What has to be in the base: what came before a run that took it in."""
+        runs = (("toss", "toss"), ("write", "read"))
+        return [message for way, what in runs for message in all_of(before_last(done, what)) if message.way == way]
+
+    def look(self, judge, folder, done, opened):
+        may = all_of(done) + opened.messages
+        judge.texts(self.name + ": base", texts_of(join(folder, "base")), self.filed(done), may)
+        packets = {name: packet for name, (step, packet) in self.mailed.items() if step in done or step is opened}
+        packets.update(files_of(join(folder, "packets"), ".pkt"))
+        judge.packets(self.name, packets, self.filed(before_last(done, "scan")), may)
+
+    def again(self, judge, folder, done, opened):
+        texts = {number_of(text) for text in texts_of(join(folder, "base"))}
+        for place in ("inbound", "tossing", "read"):
+            for file in files_of(join(folder, place), (".pkt", ".msg")).values():
+                came = b"\r" + file.replace(b"\0", b"\r")
+                texts.update(message.serial for message in opened.messages if b"\r%08x x" % message.serial in came)
+        # What was on its way to this disk may not have come.
+        return done + [opened] if not opened.messages or opened.messages[0].serial in texts else done
+
+    def fresh(self, serials):
+        return [Step(self, what) for what in ("toss", "scan", "read", "toss", "scan")]
+
+    def mend(self, judge, folder, done, opened, serials):
+        for name in files_of(join(folder, "outbound"), ".bsy"):
+            if next(serials) % 2:  # by now the number in it is that of another process
+                with open(join(folder, "outbound", name), "w", encoding="ascii") as file:
+                    file.write("%d\n" % os.getpid())
+        super().mend(judge, folder, done, opened, serials)
+        lines = b"".join(files_of(join(folder, "outbound"), ".flo").values()).decode()
+        unnamed = [name for name in files_of(join(folder, "packets"), "") if name not in lines]
+        judge.expect("%s: no flow file names %s" % (self.name, unnamed), not unnamed)
+        filed = all_of(done + [opened])
+        look_at_stored(judge, self.name, join(folder, "read"), self.filed(done + [Step(self, what) for what in ("toss", "read")]), filed)
+
+
+def disturb(at, chance, stop):
+    """Another program that writes and flushes files of its own on the disk."""
+    with open(join(at, "other"), "wb", buffering=0) as file:
+        while not stop.wait(chance.choice((0, 0.001, 0.004, 0.02))):
+            file.seek(0 if file.tell() > 1 << 20 else file.tell())
+            file.write(bytes(chance.choice((100, 5000))))
+            if chance.random() < 0.8:
+                os.fsync(file.fileno())
+            else:
+                flush(at, True)
+
+
+def fill(judge, disk, stations, steps, chance, is_quiet):
+    """Does the steps on a disk, with marks in its log, and mostly beside another program."""
+    with disk.recording() as at:
+        for station in stations:
+            station.begin(join(at, station.name))
+        flush(at, True)
+        disk.mark("begin")
+        stop = threading.Event()
+        if is_quiet:
+            stop.set()
+        other = threading.Thread(target=disturb, args=(at, random.Random(chance.random()), stop))
+        other.start()
+        for number, step in enumerate(steps):
+            disk.mark("%d" % number)
+            status = step.station.do(judge, join(at, step.station.name), step)
+            disk.mark("%d %d" % (number, status))
+        stop.set()
+        other.join()
+
+
+def judge_cut(judge, at, stations, steps, marks, chance, serials):
+    """Judges each station after a cut, and goes on with the one that was running and with another one."""
+    ended = {int(mark.split()[0]) for mark in marks if mark.endswith(" 0") and mark != "0"}
+    opened = steps[int(marks[-1])] if marks[-1].isdigit() else None
+    mended = [opened.station if opened else stations[0], chance.choice(stations)]
+    for station in stations:
+        done = [step for number, step in enumerate(steps) if number in ended and step.station is station]
+        running = opened if opened and opened.station is station else Step(station, "")
+        folder = join(at, station.name)
+        try:
+            station.look(judge, folder, done, running)
+            if station in mended:
+                station.mend(judge, folder, done, running, serials)
+        except (OSError, ValueError, IndexError, struct.error, SystemExit) as fault:
+            judge.expect("%s: cannot be read: %r" % (station.name, fault), False)
+
+
+def session(kind, stations, chance, count, cuts, is_lazy=False):
+    """Fills a disk by so many steps, and cuts its power so many times. Answers how many cuts did harm."""
+    began, serials, bad = time.time(), iter(range(1, 1 << 30)), 0
+    with tempfile.TemporaryDirectory(prefix="echonet-power.", dir="/dev/shm" if os.path.isdir("/dev/shm") else None) as work:
+        judge, disk = Judge(work), power.Disk(join(work, "disk"), kind)
+        steps = [station.step(chance, serials, number, True) for number, station in enumerate(stations)]
+        steps += [chance.choice(stations).step(chance, serials, number) for number in range(len(steps), count)]
+        judge.preload = no_flush(work) if is_lazy else ""
+        fill(judge, disk, stations, steps, chance, is_lazy or chance.random() < 0.2)
+        judge.preload = ""
+        if judge.faults:
+            raise SystemExit("%s: before any cut: %s" % (kind, judge.faults))
+        for number, (marks, image) in enumerate(disk.cuts(chance, cuts)):
+            with power.mounted(kind, image, disk.at):
+                judge_cut(judge, disk.at, stations, steps, marks, chance, serials)
+            bad += bool(judge.faults)
+            running = steps[int(marks[-1])].what if marks[-1].isdigit() else "nothing"
+            for fault in [] if is_lazy else judge.faults[:4]:
+                print("failed: %s, cut %d, %s runs: %s" % (kind, number, running, fault), file=sys.stderr, flush=True)
+            judge.faults.clear()
+    print("%s: %d steps of %s, %d cuts, %d with harm%s (%d s)" % (kind, count, ", ".join(station.name for station in stations), cuts,
+          bad, ", without flushes" * is_lazy, time.time() - began), flush=True)
+    return bad
+
+
+def no_flush(work):
+    """Makes what is loaded in front of the C library, so that nothing is flushed."""
+    path = join(work, "no_flush.so")
+    subprocess.run(["cc", "-shared", "-fPIC", "-x", "c", "-o", path, "-"], input=NO_FLUSH, check=True)
+    return path
+
+
+# Stations whose commands are called by themselves, and those of the scripts; the steps of each disk.
+STATIONS = {
+    "commands": (120, lambda: [Plain("file", False), Plain("folder", True), Exports("out_of_file", False), Exports("out_of_folder", True)]),
+    "scripts": (60, lambda: [Scripts("scripts_file", False), Scripts("scripts_folder", True)])}
+
+
+def main(words):
+    """Half of the cuts are on the first file system, and a quarter under scripts; then some without flushes."""
+    why, there = power.enter(), power.kinds(words[1:])
+    if why or not there:
+        print("power_cuts.py: skipped: %s" % (why or "no file system can be made"))
+        return 0
+    count, bad, done = int(words[0]) if words else 2000, 0, 0
+    seed = int(os.environ.get("SEED", random.randrange(2 ** 32)))
+    print("seed %d" % seed)
+    for kind in there:
+        share = count if len(there) == 1 else count / 2 if kind == there[0] else count / 2 / (len(there) - 1)
+        for what, (steps, stations) in STATIONS.items():
+            left = round(share * (0.75 if what == "commands" else 0.25))
+            while left > 0:
+                some, chance = min(left, 125), random.Random("%d %s %s %d" % (seed, kind, what, left))
+                bad += session(kind, stations(), chance, steps, some)
+                left, done = left - some, done + some
+    harm = session(there[0], STATIONS["commands"][1](), random.Random(seed), 60, 40, True) if shutil.which("cc") else None
+    print("no cuts without flushes: there is no C compiler" if harm is None else "without flushes %d of 40 cuts did harm" % harm)
+    print("power_cuts.py: %d cuts on %s, %d with harm" % (done, ", ".join(there), bad))
+    return 1 if bad or harm is not None and harm < 10 else 0
+
+
+if __name__ == "__main__":
+    sys.exit(main(sys.argv[1:]))
