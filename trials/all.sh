@@ -33,6 +33,7 @@ each python3 trials/export.py &
 each python3 trials/stored.py &
 each python3 trials/jam.py &
 each python3 trials/readers.py &
+each python3 trials/moving.py &
 each python3 trials/answers.py &
 each python3 trials/terminal.py &
 wait

@@ -20,8 +20,15 @@ make -s install DESTDIR="$root/one" PREFIX=/usr > /dev/null || exit 1
 for file in bin/echonet share/man/man1/echonet.1 share/echonet/{post,reader,toss-inbound,scan-outbound,station}.sh \
   share/echonet/{printable.awk,echonet.service,echonet.timer,echonet.logrotate,settings} share/doc/echonet/{README,OPERATORS,FORMATS}.md \
   share/bash-completion/completions/echonet share/zsh/site-functions/_echonet \
-  share/fish/vendor_completions.d/echonet.fish; do
+  share/fish/vendor_completions.d/echonet.fish share/echonet/move/{links-from,packets.py}; do
   check "$file stands there" "$([ -s "$root/one/usr/$file" ] && echo yes)" yes
+done
+for folder in net nets; do
+  check "examples/$folder" "$(diff -r "examples/$folder" "$root/one/usr/share/doc/echonet/examples/$folder" && echo same)" same
+done
+for tool in jam msg; do
+  check "$tool-to-packets" "$("$root/one/usr/share/echonet/move/$tool-to-packets" 2>&1; echo $?)" \
+    "usage: $tool-to-packets FROM TO TAG PATH > PACKET"$'\n4'
 done
 check 'the program' "$(cmp bin/echonet "$root/one/usr/bin/echonet" && echo same)" same
 
