@@ -1,4 +1,4 @@
-"""Takes a station of CrashMail II over with examples/move, and gives it back, by the commands of docs/INTEROP.md.
+"""Takes a station of CrashMail II over with examples/move, and gives it back, by the commands in docs/INTEROP.md.
 
 CrashMail tosses packets that are made here, some of whose messages come again, and postings of crashwrite, into a JAM
 base and a folder of *.MSG. The base of the new station has to have each message once, in that order, with its names,
@@ -20,35 +20,17 @@ import stored
 from jam import PROGRAM, crashmail_settings, read
 from readers import expect, write
 
-MOVE = os.path.join(os.path.dirname(os.path.dirname(os.path.abspath(__file__))), "examples", "move")
+TOP = os.path.dirname(os.path.dirname(os.path.abspath(__file__)))
+MOVE = os.path.join(TOP, "examples", "move")
 OWN, LINKS, NOBODY = (1, 10, 2), ((1, 10, 1), (1, 10, 3)), (1, 10, 30000)
 AREAS = (b"JTEST", b"MTEST")
 LETTERS = b"abcXYZ 019 .,:;<>()@[]=?_\"\\'-" + bytes(range(128, 256))
-TAKE_OVER = r"""
-links-from crashmail 1:10/2 prefs > links
-sed 's,^\(AREA [^ ]*\).*,\1 1:10/30000,' links > moving.links
-mkdir base old
-links-from --bases crashmail 1:10/2 prefs | while read -r tag kind path; do
-  number=$((number + 1))
-  "$kind-to-packets" 1:10/30000 1:10/2 "$tag" "$path" > "old/$number.pkt"
-done
-for packet in old/*.pkt; do echonet toss moving.links base "$packet"; done
-echonet scan --at now moving.links base old
-"""
-GIVE_BACK = r"""
-for file in moving.links links; do
-  awk '$1 == "AREA" {
-    tag = $2; $1 = $2 = ""; print "AREA \"" tag "\" 1:10/2 MSG \"FOLDER/" tolower(tag) "\"\nEXPORT" $0
-  }' $file | cat nodes.prefs - > ${file%links}prefs
-done
-for tag in $(awk '$1 == "AREA" { print $2 }' links); do
-  number=$((number + 1))
-  mkdir "back.$number"
-  echonet export --msg "back.$number" --area "$tag" base
-  msg-to-packets 1:10/30000 1:10/2 "$tag" "back.$number" > "inbound/0000000$number.pkt"
-done
-crashmail SETTINGS moving.prefs TOSS
-"""
+
+
+def commands(section):
+    """The commands of a section of docs/INTEROP.md: they stand in its list."""
+    text = read(os.path.join(TOP, "docs", "INTEROP.md")).decode().split("\n## %s\n" % section)[1].split("\n## ")[0]
+    return "\n".join(line[7:] for line in text.split("\n") if line.startswith(" " * 7))
 
 
 def some(chance, most):
@@ -135,7 +117,7 @@ def post(place, tag, number):
         "TEXT body" % (tag.decode(), number))
     name, = os.listdir(place + "/write")
     posting = Posting(read(place + "/write/" + name))
-    run(place, "crashmail SETTINGS prefs TOSSDIR write NOSECURITY")
+    run(place, "crashmail SETTINGS crashmail.prefs TOSSDIR write NOSECURITY")
     return posting
 
 
@@ -146,10 +128,10 @@ def fill(chance, place, count):
         for number in range(count):
             mails[tag].append(Mail(chance, number, mails[tag]))
     bring(place, packets_of(mails))
-    run(place, "crashmail SETTINGS prefs TOSS")
+    run(place, "crashmail SETTINGS crashmail.prefs TOSS")
     late = {tag: chance.sample([mail for mail in mails[tag] if mail.id], count // 10) for tag in AREAS}
     bring(place, packets_of(late))
-    run(place, "crashmail SETTINGS prefs TOSS")
+    run(place, "crashmail SETTINGS crashmail.prefs TOSS")
     expect("late copies in the area BAD", len(os.listdir(place + "/bad")), 2 * (count // 10))
     filed = {tag: [mail for link in LINKS for mail in mails[tag] if mail.link == link] for tag in AREAS}
     for number in range(3):
@@ -162,9 +144,9 @@ def check_links(place):
     """The link file and the list of bases, also from AREAS.BBS as crashexport writes it, and from hpt's lines."""
     wanted = ["SYSTEM 1:10/2", "AREA JTEST 1:10/1 1:10/3", "AREA MTEST 1:10/1 1:10/3"]
     bases = ["JTEST jam %s/bases/jtest" % place, "MTEST msg %s/bases/mtest" % place]
-    run(place, "crashexport prefs areas.bbs AREASBBS")
+    run(place, "crashexport crashmail.prefs areas.bbs AREASBBS")
     point = ["links-from: point 1:10/3.7"]
-    for form in ("crashmail 1:10/2 prefs", "areas.bbs 1:10/2 areas.bbs"):
+    for form in ("crashmail 1:10/2 crashmail.prefs", "areas.bbs 1:10/2 areas.bbs"):
         expect(form, run(place, "links-from " + form), (wanted, point))
         expect(form, run(place, "links-from --bases " + form)[0], bases)
     write(place + "/short.bbs", b"A title ! Bob\r\n; a note\r\n!bases/jtest jtest 1 3 .7\r\nbases/m MTEST 10/1 1:10/3 3\r\n"
@@ -232,12 +214,10 @@ def check_linked(place, mails):
     """What CrashMail spoils where it links replies is found again, but for dates."""
     folder = place + "/linked"
     os.makedirs(folder + "/bases/mtest")
-    write(folder + "/prefs", (settings(folder) + "JAM_LINK\n").encode())
+    write(folder + "/crashmail.prefs", (settings(folder) + "JAM_LINK\n").encode())
     bring(folder, packets_of(mails))
-    run(folder, "crashmail SETTINGS prefs TOSS")
+    run(folder, "crashmail SETTINGS crashmail.prefs TOSS")
     run(folder, "jam-to-packets 1:10/30000 1:10/2 JTEST bases/jtest > linked")
-    spoilt = struct.unpack_from("<I", read(folder + "/bases/jtest.jhr"), 12)[0]
-    expect("CrashMail spoils the count", spoilt > 1 << 16, True)
     messages = [reading.read_packet(read(path), reading.MOST_SHOWN)[0] for path in (place + "/whole", folder + "/linked")]
     expect("linked", [message[2:] for message in messages[1]], [message[2:] for message in messages[0][:len(messages[1])]])
     expect("linked", len(messages[1]), len(mails[b"JTEST"]))
@@ -275,8 +255,8 @@ def check_damaged(place, count):
 def check_back(place, filed):
     """CrashMail has all messages again, and knows late copies. A JAM base of ours makes the same packet as the folder."""
     run(place, "rm dupes bad/*")
-    write(place + "/nodes.prefs", crashmail_settings(place, "1:10/2", ["1:10/1", "1:10/3", "1:10/30000"]).encode())
-    run(place, GIVE_BACK.replace("FOLDER", place + "/back"))
+    write(place + "/moving.prefs", crashmail_settings(place, "1:10/2", ["1:10/1", "1:10/3", "1:10/30000"]).encode())
+    run(place, commands("Moving to another tosser").replace("/home/fido/msg", place + "/back"))
     for tag in AREAS:
         folder = "%s/back/%s" % (place, tag.decode().lower())
         files = [stored.Stored(read("%s/%d.msg" % (folder, number))) for number in range(2, len(os.listdir(folder)) + 2)]
@@ -290,7 +270,7 @@ def check_back(place, filed):
     expect("by JAM", read(place + "/jam.pkt")[58:], read(place + "/msg.pkt")[58:])
     known = {tag: [mail for mail in filed[tag] if mail.id and mail.link != OWN] for tag in AREAS}
     bring(place, packets_of(known))
-    run(place, "crashmail SETTINGS prefs TOSS")
+    run(place, "sed -i 's,1:10/30000$,1:10/1 1:10/3,' moving.prefs && crashmail SETTINGS moving.prefs TOSS")
     expect("late copies in the area BAD", len(os.listdir(place + "/bad")), sum(len(known[tag]) for tag in AREAS))
 
 
@@ -306,14 +286,14 @@ def main():
     with tempfile.TemporaryDirectory() as place:
         os.makedirs(place + "/bin")
         os.symlink(os.path.abspath(PROGRAM), place + "/bin/echonet")
-        write(place + "/prefs", settings(place).encode())
+        write(place + "/crashmail.prefs", settings(place).encode())
         for folder in ("bases/mtest", "back/jtest", "back/mtest", "write"):
             os.makedirs(place + "/" + folder)
         filed = fill(chance, place, count)
         check_links(place)
         check_damaged(place, count + 3)
         check_linked(place, {tag: filed[tag][:count] for tag in AREAS})
-        run(place, TAKE_OVER)
+        run(place, commands("Moving a system from another tosser"))
         check_base(place, filed)
         check_late(chance, place, filed)
         check_back(place, filed)
