@@ -73,6 +73,12 @@ check 'a posting' "${posted% *}" 'posted TEST 1:10/1'
 check 'a scan' "$(PATH=$root/one/usr/bin:$PATH "$root/one/usr/share/echonet/scan-outbound.sh" "$root/station" | cut -d ' ' -f 1-3)" 'packet 1:10/2 1'
 check 'a toss' "$(PATH=$root/one/usr/bin:$PATH "$root/one/usr/share/echonet/toss-inbound.sh" "$root/station"; echo $?)" 0
 
+# The sessions of the guide, from the examples that were installed.
+if command -v binkd > /dev/null || [ -x /usr/sbin/binkd ]; then
+  scripts/follow.sh docs/OPERATORS.md bin/echonet "$root/one/usr/share/doc/echonet" > "$root/followed"
+  check 'the guide' "$? $(tail -1 "$root/followed" | cut -d , -f 2)" '0  0 did not'
+fi
+
 make -s uninstall DESTDIR="$root/one" PREFIX=/usr > /dev/null || exit 1
 check 'nothing is left' "$(files "$root/one")" ''
 
