@@ -1,12 +1,13 @@
 #!/usr/bin/env bash
 # Follows the sessions of a document from its first line to its last in an empty folder: each line
 # `    $ COMMAND` is typed, and what is printed is compared with the lines below it. Serials of eight
-# hexadecimal digits, moments and dates may differ. Words: the document, the program.
+# hexadecimal digits, moments and dates may differ. Words: the document, the program, and the folder that has
+# `examples`, where that is not the one of the sources.
 set -eu
 cd "$(dirname "$0")/.."
 document=$(realpath "${1:-docs/OPERATORS.md}")
 program=$(realpath "${2:-bin/echonet}")
-sources=$PWD
+sources=$(realpath "${3:-.}")
 place=$(mktemp -d)
 mkdir "$place/bin" "$place/empty"
 ln -s "$program" "$place/bin/echonet"

@@ -1,7 +1,7 @@
 #!/usr/bin/env bash
 # install.sh ROOT PREFIX: puts in place what was built, below ROOT and PREFIX: the program, its page, the scripts of
-# examples/net, the examples of packaging, the documents, and what shells complete. The unit gets the paths below PREFIX.
-# uninstall.sh takes the same away.
+# examples/net, the tools of examples/move, the examples of packaging, the documents with their nets, and what shells
+# complete. The unit gets the paths below PREFIX. uninstall.sh takes the same away.
 set -eu
 cd "$(dirname "$0")/.."
 to=$1$2
@@ -10,17 +10,21 @@ program=bin/echonet
 
 install -D -m 755 "$program" "$to/bin/echonet"
 install -D -m 644 docs/echonet.1 "$to/share/man/man1/echonet.1"
-install -d "$to/share/echonet" "$to/share/doc/echonet/pictures"
+install -d "$to/share/echonet/move" "$to/share/doc/echonet/pictures" "$to/share/doc/echonet/examples"
 install -m 755 examples/net/*.sh "$to/share/echonet"
 chmod 644 "$to/share/echonet/station.sh"
 install -m 644 examples/net/printable.awk packaging/echonet.timer packaging/echonet.logrotate packaging/settings \
   "$to/share/echonet"
+install -m 755 examples/move/*-* "$to/share/echonet/move"
+install -m 644 examples/move/packets.py "$to/share/echonet/move"
 prefix=$(printf '%s' "$2" | sed 's/[&|\]/\\&/g')
 sed "s|/usr/bin/|$prefix/bin/|g; s|/usr/share/|$prefix/share/|g" packaging/echonet.service \
   > "$to/share/echonet/echonet.service"
 chmod 644 "$to/share/echonet/echonet.service"
 install -m 644 README.md docs/*.md "$to/share/doc/echonet"
 install -m 644 docs/pictures/* "$to/share/doc/echonet/pictures"
+cp -R examples/net examples/nets "$to/share/doc/echonet/examples"
+chmod -R u=rwX,go=rX "$to/share/doc/echonet/examples"
 
 # Words: the shell, the file that it looks for.
 completions() {

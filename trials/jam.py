@@ -337,22 +337,30 @@ def try_kills(chance, place, count):
         check_all(path, messages)
 
 
+def crashmail_settings(folder, own, links):
+    """A configuration of CrashMail in a folder, without areas. Its folders are made."""
+    names = ("inbound", "outbound", "temp", "create", "packets", "bad", "netmail")
+    for name in names:
+        os.makedirs(os.path.join(folder, name), exist_ok=True)
+    words = ("INBOUND", "OUTBOUND", "TEMPDIR", "CREATEPKTDIR", "PACKETDIR")
+    lines = ['SYSOP "Bob"', 'LOGFILE "%s/log"' % folder, "LOGLEVEL 5", 'DUPEFILE "%s/dupes" 65000' % folder, "DUPEMODE BAD",
+             "LOOPMODE LOG", "MAXPKTSIZE 20000", "DEFAULTZONE 1", "CHECKSEENBY", "CHECKPKTDEST", "IMPORTSEENBY"]
+    lines += ['%s "%s/%s"' % (word, folder, name) for word, name in zip(words, names)]
+    lines += ['STATSFILE "%s/stats"' % folder, "AKA " + own, 'DOMAIN "fidonet"']
+    lines += ['NODE %s "" ""' % link for link in links]
+    lines += ['NETMAIL "NETMAIL" %s MSG "%s/netmail"' % (own, folder), 'AREA "BAD" %s MSG "%s/bad"' % (own, folder)]
+    return "\n".join(lines + [""])
+
+
 def try_crashmail(place, messages):
     """CrashMail's SCAN sends the message that was posted here and not scanned, and no other one.
 
     Of the others it fails to read some, as it does of JAM bases that it made itself.
     """
     folder = os.path.join(place, "crashmail")
-    for name in ("inbound", "outbound", "temp", "create", "packets", "jam", "msg"):
-        os.makedirs(os.path.join(folder, name))
-    shutil.copytree(os.path.join(place, "jams"), os.path.join(folder, "jam"), dirs_exist_ok=True)
+    shutil.copytree(os.path.join(place, "jams"), os.path.join(folder, "jam"))
     with open(os.path.join(folder, "prefs"), "w", encoding="ascii") as file:
-        file.write('SYSOP "Ann"\nLOGFILE "%s/log"\nLOGLEVEL 5\nDUPEFILE "%s/dupes" 1000\nDUPEMODE IGNORE\n' % (folder, folder))
-        file.write('LOOPMODE LOG\nMAXPKTSIZE 20000\nDEFAULTZONE 1\n')
-        for word, name in (("INBOUND", "inbound"), ("OUTBOUND", "outbound"), ("TEMPDIR", "temp"),
-                           ("CREATEPKTDIR", "create"), ("PACKETDIR", "packets"), ("STATSFILE", "stats")):
-            file.write('%s "%s/%s"\n' % (word, folder, name))
-        file.write('AKA 1:10/1\nDOMAIN "fidonet"\nNODE 1:10/9 "" ""\nNETMAIL "NETMAIL" 1:10/1 MSG "%s/msg"\n' % folder)
+        file.write(crashmail_settings(folder, "1:10/1", ["1:10/9"]))
         file.write('AREA "TEST" 1:10/1 JAM "%s/jam/test"\nEXPORT 1:10/9\n' % folder)
     done = subprocess.run(["crashmail", "SETTINGS", os.path.join(folder, "prefs"), "SCAN"], stdout=subprocess.PIPE,
                           stderr=subprocess.STDOUT, check=False)

@@ -20,8 +20,15 @@ make -s install DESTDIR="$root/one" PREFIX=/usr > /dev/null || exit 1
 for file in bin/echonet share/man/man1/echonet.1 share/echonet/{post,reader,toss-inbound,scan-outbound,station}.sh \
   share/echonet/{printable.awk,echonet.service,echonet.timer,echonet.logrotate,settings} share/doc/echonet/{README,OPERATORS,FORMATS}.md \
   share/bash-completion/completions/echonet share/zsh/site-functions/_echonet \
-  share/fish/vendor_completions.d/echonet.fish; do
+  share/fish/vendor_completions.d/echonet.fish share/echonet/move/{links-from,packets.py}; do
   check "$file stands there" "$([ -s "$root/one/usr/$file" ] && echo yes)" yes
+done
+for folder in net nets; do
+  check "examples/$folder" "$(diff -r "examples/$folder" "$root/one/usr/share/doc/echonet/examples/$folder" && echo same)" same
+done
+for tool in jam msg; do
+  check "$tool-to-packets" "$("$root/one/usr/share/echonet/move/$tool-to-packets" 2>&1; echo $?)" \
+    "usage: $tool-to-packets FROM TO TAG PATH > PACKET"$'\n4'
 done
 check 'the program' "$(cmp bin/echonet "$root/one/usr/bin/echonet" && echo same)" same
 
@@ -65,6 +72,12 @@ posted=$(echo Hello | PATH=$root/one/usr/bin:$PATH "$root/one/usr/share/echonet/
 check 'a posting' "${posted% *}" 'posted TEST 1:10/1'
 check 'a scan' "$(PATH=$root/one/usr/bin:$PATH "$root/one/usr/share/echonet/scan-outbound.sh" "$root/station" | cut -d ' ' -f 1-3)" 'packet 1:10/2 1'
 check 'a toss' "$(PATH=$root/one/usr/bin:$PATH "$root/one/usr/share/echonet/toss-inbound.sh" "$root/station"; echo $?)" 0
+
+# The sessions of the guide, from the examples that were installed.
+if command -v binkd > /dev/null || [ -x /usr/sbin/binkd ]; then
+  scripts/follow.sh docs/OPERATORS.md bin/echonet "$root/one/usr/share/doc/echonet" > "$root/followed"
+  check 'the guide' "$? $(tail -1 "$root/followed" | cut -d , -f 2)" '0  0 did not'
+fi
 
 make -s uninstall DESTDIR="$root/one" PREFIX=/usr > /dev/null || exit 1
 check 'nothing is left' "$(files "$root/one")" ''

@@ -1,23 +1,18 @@
 # Beta moves from CrashMail to echonet, with its messages, as docs/INTEROP.md tells it
 
 stop_daemon two
-mkdir -p moved/{base,inbound,packets,rescanned}
-# The old tosser, under an address that no system has, writes all it has for Beta.
-sed -e 's,^AKA 1:10/2,AKA 1:10/30000,; s,^\(AREA.*\) 1:10/2 ,\1 1:10/30000 ,; s,^EXPORT.*,EXPORT 1:10/2,' \
-  -e 's,^\(NETMAIL.*\) 1:10/2 ,\1 1:10/30000 ,; s,^NODE 1:10/1,NODE 1:10/2,; /^NODE 1:10\/3/d' \
-  -e "s,^PACKETDIR.*,PACKETDIR \"$work/moved/rescanned\"," -e '/^BEFORETOSS/d' two/prefs > moved/prefs
-for area in $areas; do
-  sleep 1.1
-  crashmail SETTINGS "$work/moved/prefs" RESCAN "$area" RESCANNODE 1:10/2 > /dev/null
+mkdir -p moved/{base,inbound,packets,old}
+move=$here/../examples/move
+"$move/links-from" crashmail 1:10/2 two/prefs > moved/real
+same "its link file" "$(sed '/^NAME/d; s/ $//' two/links)" "$(cat moved/real)"
+# It is taken in under a link file that has an address of nobody as the only link, so that nothing goes on.
+sed 's,^\(AREA [^ ]*\).*,\1 1:10/30000,' moved/real > moved/links
+"$move/links-from" --bases crashmail 1:10/2 two/prefs | while read -r tag kind path; do
+  "$move/$kind-to-packets" 1:10/30000 1:10/2 "$tag" "$path" 2> moved/told > "moved/old/$tag.pkt"
 done
-# It is taken in under a link file that has that address as the only link, so that nothing goes on.
-{
-  grep -E '^(SYSTEM|NAME)' two/links
-  for area in $areas; do echo "AREA $area 1:10/30000"; done
-} > moved/links
-"$program" toss moved/links moved/base moved/rescanned/*.pkt > moved/tossed.txt
+"$program" toss moved/links moved/base moved/old/*.pkt > moved/tossed.txt
 same "a scan of it sends nothing" 0 "$("$program" scan --at 2026-07-07T00:00:00 moved/links moved/base moved/packets; echo $?)"
-cp two/links moved/links
+cp moved/real moved/links
 messages_of two | cut -d '|' -f 1-8 | sort -u > crashmail.txt
 messages_of moved | cut -d '|' -f 1-8 | sort > moved.txt
 same "Beta has what it had" 0 "$(diff crashmail.txt moved.txt; echo $?)"
