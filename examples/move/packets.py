@@ -15,9 +15,10 @@ def end(status, line):
 
 def address_of(word):
     """Zone, net and node of a word."""
-    if not re.fullmatch(r"[0-9]{1,5}:[0-9]{1,5}/[0-9]{1,5}", word):
+    numbers = [int(number) for number in re.split("[:/]", word)] if re.fullmatch("[0-9]+:[0-9]+/[0-9]+", word) else [65536]
+    if max(numbers) > 32767:
         end(4, "bad address %s, expected zone:net/node" % ascii(word))
-    return [int(number) for number in re.split("[:/]", word)]
+    return numbers
 
 
 class Packet:
