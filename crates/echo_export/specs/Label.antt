@@ -33,10 +33,6 @@ abbrev pub charset_for : Option (List ℕ) → Option Charset
 charset_for None = Some Cp437
 charset_for (Some label) = named (name_in label)
 
--- the charset of a message
-abbrev pub charset_of : List (List ℕ) → Option Charset
-charset_of kept = charset_for (label_of kept)
-
 -- bytes as text; where the charset is another one each byte is the character of its number
 abbrev pub text_as : Option Charset → List ℕ → List ℕ
 text_as charset bytes = decoded_text (unwrap_or charset Latin1) bytes

@@ -44,10 +44,24 @@ fn object_of(alloc: Global, i: usize, state: State, message: &Filed) -> Result<V
     ensures { IfOk result (λ line. line.items ≡ print (message_object i state message.now)) }
 {
     let mut writer = Writer::new(Vec::new(alloc));
-    writer.begin_object()?;
-    write_members(&mut writer, alloc, label_in(message), i, state, message)?;
-    writer.end_object()?;
+    write_object(&mut writer, alloc, i, state, message)?;
     Ok(writer.into_inner())
+}
+
+// Writes it.
+fn write_object(
+    writer: &mut Writer,
+    alloc: Global,
+    i: usize,
+    state: State,
+    message: &Filed,
+) -> Result<(), AllocError>
+    ensures tokens { OnOk result (writer.new.tokens ≡ writer.old.tokens ++ message_object i state message.now) }
+    ensures before { OnOk result (writer.new.before ≡ writer.old.before) }
+{
+    writer.begin_object()?;
+    write_members(writer, alloc, label_in(message), i, state, message)?;
+    writer.end_object()
 }
 
 // Writes all members of the message.

@@ -2,7 +2,7 @@
 
 use crate::commands::command;
 use clap::error::ErrorKind;
-use clap::{ArgMatches, Error};
+use clap::{ArgMatches, Command, Error};
 use std::alloc::{AllocError, Global};
 
 /// What the command line asks for. Paths are as given, `-` among them.
@@ -382,34 +382,20 @@ const LINKS_TWICE: &str = "the argument '--links-from <FILE>' cannot be used wit
 
 // With `check --all` a list of link files is given, and link files too: the first of them stands where else
 // the tag does, so the parser takes both.
-fn names_links_twice(matches: &ArgMatches<'_>) -> bool {
-    match matches.subcommand() {
-        Some(("check", given)) => {
-            let list = given.get_str("links-from");
-            given.get_flag("all") && list.is_some() && given.get_str("TAG").is_some()
-        }
-        _ => false,
-    }
+fn names_links_twice(given: &ArgMatches<'_>) -> bool {
+    let list = given.get_str("links-from").is_some();
+    let tag = given.get_str("TAG").is_some();
+    list && tag && given.get_flag("all")
 }
 
-// What the words of a command ask for that looks at packets, lists and nets.
-fn looking_words<'a>(
+fn links_words<'a>(
     alloc: Global,
-    command: &str,
-    given: &ArgMatches<'a>,
+    matches: &ArgMatches<'a>,
 ) -> Result<Option<Words<'a>>, AllocError> {
-    Ok(match command {
-        "show" => show_words(given),
-        "nodelist" => nodelist_words(given),
-        "links" => Some(Words::Links {
-            areas: given.get_flag("areas"),
-            links: links(alloc, given)?,
-        }),
-        "check" => check_words(alloc, given)?,
-        "why" => why_words(given, links(alloc, given)?),
-        "picture" => picture_words(given, links(alloc, given)?),
-        _ => None,
-    })
+    Ok(Some(Words::Links {
+        areas: matches.get_flag("areas"),
+        links: links(alloc, matches)?,
+    }))
 }
 
 // What the words of `post` ask for.
@@ -423,8 +409,26 @@ fn posting_words<'a>(given: &ArgMatches<'a>) -> Option<Words<'a>> {
     }
 }
 
-// What the words of a command ask for that changes a base.
-fn changing_words<'a>(
+// What the words of a command ask for.
+fn words_of<'a>(
+    alloc: Global,
+    command: &str,
+    given: &ArgMatches<'a>,
+) -> Result<Option<Words<'a>>, AllocError> {
+    match command {
+        "show" => Ok(show_words(given)),
+        "nodelist" => Ok(nodelist_words(given)),
+        "links" => links_words(alloc, given),
+        "check" => check_words(alloc, given),
+        "why" => Ok(why_words(given, links(alloc, given)?)),
+        "picture" => Ok(picture_words(given, links(alloc, given)?)),
+        "replay" => Ok(replay_words(given, links(alloc, given)?)),
+        _ => base_words(alloc, command, given),
+    }
+}
+
+// The same of a command on a base.
+fn base_words<'a>(
     alloc: Global,
     command: &str,
     given: &ArgMatches<'a>,
@@ -435,47 +439,41 @@ fn changing_words<'a>(
         "toss" => toss_words(given, paths_in(alloc, given, "PACKET", "packets-from")?),
         "scan" => scan_words(given),
         "purge" => purge_words(given),
-        _ => None,
-    })
-}
-
-// What the words of a command ask for that reads a base, or none.
-fn reading_words<'a>(
-    alloc: Global,
-    command: &str,
-    given: &ArgMatches<'a>,
-) -> Result<Option<Words<'a>>, AllocError> {
-    Ok(match command {
         "list" => list_words(given),
         "export" => export_words(given),
         "convert" => convert_words(given),
-        "replay" => replay_words(given, links(alloc, given)?),
         _ => None,
     })
-}
-
-fn words_of<'a>(alloc: Global, matches: &ArgMatches<'a>) -> Result<Option<Words<'a>>, AllocError> {
-    let Some((command, given)) = matches.subcommand() else {
-        return Ok(None);
-    };
-    let looking = looking_words(alloc, command, given)?;
-    if looking.is_some() {
-        return Ok(looking);
-    }
-    let changing = changing_words(alloc, command, given)?;
-    if changing.is_some() {
-        return Ok(changing);
-    }
-    reading_words(alloc, command, given)
 }
 
 /// What the words ask for, or why they were refused; help that was asked for is such an error too.
 /// `None` is a command that the program does not have.
 pub fn parse<'a>(alloc: Global, words: &'a [String]) -> Result<Option<Words<'a>>, Error> {
     let mut program = command(alloc)?;
+    parse_by(alloc, &mut program, words)
+}
+
+// The same by this command line.
+fn parse_by<'a>(
+    alloc: Global,
+    program: &mut Command<'a>,
+    words: &'a [String],
+) -> Result<Option<Words<'a>>, Error> {
     let matches = program.try_get_matches_from_mut(words)?;
-    if names_links_twice(&matches) {
+    matched(alloc, program, &matches)
+}
+
+// What the words ask for that were found.
+fn matched<'a>(
+    alloc: Global,
+    program: &mut Command<'a>,
+    matches: &ArgMatches<'a>,
+) -> Result<Option<Words<'a>>, Error> {
+    let Some((command, given)) = matches.subcommand() else {
+        return Ok(None);
+    };
+    if command == "check" && names_links_twice(given) {
         return Err(program.error(ErrorKind::ArgumentConflict, LINKS_TWICE)?);
     }
-    Ok(words_of(alloc, &matches)?)
+    Ok(words_of(alloc, command, given)?)
 }
