@@ -10,14 +10,6 @@ pub at_error : {T E P : Type 0} (r : Result T E) → P → OnErr r P
 at_error (Ok x) p = tt
 at_error (Err e) p = p
 
--- lines of one kind, and then of another
-pub then_lines : (P Q R : List ℕ → Type 0) (old mid new : List ℕ) → ((a b : List ℕ) → P a → Q b → R (a ++ b)) → Pushes P old mid → Pushes Q mid new → Pushes R old new
-then_lines P Q R old mid new join first second = record {
-  lines = first.lines ++ second.lines;
-  are = join first.lines second.lines first.are second.are;
-  whole = second.whole ∙ ap (λ t. t ++ second.lines) first.whole ∙ append_assoc old first.lines second.lines;
-}
-
 -- lines that were made by themselves were added
 pub added_behind : (none line more behind all : List ℕ) → none ≡ [] → more ≡ none ++ line → all ≡ behind ++ more → all ≡ behind ++ line
 added_behind none line more behind all nothing made is = is ∙ ap (λ t. behind ++ t) (alone none more line nothing made)
