@@ -1,13 +1,13 @@
 -- What `show` answers, from what its parts do.
-use Rattle.std.proofs.Common.{◌≡◌, ℕ, Bool, true, List, [], Option, Result, Ok, Err, refl, sym, subst, ◌∙◌, inl, inr}
+use Rattle.std.proofs.Common.{◌≡◌, ℕ, List, [], Option, Result, Ok, Err, sym, subst, ◌∙◌, inl, inr}
 use Rattle.std.specs.Io.KnownBytes.{Appends}
 use Rattle.echo_status.specs.declared.fault.Fault.{Fault}
 use Rattle.echo_status.specs.declared.status.Status.{Status}
 use Rattle.echo_status.specs.Devices.{Output}
-use Rattle.echo_status.specs.Ended.{CannotPrint, PassesAll, IsOutOfMemory}
+use Rattle.echo_status.specs.Ended.{CannotPrint, PassesAll}
 use Rattle.echo_status.specs.Lines.{WritesFront}
 use Rattle.echo_status.proofs.Lines.{begun_after, begun_kept, nothing_begun, sent_after}
-use Rattle.echo_reading.specs.Showing.{AllShown, DecodeAnswers, FirstShown, IsCutShort, PacketAnswers, PacketPasses, ShowAnswers, ShownBefore, SomeShown}
+use Rattle.echo_reading.specs.Showing.{AllShown, FirstShown, IsCutShort, PacketAnswers, PacketPasses, ShownBefore, SomeShown}
 use Rattle.echo_reading.specs.Written.{AddsLines, BeginsLines, WritesLines}
 use Rattle.echo_reading.proofs.Stopping.{passes_le, print_later}
 
@@ -68,9 +68,3 @@ not_shown bytes none rest old mid new answer fault nothing so begun failed =
       print_later fault old.failures mid.failures new.failures (passes_le bytes [] rest old mid answer empty) failed,
       begun_out bytes rest old mid new answer empty begun,
     )
-
--- the digits were not decoded
-pub undecoded : (hex : Bool) (input : List ℕ) (old : Output) (fault : Fault) → hex ≡ true → DecodeAnswers input (Err fault)
-    → ShowAnswers hex input old old (Err fault)
-undecoded hex input old fault asked (inl none) = inl (inl (subst IsOutOfMemory (sym none) tt), refl)
-undecoded hex input old fault asked (inr bad) = inl (inr (record { is = bad.0; asked = asked; undecoded = bad.1 }), refl)

@@ -1,11 +1,8 @@
 -- What a text says is printed.
-use Rattle.std.proofs.Common.{◌≡◌, ◌≢◌, ℕ, Bool, true, false, not, if◌then◌else◌, List, ◌++◌, Some, None, Err, refl, sym, ap, subst, ◌∙◌, append_assoc, inl, inr}
+use Rattle.std.proofs.Common.{◌≡◌, ℕ, List, ◌++◌, None, refl, sym, ap, subst, ◌∙◌, append_assoc}
 use Rattle.echo_packet.specs.Message.{IsMessage, Message}
-use Rattle.echo_text.specs.declared.fault.TextFault.{TextFault}
-use Rattle.echo_text.specs.declared.fault.TextFault.TheVariants.{BadMsgId, BadTag, Memory, NotEcho}
 use Rattle.echo_text.specs.Echo.{EchoOf, EchoText, HasNoZero}
-use Rattle.echo_text.specs.Lines.{area_tag, first_line, is_area, is_tag, lines}
-use Rattle.echo_text.specs.Refusal.{TextAnswers, text_refusal}
+use Rattle.echo_text.specs.Lines.{lines}
 use Rattle.echo_text.proofs.SaidAfter.{not_refused}
 use Rattle.echo_print.specs.Said.{LinesFor, TextShown, echo_lines}
 use Rattle.echo_print.specs.Shown.{MessageShown, message_lines}
@@ -29,21 +26,3 @@ message_shown number place m text old mid new is fields said = record {
   are = record { said = said.lines; text = subst (λ t. TextShown t said.lines) is said.are; whole = refl };
   whole = said.whole ∙ ap (λ t. t ++ said.lines) fields ∙ append_assoc old (message_lines number place m) said.lines;
 }
-
--- no AREA line tells of a bad id
-no_id : (a b : Bool) → (if a then Some NotEcho else if b then Some BadTag else None) ≡ Some BadMsgId → ⊥
-no_id true b is = absurd cc
-no_id false true is = absurd cc
-no_id false false is = absurd cc
-
-pub no_bad_id : (text : List ℕ) → text_refusal text ≡ Some BadMsgId → ⊥
-unfolding text_refusal
-no_bad_id text is = no_id (not (is_area (first_line (lines text)))) (not (is_tag (area_tag (first_line (lines text))))) is
-
--- a text is refused for other reasons only where there was no memory
-pub other_fault : (text : List ℕ) (f : TextFault) → TextAnswers text (Err f) → f ≢ NotEcho → f ≢ BadTag → f ≡ Memory
-other_fault text NotEcho answer a b = absurd (a refl)
-other_fault text BadTag answer a b = absurd (b refl)
-other_fault text Memory answer a b = refl
-other_fault text BadMsgId (inl is) a b = absurd (no_bad_id text is)
-other_fault text BadMsgId (inr memory) a b = memory.1

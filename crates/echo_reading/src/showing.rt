@@ -1,8 +1,11 @@
-ghost use Rattle.std.specs.Prelude.{◌≡◌, ◌++◌, OnErr, OnOk, IfErr};
+ghost use Rattle.std.specs.Prelude.{◌≡◌, ◌++◌, ◌<◌, ◌^◌, length, OnErr, OnOk, IfErr};
 ghost use Rattle.echo_status.specs.Devices.{output_of};
 ghost use Rattle.hex.specs.Hex.{decode_of};
+ghost use Rattle.echo_packet.specs.Header.{IsHeader, header_bytes};
+ghost use Rattle.echo_packet.specs.Reader.{IsReading, reader_given, reader_header, reader_limits, reader_place, reader_source};
 ghost use Rattle.echo_text.specs.Echo.{HasNoZero};
 ghost use Rattle.echo_status.specs.Ended.{IsOutOfMemory};
+ghost use Rattle.echo_status.specs.Limits.{show_limits};
 ghost use Rattle.echo_print.specs.Said.{TextShown};
 ghost use Rattle.echo_reading.specs.Showing.{DecodeAnswers, MessagePasses, PacketAnswers, PacketPasses, ShowAnswers, hex_text};
 ghost use Rattle.echo_print.specs.Shown.{MessageShown, end_line, header_lines};
@@ -71,6 +74,21 @@ fn show_packet<'a, W: Sink>(
     ensures { PacketPasses bytes.now lines.old.items lines.new.items (output_of W.contents W.failures W.holds out.old) (output_of W.contents W.failures W.holds out.new) result }
 {
     let mut reader = PacketReader::open(alloc, bytes, LIMITS)?;
+    show_opened(alloc, &mut reader, lines, out)
+}
+
+// The same of a packet whose header is read.
+fn show_opened<'a, W: Sink>(
+    alloc: Global,
+    reader: &mut PacketReader<&[u8]>,
+    lines: &mut Vec<u8>,
+    out: &mut W,
+) -> Result<Status, Fault<'a>>
+    requires header { IsHeader (reader_header reader.old) }
+    requires room { length (header_bytes (reader_header reader.old) ++ (reader_source reader.old).now) < 2 ^ 64 }
+    requires begins { IsReading reader.old × (reader_given reader.old ≡ 0) × (reader_place reader.old ≡ 58) × (reader_limits reader.old ≡ show_limits) }
+    ensures { PacketPasses (header_bytes (reader_header reader.old) ++ (reader_source reader.old).now) lines.old.items lines.new.items (output_of W.contents W.failures W.holds out.old) (output_of W.contents W.failures W.holds out.new) result }
+{
     add_header(alloc, lines, reader.header())?;
     let mut count = 0u64;
     let mut place = reader.place();
