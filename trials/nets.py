@@ -1,7 +1,7 @@
 """Tries `check` and `picture` on wide nets, tidy ones and such as hide their fault well: each at two sizes,
 of which one has twice the bytes of the other. The verdict is the one that the net was built for, each run
-takes at most 2.5 times the processor time at twice the bytes. Where one system has a file without the area, `why`
-takes at most five times what `check` takes. Word: how many systems the greater ones have (20,000).
+takes at most 2.5 times the processor time at twice the bytes. Word: how many systems the greater ones
+have (20,000).
 """
 import math
 import os
@@ -90,11 +90,6 @@ def one_sided(count):
     return links
 
 
-def bare(make):
-    """The same net, but that its last system has a file without the area."""
-    return lambda count: make(count)[:-1] + [None]
-
-
 # The name, the links, and the beginning of the verdict.
 NETS = [
     ("chain", chain, "yes TEST"), ("star", star, "yes TEST"), ("tree", tree, "yes TEST"), ("ring", ring, "no TEST V8"),
@@ -103,8 +98,6 @@ NETS = [
     ("polygon, broken", lambda count: polygon(count, True), "no TEST V8"), ("one-sided", one_sided, "no TEST V5"),
     ("hubs", hubs, "yes TEST"), ("hubs, ring behind", lambda count: hubs(count, True), "no TEST V8"),
     ("no links", lambda count: [[] for _ in range(count)], "no TEST V7")]
-BARE = [("star, bare leaf", bare(star), "no TEST V4"), ("chain, bare end", bare(chain), "no TEST V4"),
-        ("tree, bare leaf", bare(tree), "no TEST V4")]
 
 
 def write_net(folder, links):
@@ -113,8 +106,7 @@ def write_net(folder, links):
     os.makedirs(folder)
     names, size = [], 0
     for number, others in enumerate(links):
-        areas = [] if others is None else [("TEST", [address(other) for other in sorted(others)])]
-        content = making.link_file(address(number), areas)
+        content = making.link_file(address(number), [("TEST", [address(other) for other in sorted(others)])])
         names.append("%d" % number)
         size += len(content)
         with open(os.path.join(folder, names[-1]), "wb") as file:
@@ -145,8 +137,6 @@ def try_net(row, command, count, folder):
     wrong = [] if status == (0 if verdict.startswith("yes") else 1) and fault.startswith("0 lines") else ["not in order"]
     if command == "check" and not said.startswith(verdict):
         wrong.append("another verdict")
-    if command == "why" and seconds > LEAST_SECONDS + 5 * measure(make, count, "check", folder)[1][1]:
-        wrong.append("more than five times what check takes")
     ratio = 0.0
     if seconds > LEAST_SECONDS:
         half, shorter = timed(count // 2)
@@ -166,7 +156,6 @@ def main(words):
     folder = tempfile.mkdtemp(prefix="echonet-trials.", dir="/dev/shm" if os.path.isdir("/dev/shm") else None)
     try:
         held = [try_net(row, command, count, os.path.join(folder, "net")) for row in NETS for command in ("check", "picture")]
-        held += [try_net(row, command, count, os.path.join(folder, "net")) for row in BARE for command in ("check", "why")]
     finally:
         shutil.rmtree(folder)
     print("nets: %d passed, %d failed" % (held.count(True), held.count(False)))
