@@ -1,9 +1,9 @@
 //! The link file alone, and other files that are locked.
-ghost use Rattle.std.specs.Prelude.{◌≡◌, ◌≤◌, IfErr, IfOk, OnOk, Some, None};
+ghost use Rattle.std.specs.Prelude.{◌≡◌, ◌≤◌, length, IfErr, IfOk, OnOk, Some, None};
 ghost use Rattle.echo_device.specs.Device.{Failed};
 ghost use Rattle.echo_disk.specs.Disk.{Honestly};
 ghost use Rattle.echo_disk.specs.Runs.{ChangesNothing};
-ghost use Rattle.echo_station_files.specs.Faults.{FailsAt, HaveFailed, LinksUnread};
+ghost use Rattle.echo_station_files.specs.Faults.{FailsAt, HaveFailed, LinksUnread, most_links};
 ghost use Rattle.echo_station_files.specs.Links.{AreLinks, NoLinks};
 
 use crate::locked::FileLock;
@@ -35,6 +35,7 @@ pub fn lock_links<'a, D: Disk, L: FileLock>(
 ) -> Result<Vec<u8>, Fault<'a>>
     requires { L.held lock.old ≡ None }
     ensures locked { OnOk result (L.held lock.new ≡ Some path.now) }
+    ensures bound { Honestly (D.state disk.new) (IfOk result (λ bytes. length bytes.items ≤ most_links)) }
     ensures bytes { Honestly (D.state disk.new) (IfOk result (λ bytes. (D.state disk.old).seen path.now ≡ Some bytes.items)) }
     ensures quiet { ChangesNothing (D.state disk.old) (D.state disk.new) }
     ensures err { Honestly (D.state disk.new) (IfErr result (LinksUnread (D.state disk.old) path.now (HaveFailed (D.failures disk.old) (D.failures disk.new) (L.failures lock.old) (L.failures lock.new)))) }

@@ -4,7 +4,8 @@ ghost use Rattle.echo_disk.specs.Runs.{HasCause};
 
 use echo_disk::DiskError;
 
-/// The lock of one file. Others that want it wait until the value is let go: no call does that before.
+/// The lock of one file. Others that want it wait until the value is let go: no call does that before. Whoever makes a base file
+/// where there is none holds the lock of a link file, so the lock of that base file is held without it.
 pub trait FileLock {
     // The path of the file whose lock is held, where one is.
     ghost held: { Self → Option (List ℕ) };

@@ -1,9 +1,9 @@
 //! The link file of a station is read.
-ghost use Rattle.std.specs.Prelude.{◌≡◌, ◌≤◌, IfErr, IfOk, OnOk, IsSome, Some, None};
+ghost use Rattle.std.specs.Prelude.{◌≡◌, ◌≤◌, length, IfErr, IfOk, OnOk, IsSome, Some, None};
 ghost use Rattle.echo_device.specs.Device.{Failed};
-ghost use Rattle.echo_disk.specs.Disk.{Honestly};
+ghost use Rattle.echo_disk.specs.Disk.{Honestly, bytes_in};
 ghost use Rattle.echo_disk.specs.Runs.{ChangesNothing, HasCause};
-ghost use Rattle.echo_station_files.specs.Faults.{HasSize, IsFaultAt, LinksUnread};
+ghost use Rattle.echo_station_files.specs.Faults.{HasSize, IsFaultAt, LinksUnread, most_links};
 
 use crate::locked::FileLock;
 use echo_disk::{Disk, DiskError, read_file};
@@ -38,6 +38,7 @@ fn size_of<D: Disk>(disk: &mut D, path: &[u8]) -> Result<Option<usize>, DiskErro
 // A fault, unless there is a link file with this path and it is no larger than it may be.
 fn check_links<'a, D: Disk>(disk: &mut D, path: &'a str) -> Result<(), Fault<'a>>
     ensures there { Honestly (D.state disk.new) (OnOk result (IsSome ((D.state disk.old).seen path.now))) }
+    ensures bound { Honestly (D.state disk.new) (OnOk result (length (bytes_in ((D.state disk.old).seen path.now)) ≤ most_links)) }
     ensures quiet { ChangesNothing (D.state disk.old) (D.state disk.new) }
     ensures err { Honestly (D.state disk.new) (IfErr result (LinksUnread (D.state disk.old) path.now (Failed (D.failures disk.old) (D.failures disk.new)))) }
     ensures later { D.failures disk.old ≤ D.failures disk.new }
@@ -63,6 +64,7 @@ pub(crate) fn read_links<'a, D: Disk, L: FileLock>(
     path: &'a str,
 ) -> Result<Vec<u8>, Fault<'a>>
     requires { L.held _lock.now ≡ Some path.now }
+    ensures bound { Honestly (D.state disk.new) (IfOk result (λ bytes. length bytes.items ≤ most_links)) }
     ensures bytes { Honestly (D.state disk.new) (IfOk result (λ bytes. (D.state disk.old).seen path.now ≡ Some bytes.items)) }
     ensures quiet { ChangesNothing (D.state disk.old) (D.state disk.new) }
     ensures err { Honestly (D.state disk.new) (IfErr result (LinksUnread (D.state disk.old) path.now (Failed (D.failures disk.old) (D.failures disk.new)))) }

@@ -1,7 +1,6 @@
 use Rattle.std.proofs.Common.{◌∙◌, ap, length, subst, sym}
 use Rattle.std.specs.Prelude.{IsSome}
 use Rattle.echo_disk.specs.Disk.{bytes_in}
-use Rattle.echo_placing.proofs.Whole.{not_there}
 use Rattle.echo_station_files.proofs.Sizes.{no_size, size_there}
 use Rattle.echo_station_files.proofs.reading.size_of.Goals as goal
 
@@ -11,7 +10,7 @@ len-requires g c honest = subst (λ f. IsSome f) (sym (c.exists.ensures.quiet.se
 pub returns-then-not-branch-clause-size : goal.returns-then-not-branch-clause-size
 returns-then-not-branch-clause-size g c honest =
     let file = (g.D.Disk.state c.args.disk.now).seen c.args.path.now in
-    no_size file (not_there file _ (c.in_ok-exists.ensures.found honest) c.if-not-branch.true)
+    no_size file _ (c.in_ok-exists.ensures.found honest) c.if-not-branch.true
 
 pub returns-clause-size : goal.returns-clause-size
 returns-clause-size g c honest =
