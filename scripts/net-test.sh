@@ -387,26 +387,68 @@ same "OUTBOUND and PACKETS" "^$place/six/sent/$(ls six/sent)" "$(cat six/outb/$t
 same "no other folders" "base inb last-name links log outb scan.lock scanned sent settings toss.lock tossing" \
   "$(LC_ALL=C ls six | grep -v '^bad$' | xargs)"
 
-# An editor replaces the link file while a posting waits for its lock: the posting takes the lock of the new one.
-mkdir seven
-if [ "$kind" = folders ]; then mkdir seven/base; fi
-cp one/links seven/links
-exec 7< seven/links
+# Posts a message with this subject at a link file and a base.
+post_at() { echo "$1" | "$program" post --area TEST --to All --from Ann --subject "$1" --serial auto --at now "$2" "$3"; }
+
+# How many messages a base has.
+end_of() { "$program" list "$1" | tail -n 1; }
+
+# An editor replaces the link file while a posting waits for its lock, and another run the base: the posting takes the lock
+# of the new one.
+for locked in links base; do
+  mkdir seven
+  if [ "$kind" = folders ]; then mkdir seven/base; fi
+  cp one/links seven/links
+  post_at First seven/links seven/base > posted.txt
+  exec 7< seven/$locked
+  flock 7
+  post_at Late seven/links seven/base > posted.txt 7<&- &
+  waiting=$!
+  sleep 0.3
+  cp -r seven/$locked seven/new
+  exec 8< seven/new
+  flock 8
+  mv seven/$locked seven/old
+  mv seven/new seven/$locked
+  exec 7<&-
+  sleep 0.3
+  same "a posting waits for the new $locked" "" "$(cat posted.txt)"
+  exec 8<&-
+  wait $waiting
+  same "and then it posts" "end 2 messages, 2 waiting" "$(end_of seven/base)"
+  rm -r seven
+done
+
+# A base is converted under the lock of its link file while a posting waits for that: it goes to what is there then.
+mkdir eight
+cp one/links eight/links
+if [ "$kind" = folders ]; then mkdir eight/base; else mkdir eight/new; fi
+post_at First eight/links eight/base > posted.txt
+exec 7< eight/links
 flock 7
-echo Late | "$program" post --area TEST --to All --from Ann --subject Late --serial auto --at now seven/links seven/base \
-  > posted.txt 7<&- &
+post_at Late eight/links eight/base > posted.txt 7<&- &
 waiting=$!
 sleep 0.3
-cp one/links seven/links.new
-exec 8< seven/links.new
-flock 8
-mv seven/links.new seven/links
+"$program" convert eight/base eight/new > converted.txt
+mv eight/base eight/old
+mv eight/new eight/base
 exec 7<&-
-sleep 0.3
-same "a posting waits for the new link file" "" "$(cat posted.txt)"
-exec 8<&-
-wait $waiting
-same "and then it posts" "end 1 messages, 1 waiting" "$("$program" list seven/base | tail -n 1)"
+status=0
+wait $waiting || status=$?
+same "a posting that waits while its base is converted" "0 end 2 messages, 2 waiting" "$status $(end_of eight/base)"
+
+# Two link files name one base: runs at the same moment wait for each other.
+mkdir nine
+cp one/links nine/links
+cp one/links nine/other
+if [ "$kind" = folders ]; then mkdir nine/base; fi
+post_at First nine/links nine/base > posted.txt
+for _ in $(seq 20); do
+  post_at Here nine/links nine/base > posted.txt &
+  post_at There nine/other nine/base > posted.txt &
+done
+wait
+same "postings with two link files" "end 41 messages, 41 waiting" "$(end_of nine/base)"
 
 echo "$passed checks passed, $failed failed"
 [ $failed -eq 0 ]

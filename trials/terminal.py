@@ -135,6 +135,7 @@ def locks(trial):
     try_lock(trial, "toss", ["toss", "links", "base", "one.pkt"], b"links")
     try_lock(trial, "scan", ["scan", *stamp, "links", "base", "out"], b"links")
     try_lock(trial, "purge", ["purge", "links", "base"], b"links")
+    try_lock(trial, "purge", ["purge", "links", "base"], b"base")
     try_lock(trial, "export --msg", ["export", "--msg", "read", "--area", "TEST", "base"], b"read")
     os.rename("links", "a\x1b[2Jlinks")
     held = locked("a\x1b[2Jlinks")

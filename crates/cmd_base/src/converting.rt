@@ -1,13 +1,15 @@
 //! `convert`: the base file or the base folder of the messages that another base has.
 
 use crate::folders::{base_bytes, fill_folder, is_empty, is_folder};
-use crate::front::BASE_START;
 use cmd_input::{locked_folder, output_fault};
 use echo_base::{Base, BaseFault};
 use echo_device::{Sink, Watched};
 use echo_files::{NewFile, create_file, flush_folder};
 use echo_status::{Fault, Status, print_rest};
 use std::collections::hash_map::RandomState;
+
+/// The bytes that show that a file is a base.
+pub const BASE_START: &[u8] = b"ECHOBAS";
 
 /// What stands in the name of the file beside a base that is made, where else the address of a system does.
 const OWN: &str = "base";

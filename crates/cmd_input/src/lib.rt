@@ -21,8 +21,8 @@ pub use inputs::{
     MAX_INPUT, MAX_TEXT_FILE, input_fault, output_fault, read_file, read_given, read_if_given,
     read_link_file, read_links, read_script, read_standard_input,
 };
-pub use locks::{LinkLock, folder_fault, lock_file, locked_folder};
+pub use locks::{BaseLock, LinkLock, folder_fault, lock_file, locked_folder};
 pub use moment::stamp_at;
 pub use packets::{PacketInput, PacketPaths, Tossing};
 pub use paths::{PathName, PathNames, folder_path, names_of};
-pub use progress::{Cleared, Progress};
+pub use progress::{Cleared, Messages, Progress};

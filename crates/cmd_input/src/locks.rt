@@ -1,5 +1,7 @@
 //! Locks of files and of folders, and the line that says that one is waited for.
-ghost use Rattle.std.specs.Prelude.{◌≡◌, None};
+ghost use Rattle.std.specs.Prelude.{◌≡◌, ◌≤◌, None};
+ghost use Rattle.echo_device.specs.Device.{Failed};
+ghost use Rattle.echo_disk.specs.declared.disk_error.DiskError.TheVariants.{Device};
 
 use echo_addr::Items;
 use echo_device::Watched;
@@ -8,7 +10,7 @@ use echo_escape::push_word;
 use echo_station_files::FileLock;
 use echo_status::{Fault, print_rest};
 use std::alloc::AllocError;
-use std::fs::{File, TryLockError};
+use std::fs::{File, Metadata, TryLockError};
 use std::io::{ErrorKind, IsTerminal};
 use std::os::unix::fs::MetadataExt;
 use std::{fs, io, str};
@@ -20,22 +22,36 @@ const MOST_TRIES: u32 = 1_000;
 #[derive(Drop)]
 pub struct LinkLock<'r> {
     rt: &'r HostRuntime,
-    locked: Option<File>,
+    file: Option<File>,
     path: Option<Items<u8>>,
     failures: u64,
 }
 
 impl<'r> LinkLock<'r> {
-    /// No lock is held as yet.
-    pub fn new(rt: &'r HostRuntime) -> LinkLock<'r>
+    /// No lock is asked for as yet. The file with this path is locked already, where it can be, so that others change nothing
+    /// of its station from now on.
+    pub fn ahead(rt: &'r HostRuntime, path: &str) -> LinkLock<'r>
         ensures { result.path ≡ None }
     {
         LinkLock {
             rt,
-            locked: None,
+            file: locked_at(rt, path).ok(),
             path: None,
             failures: 0,
         }
+    }
+
+    // The file with this path, which is locked: that which is locked already, where it has the path still.
+    fn locked(&mut self, path: &str) -> io::Result<File>
+        ensures path { self.new.path ≡ self.old.path }
+        ensures failures { self.new.failures ≡ self.old.failures }
+    {
+        if let Some(file) = self.file.take() {
+            if let Ok(true) = has_path(self.rt, &file, path) {
+                return Ok(file);
+            }
+        }
+        locked_at(self.rt, path)
     }
 }
 
@@ -46,48 +62,121 @@ impl FileLock for LinkLock<'_> {
 
     fn lock(&mut self, path: &[u8]) -> Result<(), DiskError> {
         let kept = Items::new(Vec::from_slice(self.rt.alloc(), path)?);
-        match locked_at(self.rt, path) {
+        match self.locked(text_of(path)) {
             Ok(file) => {
-                self.locked = Some(file);
+                self.file = Some(file);
                 self.path = Some(kept);
                 Ok(())
             }
-            Err(DiskError::Memory) => Err(DiskError::Memory),
-            Err(DiskError::Device) => {
-                self.failures = self.failures.saturating_add(1);
-                Err(DiskError::Device)
-            }
+            Err(error) => Err(counted(&mut self.failures, &error)),
         }
     }
 }
 
-// The file with this path, open and locked. Where another file got that name while this run waited, that one is locked.
-fn locked_at(rt: &HostRuntime, path: &[u8]) -> Result<File, DiskError> {
-    let Ok(path) = str::from_utf8(path) else {
-        return Err(DiskError::Device);
-    };
+/// The lock of the base of a station, which is held until this value goes. The lock of the link file stands for it where
+/// nothing is there that can be locked, or the link file itself is.
+#[derive(Drop)]
+pub struct BaseLock<'r> {
+    rt: &'r HostRuntime,
+    links: &'r str,
+    file: Option<File>,
+    path: Option<Items<u8>>,
+    failures: u64,
+}
+
+impl<'r> BaseLock<'r> {
+    /// No lock is held as yet. The station has the link file with this path.
+    pub fn new(rt: &'r HostRuntime, links: &'r str) -> BaseLock<'r>
+        ensures { result.path ≡ None }
+    {
+        BaseLock {
+            rt,
+            links,
+            file: None,
+            path: None,
+            failures: 0,
+        }
+    }
+}
+
+impl FileLock for BaseLock<'_> {
+    ghost held = { λ lock. lock.path };
+
+    ghost failures = { λ lock. lock.failures };
+
+    fn lock(&mut self, path: &[u8]) -> Result<(), DiskError> {
+        let kept = Items::new(Vec::from_slice(self.rt.alloc(), path)?);
+        match locked_base(self.rt, self.links, text_of(path)) {
+            Ok(file) => {
+                self.file = file;
+                self.path = Some(kept);
+                Ok(())
+            }
+            Err(error) => Err(counted(&mut self.failures, &error)),
+        }
+    }
+}
+
+// A path as text. Nothing is at the empty path.
+fn text_of(path: &[u8]) -> &str {
+    str::from_utf8(path).unwrap_or("")
+}
+
+// What the error is to a disk. Where the device failed that is counted.
+fn counted(failures: &mut u64, error: &io::Error) -> DiskError
+    ensures later { failures.old ≤ failures.new }
+    ensures failed { result ≡ Device → Failed failures.old failures.new }
+{
+    match error.kind() {
+        ErrorKind::OutOfMemory => DiskError::Memory,
+        _ => {
+            *failures = failures.saturating_add(1);
+            DiskError::Device
+        }
+    }
+}
+
+// The file with this path, open and locked. Where another file got that path while this run waited, that one is locked.
+fn locked_at(rt: &HostRuntime, path: &str) -> io::Result<File> {
     'tries: for _ in 0..MOST_TRIES {
-        let file = fs::open(rt, path).map_err(|error| cause_of(&error))?;
-        lock_file(rt, &file, path).map_err(|_| DiskError::Device)?;
-        if has_path(rt, &file, path).map_err(|error| cause_of(&error))? {
+        let file = fs::open(rt, path)?;
+        lock_file(rt, &file, path)?;
+        if has_path(rt, &file, path)? {
             return Ok(file);
         }
     }
-    Err(DiskError::Device)
+    Err(ErrorKind::Other.into())
 }
 
 // Whether the path leads to this open file.
 fn has_path(rt: &HostRuntime, file: &File, path: &str) -> io::Result<bool> {
-    let locked = file.metadata()?;
-    let named = fs::metadata(rt, path)?;
-    Ok((locked.dev(), locked.ino()) == (named.dev(), named.ino()))
+    Ok(are_same(&file.metadata()?, &fs::metadata(rt, path)?))
 }
 
-fn cause_of(error: &io::Error) -> DiskError {
-    match error.kind() {
-        ErrorKind::OutOfMemory => DiskError::Memory,
-        _ => DiskError::Device,
+fn are_same(one: &Metadata, other: &Metadata) -> bool {
+    (one.dev(), one.ino()) == (other.dev(), other.ino())
+}
+
+// The base with this path, open and locked, where it has a lock of its own.
+fn locked_base(rt: &HostRuntime, links: &str, path: &str) -> io::Result<Option<File>> {
+    match locked_if_own(rt, links, path) {
+        Err(error) if error.kind() == ErrorKind::NotFound => Ok(None),
+        answer => answer,
     }
+}
+
+// The same of one that is there. To open a pipe would wait for whoever writes to it.
+fn locked_if_own(rt: &HostRuntime, links: &str, path: &str) -> io::Result<Option<File>> {
+    let found = fs::metadata(rt, path)?;
+    let is_lockable = found.is_file() || found.is_dir();
+    let is_links = match fs::metadata(rt, links) {
+        Ok(links) => are_same(&found, &links),
+        Err(_) => false,
+    };
+    if !is_lockable || is_links {
+        return Ok(None);
+    }
+    Ok(Some(locked_at(rt, path)?))
 }
 
 /// Takes the lock of an open file with this path, once no other run holds it. Where one does, and standard error is

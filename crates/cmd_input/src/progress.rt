@@ -2,6 +2,7 @@
 //! began on, is written over in place, and goes before anything else is printed.
 
 use echo_device::Watched;
+use echo_station_files::Watching;
 use echo_status::print_rest;
 use std::alloc::AllocError;
 use std::cell::Cell;
@@ -121,6 +122,22 @@ fn push_over(bytes: &mut Vec<u8>, line: &str, shown: usize) -> Result<(), AllocE
     bytes.resize(width, b' ')?;
     bytes.push(b'\r')?;
     Ok(())
+}
+
+/// A terminal that is told at which message a command is, if one is to be told.
+#[derive(Clone, Copy, Drop)]
+pub struct Messages<'p, 'r> {
+    pub progress: Option<&'p Progress<'r>>,
+}
+
+impl Watching for Messages<'_, '_> {
+    fn tell(&self, place: usize, messages: usize) {
+        if let Some(progress) = self.progress {
+            if progress.is_due() {
+                progress.tell_message((place as u64).saturating_add(1), messages as u64);
+            }
+        }
+    }
 }
 
 /// How much so many of so many are, in hundredths.

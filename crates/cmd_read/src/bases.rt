@@ -1,6 +1,8 @@
 //! The commands that print what a base holds.
 
-use cmd_base::{Counting, base_bytes, is_folder, list_folder, messages_in};
+use crate::files::told_bytes;
+use crate::listing::list_folder;
+use cmd_base::{base_bytes, is_folder};
 use cmd_input::Progress;
 use echo_base::BaseFault;
 use echo_device::Sink;
@@ -28,9 +30,8 @@ pub fn run_list<'a, W: Sink>(
     if is_folder(rt, base) {
         return list_folder(rt, area, first, base, progress, out);
     }
-    let keys = RandomState::new(rt).map_err(|_| Fault::Base(BaseFault::Read))?;
-    let bytes = base_bytes(rt, base)?;
-    let hasher = Counting::new(keys, Some(progress), messages_in(&bytes));
+    let hasher = RandomState::new(rt).map_err(|_| Fault::Base(BaseFault::Read))?;
+    let bytes = told_bytes(rt, base, progress)?;
     list(rt.alloc(), area, first, &bytes, hasher, out)
 }
 

@@ -4,11 +4,14 @@
 //! They are proved to be safe and to end, and no more. What they print is promised by the crates that they call.
 //!
 //! Modules in reading order: `printing` (what files hold: `show`, `nodelist`), `judging` (`links`, which goes on where a
-//! file cannot be used), `nets` (`check`, `why`, `picture`, `replay`) and `bases` (`list`, `export`).
+//! file cannot be used), `nets` (`check`, `why`, `picture`, `replay`), `files` (a base file that is read while a terminal is
+//! told how far that is), `listing` (`list` of a folder) and `bases` (`list`, `export`).
 #![tactic(auto)]
 
 mod bases;
+mod files;
 mod judging;
+mod listing;
 mod nets;
 mod printing;
 

@@ -1,20 +1,26 @@
 //! The commands that change the base of a system, as their words ask for them. They hold the lock of its link file from
 //! before it is read until their last file stands, and wait where another run holds it.
+ghost use Rattle.std.specs.Prelude.{◌≡◌, None};
+ghost use Rattle.station.specs.Opening.{AreFree};
 
-use crate::place::{Place, find_base, locked_links};
+use crate::place::{Place, Station, find_base, locks_of};
 use crate::posting::new_message;
 use crate::running::{Before, run_on};
-use cmd_input::{MAX_TEXT_FILE, moment_of, read_file, read_standard_input, serial_from};
+use cmd_input::{LinkLock, MAX_TEXT_FILE, moment_of, read_file, read_standard_input, serial_from};
 use echo_changing::{Answer, NewMessage};
 use echo_charset::Charset;
 use echo_device::Sink;
+use echo_disk::Disk;
 use echo_mailing::{LetterFault, MailWords, PostMail, Spare};
 use echo_numbered::refuse_message;
+use echo_real_disk::{RealDisk, Unknown};
+use echo_station_files::{FileLock, lock_links};
 use echo_status::{Fault, Status, number_of};
 use echo_steps::Stamp;
 use echo_store_changing::{Post, Purge, Reply};
 use echo_stored::{StoredFault, read_stored};
 use echo_words::{PostMailWords, PostStoredWords, PostWords, ReplyWords};
+use station::Locks;
 
 /// A command whose words and whose body were read.
 #[derive(Drop)]
@@ -34,25 +40,37 @@ fn change<W: Sink, E: Sink>(
     out: &mut W,
     errors: &mut E,
 ) -> Status {
-    let found = match find_base(rt, place) {
+    let mut locks = locks_of(rt, place);
+    let found = match find_base(rt, place, &mut locks) {
         Ok(found) => found,
         Err(fault) => return fault.report(errors),
     };
-    let at = found.at(rt, place);
+    match change_at(found.at(rt, place), &mut locks, asked, unread, out) {
+        Ok(()) => Status::Good,
+        Err(fault) => fault.report(errors),
+    }
+}
+
+// Runs it on a station whose base was found.
+fn change_at<'a, L: FileLock, K: FileLock, W: Sink>(
+    at: Station<'a>,
+    locks: &mut Locks<L, K>,
+    asked: &mut Asked<'_>,
+    unread: Option<Fault<'a>>,
+    out: &mut W,
+) -> Result<(), Fault<'a>>
+    requires { AreFree (L.held locks.old.links) (K.held locks.old.base) }
+{
     let before = Before {
         toss: None,
         progress: None,
         unread,
     };
-    let done = match asked {
-        Asked::Post(post) => run_on(at, before, post, out),
-        Asked::PostMail(post) => run_on(at, before, post, out),
-        Asked::Reply(reply) => run_on(at, before, reply, out),
-        Asked::Purge(purge) => run_on(at, before, purge, out),
-    };
-    match done {
-        Ok(()) => Status::Good,
-        Err(fault) => fault.report(errors),
+    match asked {
+        Asked::Post(post) => run_on(at, locks, before, post, out),
+        Asked::PostMail(post) => run_on(at, locks, before, post, out),
+        Asked::Reply(reply) => run_on(at, locks, before, reply, out),
+        Asked::Purge(purge) => run_on(at, locks, before, purge, out),
     }
 }
 
@@ -131,10 +149,25 @@ fn refuse_mail<E: Sink>(
     fault: LetterFault,
     errors: &mut E,
 ) -> Status {
-    match locked_links(rt, links) {
-        Ok(_) => fault.report(errors),
+    let mut disk = RealDisk::new(rt, Unknown);
+    let mut lock = LinkLock::ahead(rt, links);
+    match check_links(rt, &mut disk, &mut lock, links) {
+        Ok(()) => fault.report(errors),
         Err(first) => first.report(errors),
     }
+}
+
+// A fault, unless the link file can be read under its lock.
+fn check_links<'a, D: Disk, L: FileLock>(
+    rt: &HostRuntime,
+    disk: &mut D,
+    lock: &mut L,
+    links: &'a str,
+) -> Result<(), Fault<'a>>
+    requires { L.held lock.old ≡ None }
+{
+    let _bytes = lock_links(rt.alloc(), disk, lock, links)?;
+    Ok(())
 }
 
 // What is asked of a mail, and its bytes.

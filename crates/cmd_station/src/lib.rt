@@ -5,9 +5,9 @@
 //! is proved to be safe and to end, and no more. What these commands read and write is promised by the crates that run
 //! them on any disk.
 //!
-//! Modules in reading order: `place` (where the base is, and whether it is a file or a folder), `running` (a command on it),
-//! `posting` (the words of `post`), `changing` and `tossing` (the commands as their words ask for them), `scanning`, and
-//! `unplaced` (the file at which a scan failed).
+//! Modules in reading order: `place` (the locks of a station, and whether its base is a file or a folder), `running` (a command
+//! on it), `posting` (the words of `post`), `changing` and `tossing` (the commands as their words ask for them), `scanning`,
+//! and `unplaced` (the file at which a scan failed).
 #![tactic(auto)]
 
 mod changing;

@@ -1,15 +1,18 @@
 //! Where the base of a system is, and what is found of it before it is opened.
+ghost use Rattle.std.specs.Prelude.{OnOk};
+ghost use Rattle.station.specs.Opening.{AreFree};
 
 use cmd_base::is_folder;
+use cmd_base_file::BaseFiles;
 use cmd_base_folder::{FoundFolder, found_in};
-use cmd_input::{MAX_TEXT_FILE, input_fault, lock_file, locked_folder};
-use echo_device::Watched;
-use echo_files::{OutputFault, read_whole, target_of};
-use echo_links::LinkFile;
+use cmd_input::{BaseLock, LinkLock};
+use echo_disk::Disk;
+use echo_files::{OutputFault, target_of};
+use echo_real_disk::{RealDisk, Unknown};
+use echo_station_files::{FileLock, links_at, lock_at};
 use echo_status::Fault;
+use station::Locks;
 use station_folder::Found;
-use std::fs::File;
-use std::{fs, io};
 
 /// The paths of the link file and of the base of a system.
 #[derive(Clone, Copy)]
@@ -18,11 +21,13 @@ pub struct Place<'a> {
     pub base: &'a str,
 }
 
-/// What is found of a base. A base file has this path; the files of a base folder have it before their names.
+/// What is found of a base, and the files of the system for it. A base file has this path; the files of a base folder have it
+/// before their names.
 #[derive(Drop)]
-pub struct FoundBase {
+pub struct FoundBase<'r> {
     path: String,
     folder: Option<Found>,
+    files: BaseFiles<'r>,
 }
 
 /// A station whose base was found.
@@ -33,9 +38,11 @@ pub struct Station<'a> {
     pub path: &'a str,
     /// What was found of its base, where that is a folder.
     pub folder: Option<Found>,
+    /// What its base is replaced on, where that is a file.
+    pub files: &'a BaseFiles<'a>,
 }
 
-impl FoundBase {
+impl FoundBase<'_> {
     /// The station of these paths.
     pub fn at<'a>(&'a self, rt: &'a HostRuntime, place: Place<'a>) -> Station<'a> {
         Station {
@@ -43,28 +50,54 @@ impl FoundBase {
             place,
             path: self.path.as_str(),
             folder: self.folder,
+            files: &self.files,
         }
     }
 }
 
-/// Finds the base of a station. A fault of a folder comes behind those of the link file and of the locks.
-pub fn find_base<'a>(rt: &HostRuntime, place: Place<'a>) -> Result<FoundBase, Fault<'a>> {
-    if !is_folder(rt, place.base) {
-        return Ok(FoundBase {
-            path: followed(rt, place.base)?,
-            folder: None,
-        });
+/// The locks of a station, of which that of the link file is taken already where it can be. So others change nothing of the
+/// station from before its base is found until the command ends.
+pub fn locks_of<'a>(rt: &'a HostRuntime, place: Place<'a>) -> Locks<LinkLock<'a>, BaseLock<'a>>
+    ensures { AreFree (⟦<LinkLock<'a> as FileLock>⟧.held result.links) (⟦<BaseLock<'a> as FileLock>⟧.held result.base) }
+{
+    Locks {
+        links: LinkLock::ahead(rt, place.links),
+        base: BaseLock::new(rt, place.links),
     }
-    match found_in(rt, place.base) {
-        Ok(FoundFolder { path, found }) => Ok(FoundBase {
-            path,
-            folder: Some(found),
-        }),
+}
+
+/// Finds the base of a station. A fault of a folder comes behind those of the link file and of the locks.
+pub fn find_base<'a, L: FileLock, K: FileLock>(
+    rt: &'a HostRuntime,
+    place: Place<'a>,
+    locks: &mut Locks<L, K>,
+) -> Result<FoundBase<'a>, Fault<'a>>
+    requires { AreFree (L.held locks.old.links) (K.held locks.old.base) }
+    ensures { OnOk result (AreFree (L.held locks.new.links) (K.held locks.new.base)) }
+{
+    match found_at(rt, place.base) {
+        Ok(found) => Ok(found),
         Err(fault) => {
-            lock_both(rt, place)?;
+            let mut disk = RealDisk::new(rt, Unknown);
+            lock_both(rt, &mut disk, place, locks)?;
             Err(fault)
         }
     }
+}
+
+// What is found at the path of a base.
+fn found_at<'a>(rt: &'a HostRuntime, base: &'a str) -> Result<FoundBase<'a>, Fault<'a>> {
+    let (path, folder) = if is_folder(rt, base) {
+        let FoundFolder { path, found } = found_in(rt, base)?;
+        (path, Some(found))
+    } else {
+        (followed(rt, base)?, None)
+    };
+    Ok(FoundBase {
+        path,
+        folder,
+        files: BaseFiles::new(rt),
+    })
 }
 
 // The path of a base file: that which a symbolic link leads to. One that leads to none is a fault where the base is
@@ -77,28 +110,15 @@ fn followed<'a>(rt: &HostRuntime, base: &'a str) -> Result<String, Fault<'a>> {
     }
 }
 
-// Judges the link file under its lock, and takes that of the folder.
-fn lock_both<'a>(rt: &HostRuntime, place: Place<'a>) -> Result<(), Fault<'a>> {
-    let (_locked, bytes) = locked_links(rt, place.links)?;
-    let _links = LinkFile::read(rt.alloc(), &bytes)?;
-    let _held = locked_folder(rt, place.base)?;
-    Ok(())
-}
-
-/// The link file under its lock.
-pub fn locked_links<'a>(rt: &HostRuntime, path: &'a str) -> Result<(File, Vec<u8>), Fault<'a>> {
-    let file = fs::open(rt, path).map_err(|error| open_fault(&error, path))?;
-    lock_file(rt, &file, path).map_err(|_| Fault::CannotUse(path))?;
-    let bytes = read_whole(rt.alloc(), &mut Watched::new(&file), MAX_TEXT_FILE);
-    match bytes {
-        Ok(bytes) => Ok((file, bytes)),
-        Err(fault) => Err(input_fault(fault, path)),
-    }
-}
-
-fn open_fault<'a>(error: &io::Error, path: &'a str) -> Fault<'a> {
-    match error.kind() {
-        io::ErrorKind::OutOfMemory => Fault::OutOfMemory,
-        _ => Fault::CannotUse(path),
-    }
+// Judges the link file under its lock, and takes that of the base.
+fn lock_both<'a, D: Disk, L: FileLock, K: FileLock>(
+    rt: &HostRuntime,
+    disk: &mut D,
+    place: Place<'a>,
+    locks: &mut Locks<L, K>,
+) -> Result<(), Fault<'a>>
+    requires { AreFree (L.held locks.old.links) (K.held locks.old.base) }
+{
+    let _links = links_at(rt.alloc(), disk, &mut locks.links, place.links)?;
+    lock_at(&mut locks.base, place.base)
 }

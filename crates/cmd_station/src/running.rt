@@ -2,13 +2,13 @@
 //! puts in place, is settled by what `run_command` does over any disk. The locks are held until what the command left
 //! beside the base is gone, and what is damaged was found.
 ghost use Rattle.echo_disk.specs.Disk.{Honestly};
+ghost use Rattle.echo_folder.specs.Opening.{AreAlone};
 ghost use Rattle.station.specs.Opening.{AreFree};
 
 use crate::place::Station;
-use cmd_base::{Counting, look_into, messages_at};
-use cmd_base_file::BaseFiles;
+use cmd_base::look_into;
 use cmd_base_folder::Opened;
-use cmd_input::{LinkLock, Progress, Tossing};
+use cmd_input::{Messages, Progress, Tossing};
 use echo_base::BaseFault;
 use echo_device::Sink;
 use echo_disk::Disk;
@@ -18,11 +18,12 @@ use echo_station_files::FileLock;
 use echo_status::Fault;
 use echo_store::StoreError;
 use echo_store_changing::{Stop, StoreCommand};
-use station::{Ended, Locks, Nothing, OpenStation, Unread, run_command};
+use station::{Locks, Nothing, OpenStation, Unread, run_command};
 use station_file::FileStation;
 use station_folder::{FolderPlace, FolderStation, Found};
 use std::collections::hash_map::RandomState;
 use std::marker::PhantomData;
+use std::rt::Files;
 
 /// What the program does before a command: how packets are tossed, if they are; who is told how far the reading of a base
 /// file is; and why something that is read before the base was not read.
@@ -34,39 +35,57 @@ pub struct Before<'a> {
 }
 
 /// Opens the station and runs a command on it.
-pub fn run_on<'a, C: StoreCommand<'a>, W: Sink>(
+pub fn run_on<'a, C: StoreCommand<'a>, L: FileLock, K: FileLock, W: Sink>(
     at: Station<'a>,
+    locks: &mut Locks<L, K>,
     before: Before<'a>,
     command: &mut C,
     out: &mut W,
-) -> Result<C::Answer, Fault<'a>> {
-    match at.folder {
-        Some(found) => run_on_folder(at, found, before, command, out),
-        None => run_on_file(at, before, command, out),
-    }
-}
-
-// The same where the base is a file.
-fn run_on_file<'a, C: StoreCommand<'a>, W: Sink>(
-    at: Station<'a>,
-    before: Before<'a>,
-    command: &mut C,
-    out: &mut W,
-) -> Result<C::Answer, Fault<'a>> {
-    let station = file_station(at, before.progress)?;
-    let mut locks = Locks {
-        links: LinkLock::new(at.rt),
-        base: LinkLock::new(at.rt),
+) -> Result<C::Answer, Fault<'a>>
+    requires { AreFree (L.held locks.old.links) (K.held locks.old.base) }
+{
+    let done = match at.folder {
+        Some(found) => run_on_folder(at, locks, found, before, command, out),
+        None => run_on_file(at, locks, before, command, out),
     };
-    let files = BaseFiles::new(at.rt);
-    let disk = RealDisk::new(&files, Unknown);
-    let unread = before.unread;
-    let done = run_unprepared(at, disk, &mut locks, station, unread, command, out);
-    files.tidy();
     match done {
         Ok(answer) => Ok(answer),
         Err(stop) => Err(fault_of(at, stop)),
     }
+}
+
+// The same where the base is a file.
+fn run_on_file<'a, C: StoreCommand<'a>, L: FileLock, K: FileLock, W: Sink>(
+    at: Station<'a>,
+    locks: &mut Locks<L, K>,
+    before: Before<'a>,
+    command: &mut C,
+    out: &mut W,
+) -> Result<C::Answer, Stop<'a>>
+    requires { AreFree (L.held locks.old.links) (K.held locks.old.base) }
+{
+    let done = match file_station(at, before.progress) {
+        Ok(station) => run_over(at, at.files, locks, station, before.unread, command, out),
+        Err(fault) => Err(Stop::Met(fault)),
+    };
+    at.files.tidy();
+    done
+}
+
+// The same over these files.
+fn run_over<'a, F: Files + Drop + 'a, C: StoreCommand<'a>, L: FileLock, K: FileLock, W: Sink>(
+    at: Station<'a>,
+    files: F,
+    locks: &mut Locks<L, K>,
+    station: FileStation<'a, RandomState, Messages<'a, 'a>>,
+    unread: Option<Fault<'a>>,
+    command: &mut C,
+    out: &mut W,
+) -> Result<C::Answer, Stop<'a>>
+    requires { AreFree (L.held locks.old.links) (K.held locks.old.base) }
+{
+    let disk = RealDisk::new(files, Unknown);
+    run_unprepared(at, disk, locks, station, unread, command, out)
 }
 
 // Runs a command on a station whose store needs nothing before.
@@ -106,70 +125,85 @@ fn run_unprepared<
     ended.done
 }
 
-/// A station whose base is a file, with a hasher that tells how far its reading is. A seed for that which cannot be had is a
+/// A station whose base is a file, and who is told how far the reading of that is. A seed for look-ups which cannot be had is a
 /// failed read.
 pub fn file_station<'a>(
     at: Station<'a>,
     progress: Option<&'a Progress<'a>>,
-) -> Result<FileStation<'a, Counting<'a, 'a>>, Fault<'a>> {
-    let Ok(keys) = RandomState::new(at.rt) else {
-        return Err(Fault::Base(BaseFault::Read));
-    };
-    let messages = match progress {
-        Some(_) => messages_at(at.rt, at.path),
-        None => 0,
-    };
-    Ok(FileStation {
-        links: at.place.links,
-        base: at.path,
-        hasher: Counting::new(keys, progress, messages),
-    })
+) -> Result<FileStation<'a, RandomState, Messages<'a, 'a>>, Fault<'a>> {
+    match RandomState::new(at.rt) {
+        Ok(hasher) => Ok(FileStation {
+            links: at.place.links,
+            base: at.path,
+            hasher,
+            watch: Messages { progress },
+        }),
+        Err(_) => Err(Fault::Base(BaseFault::Read)),
+    }
 }
 
 // The same where the base is a folder.
-fn run_on_folder<'a, C: StoreCommand<'a>, W: Sink>(
+fn run_on_folder<'a, C: StoreCommand<'a>, L: FileLock, K: FileLock, W: Sink>(
     at: Station<'a>,
+    locks: &mut Locks<L, K>,
     found: Found,
     before: Before<'a>,
     command: &mut C,
     out: &mut W,
-) -> Result<C::Answer, Fault<'a>> {
-    let rt = at.rt;
-    let station = FolderStation {
-        at: folder_place(at),
-        found,
-        digests: PhantomData::<SipDigest>,
-    };
-    let mut locks = Locks {
-        links: LinkLock::new(rt),
-        base: LinkLock::new(rt),
-    };
+) -> Result<C::Answer, Stop<'a>>
+    requires { AreFree (L.held locks.old.links) (K.held locks.old.base) }
+{
+    let disk = RealDisk::new(at.rt, Unknown);
+    run_opened(
+        at,
+        disk,
+        locks,
+        folder_station(at, found),
+        before,
+        command,
+        out,
+    )
+}
+
+// The same over any disk.
+fn run_opened<'a, D: Disk + Drop, C: StoreCommand<'a>, L: FileLock, K: FileLock, W: Sink>(
+    at: Station<'a>,
+    disk: D,
+    locks: &mut Locks<L, K>,
+    station: FolderStation<'a, SipDigest>,
+    before: Before<'a>,
+    command: &mut C,
+    out: &mut W,
+) -> Result<C::Answer, Stop<'a>>
+    requires free { AreFree (L.held locks.old.links) (K.held locks.old.base) }
+    requires alone { Honestly (D.state disk) (AreAlone station.at.path.now (D.state disk)) }
+{
     let mut before = Unread {
-        first: Opened::new(rt, at.place.base, before.toss),
+        first: Opened::new(at.rt, at.place.base, before.toss),
         fault: before.unread,
     };
-    let disk = RealDisk::new(rt, Unknown);
-    let Ended { done, .. } = run_command(
-        rt.alloc(),
+    let ended = run_command(
+        at.rt.alloc(),
         disk,
-        &mut locks,
+        locks,
         station,
         &mut before,
         command,
         out,
     );
-    match done {
-        Ok(answer) => Ok(answer),
-        Err(stop) => Err(fault_of(at, stop)),
-    }
+    ended.done
 }
 
-/// The paths of a station whose base is a folder.
-pub fn folder_place<'a>(at: Station<'a>) -> FolderPlace<'a> {
-    FolderPlace {
-        links: at.place.links,
-        base: at.place.base,
-        path: at.path.as_bytes(),
+/// A station whose base is a folder, of which this was found.
+pub fn folder_station<'a>(at: Station<'a>, found: Found) -> FolderStation<'a, SipDigest> {
+    FolderStation {
+        at: FolderPlace {
+            links: at.place.links,
+            base: at.place.base,
+            path: at.path.as_bytes(),
+        },
+        found,
+        digests: PhantomData,
     }
 }
 

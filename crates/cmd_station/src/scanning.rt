@@ -4,13 +4,12 @@ ghost use Rattle.echo_disk.specs.Disk.{Honestly};
 ghost use Rattle.echo_folder.specs.Opening.{AreAlone};
 ghost use Rattle.station.specs.Opening.{AreFree};
 
-use crate::place::{Place, Station, find_base};
-use crate::running::{fault_of, file_station, folder_place};
+use crate::place::{Place, Station, find_base, locks_of};
+use crate::running::{fault_of, file_station, folder_station};
 use crate::unplaced::report_unplaced;
-use cmd_base::Counting;
 use cmd_base_file::{LeftFiles, ScanFiles};
 use cmd_base_folder::Opened;
-use cmd_input::{LinkLock, Progress, folder_path, moment_of};
+use cmd_input::{Messages, Progress, folder_path, moment_of};
 use echo_device::Sink;
 use echo_disk::Disk;
 use echo_keys::SipDigest;
@@ -25,7 +24,7 @@ use station::{LendStation, Locks, Nothing, OpenStation};
 use station_file::FileStation;
 use station_folder::{FolderStation, Found};
 use station_scan::{Scan as Wanted, ScanStop, Watching, run_scan as scan_station};
-use std::marker::PhantomData;
+use std::collections::hash_map::RandomState;
 use std::rt::Files;
 
 /// How many messages are taken at hand between two looks at the clock.
@@ -66,45 +65,93 @@ pub fn run_scan<W: Sink, E: Sink>(
         links: words.links,
         base: words.base,
     };
-    let found = match find_base(rt, place) {
-        Ok(found) => found,
-        Err(fault) => return fault.report(errors),
-    };
-    let Ok(slashed) = folder_path(rt, words.folder) else {
-        return Fault::OutOfMemory.report(errors);
-    };
-    let scan = Scan {
-        at: found.at(rt, place),
-        stamp,
-        folder: words.folder,
-        slashed: slashed.as_str(),
-    };
-    match scan.at.folder {
-        Some(found) => scan_folder(scan, found, progress, out, errors),
-        None => scan_file(scan, progress, out, errors),
+    match folder_path(rt, words.folder) {
+        Ok(slashed) => {
+            let to = Outbound {
+                stamp,
+                folder: words.folder,
+                slashed: slashed.as_str(),
+            };
+            scan_into(rt, place, to, progress, out, errors)
+        }
+        Err(_) => Fault::OutOfMemory.report(errors),
     }
 }
 
-// Scans a base file, and reports what it met.
-fn scan_file<W: Sink, E: Sink>(
-    scan: Scan<'_>,
-    progress: &Progress<'_>,
+// The moment of a scan and its folder, by the name that was given and by the path that its files have before their names.
+#[derive(Clone, Copy)]
+struct Outbound<'a> {
+    stamp: Stamp,
+    folder: &'a str,
+    slashed: &'a str,
+}
+
+// Finds the base and scans it, and reports what it met.
+fn scan_into<'a, W: Sink, E: Sink>(
+    rt: &'a HostRuntime,
+    place: Place<'a>,
+    to: Outbound<'a>,
+    progress: &'a Progress<'a>,
     out: &mut W,
     errors: &mut E,
 ) -> Status {
-    let at = scan.at;
-    let station = match file_station(at, Some(progress)) {
-        Ok(station) => station,
+    let mut locks = locks_of(rt, place);
+    let found = match find_base(rt, place, &mut locks) {
+        Ok(found) => found,
         Err(fault) => return fault.report(errors),
     };
-    let mut locks = Locks {
-        links: LinkLock::new(at.rt),
-        base: LinkLock::new(at.rt),
+    let at = found.at(rt, place);
+    scan_at(at, to, &mut locks, progress, out, errors)
+}
+
+// Scans a station whose base was found, and reports what it met.
+fn scan_at<'a, L: FileLock, K: FileLock, W: Sink, E: Sink>(
+    at: Station<'a>,
+    to: Outbound<'a>,
+    locks: &mut Locks<L, K>,
+    progress: &'a Progress<'a>,
+    out: &mut W,
+    errors: &mut E,
+) -> Status
+    requires { AreFree (L.held locks.old.links) (K.held locks.old.base) }
+{
+    let Outbound {
+        stamp,
+        folder,
+        slashed,
+    } = to;
+    let scan = Scan {
+        at,
+        stamp,
+        folder,
+        slashed,
     };
-    let files = ScanFiles::new(at.rt, at.path, scan.slashed, progress);
-    let done = scan_over(scan, progress, &files, &mut locks, station, out);
-    files.tidy();
+    let files = ScanFiles::new(scan.at.rt, scan.at.path, scan.slashed, progress);
+    let done = match scan.at.folder {
+        Some(found) => scan_folder(scan, progress, &files, locks, found, out),
+        None => {
+            let done = scan_file(scan, progress, &files, locks, out);
+            files.tidy();
+            done
+        }
+    };
     report_scanned(scan, &files, done, errors)
+}
+
+// Scans a base file, over these files.
+fn scan_file<'a, F: Files + Drop + 'a, L: FileLock, K: FileLock, W: Sink>(
+    scan: Scan<'a>,
+    progress: &'a Progress<'a>,
+    files: F,
+    locks: &mut Locks<L, K>,
+    out: &mut W,
+) -> Result<(), ScanStop<'a>>
+    requires { AreFree (L.held locks.old.links) (K.held locks.old.base) }
+{
+    match file_station(scan.at, Some(progress)) {
+        Ok(station) => scan_over(scan, progress, files, locks, station, out),
+        Err(fault) => Err(ScanStop::Command(Stop::Met(fault))),
+    }
 }
 
 // Scans a station with a base file, over these files.
@@ -113,7 +160,7 @@ fn scan_over<'a, F: Files + Drop + 'a, L: FileLock, K: FileLock, W: Sink>(
     progress: &'a Progress<'a>,
     files: F,
     locks: &mut Locks<L, K>,
-    station: FileStation<'a, Counting<'a, 'a>>,
+    station: FileStation<'a, RandomState, Messages<'a, 'a>>,
     out: &mut W,
 ) -> Result<(), ScanStop<'a>>
     requires { AreFree (L.held locks.old.links) (K.held locks.old.base) }
@@ -166,28 +213,26 @@ fn scan_unprepared<'a, D: Disk + Drop, P: LendStation<'a, D>, L: FileLock, K: Fi
     scanned.done
 }
 
-// Scans a base folder, into another folder than that, and reports what it met.
-fn scan_folder<W: Sink, E: Sink>(
-    scan: Scan<'_>,
+// Scans a base folder, into another folder than that, over these files.
+fn scan_folder<'a, F: Files + Drop + 'a, L: FileLock, K: FileLock, W: Sink>(
+    scan: Scan<'a>,
+    progress: &'a Progress<'a>,
+    files: F,
+    locks: &mut Locks<L, K>,
     found: Found,
-    progress: &Progress<'_>,
     out: &mut W,
-    errors: &mut E,
-) -> Status {
-    let at = scan.at;
-    let station = FolderStation {
-        at: folder_place(at),
-        found,
-        digests: PhantomData::<SipDigest>,
-    };
-    let mut locks = Locks {
-        links: LinkLock::new(at.rt),
-        base: LinkLock::new(at.rt),
-    };
-    let files = ScanFiles::new(at.rt, at.path, scan.slashed, progress);
-    let disk = RealDisk::new(&files, Unknown);
-    let done = scan_opened(scan, progress, disk, &mut locks, station, out);
-    report_scanned(scan, &files, done, errors)
+) -> Result<(), ScanStop<'a>>
+    requires { AreFree (L.held locks.old.links) (K.held locks.old.base) }
+{
+    let disk = RealDisk::new(files, Unknown);
+    scan_opened(
+        scan,
+        progress,
+        disk,
+        locks,
+        folder_station(scan.at, found),
+        out,
+    )
 }
 
 // Scans a station with a base folder.

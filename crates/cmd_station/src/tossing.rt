@@ -1,13 +1,16 @@
 //! `toss`, as its words ask for it.
+ghost use Rattle.station.specs.Opening.{AreFree};
 
-use crate::place::{Place, Station, find_base};
+use crate::place::{Place, Station, find_base, locks_of};
 use crate::running::{Before, by_name, run_on};
 use cmd_input::{PacketPaths, PathNames, Progress, Tossing, names_of};
 use echo_device::Sink;
 use echo_packet::Limits;
+use echo_station_files::FileLock;
 use echo_status::{Fault, LIMITS, Status, limits_for, number_of};
 use echo_store_changing::Toss;
 use echo_words::TossWords;
+use station::Locks;
 
 /// `toss`: the limit of a text is judged first, and a list of packets is read before the lock is taken; each
 /// packet file is opened when its turn comes. What ends it at a packet is reported once the base is committed.
@@ -27,17 +30,31 @@ pub fn run_toss<W: Sink, E: Sink>(
         links: words.links,
         base: words.base,
     };
-    let found = match find_base(rt, place) {
-        Ok(found) => found,
-        Err(fault) => return fault.report(errors),
-    };
-    let at = found.at(rt, place);
     let by = Tossing {
         names: names.as_slice(),
         limits,
         each: words.each,
     };
-    match toss_at(at, by, stopped, progress, out) {
+    toss_in(rt, place, by, stopped, progress, out, errors)
+}
+
+// Tosses packets at these paths, and reports what it met.
+fn toss_in<'a, W: Sink, E: Sink>(
+    rt: &'a HostRuntime,
+    place: Place<'a>,
+    by: Tossing<'a>,
+    unread: Option<Fault<'a>>,
+    progress: &'a Progress<'a>,
+    out: &mut W,
+    errors: &mut E,
+) -> Status {
+    let mut locks = locks_of(rt, place);
+    let found = match find_base(rt, place, &mut locks) {
+        Ok(found) => found,
+        Err(fault) => return fault.report(errors),
+    };
+    let at = found.at(rt, place);
+    match toss_at(at, &mut locks, by, unread, progress, out) {
         Ok(None) => Status::Good,
         Ok(Some(fault)) => by_name(at, fault).report(errors),
         Err(fault) => fault.report(errors),
@@ -45,13 +62,16 @@ pub fn run_toss<W: Sink, E: Sink>(
 }
 
 // Tosses packets at a station. Where the list of them was not read, none is expected.
-fn toss_at<'a, W: Sink>(
+fn toss_at<'a, L: FileLock, K: FileLock, W: Sink>(
     at: Station<'a>,
+    locks: &mut Locks<L, K>,
     by: Tossing<'a>,
     unread: Option<Fault<'a>>,
     progress: &'a Progress<'a>,
     out: &mut W,
-) -> Result<Option<Fault<'a>>, Fault<'a>> {
+) -> Result<Option<Fault<'a>>, Fault<'a>>
+    requires { AreFree (L.held locks.old.links) (K.held locks.old.base) }
+{
     let packets = PacketPaths {
         rt: at.rt,
         names: by.names,
@@ -63,7 +83,8 @@ fn toss_at<'a, W: Sink>(
         progress: Some(progress),
         unread,
     };
-    run_on(at, before, &mut Toss::new(by.limits, by.each, packets), out)
+    let mut toss = Toss::new(by.limits, by.each, packets);
+    run_on(at, locks, before, &mut toss, out)
 }
 
 // What is taken of packets.

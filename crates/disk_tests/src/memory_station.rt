@@ -3,17 +3,18 @@ ghost use Rattle.std.specs.Prelude.{◌≡◌, None};
 
 use echo_addr::Items;
 use echo_disk::DiskError;
-use echo_station_files::FileLock;
+use echo_station_files::{FileLock, Unwatched};
 use station_file::FileStation;
 use std::alloc::Global;
 use std::hash::{BuildHasherDefault, FoldHasher};
 
 /// The station, whose base is a file.
-pub fn station() -> FileStation<'static, BuildHasherDefault<FoldHasher>> {
+pub fn station() -> FileStation<'static, BuildHasherDefault<FoldHasher>, Unwatched> {
     FileStation {
         links: "links",
         base: "base",
         hasher: BuildHasherDefault::default(),
+        watch: Unwatched,
     }
 }
 

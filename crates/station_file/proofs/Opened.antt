@@ -9,13 +9,14 @@ use Rattle.echo_disk.specs.Disk.{DiskState, Files, Honestly}
 use Rattle.echo_disk.specs.Runs.{ChangesNothing}
 use Rattle.echo_disk.proofs.Moments.{weaker_run}
 use Rattle.echo_links.specs.Links.{LinkFile}
-use Rattle.echo_status.specs.Inputs.{IsBaseGiven}
+use Rattle.echo_status.specs.Inputs.{IsBaseFault, IsBaseGiven}
 use Rattle.echo_status.specs.declared.fault.Fault.{Fault}
-use Rattle.echo_station_files.specs.Links.{AreLinks}
+use Rattle.echo_station_files.specs.Faults.{FailsAt}
+use Rattle.echo_station_files.specs.Links.{AreLinks, NoLinks}
 use Rattle.station.specs.Opening.{IsNotOpened, IsOpenFor, IsOpened}
 use Rattle.station.specs.Place.{IsOfPlace, KeepsElsewhere, StandsOrWasLeft}
 use Rattle.station_file.specs.InFile.{IsOfFile, StandsInFile, file_state}
-use Rattle.station_file.specs.Reading.{IsFileShut, IsSettled, IsShutFor, file_place}
+use Rattle.station_file.specs.Reading.{IsFileShut, IsSettled, IsShutFor, IsUnreadFor, file_place}
 
 abbrev base_in : Result Loaded BaseFault → Base
 base_in (Ok loaded) = record { messages = loaded.0; cursor = loaded.1 }
@@ -62,18 +63,24 @@ module _ (d0 d1 : DiskState) (path own : List ℕ) (base : Base) (place : ℕ) (
     later = later;
   }
 
--- what failed in a part failed in the whole
-shut_wider : (links path : List ℕ) (F G : Type 0) (old : DiskState) (fault : Fault) → (F → G) → IsFileShut links path F old fault → IsFileShut links path G old fault
-shut_wider links path F G old fault wider (inl none) =
-    inl (⊎_elim (λ unread. inl (⊎_elim (λ memory. inl memory)
-    (λ rest. inr (⊎_elim (λ cannot. inl (cannot.0, ⊎_elim (λ gone. inl gone) (λ failed. inr (wider failed)) cannot.1)) (λ large. inr large) rest)) unread)) (λ rest. inr rest) none)
-shut_wider links path F G old fault wider (inr base) =
-    inr (⊎_elim (λ fails. inl (⊎_elim (λ memory. inl memory) (λ cannot. inr (cannot.0, wider cannot.1)) fails)) (λ unloaded. inr unloaded) base)
+fails_wider : (path : List ℕ) (F G : Type 0) (fault : Fault) → (F → G) → FailsAt path F fault → FailsAt path G fault
+fails_wider path F G fault wider fails = ⊎_elim (λ memory. inl memory) (λ cannot. inr (cannot.0, wider cannot.1)) fails
 
-pub is_not_opened : (links path : List ℕ) (F G : Type 0) (d0 d1 : DiskState) (fault : Fault) → ChangesNothing d0 d1 → (F → G) → Honestly d1 (IsFileShut links path F d0 fault)
-    → IsNotOpened (file_place path) (IsShutFor links path G d0 d1) d0 d1 fault
-is_not_opened links path F G d0 d1 fault quiet wider shut = record {
-  cause = λ honest. (quiet, shut_wider links path F G d0 fault wider (shut honest));
+-- what failed in a part failed in the whole
+pub links_wider : (links : List ℕ) (F G : Type 0) (old : DiskState) (fault : Fault) → (F → G) → NoLinks old links F fault → NoLinks old links G fault
+links_wider links F G old fault wider none =
+    ⊎_elim (λ unread. inl (⊎_elim (λ memory. inl memory)
+    (λ rest. inr (⊎_elim (λ cannot. inl (cannot.0, ⊎_elim (λ gone. inl gone) (λ failed. inr (wider failed)) cannot.1)) (λ large. inr large) rest)) unread)) (λ rest. inr rest) none
+
+pub unread_wider : (path : List ℕ) (F G : Type 0) (d0 d1 : DiskState) (fault : Fault) → (F → G) → ChangesNothing d0 d1 → IsUnreadFor path F d1 fault → IsUnreadFor path G d0 fault
+unread_wider path F G d0 d1 fault wider quiet unread =
+    ⊎_elim (λ fails. inl (fails_wider path F G fault wider fails))
+    (λ rest. inr (⊎_elim (λ memory. inl memory) (λ base. inr (subst (λ f. IsBaseFault f fault) (quiet.seen path) base)) rest)) unread
+
+pub is_not_opened : (links path : List ℕ) (F : Type 0) (d0 d1 : DiskState) (fault : Fault) → ChangesNothing d0 d1 → Honestly d1 (IsFileShut links path F d0 fault)
+    → IsNotOpened (file_place path) (IsShutFor links path F d0 d1) d0 d1 fault
+is_not_opened links path F d0 d1 fault quiet shut = record {
+  cause = λ honest. (quiet, shut honest);
   crash = λ honest base stands. weaker_run d0 d1 d0.may_leave (StandsOrWasLeft (file_place path) d0 base) quiet.run (λ c left. inr left);
   elsewhere = quiet_elsewhere path d0 d1 quiet;
 }

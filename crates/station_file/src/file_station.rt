@@ -6,27 +6,30 @@ ghost use Rattle.station_file.specs.Reading.{IsShutFor, file_place};
 use crate::file_store::FileStore;
 use crate::loading::{Read, read_station};
 use echo_disk::Disk;
-use echo_station_files::FileLock;
+use echo_station_files::{FileLock, Watching};
 use station::{Locks, OpenStation, Opened, Stopped};
 use std::alloc::Global;
 use std::hash::BuildHasher;
 
-/// The paths of a station: its link file and its base file. Look-ups by key go by the hasher.
+/// The paths of a station: its link file and its base file. Look-ups by key go by the hasher; the reading of the base file is
+/// watched.
 #[derive(Drop)]
-pub struct FileStation<'a, S> {
+pub struct FileStation<'a, S, T> {
     pub links: &'a str,
     pub base: &'a str,
     pub hasher: S,
+    pub watch: T,
 }
 
-impl<'a, D: Disk + Drop, S: BuildHasher + Drop> OpenStation<'a, D> for FileStation<'a, S> {
+impl<'a, D: Disk + Drop, S: BuildHasher + Drop, T: Watching + Drop> OpenStation<'a, D>
+    for FileStation<'a, S, T> {
     type Kept = FileStore<'a, D, S>;
 
     ghost place = { λ at. file_place at.base.now };
 
     ghost can_open = { λ at disk. Unit {0} };
 
-    ghost is_locked = { λ at links base. links ≡ Some at.links.now };
+    ghost is_locked = { λ at links base. (links ≡ Some at.links.now) × (base ≡ Some at.base.now) };
 
     ghost reads = { λ at disk file. AreLinks disk at.links.now file };
 
@@ -40,7 +43,7 @@ impl<'a, D: Disk + Drop, S: BuildHasher + Drop> OpenStation<'a, D> for FileStati
     ) -> Result<Opened<FileStore<'a, D, S>>, Stopped<'a, D>> {
         let mut disk = disk;
         let path = self.base;
-        match read_station(alloc, &mut disk, &mut locks.links, self) {
+        match read_station(alloc, &mut disk, locks, self) {
             Ok(read) => {
                 let Read { links, own, base } = read;
                 Ok(Opened {

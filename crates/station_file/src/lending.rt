@@ -6,6 +6,7 @@ ghost use Rattle.station_file.specs.InFile.{IsOfFile, file_state};
 use crate::file_station::FileStation;
 use crate::file_store::{FileRest, FileStore};
 use echo_disk::Disk;
+use echo_station_files::Watching;
 use station::{LendStation, OwnPaths};
 use std::alloc::Global;
 use std::hash::BuildHasher;
@@ -75,7 +76,8 @@ fn is_new(name: &[u8]) -> bool
     }
 }
 
-impl<'a, D: Disk + Drop, S: BuildHasher + Drop> LendStation<'a, D> for FileStation<'a, S> {
+impl<'a, D: Disk + Drop, S: BuildHasher + Drop, T: Watching + Drop> LendStation<'a, D>
+    for FileStation<'a, S, T> {
     type Rest = FileRest<'a, S>;
 
     type Paths = FilePaths<'a>;

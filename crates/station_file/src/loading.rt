@@ -4,10 +4,10 @@ ghost use Rattle.echo_base.specs.Base.{Base as TheBase};
 ghost use Rattle.echo_device.specs.Device.{Failed};
 ghost use Rattle.echo_disk.specs.Disk.{Honestly};
 ghost use Rattle.echo_disk.specs.Runs.{ChangesNothing, HasCause};
-ghost use Rattle.echo_station_files.specs.Faults.{HaveFailed};
 ghost use Rattle.echo_station_files.specs.Links.{AreLinks};
 ghost use Rattle.echo_status.specs.Ended.{IsOutOfMemory};
 ghost use Rattle.echo_status.specs.Inputs.{IsBaseFault, IsBaseGiven};
+ghost use Rattle.station.specs.Opening.{AreFree, HaveFailed};
 ghost use Rattle.station_file.specs.InFile.{StandsInFile};
 ghost use Rattle.station_file.specs.Reading.{IsFileShut, IsSettled, IsUnreadFor};
 
@@ -16,8 +16,9 @@ use echo_addr::Items;
 use echo_base::Base;
 use echo_disk::{Disk, DiskError, folder_of, read_file};
 use echo_links::LinkFile;
-use echo_station_files::{FileLock, links_at, system_name};
+use echo_station_files::{FileLock, Followed, Watching, links_at, lock_at, system_name};
 use echo_status::Fault;
+use station::Locks;
 use std::alloc::Global;
 use std::hash::BuildHasher;
 
@@ -49,64 +50,101 @@ fn bytes_synced<D: Disk>(
 }
 
 // What a base file says; where there is none the base is empty.
-fn loaded<'a, S: BuildHasher + Drop>(
+fn loaded<'a, S: BuildHasher + Drop, T: Watching>(
     alloc: Global,
     bytes: Option<Items<u8>>,
     hasher: S,
+    watch: &T,
 ) -> Result<Base<S>, Fault<'a>>
     ensures same { (base : TheBase) → IsBaseGiven bytes base.messages base.cursor → IfOk result (λ b. base ≡ b) }
     ensures err { IfErr result (λ fault. IsOutOfMemory fault ⊎ IsBaseFault bytes fault) }
 {
     match bytes {
         Some(bytes) => {
-            let mut left = bytes.as_slice();
+            let all = bytes.as_slice();
+            let mut left = Followed::new(all, all.len(), watch);
             Ok(Base::load(alloc, &mut left, hasher)?)
         }
         None => Ok(Base::new(alloc, hasher)),
     }
 }
 
-// Reads the base file with this path, under the lock of the link file.
-fn base_at<'a, D: Disk, L: FileLock, S: BuildHasher + Drop>(
+// Reads the base file of the station, whose locks are held.
+fn base_at<'a, D: Disk, L: FileLock, K: FileLock, S: BuildHasher + Drop, T: Watching + Drop>(
     alloc: Global,
     disk: &mut D,
-    _lock: &L,
-    at: FileStation<'a, S>,
+    _locks: &Locks<L, K>,
+    at: FileStation<'a, S, T>,
 ) -> Result<Base<S>, Fault<'a>>
-    requires { L.held _lock.now ≡ Some at.links.now }
+    requires links_locked { L.held _locks.now.links ≡ Some at.links.now }
+    requires base_locked { K.held _locks.now.base ≡ Some at.base.now }
     ensures same { Honestly (D.state disk.new) ((base : TheBase) → StandsInFile at.entry.base.now base (D.state disk.old).seen → IfOk result (λ b. base ≡ b)) }
     ensures settled { Honestly (D.state disk.new) (OnOk result (IsSettled (D.state disk.new) at.entry.base.now)) }
     ensures quiet { ChangesNothing (D.state disk.old) (D.state disk.new) }
     ensures later { D.failures disk.old ≤ D.failures disk.new }
     ensures err { Honestly (D.state disk.new) (IfErr result (IsUnreadFor at.entry.base.now (Failed (D.failures disk.old) (D.failures disk.new)) (D.state disk.old))) }
 {
-    let path = at.base;
+    let FileStation {
+        base: path,
+        hasher,
+        watch,
+        ..
+    } = at;
     match bytes_synced(alloc, disk, path.as_bytes()) {
-        Ok(bytes) => loaded(alloc, bytes, at.hasher),
+        Ok(bytes) => loaded(alloc, bytes, hasher, &watch),
         Err(DiskError::Memory) => Err(Fault::OutOfMemory),
         Err(DiskError::Device) => Err(Fault::CannotUse(path)),
     }
 }
 
-/// Takes the lock of the link file of a station, and reads its files.
-pub(crate) fn read_station<'a, D: Disk, L: FileLock, S: BuildHasher + Drop>(
+// Takes the lock of the base file, once that of the link file is held, and reads it.
+fn locked_base<'a, D: Disk, L: FileLock, K: FileLock, S: BuildHasher + Drop, T: Watching + Drop>(
     alloc: Global,
     disk: &mut D,
-    lock: &mut L,
-    at: FileStation<'a, S>,
+    locks: &mut Locks<L, K>,
+    at: FileStation<'a, S, T>,
+) -> Result<Base<S>, Fault<'a>>
+    requires links_locked { L.held locks.old.links ≡ Some at.links.now }
+    requires free { K.held locks.old.base ≡ None }
+    ensures locked { OnOk result (K.held locks.new.base ≡ Some at.entry.base.now) }
+    ensures links { locks.new.links ≡ locks.old.links }
+    ensures same { Honestly (D.state disk.new) ((base : TheBase) → StandsInFile at.entry.base.now base (D.state disk.old).seen → IfOk result (λ b. base ≡ b)) }
+    ensures settled { Honestly (D.state disk.new) (OnOk result (IsSettled (D.state disk.new) at.entry.base.now)) }
+    ensures quiet { ChangesNothing (D.state disk.old) (D.state disk.new) }
+    ensures later { D.failures disk.old ≤ D.failures disk.new }
+    ensures err { Honestly (D.state disk.new) (IfErr result (IsUnreadFor at.entry.base.now (Failed (D.failures disk.old) (D.failures disk.new) ⊎ Failed (K.failures locks.old.base) (K.failures locks.new.base)) (D.state disk.old))) }
+{
+    lock_at(&mut locks.base, at.base)?;
+    base_at(alloc, disk, locks, at)
+}
+
+/// Takes the lock of the link file of a station and reads it, and takes that of the base file and reads that.
+pub(crate) fn read_station<
+    'a,
+    D: Disk,
+    L: FileLock,
+    K: FileLock,
+    S: BuildHasher + Drop,
+    T: Watching + Drop,
+>(
+    alloc: Global,
+    disk: &mut D,
+    locks: &mut Locks<L, K>,
+    at: FileStation<'a, S, T>,
 ) -> Result<Read<S>, Fault<'a>>
-    requires { L.held lock.old ≡ None }
-    ensures locked { OnOk result (L.held lock.new ≡ Some at.entry.links.now) }
+    requires { AreFree (L.held locks.old.links) (K.held locks.old.base) }
+    ensures locked { OnOk result ((L.held locks.new.links ≡ Some at.entry.links.now) × (K.held locks.new.base ≡ Some at.entry.base.now)) }
     ensures read { Honestly (D.state disk.new) (IfOk result (λ read. AreLinks (D.state disk.old) at.entry.links.now read.links)) }
     ensures plain { IfOk result (λ read. All (λ b. b ≢ 47) read.own) }
     ensures same { Honestly (D.state disk.new) ((base : TheBase) → StandsInFile at.entry.base.now base (D.state disk.old).seen → IfOk result (λ read. base ≡ read.base)) }
     ensures settled { Honestly (D.state disk.new) (OnOk result (IsSettled (D.state disk.new) at.entry.base.now)) }
     ensures quiet { ChangesNothing (D.state disk.old) (D.state disk.new) }
     ensures later { D.failures disk.old ≤ D.failures disk.new }
-    ensures err { Honestly (D.state disk.new) (IfErr result (IsFileShut at.entry.links.now at.entry.base.now (HaveFailed (D.failures disk.old) (D.failures disk.new) (L.failures lock.old) (L.failures lock.new)) (D.state disk.old))) }
+    ensures err { Honestly (D.state disk.new) (IfErr result (IsFileShut at.entry.links.now at.entry.base.now
+        (HaveFailed (D.failures disk.old) (D.failures disk.new) (L.failures locks.old.links) (L.failures locks.new.links) (K.failures locks.old.base) (K.failures locks.new.base)) (D.state disk.old))) }
 {
-    let links = links_at(alloc, disk, lock, at.links)?;
+    let links = links_at(alloc, disk, &mut locks.links, at.links)?;
     let own = Items::new(system_name(alloc, &links)?);
-    let base = base_at(alloc, disk, lock, at)?;
+    let base = locked_base(alloc, disk, locks, at)?;
     Ok(Read { links, own, base })
 }

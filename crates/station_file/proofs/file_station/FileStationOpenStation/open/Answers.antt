@@ -1,4 +1,4 @@
-use Rattle.std.proofs.Common.{◌≢◌, ◌∙◌, All, inl, inr, ⊎_elim, List, ℕ, subst, sym}
+use Rattle.std.proofs.Common.{◌≢◌, ◌∙◌, All, List, ℕ, subst, sym}
 use Rattle.echo_station_files.specs.Links.{AreLinks}
 use Rattle.station.specs.Opening.{IsOpened}
 use Rattle.station_file.specs.InFile.{file_state}
@@ -25,5 +25,5 @@ returns-in-Ok-clause-opened g c =
 
 pub returns-in-Err-clause-stopped : goal.returns-in-Err-clause-stopped
 returns-in-Err-clause-stopped g c =
-    is_not_opened c.args.self.links.now c.args.self.base.now _ _ (g.D.Disk.state c.args.disk) (g.D.Disk.state c.read_station.new.disk) c.in-Err.fault c.read_station.ensures.quiet
-    (λ failed. ⊎_elim (λ disk. inl disk) (λ lock. inr (inl lock)) failed) c.in-Err.ensures.err
+    is_not_opened c.args.self.links.now c.args.self.base.now _ (g.D.Disk.state c.args.disk) (g.D.Disk.state c.read_station.new.disk) c.in-Err.fault c.read_station.ensures.quiet
+    c.in-Err.ensures.err

@@ -1,6 +1,6 @@
 //! `list` of a base folder: what is asked for is read, all of it, before a line is printed.
 
-use crate::folders::look_into;
+use cmd_base::look_into;
 use cmd_input::Progress;
 use echo_base_folder::Seen;
 use echo_device::Sink;
@@ -12,7 +12,7 @@ use echo_status::{Fault, Status};
 const SOME: usize = 1_000;
 
 /// `list` of the base folder with this path, from this number on.
-pub fn list_folder<'a, W: Sink>(
+pub(crate) fn list_folder<'a, W: Sink>(
     rt: &HostRuntime,
     area: Option<&[u8]>,
     first: u64,

@@ -1,0 +1,53 @@
+//! A base file that is read while a terminal is told how far that is.
+
+use cmd_input::{Messages, Progress, folder_fault, input_fault};
+use echo_device::{Buffered, Watched};
+use echo_files::read_whole;
+use echo_station_files::Followed;
+use echo_status::Fault;
+use std::fs::File;
+use std::{fs, io};
+
+/// How many bytes are read at once.
+const BUFFER: usize = 65_536;
+
+/// The bytes of the base file with this path.
+pub(crate) fn told_bytes<'a>(
+    rt: &HostRuntime,
+    base: &'a str,
+    progress: &Progress<'_>,
+) -> Result<Vec<u8>, Fault<'a>> {
+    let (file, size) = opened(rt, base).map_err(|error| folder_fault(&error, base))?;
+    read_told(rt, base, file, size, progress)
+}
+
+// The file, and how many bytes it has.
+fn opened(rt: &HostRuntime, base: &str) -> io::Result<(File, usize)> {
+    let file = fs::open(rt, base)?;
+    let size = file.metadata()?.len() as usize;
+    Ok((file, size))
+}
+
+// Reads the file. Its first bytes, which say how many messages it has, are there before somebody is told.
+fn read_told<'a>(
+    rt: &HostRuntime,
+    base: &'a str,
+    file: File,
+    size: usize,
+    progress: &Progress<'_>,
+) -> Result<Vec<u8>, Fault<'a>> {
+    let watch = Messages {
+        progress: Some(progress),
+    };
+    let mut source = Buffered::new(rt.alloc(), Watched::new(file), BUFFER)?;
+    if source.read_ahead().is_err() {
+        return Err(Fault::CannotUse(base));
+    }
+    let mut told = Followed::new(&mut source, size, &watch);
+    let mut bytes = match read_whole(rt.alloc(), &mut told, usize::MAX) {
+        Ok(bytes) => bytes,
+        Err(fault) => return Err(input_fault(fault, base)),
+    };
+    bytes.shrink_to_fit();
+    Ok(bytes)
+}
