@@ -6,7 +6,7 @@ ghost use Rattle.echo_folder.specs.Names.{keys_of, log_of, messages_of};
 ghost use Rattle.echo_folder.specs.Reading.{IsLogIn, IsRead};
 ghost use Rattle.echo_folder.specs.Standing.{StandsFor, base_at};
 ghost use Rattle.echo_base_folder.specs.Unread.{HasUnreadCause, IsWrong};
-ghost use Rattle.echo_base_folder.specs.Wrong.{AreWhole, IsFolderLog, is_no_log};
+ghost use Rattle.echo_base_folder.specs.Wrong.{AreWhole, IsFolderLog, is_foreign, is_no_log};
 
 use crate::unread::Unread;
 use echo_base::BaseFault;
@@ -57,6 +57,14 @@ fn is_no_log(size: usize, end: End) -> bool
         || told.keys % ENTRY != 0
         || told.cursor > (told.keys / ENTRY) as u64
         || size - end.gate > LEFT_BEHIND
+}
+
+// The same, or whether it has no record and the folder has other files than those of a base folder.
+fn is_foreign(strange: bool, size: usize, end: End) -> bool
+    requires { end.gate ≤ size }
+    ensures { result ≡ is_foreign strange size end }
+{
+    is_no_log(size, end) || (strange && end.gate == 0)
 }
 
 // How many messages, from the front, end within the bytes that are there, of all that the log tells.
@@ -110,15 +118,14 @@ pub(crate) fn judge_by<D: Disk>(
     ensures quiet { ChangesNothing (D.state disk.old) (D.state disk.new) }
     ensures cause { HasUnreadCause (D.failures disk.old) (D.failures disk.new) result }
 {
-    let end = log.end;
-    if is_no_log(log.bytes.len(), end) || (strange && end.gate == 0) {
+    if is_foreign(strange, log.bytes.len(), log.end) {
         return Err(Unread::Wrong(BaseFault::NotBase));
     }
     match judge(alloc, disk, path, log) {
         Ok(()) => Ok(()),
         Err(FolderError::Lost) => Err(Unread::Wrong(BaseFault::NotBase)),
         Err(FolderError::Corrupt) => {
-            let messages = whole_of(alloc, disk, path, end.told)?;
+            let messages = whole_of(alloc, disk, path, log.end.told)?;
             Err(Unread::Wrong(BaseFault::Truncated { messages }))
         }
         Err(FolderError::Memory) => Err(Unread::Memory),

@@ -1,5 +1,5 @@
 //! A base folder read without a change, so that no lock is wanted.
-ghost use Rattle.std.specs.Prelude.{◌≡◌, ◌≤◌, ◌<◌, ◌/◌, ◌++◌, ℕ, List, length, take, true, IfErr, IfOk, OnOk};
+ghost use Rattle.std.specs.Prelude.{◌≡◌, ◌≤◌, ◌<◌, ◌/◌, ◌++◌, ℕ, List, length, take, true, IfErr, IfOk, IfSome, IsSome, OnOk};
 ghost use Rattle.echo_disk.specs.Disk.{Honestly, bytes_in};
 ghost use Rattle.echo_disk.specs.Runs.{ChangesNothing, HasCause};
 ghost use Rattle.echo_folder.specs.Names.{messages_of};
@@ -79,19 +79,42 @@ pub fn look<D: Disk>(
     ensures cause { HasUnreadCause (D.failures disk.old) (D.failures disk.new) result }
 {
     'tries: for _try in 0..TRIES {
-        let before = read_log(alloc, disk, path)?;
-        let read = seen_by(alloc, disk, path, strange, first, &before);
-        let after = read_log(alloc, disk, path)?;
-        if is_steady(&read, &before, &after) {
-            let seen = read?;
-            return Ok(Seen {
-                log: before.bytes,
-                reread: after.bytes,
-                ..seen
-            });
+        if let Some(seen) = look_once(alloc, disk, path, strange, first)? {
+            return Ok(seen);
         }
     }
     Err(Unread::Raced)
+}
+
+// One try of that, none where others changed it meanwhile.
+fn look_once<D: Disk>(
+    alloc: Global,
+    disk: &mut D,
+    path: &[u8],
+    strange: bool,
+    first: u64,
+) -> Result<Option<Seen>, Unread>
+    ensures some { Honestly (D.state disk.new) (IfOk result IsSome) }
+    ensures found { Honestly (D.state disk.new) ((base : BaseBytes) → StandsFor path.now base (D.state disk.old).seen
+        → IfOk result (λ seen. IfSome seen (IsSeenFrom first base))) }
+    ensures steady { IfOk result (λ seen. IfSome seen (λ s. GoesOn s.log.items s.reread.items)) }
+    ensures sound { Honestly (D.state disk.new) (OnOk result (IsSound strange path.now (D.state disk.old).seen)) }
+    ensures wrong { Honestly (D.state disk.new) (IfErr result (IsWrong strange path.now (D.state disk.old).seen)) }
+    ensures quiet { ChangesNothing (D.state disk.old) (D.state disk.new) }
+    ensures cause { HasUnreadCause (D.failures disk.old) (D.failures disk.new) result }
+{
+    let before = read_log(alloc, disk, path)?;
+    let read = seen_by(alloc, disk, path, strange, first, &before);
+    let after = read_log(alloc, disk, path)?;
+    if !is_steady(&read, &before, &after) {
+        return Ok(None);
+    }
+    let seen = read?;
+    Ok(Some(Seen {
+        log: before.bytes,
+        reread: after.bytes,
+        ..seen
+    }))
 }
 
 // Whether nothing changed meanwhile of what was read: a fault is known of one log alone.
