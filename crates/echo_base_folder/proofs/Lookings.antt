@@ -2,7 +2,8 @@
 use Rattle.std.proofs.Common.{◌≡◌, ◌≤◌, ◌∙◌, ap, ℕ, List, ◌++◌, length, take, drop, Result, Ok, Err, sym, subst, arith, take-append-drop}
 use Rattle.std.proofs.lemmas.List.{take_at}
 use Rattle.std.specs.Result.{IfErr, IfOk, IsErrAnd}
-use Rattle.echo_folder.specs.Reading.{IsRead}
+use Rattle.echo_folder.specs.Reading.{IsRead, ReadsAll}
+use Rattle.echo_keys.specs.Keys.{place_at}
 use Rattle.echo_folder.specs.Standing.{BaseBytes}
 use Rattle.echo_folder.specs.declared.log.End.{End}
 use Rattle.echo_folder.specs.declared.log.Log.{Log}
@@ -23,7 +24,7 @@ at_ok P r x is was = subst (λ (q : Result _ _). IfOk q P) is was
 pub noted : (first : ℕ) (base : BaseBytes) (seen now : Seen) → now.messages ≡ seen.messages → now.before ≡ seen.before → now.all ≡ seen.all → now.keys ≡ seen.keys → now.cursor ≡ seen.cursor → now.mark ≡ seen.mark
     → IsSeenFrom first base seen → IsSeenFrom first base now
 noted first base seen now m b a k c mark was = record {
-  begins = λ lt. subst (λ (n : ℕ). n ≤ _) (sym b) (was.begins lt);
+  begins = λ lt. subst (λ (n : ℕ). n ≤ place_at base.keys first) (sym b) (was.begins lt);
   within = subst (λ (n : ℕ). n ≤ length base.messages) (sym b) was.within;
   all = a ∙ was.all;
   messages = ap (λ v. v.items) m ∙ was.messages ∙ ap (λ (n : ℕ). drop n base.messages) (sym b);
@@ -34,4 +35,4 @@ noted first base seen now m b a k c mark was = record {
 
 -- logs with the same bytes end alike
 pub same_end : (before after : Log) → IsRead before → IsRead after → before.bytes.items ≡ after.bytes.items → before.end ≡ after.end
-same_end before after one two same = one_end after.bytes.items before.end after.end (subst (λ (l : List ℕ). _) same one) two
+same_end before after one two same = one_end after.bytes.items before.end after.end (subst (λ (l : List ℕ). ReadsAll l before.end) same one) two

@@ -81,12 +81,7 @@ fn whole_in(keys: &[u8], all: usize, there: usize) -> u64
 }
 
 // How many messages are whole, of those that a record tells.
-fn whole_of<D: Disk>(
-    alloc: Global,
-    disk: &mut D,
-    path: &[u8],
-    told: Told,
-) -> Result<u64, DiskError>
+fn whole_of<D: Disk>(alloc: Global, disk: &mut D, path: &[u8], told: Told) -> Result<u64, DiskError>
     requires { told.number < 10 }
     ensures whole { Honestly (D.state disk.new) (IfOk result (AreWhole (take told.keys (bytes_in ((D.state disk.old).seen (keys_of path.now told.number))))
         told.messages (length (bytes_in ((D.state disk.old).seen (messages_of path.now told.number)))))) }

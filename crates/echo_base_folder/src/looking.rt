@@ -128,7 +128,8 @@ fn is_steady(read: &Result<Seen, Unread>, before: &Log, after: &Log) -> bool
 {
     match read {
         Ok(_) => goes_on(before, after),
-        Err(_) => before.bytes.len() == after.bytes.len() && begins_with(&after.bytes, &before.bytes),
+        Err(_) => before.bytes.len() == after.bytes.len()
+            && begins_with(&after.bytes, &before.bytes),
     }
 }
 
@@ -150,14 +151,14 @@ fn goes_on(before: &Log, after: &Log) -> bool
     ensures same { before.now.bytes.items ≡ after.now.bytes.items → result ≡ true }
     ensures goes_on { result ≡ true → GoesOn before.now.bytes.items after.now.bytes.items }
 {
-    let (then, now) = (before.end.gate, after.end.gate);
-    if then > now {
+    let (first, last) = (before.end.gate, after.end.gate);
+    if first > last {
         return false;
     }
-    if !begins_with(&after.bytes, &before.bytes[..then]) {
+    if !begins_with(&after.bytes, &before.bytes[..first]) {
         return false;
     }
-    name_only(&after.bytes[then..now], before.end.told.number)
+    name_only(&after.bytes[first..last], before.end.told.number)
 }
 
 // Whether each of the records names the files of this number.

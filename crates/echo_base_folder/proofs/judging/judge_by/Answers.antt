@@ -4,8 +4,8 @@ use Rattle.echo_folder.specs.Names.{keys_of, messages_of}
 use Rattle.echo_base_folder.specs.Wrong.{AreWhole, IsFolderLog, is_foreign}
 use Rattle.echo_base_folder.proofs.judging.judge_by.Goals as goal
 
-pub returns-in-Err-Corrupt-clause-wrong : goal.returns-in-Err-Corrupt-clause-wrong
-returns-in-Err-Corrupt-clause-wrong g c h2 =
+pub returns-in_ok-messages-in-Err-Corrupt-clause-wrong : goal.returns-in_ok-messages-in-Err-Corrupt-clause-wrong
+returns-in_ok-messages-in-Err-Corrupt-clause-wrong g c h2 =
     let h1 = c.whole_of.ensures.quiet.honest h2 in
     let h0 = c.judge.ensures.quiet.honest h1 in
     let log = c.args.log.now in
