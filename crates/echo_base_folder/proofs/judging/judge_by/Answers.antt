@@ -1,6 +1,7 @@
-use Rattle.std.proofs.Common.{◌≡◌, ◌<◌, ◌∙◌, ℕ, List, length, take, false, inl, inr, ap, sym, subst, arith}
+use Rattle.std.proofs.Common.{◌≡◌, ◌<◌, ◌∙◌, ℕ, List, length, take, false, Err, ap, sym, subst, arith}
 use Rattle.echo_disk.specs.Disk.{Files, bytes_in}
 use Rattle.echo_folder.specs.Names.{keys_of, messages_of}
+use Rattle.echo_folder.specs.declared.folder_error.FolderError.{FolderError}
 use Rattle.echo_base_folder.specs.Wrong.{AreWhole, IsFolderLog, is_foreign}
 use Rattle.echo_base_folder.proofs.judging.judge_by.Goals as goal
 
@@ -19,6 +20,6 @@ returns-in_ok-messages-in-Err-Corrupt-clause-wrong g c h2 =
     record {
       end = log.end;
       log = subst (λ (l : List ℕ). IsFolderLog c.args.strange l log.end) (c.requires.log h0) (record { reads = c.requires.read; own = own });
-      broken = c.judge.ensures.corrupt h1 c.in-Err-Corrupt.was;
-      whole = subst (λ (f : Files). AreWhole (take told.keys (bytes_in (f (keys_of path told.number)))) told.messages (length (bytes_in (f (messages_of path told.number)))) c.in_ok-messages.messages) same (c.in_ok-messages.ensures.whole h2);
+      broken = c.in-Err-Corrupt.ensures.corrupt h1 (ap (λ (e : FolderError). Err e) c.in-Err-Corrupt.field-0-is);
+      whole = subst (λ (f : Files). AreWhole (take told.keys (bytes_in (f (keys_of path told.number)))) told.messages (length (bytes_in (f (messages_of path told.number)))) c.in_ok-messages-in-Err-Corrupt.messages) same (c.in_ok-messages-in-Err-Corrupt.ensures.whole h2);
     }
