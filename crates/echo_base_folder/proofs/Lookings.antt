@@ -1,13 +1,17 @@
 -- What is seen of a folder is what its files stand for, and the log goes on meanwhile.
-use Rattle.std.proofs.Common.{◌≡◌, ◌≤◌, ◌∙◌, ap, ℕ, List, ◌++◌, length, take, drop, Result, Ok, Err, sym, subst, arith, take-append-drop}
-use Rattle.std.proofs.lemmas.List.{take_at}
+use Rattle.std.proofs.Common.{◌≡◌, ◌≤◌, ◌∙◌, ◌-◌, ap, ℕ, List, length, take, drop, Option, Result, Ok, Err, sym, subst, arith}
 use Rattle.std.specs.Result.{IfErr, IfOk, IsErrAnd}
-use Rattle.echo_folder.specs.Reading.{IsRead, ReadsAll}
+use Rattle.echo_disk.specs.Disk.{DiskState, bytes_in}
+use Rattle.echo_disk.specs.Runs.{ChangesNothing}
+use Rattle.echo_folder.specs.Names.{messages_of}
+use Rattle.echo_folder.specs.Reading.{IsLogIn, IsRead, ReadsAll}
 use Rattle.echo_keys.specs.Keys.{place_at}
-use Rattle.echo_folder.specs.Standing.{BaseBytes}
+use Rattle.echo_folder.specs.Standing.{BaseBytes, StandsFor, base_at}
+use Rattle.echo_folder.proofs.Opened.{end_tells}
+use Rattle.echo_folder.proofs.Same.{front_long}
 use Rattle.echo_folder.specs.declared.log.End.{End}
 use Rattle.echo_folder.specs.declared.log.Log.{Log}
-use Rattle.echo_base_folder.specs.Looked.{GoesOn, IsSeenFrom}
+use Rattle.echo_base_folder.specs.Looked.{IsSeenFrom}
 use Rattle.echo_base_folder.specs.declared.looking.Seen.{Seen}
 use Rattle.echo_base_folder.proofs.Wrongs.{one_end}
 
@@ -19,6 +23,9 @@ err_is P e (Err x) same is = subst P (sym same) is
 -- what is said of a result, where it is known
 pub at_ok : {T E : Type 0} (P : T → Type 0) (r : Result T E) (x : T) → r ≡ Ok x → IfOk r P → P x
 at_ok P r x is was = subst (λ (q : Result _ _). IfOk q P) is was
+
+pub at_err : {T E : Type 0} (P : E → Type 0) (r : Result T E) (e : E) → r ≡ Err e → IfErr r P → P e
+at_err P r e is was = subst (λ (q : Result _ _). IfErr q P) is was
 
 -- the same, whatever the logs are that are noted with it
 pub noted : (first : ℕ) (base : BaseBytes) (seen now : Seen) → now.messages ≡ seen.messages → now.before ≡ seen.before → now.all ≡ seen.all → now.keys ≡ seen.keys → now.cursor ≡ seen.cursor → now.mark ≡ seen.mark
@@ -36,3 +43,19 @@ noted first base seen now m b a k c mark was = record {
 -- logs with the same bytes end alike
 pub same_end : (before after : Log) → IsRead before → IsRead after → before.bytes.items ≡ after.bytes.items → before.end ≡ after.end
 same_end before after one two same = one_end after.bytes.items before.end after.end (subst (λ (l : List ℕ). ReadsAll l before.end) same one) two
+
+-- and nothing stands between the two ends
+pub none_between : (first last : ℕ) (log : List ℕ) → first ≡ last → length (take (last - first) (drop first log)) ≡ 0
+none_between first last log same =
+    let none : last - first ≡ 0 = omega (arith, same) in
+    ap (λ (n : ℕ). length (take n (drop first log))) none
+
+-- the files have the messages that the log tells of, after looks too
+pub long_enough : (path : List ℕ) (d e : DiskState) (log : Log) → ChangesNothing d e → IsLogIn path d.seen log → IsRead log → StandsFor path (base_at d path log.end.told) d.seen
+    → log.end.told.messages ≤ length (bytes_in (e.seen (messages_of path log.end.told.number)))
+long_enough path d e log quiet is read stands =
+    let base = base_at d path log.end.told in
+    let name = messages_of path log.end.told.number in
+    let tells = end_tells log.bytes.items log.end read path d.seen is base stands in
+    let long = front_long base.messages (bytes_in (d.seen name)) tells.messages in
+    omega (arith, tells.messages_long, long, ap (λ (f : Option (List ℕ)). length (bytes_in f)) (quiet.seen name))
