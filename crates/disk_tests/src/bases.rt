@@ -3,11 +3,12 @@ ghost use Rattle.std.specs.Prelude.{◌≡◌, IfOk};
 ghost use Rattle.echo_disk.specs.Disk.{Honestly};
 ghost use Rattle.echo_folder.specs.AtRest.{IsAtRest, IsStaged};
 ghost use Rattle.echo_folder.specs.Names.{AreNames, folder_of};
+ghost use Rattle.echo_folder.specs.Opening.{AreAlone};
 
 use echo_disk::{Disk, read_file};
 use echo_folder::{
-    End, FolderError, Mark, Names, Told, commit, stage_anew, stage_keys, stage_messages,
-    stage_nothing,
+    End, FolderError, Mark, Names, Told, commit, judge, open, read_log, stage_anew, stage_keys,
+    stage_messages, stage_nothing,
 };
 use std::alloc::{AllocError, Global};
 
@@ -113,6 +114,22 @@ fn stage_and_commit<D: Disk>(
         return Err(FolderError::Corrupt);
     }
     Ok(commit(disk, names, end, told)?)
+}
+
+/// Opens a base folder.
+pub(crate) fn open_folder<D: Disk>(
+    alloc: Global,
+    disk: &mut D,
+    folder: &[u8],
+) -> Result<End, FolderError>
+    requires { Honestly (D.state disk.old) (AreAlone folder.now (D.state disk.old)) }
+    ensures settled { Honestly (D.state disk.new) (IfOk result (λ end. IsAtRest (D.state disk.new) folder.now end)) }
+{
+    let log = read_log(alloc, disk, folder)?;
+    judge(alloc, disk, folder, &log)?;
+    let names = Names::new(alloc, folder, log.end.told.number)?;
+    open(alloc, disk, &names, &log)?;
+    Ok(log.end)
 }
 
 /// Makes one change of a base folder that is at rest.

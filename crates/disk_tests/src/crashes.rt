@@ -5,10 +5,10 @@ ghost use Rattle.echo_disk.specs.Disk.{Honestly};
 ghost use Rattle.echo_folder.specs.Opening.{AreAlone};
 ghost use Rattle.disk_tests.specs.declared.crashes.TheConstants.{FOLDER};
 
-use crate::bases::{Base, change_folder, read_base};
+use crate::bases::{Base, change_folder, open_folder, read_base};
 use crate::random::Random;
 use echo_disk::Disk;
-use echo_folder::{FolderError, Mark, open};
+use echo_folder::{FolderError, Mark};
 use echo_memory_disk::{MemoryDisk, Tear};
 use std::alloc::{AllocError, Global};
 use std::test::Fail;
@@ -117,7 +117,7 @@ fn run<D: Disk>(
     requires { Honestly (D.state disk.old) (AreAlone FOLDER.now (D.state disk.old)) }
 {
     let mut random = Random::new(seed);
-    let mut end = open(alloc, disk, FOLDER)?;
+    let mut end = open_folder(alloc, disk, FOLDER)?;
     'commits: for _ in 0..COMMITS {
         let change = random.change(alloc)?;
         expected.after = expected.before.changed(alloc, &change)?;
@@ -138,7 +138,7 @@ fn calls_of(alloc: Global, seed: u64) -> Result<u64, FolderError> {
 // Crashes, opens the folder and compares what it finds.
 fn look(alloc: Global, disk: &mut MemoryDisk, expected: &mut Expected) -> Result<(), FolderError> {
     disk.crash(u64::MAX)?;
-    let end = open(alloc, disk, FOLDER)?;
+    let end = open_folder(alloc, disk, FOLDER)?;
     let found = read_base(alloc, disk, FOLDER, end)?;
     Ok(expected.find(alloc, found)?)
 }
@@ -152,7 +152,7 @@ fn found_after(alloc: Global, seed: u64, way: u64, calls: u64) -> Result<Expecte
     expected.ends(first);
     'crashes: for _ in 0..CRASHES {
         disk.crash(random.next() % 13)?;
-        let _ = open(alloc, &mut disk, FOLDER);
+        let _ = open_folder(alloc, &mut disk, FOLDER);
         look(alloc, &mut disk, &mut expected)?;
         disk.crash(random.next() % 40)?;
         let next = run(alloc, &mut disk, random.next(), &mut expected);

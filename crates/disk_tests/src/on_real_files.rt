@@ -1,6 +1,6 @@
 //! A base folder on files of the system.
-use crate::bases::{Base, Change, change_folder, read_base};
-use echo_folder::{Mark, open};
+use crate::bases::{Base, Change, change_folder, open_folder, read_base};
+use echo_folder::{FolderError, Mark};
 use echo_real_disk::{RealDisk, Unknown};
 use std::fs;
 use std::fs::OpenOptions;
@@ -26,7 +26,7 @@ const CLAIMED: Mark = Mark {
 const INSIDE: u64 = 75;
 
 #[test]
-fn a_base_folder_is_opened_again_and_without_a_record_cut_short(
+fn a_base_folder_is_opened_again_and_not_with_a_log_cut_short(
     rt: HostRuntime,
 ) -> Result<(), Fail> {
     let alloc = rt.alloc();
@@ -52,16 +52,15 @@ fn a_base_folder_is_opened_again_and_without_a_record_cut_short(
         cursor: 0,
         mark: UNCLAIMED,
     };
-    let before = empty.changed(alloc, &first)?;
-    let after = before.changed(alloc, &second)?;
+    let after = empty.changed(alloc, &first)?.changed(alloc, &second)?;
 
     let mut disk = RealDisk::new(&rt, Unknown);
-    let end = open(alloc, &mut disk, FOLDER)?;
+    let end = open_folder(alloc, &mut disk, FOLDER)?;
     let end = change_folder(alloc, &mut disk, FOLDER, end, &first)?;
     let _ = change_folder(alloc, &mut disk, FOLDER, end, &second)?;
 
     let mut again = RealDisk::new(&rt, Unknown);
-    let end = open(alloc, &mut again, FOLDER)?;
+    let end = open_folder(alloc, &mut again, FOLDER)?;
     assert!(rt; read_base(alloc, &mut again, FOLDER, end)?.is(&after));
 
     OpenOptions::new()
@@ -69,8 +68,8 @@ fn a_base_folder_is_opened_again_and_without_a_record_cut_short(
         .open(&rt, "disk_tests_base/log")?
         .set_len(INSIDE)?;
     let mut cut = RealDisk::new(&rt, Unknown);
-    let end = open(alloc, &mut cut, FOLDER)?;
-    assert!(rt; read_base(alloc, &mut cut, FOLDER, end)?.is(&before));
+    let opened = open_folder(alloc, &mut cut, FOLDER);
+    assert!(rt; opened == Err(FolderError::Corrupt));
     fs::remove_dir_all(&rt, "disk_tests_base")?;
     Ok(())
 }

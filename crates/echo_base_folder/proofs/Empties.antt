@@ -1,18 +1,20 @@
 -- A folder without files.
-use Rattle.std.proofs.Common.{◌≡◌, ◌∙◌, ℕ, List, [], None, false, inl, refl, sym, ap, subst, arith, lit<}
+use Rattle.std.proofs.Common.{◌≡◌, ◌∙◌, ℕ, List, [], length, false, inl, inr, refl, sym, ap, subst, arith, lit<}
 use Rattle.echo_addr.specs.declared.address.Address.{Address}
 use Rattle.echo_disk.specs.Disk.{Files, bytes_in}
-use Rattle.echo_folder.specs.Log.{IsLog, no_mark, nothing_told}
-use Rattle.echo_folder.specs.Names.{log_of}
+use Rattle.echo_folder.specs.Log.{no_mark, nothing_told}
+use Rattle.echo_folder.specs.Names.{log_of, messages_of, keys_of}
+use Rattle.echo_folder.proofs.Empty.{new_log}
+use Rattle.echo_folder.proofs.Paths.{log_in, messages_in, keys_in}
 use Rattle.echo_folder.specs.Reading.{ReadsAll}
-use Rattle.echo_folder.specs.Standing.{BaseBytes, StandsFor}
+use Rattle.echo_folder.specs.Standing.{BaseBytes, IsNew, StandsFor}
 use Rattle.echo_folder.specs.declared.log.End.{End}
 use Rattle.echo_folder.specs.declared.log.Told.{Told}
 use Rattle.echo_base.specs.Base.{Base}
 use Rattle.echo_folder_store.specs.Held.{HoldsBase, StandsForBase}
 use Rattle.echo_base_folder.specs.Ours.{IsOfOther}
 use Rattle.echo_base_folder.specs.Unopened.{HaveRoom}
-use Rattle.echo_base_folder.specs.Wrong.{IsFolderLog, IsSound}
+use Rattle.echo_base_folder.specs.Wrong.{HasNoFiles, IsFolderLog, IsSound}
 use Rattle.echo_base_folder.proofs.Wrongs.{one_end, sound_by}
 
 no_bytes : BaseBytes
@@ -32,14 +34,24 @@ nothing_read = record {
   ends = inl (lit< tt);
 }
 
-nothing_stands : (path : List ℕ) (files : Files) → bytes_in (files (log_of path)) ≡ [] → StandsFor path no_bytes files
+no_log : (path : List ℕ) (files : Files) → HasNoFiles path files → bytes_in (files (log_of path)) ≡ []
+no_log path files none = ap bytes_in (none (log_of path) (log_in path))
+
+nothing_stands : (path : List ℕ) (files : Files) → HasNoFiles path files → StandsFor path no_bytes files
 unfolding no_bytes
-nothing_stands path files none = record {
-  bodies = [];
-  log = subst (λ (l : List ℕ). IsLog [] l) (sym none) (record { rest = []; parts = refl; sizes = tt; ends = inl (lit< tt) });
-  there = tt;
-  tells = record { messages_long = refl; keys_long = refl; cursor = refl; mark = refl; digit = lit< tt; messages = refl; keys = refl };
-}
+nothing_stands path files none =
+    let log = no_log path files none in
+    let new : IsNew path files = record {
+      log = omega (arith, ap length log);
+      empty = record { messages = λ n lt. ap bytes_in (none (messages_of path n) (messages_in path n)); keys = λ n lt. ap bytes_in (none (keys_of path n) (keys_in path n)) };
+    } in
+    record {
+      bodies = [];
+      log = new_log path files new;
+      ended = inr new;
+      there = tt;
+      tells = record { messages_long = refl; keys_long = refl; cursor = refl; mark = refl; digit = lit< tt; messages = refl; keys = refl };
+    }
 
 nothing_held : (keyed : ℕ → ℕ → List ℕ → ℕ) → HaveRoom keyed → HoldsBase keyed no_bytes no_messages
 unfolding no_bytes no_messages
@@ -58,21 +70,21 @@ nothing_held keyed fits = record {
   cursor = refl;
 }
 
-pub empty_base : (keyed : ℕ → ℕ → List ℕ → ℕ) (path : List ℕ) (files : Files) → HaveRoom keyed → files (log_of path) ≡ None → StandsForBase keyed path (record { messages = []; cursor = 0 }) files
+pub empty_base : (keyed : ℕ → ℕ → List ℕ → ℕ) (path : List ℕ) (files : Files) → HaveRoom keyed → HasNoFiles path files → StandsForBase keyed path (record { messages = []; cursor = 0 }) files
 unfolding no_messages
-empty_base keyed path files fits none = record { bytes = no_bytes; stands = nothing_stands path files (ap bytes_in none); holds = nothing_held keyed fits }
+empty_base keyed path files fits none = record { bytes = no_bytes; stands = nothing_stands path files none; holds = nothing_held keyed fits }
 
 empty_folder : (log : List ℕ) → log ≡ [] → IsFolderLog false log no_end
 unfolding no_end
 empty_folder log none = subst (λ (l : List ℕ). IsFolderLog false l no_end) (sym none) (record { reads = nothing_read; own = refl })
 
-pub empty_sound : (path : List ℕ) (files : Files) → files (log_of path) ≡ None → IsSound false path files
+pub empty_sound : (path : List ℕ) (files : Files) → HasNoFiles path files → IsSound false path files
 unfolding no_end
-empty_sound path files none = sound_by false path files no_end (empty_folder (bytes_in (files (log_of path))) (ap bytes_in none)) (omega arith) (omega arith)
+empty_sound path files none = sound_by false path files no_end no_bytes (empty_folder (bytes_in (files (log_of path))) (no_log path files none)) (nothing_stands path files none)
 
-pub empty_nobody : (own address : Address) (path : List ℕ) (files : Files) → files (log_of path) ≡ None → IsOfOther own false path files address → ⊥
+pub empty_nobody : (own address : Address) (path : List ℕ) (files : Files) → HasNoFiles path files → IsOfOther own false path files address → ⊥
 unfolding no_end
 empty_nobody own address path files none of =
     let log = bytes_in (files (log_of path)) in
-    let end : of.log.end ≡ no_end = one_end log of.log.end no_end of.log.log.reads (empty_folder log (ap bytes_in none)).reads in
+    let end : of.log.end ≡ no_end = one_end log of.log.end no_end of.log.log.reads (empty_folder log (no_log path files none)).reads in
     of.mark.claimed (ap (λ (t : Told). t.mark.owner) (sym of.log.is) ∙ ap (λ (e : End). e.told.mark.owner) end)

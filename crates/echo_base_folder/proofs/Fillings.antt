@@ -24,7 +24,7 @@ use Rattle.echo_base.specs.declared.fault.BaseFault.TheVariants as fault
 use Rattle.echo_store.specs.declared.store_error.StoreError.{StoreError}
 use Rattle.echo_store.specs.declared.store_error.StoreError.TheVariants as store
 use Rattle.echo_base_folder.specs.Filled.{HoldsFront, HoldsMore, IsKept, IsUnfilled, StandsForOneOf, StandsForOneOfOrWasLeft, unfilled_cause}
-use Rattle.echo_base_folder.specs.Unopened.{IsUnopened}
+use Rattle.echo_base_folder.specs.Unread.{IsWrong}
 use Rattle.echo_base_folder.specs.declared.unread.Unread.{Unread}
 use Rattle.echo_base_folder.specs.declared.unread.Unread.TheVariants as unread
 
@@ -114,21 +114,22 @@ fill_run keyed path here d e f first next at opening kept filling =
     (λ (one : StandsForBaseAlone keyed path e next c). inr (alone_since keyed path d e next kept c one)) or))
 
 -- a folder that is not opened is not filled
-pub unfilled_where_unopened : (strange : Bool) (path : List ℕ) (files : Files) (why : Unread) → IsUnopened strange path files why → IsUnfilled strange path files why
-unfilled_where_unopened strange path files (unread.Wrong fault.TooMany) was = tt
-unfilled_where_unopened strange path files (unread.Wrong fault.NotBase) was = was
-unfilled_where_unopened strange path files (unread.Wrong (fault.Truncated n)) was = was
-unfilled_where_unopened strange path files (unread.Wrong (fault.Damaged n)) was = was
-unfilled_where_unopened strange path files (unread.Wrong fault.Read) was = was
-unfilled_where_unopened strange path files (unread.Wrong (fault.Write n)) was = was
-unfilled_where_unopened strange path files (unread.Wrong fault.Memory) was = was
-unfilled_where_unopened strange path files unread.Memory was = was
-unfilled_where_unopened strange path files unread.Device was = was
-unfilled_where_unopened strange path files (unread.NotOwner address) was = was
+pub unfilled_where_wrong : (strange : Bool) (path : List ℕ) (files : Files) (why : Unread) → IsWrong strange path files why → IsUnfilled strange path files why
+unfilled_where_wrong strange path files (unread.Wrong fault.TooMany) was = tt
+unfilled_where_wrong strange path files (unread.Wrong fault.NotBase) was = was
+unfilled_where_wrong strange path files (unread.Wrong (fault.Truncated n)) was = was
+unfilled_where_wrong strange path files (unread.Wrong (fault.Damaged n)) was = was
+unfilled_where_wrong strange path files (unread.Wrong fault.Read) was = was
+unfilled_where_wrong strange path files (unread.Wrong (fault.Write n)) was = was
+unfilled_where_wrong strange path files (unread.Wrong fault.Memory) was = was
+unfilled_where_wrong strange path files unread.Memory was = was
+unfilled_where_wrong strange path files unread.Device was = was
+unfilled_where_wrong strange path files unread.Raced was = was
+unfilled_where_wrong strange path files (unread.NotOwner address) was = was
 
 -- why it was not filled once it was open
 pub unfilled_as_caused : (strange : Bool) (path : List ℕ) (files : Files) (cause : StoreError) (why : Unread) → why ≡ unfilled_cause cause → IsUnfilled strange path files why
-unfilled_as_caused strange path files store.Memory why is = subst (λ (w : Unread). IsUnfilled strange path files w) (sym is) (inr tt)
-unfilled_as_caused strange path files store.Device why is = subst (λ (w : Unread). IsUnfilled strange path files w) (sym is) (inr tt)
-unfilled_as_caused strange path files store.Damaged why is = subst (λ (w : Unread). IsUnfilled strange path files w) (sym is) (inr tt)
+unfilled_as_caused strange path files store.Memory why is = subst (λ (w : Unread). IsUnfilled strange path files w) (sym is) tt
+unfilled_as_caused strange path files store.Device why is = subst (λ (w : Unread). IsUnfilled strange path files w) (sym is) tt
+unfilled_as_caused strange path files store.Damaged why is = subst (λ (w : Unread). IsUnfilled strange path files w) (sym is) tt
 unfilled_as_caused strange path files store.TooMany why is = subst (λ (w : Unread). IsUnfilled strange path files w) (sym is) tt

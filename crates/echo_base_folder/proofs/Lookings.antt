@@ -1,34 +1,61 @@
--- What is seen of a folder is what its files stand for.
-use Rattle.std.proofs.Common.{◌≡◌, ◌∙◌, ap, ℕ, List, Option, Some, None, Result, Ok, Err, refl, sym, subst}
-use Rattle.std.specs.Prelude.{IfNone}
+-- What is seen of a folder is what its files stand for, and the log goes on meanwhile.
+use Rattle.std.proofs.Common.{◌≡◌, ◌≤◌, ◌∙◌, ◌-◌, ap, ℕ, List, length, take, drop, Option, Result, Ok, Err, sym, subst, arith}
 use Rattle.std.specs.Result.{IfErr, IfOk, IsErrAnd}
 use Rattle.echo_disk.specs.Disk.{DiskState, bytes_in}
-use Rattle.echo_folder.specs.Names.{keys_of, log_of, messages_of}
-use Rattle.echo_folder.specs.Reading.{ReadsAll}
+use Rattle.echo_disk.specs.Runs.{ChangesNothing}
+use Rattle.echo_folder.specs.Names.{messages_of}
+use Rattle.echo_folder.specs.Reading.{IsLogIn, IsRead, ReadsAll}
+use Rattle.echo_keys.specs.Keys.{place_at}
 use Rattle.echo_folder.specs.Standing.{BaseBytes, StandsFor, base_at}
+use Rattle.echo_folder.proofs.Opened.{end_tells}
+use Rattle.echo_folder.proofs.Same.{front_long}
 use Rattle.echo_folder.specs.declared.log.End.{End}
-use Rattle.echo_folder.proofs.Opened.{base_found}
-
-pub if_ok : {T E : Type 0} (P Q : T → Type 0) → ((x : T) → P x → Q x) → (r : Result T E) → IfOk r P → IfOk r Q
-if_ok P Q gives (Ok x) was = gives x was
-if_ok P Q gives (Err e) was = tt
-
-pub if_err : {T E : Type 0} (P Q : E → Type 0) → ((e : E) → P e → Q e) → (r : Result T E) → IfErr r P → IfErr r Q
-if_err P Q gives (Ok x) was = tt
-if_err P Q gives (Err e) was = gives e was
-
--- by the log as it was read, after looks that changed nothing
-pub seen_is : (path : List ℕ) (base : BaseBytes) (d0 d1 d2 : DiskState) (log : List ℕ) (end : End) → ((m : List ℕ) → d1.seen m ≡ d0.seen m) → ((m : List ℕ) → d2.seen m ≡ d0.seen m)
-    → ReadsAll log end → log ≡ bytes_in (d1.seen (log_of path)) → StandsFor path base d0.seen → base_at d2 path end.told ≡ base
-seen_is path base d0 d1 d2 log end one two reads is stands =
-    base_found path base d0.seen stands log end reads (is ∙ ap bytes_in (one (log_of path))) d2
-    (ap bytes_in (two (messages_of path end.told.number))) (ap bytes_in (two (keys_of path end.told.number)))
+use Rattle.echo_folder.specs.declared.log.Log.{Log}
+use Rattle.echo_base_folder.specs.Looked.{IsSeenFrom}
+use Rattle.echo_base_folder.specs.declared.looking.Seen.{Seen}
+use Rattle.echo_base_folder.proofs.Wrongs.{one_end}
 
 -- an error that was handed on as it is
 pub err_is : {T E : Type 0} (P : E → Type 0) (e : E) (r : Result T E) → IsErrAnd r (λ x. x ≡ e) → P e → IfErr r P
 err_is P e (Ok x) same is = absurd same
 err_is P e (Err x) same is = subst P (sym same) is
 
-pub at_none : {T P : Type 0} (o : Option T) → IfNone o P → ((x : T) → o ≡ Some x → ⊥) → P
-at_none None is other = is
-at_none (Some x) is other = absurd (other x refl)
+-- what is said of a result, where it is known
+pub at_ok : {T E : Type 0} (P : T → Type 0) (r : Result T E) (x : T) → r ≡ Ok x → IfOk r P → P x
+at_ok P r x is was = subst (λ (q : Result _ _). IfOk q P) is was
+
+pub at_err : {T E : Type 0} (P : E → Type 0) (r : Result T E) (e : E) → r ≡ Err e → IfErr r P → P e
+at_err P r e is was = subst (λ (q : Result _ _). IfErr q P) is was
+
+-- the same, whatever the logs are that are noted with it
+pub noted : (first : ℕ) (base : BaseBytes) (seen now : Seen) → now.messages ≡ seen.messages → now.before ≡ seen.before → now.all ≡ seen.all → now.keys ≡ seen.keys → now.cursor ≡ seen.cursor → now.mark ≡ seen.mark
+    → IsSeenFrom first base seen → IsSeenFrom first base now
+noted first base seen now m b a k c mark was = record {
+  begins = λ lt. subst (λ (n : ℕ). n ≤ place_at base.keys first) (sym b) (was.begins lt);
+  within = subst (λ (n : ℕ). n ≤ length base.messages) (sym b) was.within;
+  all = a ∙ was.all;
+  messages = ap (λ v. v.items) m ∙ was.messages ∙ ap (λ (n : ℕ). drop n base.messages) (sym b);
+  keys = ap (λ v. v.items) k ∙ was.keys;
+  cursor = c ∙ was.cursor;
+  mark = mark ∙ was.mark;
+}
+
+-- logs with the same bytes end alike
+pub same_end : (before after : Log) → IsRead before → IsRead after → before.bytes.items ≡ after.bytes.items → before.end ≡ after.end
+same_end before after one two same = one_end after.bytes.items before.end after.end (subst (λ (l : List ℕ). ReadsAll l before.end) same one) two
+
+-- and nothing stands between the two ends
+pub none_between : (first last : ℕ) (log : List ℕ) → first ≡ last → length (take (last - first) (drop first log)) ≡ 0
+none_between first last log same =
+    let none : last - first ≡ 0 = omega (arith, same) in
+    ap (λ (n : ℕ). length (take n (drop first log))) none
+
+-- the files have the messages that the log tells of, after looks too
+pub long_enough : (path : List ℕ) (d e : DiskState) (log : Log) → ChangesNothing d e → IsLogIn path d.seen log → IsRead log → StandsFor path (base_at d path log.end.told) d.seen
+    → log.end.told.messages ≤ length (bytes_in (e.seen (messages_of path log.end.told.number)))
+long_enough path d e log quiet is read stands =
+    let base = base_at d path log.end.told in
+    let name = messages_of path log.end.told.number in
+    let tells = end_tells log.bytes.items log.end read path d.seen is base stands in
+    let long = front_long base.messages (bytes_in (d.seen name)) tells.messages in
+    omega (arith, tells.messages_long, long, ap (λ (f : Option (List ℕ)). length (bytes_in f)) (quiet.seen name))

@@ -1,27 +1,33 @@
 -- A folder that is opened after looks that change nothing.
-use Rattle.std.proofs.Common.{◌≡◌, ◌≢◌, ◌≤◌, ◌<◌, ◌∙◌, ℕ, zero, suc, nat_eq, Bool, List, Option, Some, None, length, inl, inr, ⊎_elim, refl, sym, ap, subst, arith, if◌then◌else◌}
-use Rattle.std.specs.Prelude.{◌⊎◌, unwrap_or}
+use Rattle.std.proofs.Common.{◌≡◌, ◌≢◌, ◌≤◌, ◌<◌, ◌∙◌, ℕ, Bool, List, length, inl, inr, ⊎_elim, sym, ap, subst, arith}
+use Rattle.std.specs.Prelude.{◌⊎◌}
 use Rattle.echo_addr.specs.declared.address.Address.{Address}
-use Rattle.std.proofs.lemmas.Bool.{cases_lt, cond-false, ne_eqb}
+use Rattle.std.proofs.lemmas.Bool.{cases_lt}
 use Rattle.echo_base.specs.Base.{Base}
 use Rattle.echo_disk.specs.Disk.{DiskState, Files, bytes_in}
 use Rattle.echo_disk.specs.Runs.{ChangesNothing, LeavesOnly}
 use Rattle.echo_disk.proofs.Moments.{then_run, weaker_run}
-use Rattle.echo_folder.specs.Names.{log_of}
+use Rattle.echo_folder.specs.Names.{keys_of, log_of, messages_of}
 use Rattle.echo_folder.specs.Standing.{BaseBytes, StandsFor, base_at}
 use Rattle.echo_folder.specs.declared.log.End.{End}
 use Rattle.echo_folder.specs.declared.log.Mark.{Mark}
 use Rattle.echo_folder.specs.declared.log.Told.{Told}
-use Rattle.echo_folder.proofs.Opened.{end_tells}
+use Rattle.echo_folder.specs.Opening.{StandsOrWasLeft}
+use Rattle.echo_folder.specs.Reading.{IsLogIn, IsRead}
+use Rattle.echo_folder.specs.declared.log.Log.{Log}
+use Rattle.echo_folder.proofs.Empty.{stands_quiet}
+use Rattle.echo_folder.proofs.Opened.{base_found}
+use Rattle.echo_folder.proofs.Quiet.{base_quiet}
 use Rattle.echo_keys.specs.Keys.{FolderStandsFor}
 use Rattle.echo_folder_store.specs.Held.{HoldsBase, StandsForBase, StandsForBaseOrWasLeft, digest_by}
 use Rattle.echo_folder_store.specs.Opened.{IsNamed, IsOpen, IsWritten, committed_by, held_by, path_of}
 use Rattle.echo_folder_store.specs.Owned.{with_mark}
 use Rattle.echo_folder_store.specs.declared.folder.Folder.{Folder}
 use Rattle.echo_folder_store.proofs.Claimed.{claimed_holds, claimed_open}
+use Rattle.echo_folder_store.proofs.Bases.{opened_run}
 use Rattle.echo_folder_store.proofs.Waits.{written_held}
-use Rattle.echo_base_folder.specs.Ours.{IsMarkOfOther, IsNotOurs, IsOfOther, SameKey, number_of}
-use Rattle.echo_base_folder.specs.Unopened.{HaveRoom, IsBroken, StandsForNone}
+use Rattle.echo_base_folder.specs.Ours.{IsLeftAlone, IsMarkOfOther, IsOfOther, SameKey, number_of}
+use Rattle.echo_base_folder.specs.Unopened.{HaveRoom}
 use Rattle.echo_base_folder.specs.Wrong.{IsToldBy}
 use Rattle.echo_base_folder.proofs.Wrongs.{one_end}
 use Rattle.echo_base_folder.specs.declared.unread.Unread.{Unread}
@@ -78,35 +84,9 @@ claimed_committed keyed d f g base only settled written holds =
     let last : held_by d f ≡ committed_by d f = written_held d f written ∙ (λ i. base_at d (path_of f) (settled i)) in
     subst (λ (b : BaseBytes). HoldsBase keyed b base) (last ∙ sym same) holds
 
--- the files that stand for none stood for none before looks
-pub broken_since : (path : List ℕ) (d e : DiskState) (why : Unread) → ChangesNothing d e → IsBroken path e.seen why → IsBroken path d.seen why
-broken_since path d e why quiet was =
-    let same : e.seen ≡ d.seen = λ i m. quiet.seen m i in
-    subst (λ (f : Files). IsBroken path f why) same was
-
 -- a log tells one thing
 pub one_told : (strange : Bool) (log : List ℕ) (a b : Told) → IsToldBy strange log a → IsToldBy strange log b → a ≡ b
 one_told strange log a b one other = sym one.is ∙ ap (λ (e : End). e.told) (one_end log one.end other.end one.log.reads other.log.reads) ∙ other.is
-
--- and so the mark of the base for which the files stand
-mark_told : (strange : Bool) (path : List ℕ) (files : Files) (told : Told) (bytes : BaseBytes) → IsToldBy strange (bytes_in (files (log_of path))) told → StandsFor path bytes files → bytes.mark ≡ told.mark
-mark_told strange path files told bytes by stands =
-    let tells = end_tells path bytes files stands (bytes_in (files (log_of path))) by.end by.log.reads refl in
-    sym tells.mark ∙ ap (λ (t : Told). t.mark) by.is
-
--- files from which another owner is opened than their log tells stand for no base
-pub other_opened : (strange : Bool) (path : List ℕ) (d e : DiskState) (told : Told) (mark : Mark) → ChangesNothing d e → IsToldBy strange (bytes_in (d.seen (log_of path))) told
-    → ((bytes : BaseBytes) → StandsFor path bytes e.seen → mark ≡ bytes.mark) → mark.owner ≢ told.mark.owner → StandsForNone path d.seen
-other_opened strange path d e told mark quiet by found other keyed base stands =
-    let since = stands_since keyed path d e base quiet stands in
-    let same : e.seen ≡ d.seen = λ i m. quiet.seen m i in
-    let was : StandsFor path since.bytes d.seen = subst (λ (f : Files). StandsFor path since.bytes f) same since.stands in
-    other (ap (λ (m : Mark). m.owner) (found since.bytes since.stands ∙ mark_told strange path d.seen told since.bytes by was))
-
--- the owner as a number
-pub owner_is : (n : ℕ) → unwrap_or (if nat_eq n 0 then None else Some n) 0 ≡ n
-owner_is zero = refl
-owner_is (suc n) = ap (λ (o : Option ℕ). unwrap_or o 0) (cond-false (nat_eq (suc n) 0) None (Some (suc n)) (ne_eqb (suc n) 0 (λ none. omega (arith, none))))
 
 -- a folder that is nobody's or this system's is no other's
 pub not_other : (own : Address) (mark : Mark) (address : Address) → (mark.owner ≡ 0) ⊎ (mark.owner ≡ number_of own) → IsMarkOfOther own mark address → ⊥
@@ -120,12 +100,41 @@ told_other own strange path files told address by ours other =
     let same = one_told strange (bytes_in (files (log_of path))) other.told told other.log by in
     not_other own told.mark address ours (subst (λ (t : Told). IsMarkOfOther own t.mark address) same other.mark)
 
--- a folder that cannot be opened is not opened for this system
-pub broken_not_ours : (own : Address) (strange : Bool) (path : List ℕ) (files : Files) (why : Unread) → IsBroken path files why → IsNotOurs own strange path files why
-broken_not_ours own strange path files (unread.NotOwner address) was = absurd was
-broken_not_ours own strange path files (unread.Wrong fault) was = inr was
-broken_not_ours own strange path files unread.Memory was = inr was
-broken_not_ours own strange path files unread.Device was = inr was
+-- the files stand for the same before looks, and after them
+pub stood_before : (d e : DiskState) (path : List ℕ) (told : Told) → ChangesNothing d e → StandsFor path (base_at e path told) e.seen → StandsFor path (base_at d path told) d.seen
+stood_before d e path told quiet stands =
+    let same : e.seen ≡ d.seen = λ i m. quiet.seen m i in
+    subst (λ (f : Files). StandsFor path (base_at d path told) f) same (subst (λ (b : BaseBytes). StandsFor path b e.seen) (base_quiet d e path told quiet) stands)
+
+pub stood_since : (d e : DiskState) (path : List ℕ) (told : Told) → ChangesNothing d e → StandsFor path (base_at d path told) d.seen → StandsFor path (base_at e path told) e.seen
+stood_since d e path told quiet stands = subst (λ (b : BaseBytes). StandsFor path b e.seen) (sym (base_quiet d e path told quiet)) (stands_quiet d e path (base_at d path told) quiet stands)
+
+-- what the log tells is the base for which the files stand
+pub base_is : (path : List ℕ) (base : BaseBytes) (d e : DiskState) (log : Log) → ChangesNothing d e → IsLogIn path d.seen log → IsRead log → StandsFor path base d.seen → base_at e path log.end.told ≡ base
+base_is path base d e log quiet is read stands =
+    base_found log.bytes.items log.end read path d.seen is base stands e (quiet.seen (messages_of path log.end.told.number)) (quiet.seen (keys_of path log.end.told.number))
+
+-- a folder that was opened after looks holds the base for which its files stood
+pub opened_holds : (keyed : ℕ → ℕ → List ℕ → ℕ) (path : List ℕ) (d e f : DiskState) (log : Log) (folder : Folder) (base : Base) (stands : StandsForBase keyed path base d.seen) → ChangesNothing d e → IsLogIn path d.seen log → IsRead log
+    → held_by f folder ≡ base_at e path log.end.told → HoldsBase keyed (held_by f folder) base
+opened_holds keyed path d e f log folder base stands quiet is read found =
+    subst (λ (b : BaseBytes). HoldsBase keyed b base) (sym (found ∙ base_is path stands.bytes d e log quiet is read stands.stands)) stands.holds
+
+-- and what a crash leaves meanwhile
+pub opening_run : (keyed : ℕ → ℕ → List ℕ → ℕ) (path : List ℕ) (d e f : DiskState) (log : Log) (base : Base) (stands : StandsForBase keyed path base d.seen) → ChangesNothing d e → IsLogIn path d.seen log → IsRead log
+    → LeavesOnly e f (StandsOrWasLeft path e (base_at e path log.end.told)) → LeavesOnly d f (StandsForBaseOrWasLeft keyed path d base)
+opening_run keyed path d e f log base stands quiet is read run =
+    let since : StandsForBase keyed path base e.seen = record { bytes = stands.bytes; stands = stands_quiet d e path stands.bytes quiet stands.stands; holds = stands.holds } in
+    opened_run_since keyed path d e f base quiet
+    (opened_run keyed path e f base since (subst (λ (b : BaseBytes). LeavesOnly e f (StandsOrWasLeft path e b)) (base_is path stands.bytes d e log quiet is read stands.stands) run))
+
+-- looks change nothing, whatever they find
+pub left_alone : (d e : DiskState) (why : Unread) → ChangesNothing d e → IsLeftAlone d e why
+left_alone d e (unread.Wrong fault) quiet = quiet
+left_alone d e (unread.NotOwner address) quiet = quiet
+left_alone d e unread.Memory quiet = tt
+left_alone d e unread.Device quiet = tt
+left_alone d e unread.Raced quiet = tt
 
 pub claimed_named : (f g : Folder) → g ≡ with_mark f g.told.mark → IsNamed f → IsNamed g
 claimed_named f g only named = subst (λ (x : Folder). IsNamed x) (sym only) named

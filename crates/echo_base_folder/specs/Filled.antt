@@ -9,7 +9,7 @@ use Rattle.echo_base.specs.declared.fault.BaseFault.TheVariants as fault
 use Rattle.echo_store.specs.Store.{with_message}
 use Rattle.echo_store.specs.declared.store_error.StoreError.{StoreError}
 use Rattle.echo_store.specs.declared.store_error.StoreError.TheVariants as error
-use Rattle.echo_base_folder.specs.Unopened.{IsUnopened}
+use Rattle.echo_base_folder.specs.Unread.{IsWrong}
 use Rattle.echo_base_folder.specs.declared.unread.Unread.{Unread}
 use Rattle.echo_base_folder.specs.declared.unread.Unread.TheVariants as unread
 
@@ -45,7 +45,7 @@ unfilled_cause error.Device = unread.Device
 unfilled_cause error.Damaged = unread.Memory
 unfilled_cause error.TooMany = unread.Wrong fault.TooMany
 
--- four bytes do not count what it is to be filled with, or it is not opened
+-- four bytes do not count what it is to be filled with, or something is wrong with it
 abbrev pub IsUnfilled : Bool → List ℕ → Files → Unread → Type 0
 IsUnfilled strange path files (unread.Wrong fault.TooMany) = Unit {0}
-IsUnfilled strange path files why = IsUnopened strange path files why
+IsUnfilled strange path files why = IsWrong strange path files why

@@ -1,7 +1,9 @@
 -- What was read of a base folder.
-use Rattle.std.specs.Prelude.{◌≡◌, ◌≤◌, ◌<◌, ◌/◌, ℕ, List, drop, length}
+use Rattle.std.specs.Prelude.{◌≡◌, ◌≤◌, ◌<◌, ◌/◌, ℕ, List, drop, length, take}
 use Rattle.echo_base.specs.Base.{Base}
 use Rattle.echo_folder.specs.Standing.{BaseBytes}
+use Rattle.echo_folder.specs.Reading.{ReadsAll}
+use Rattle.echo_folder.specs.declared.log.End.{End}
 use Rattle.echo_keys.specs.Keys.{place_at}
 use Rattle.echo_folder_store.specs.Held.{HoldsBase}
 use Rattle.echo_base_folder.specs.declared.looking.Seen.{Seen}
@@ -21,3 +23,12 @@ pub record SeesBase (keyed : ℕ → ℕ → List ℕ → ℕ) (first : ℕ) (ba
   pub bytes : BaseBytes
   pub read : IsSeenFrom first bytes seen
   pub holds : HoldsBase keyed bytes base
+
+-- a log goes on from what it was: it begins with the same records
+pub record GoesOn (before after : List ℕ) : Type 0 where
+  pub first : End
+  pub read : ReadsAll before first
+  pub last : End
+  pub reread : ReadsAll after last
+  pub order : first.gate ≤ last.gate
+  pub front : take first.gate after ≡ take first.gate before

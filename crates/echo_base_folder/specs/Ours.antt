@@ -7,9 +7,7 @@ use Rattle.echo_folder.specs.Names.{log_of}
 use Rattle.echo_folder.specs.declared.log.Mark.{Mark}
 use Rattle.echo_folder.specs.declared.log.Told.{Told}
 use Rattle.echo_folder_store.specs.declared.folder.Folder.{Folder}
-use Rattle.echo_status.specs.declared.fault.Fault.{Fault}
-use Rattle.echo_status.specs.declared.fault.Fault.TheVariants.{NotOwner}
-use Rattle.echo_base_folder.specs.Unopened.{IsUnopened}
+use Rattle.echo_base_folder.specs.Unread.{IsWrong}
 use Rattle.echo_base_folder.specs.Wrong.{IsToldBy}
 use Rattle.echo_base_folder.specs.declared.unread.Unread.{Unread}
 use Rattle.echo_base_folder.specs.declared.unread.Unread.TheVariants as unread
@@ -33,12 +31,6 @@ pub record IsMarkOfOther (own : Address) (mark : Mark) (address : Address) : Typ
   pub other : mark.owner ≢ number_of own
   pub told : address ≡ address_of mark.owner
 
--- and so the folder is
-pub record IsOfAnother (own : Address) (folder : Folder) (fault : Fault) : Type 0 where
-  pub address : Address
-  pub mark : IsMarkOfOther own folder.told.mark address
-  pub told : fault ≡ NotOwner address
-
 -- the digests are by the same key
 pub record SameKey (old new : Mark) : Type 0 where
   pub first : new.first ≡ old.first
@@ -50,12 +42,13 @@ pub record IsOfOther (own : Address) (strange : Bool) (path : List ℕ) (files :
   pub log : IsToldBy strange (bytes_in (files (log_of path))) told
   pub mark : IsMarkOfOther own told.mark address
 
--- nothing was changed, if the folder is said to be another system's
+-- nothing was changed, if the folder is said to be another system's, or none, or cut short
 abbrev pub IsLeftAlone : DiskState → DiskState → Unread → Type 0
 IsLeftAlone old new (unread.NotOwner address) = ChangesNothing old new
+IsLeftAlone old new (unread.Wrong fault) = ChangesNothing old new
 IsLeftAlone old new _ = Unit {0}
 
--- it is another system's, if that is why, or it is not opened
+-- it is another system's, if that is why, or something is wrong with it
 abbrev pub IsNotOurs : Address → Bool → List ℕ → Files → Unread → Type 0
 IsNotOurs own strange path files (unread.NotOwner address) = IsOfOther own strange path files address
-IsNotOurs own strange path files why = IsUnopened strange path files why
+IsNotOurs own strange path files why = IsWrong strange path files why

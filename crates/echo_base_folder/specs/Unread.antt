@@ -2,14 +2,12 @@
 use Rattle.std.specs.Prelude.{◌≡◌, ◌≤◌, ℕ, Bool, List, Result, IsErrOf}
 use Rattle.echo_base.specs.declared.fault.BaseFault.TheVariants as base
 use Rattle.echo_device.specs.Device.{Failed}
-use Rattle.echo_disk.specs.Disk.{Files, bytes_in}
+use Rattle.echo_disk.specs.Disk.{Files}
 use Rattle.echo_disk.specs.declared.disk_error.DiskError.{DiskError}
 use Rattle.echo_disk.specs.declared.disk_error.DiskError.TheVariants as disk
-use Rattle.echo_folder.specs.Names.{log_of}
-use Rattle.echo_folder.specs.declared.log.Told.{Told}
 use Rattle.echo_status.specs.declared.fault.Fault.{Fault}
 use Rattle.echo_status.specs.declared.fault.Fault.TheVariants as fault
-use Rattle.echo_base_folder.specs.Wrong.{IsCutShort, IsNoFolder, IsShort}
+use Rattle.echo_base_folder.specs.Wrong.{IsCutShort, IsNoFolder}
 use Rattle.echo_base_folder.specs.declared.unread.Unread.{Unread}
 use Rattle.echo_base_folder.specs.declared.unread.Unread.TheVariants as unread
 
@@ -28,26 +26,14 @@ abbrev pub IsToldAs : List ℕ → Unread → Fault → Type 0
 IsToldAs path unread.Memory told = told ≡ fault.OutOfMemory
 IsToldAs path unread.Device (fault.CannotUse shown) = shown.now ≡ path
 IsToldAs path unread.Device _ = ⊥
+IsToldAs path unread.Raced (fault.CannotUse shown) = shown.now ≡ path
+IsToldAs path unread.Raced _ = ⊥
 IsToldAs path (unread.Wrong why) told = told ≡ fault.Base why
 IsToldAs path (unread.NotOwner address) told = told ≡ fault.NotOwner address
 
--- the log is that of no base folder, if that is why
-abbrev pub IsWrongLog : Bool → List ℕ → Unread → Type 0
-IsWrongLog strange log (unread.Wrong base.NotBase) = IsNoFolder strange log
-IsWrongLog strange log unread.Memory = Unit {0}
-IsWrongLog strange log unread.Device = Unit {0}
-IsWrongLog strange log _ = ⊥
-
--- the files are shorter than the log tells, if that is why
-abbrev pub IsWrongFiles : List ℕ → Files → Told → Unread → Type 0
-IsWrongFiles path files told (unread.Wrong (base.Truncated n)) = IsShort path files told n
-IsWrongFiles path files told unread.Memory = Unit {0}
-IsWrongFiles path files told unread.Device = Unit {0}
-IsWrongFiles path files told _ = ⊥
-
 -- the files are those of no base folder, or of one that is cut short, if that is why
 abbrev pub IsWrong : Bool → List ℕ → Files → Unread → Type 0
-IsWrong strange path files (unread.Wrong base.NotBase) = IsNoFolder strange (bytes_in (files (log_of path)))
+IsWrong strange path files (unread.Wrong base.NotBase) = IsNoFolder strange path files
 IsWrong strange path files (unread.Wrong (base.Truncated n)) = IsCutShort strange path files n
 IsWrong strange path files unread.Memory = Unit {0}
 IsWrong strange path files unread.Device = Unit {0}

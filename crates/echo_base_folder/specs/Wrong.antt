@@ -1,8 +1,9 @@
 -- What is wrong with a folder that is no base folder, or is cut short.
-use Rattle.std.specs.Prelude.{◌≡◌, ◌≤◌, ◌<◌, ◌⊎◌, ℕ, ◌+◌, ◌/◌, ◌%◌, ◌==◌, ◌&&◌, ◌||◌, not, nat_lt, Bool, true, false, List, length, take}
-use Rattle.echo_disk.specs.Disk.{Files, bytes_in}
+use Rattle.std.specs.Prelude.{◌≡◌, ◌≤◌, ◌<◌, ◌⊎◌, ℕ, ◌+◌, ◌/◌, ◌%◌, ◌==◌, ◌&&◌, ◌||◌, not, nat_lt, Bool, true, false, List, length, take, None}
+use Rattle.echo_disk.specs.Disk.{Files, IsIn, bytes_in}
 use Rattle.echo_folder.specs.Names.{keys_of, log_of, messages_of}
 use Rattle.echo_folder.specs.Reading.{ReadsAll}
+use Rattle.echo_folder.specs.Standing.{IsBroken, IsLost}
 use Rattle.echo_folder.specs.declared.log.End.{End}
 use Rattle.echo_folder.specs.declared.log.Told.{Told}
 use Rattle.echo_keys.specs.Keys.{place_behind}
@@ -17,11 +18,15 @@ is_no_log size end =
 abbrev pub is_foreign : Bool → ℕ → End → Bool
 is_foreign strange size end = is_no_log size end || (strange && (end.gate == 0))
 
--- the folder with this log is no base folder
-pub record IsNoFolder (strange : Bool) (log : List ℕ) : Type 0 where
+-- this is the log of no base folder
+pub record IsNoLog (strange : Bool) (log : List ℕ) : Type 0 where
   pub end : End
   pub reads : ReadsAll log end
   pub foreign : is_foreign strange (length log) end ≡ true
+
+-- the folder is none: its log is that of none, or is gone while other files have bytes
+abbrev pub IsNoFolder : Bool → List ℕ → Files → Type 0
+IsNoFolder strange path files = IsNoLog strange (bytes_in (files (log_of path))) ⊎ IsLost path files
 
 -- the folder with this log is a base folder, whose records end so
 pub record IsFolderLog (strange : Bool) (log : List ℕ) (end : End) : Type 0 where
@@ -39,18 +44,19 @@ pub record AreWhole (keys : List ℕ) (all there n : ℕ) : Type 0 where
   pub whole : (i : ℕ) (messages : List ℕ) → length messages ≡ all → i < n → place_behind messages keys i ≤ there
   pub next : (messages : List ℕ) → length messages ≡ all → n < length keys / 16 → there < place_behind messages keys n
 
--- a file is shorter than the log tells, and so many messages are whole
-pub record IsShort (path : List ℕ) (files : Files) (told : Told) (n : ℕ) : Type 0 where
-  pub short : (length (bytes_in (files (messages_of path told.number))) < told.messages) ⊎ (length (bytes_in (files (keys_of path told.number))) < told.keys)
-  pub whole : AreWhole (take told.keys (bytes_in (files (keys_of path told.number)))) told.messages (length (bytes_in (files (messages_of path told.number)))) n
-
--- the same of what the folder's own log tells
+-- The folder's own log or one of its files is cut short, so that they stand for no base. So many messages are whole, of those that
+-- the log tells.
 pub record IsCutShort (strange : Bool) (path : List ℕ) (files : Files) (n : ℕ) : Type 0 where
   pub end : End
   pub log : IsFolderLog strange (bytes_in (files (log_of path))) end
-  pub is : IsShort path files end.told n
+  pub broken : IsBroken path files
+  pub whole : AreWhole (take end.told.keys (bytes_in (files (keys_of path end.told.number)))) end.told.messages (length (bytes_in (files (messages_of path end.told.number)))) n
 
 -- nothing of that is wrong with it
 pub record IsSound (strange : Bool) (path : List ℕ) (files : Files) : Type 0 where
-  pub folder : IsNoFolder strange (bytes_in (files (log_of path))) → ⊥
+  pub folder : IsNoFolder strange path files → ⊥
   pub whole : (n : ℕ) → IsCutShort strange path files n → ⊥
+
+-- a folder without files
+abbrev pub HasNoFiles : List ℕ → Files → Type 0
+HasNoFiles path files = (m : List ℕ) → IsIn path m → files m ≡ None

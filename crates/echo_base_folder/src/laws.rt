@@ -1,17 +1,16 @@
 //! What holds of the definitions. Each law is the contract of a function that does nothing.
-ghost use Rattle.std.specs.Prelude.{◌≡◌, ℕ, List, [], None, false};
+ghost use Rattle.std.specs.Prelude.{ℕ, List, [], false};
 ghost use Rattle.echo_addr.specs.declared.address.Address.{Address};
 ghost use Rattle.echo_disk.specs.Disk.{Files};
-ghost use Rattle.echo_folder.specs.Names.{log_of};
 ghost use Rattle.echo_folder_store.specs.Held.{StandsForBase};
 ghost use Rattle.echo_base_folder.specs.Ours.{IsOfOther};
 ghost use Rattle.echo_base_folder.specs.Unopened.{HaveRoom};
-ghost use Rattle.echo_base_folder.specs.Wrong.{IsSound};
+ghost use Rattle.echo_base_folder.specs.Wrong.{HasNoFiles, IsSound};
 
 /// A folder without files is a base folder, of no message and of nobody.
 pub fn an_empty_folder_is_an_empty_base()
-    ensures base { (keyed : ℕ → ℕ → List ℕ → ℕ) (path : List ℕ) (files : Files) → HaveRoom keyed → files (log_of path) ≡ None
+    ensures base { (keyed : ℕ → ℕ → List ℕ → ℕ) (path : List ℕ) (files : Files) → HaveRoom keyed → HasNoFiles path files
         → StandsForBase keyed path (record { messages = []; cursor = 0 }) files }
-    ensures sound { (path : List ℕ) (files : Files) → files (log_of path) ≡ None → IsSound false path files }
-    ensures nobody { (own address : Address) (path : List ℕ) (files : Files) → files (log_of path) ≡ None → IsOfOther own false path files address → ⊥ }
+    ensures sound { (path : List ℕ) (files : Files) → HasNoFiles path files → IsSound false path files }
+    ensures nobody { (own address : Address) (path : List ℕ) (files : Files) → HasNoFiles path files → IsOfOther own false path files address → ⊥ }
 {}

@@ -21,5 +21,5 @@ pub use judging::log_end;
 pub use laws::an_empty_folder_is_an_empty_base;
 pub use looking::{Seen, look};
 pub use opening::{open_base, open_own};
-pub use owning::{claim_for, number_of};
+pub use owning::number_of;
 pub use unread::Unread;

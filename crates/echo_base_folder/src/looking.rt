@@ -1,19 +1,19 @@
 //! A base folder read without a change, so that no lock is wanted.
-ghost use Rattle.std.specs.Prelude.{◌≡◌, ◌≤◌, ◌<◌, ◌/◌, length, IfErr, IfOk, OnOk};
+ghost use Rattle.std.specs.Prelude.{◌≡◌, ◌≤◌, ◌<◌, ◌/◌, ◌++◌, ℕ, List, length, take, true, IfErr, IfOk, IfSome, IsSome, OnOk};
 ghost use Rattle.echo_disk.specs.Disk.{Honestly, bytes_in};
 ghost use Rattle.echo_disk.specs.Runs.{ChangesNothing, HasCause};
-ghost use Rattle.echo_folder.specs.Names.{keys_of, messages_of};
+ghost use Rattle.echo_folder.specs.Names.{messages_of};
+ghost use Rattle.echo_folder.specs.Reading.{IsLogIn, IsRead};
 ghost use Rattle.echo_folder.specs.Standing.{BaseBytes, StandsFor, base_at};
 ghost use Rattle.echo_keys.specs.Keys.{place_at};
-ghost use Rattle.echo_base_folder.specs.Looked.{IsSeenFrom};
-ghost use Rattle.echo_base_folder.specs.Unread.{HasUnreadCause, IsWrong, IsWrongFiles};
+ghost use Rattle.echo_base_folder.specs.Looked.{GoesOn, IsSeenFrom};
+ghost use Rattle.echo_base_folder.specs.Unread.{HasUnreadCause, IsWrong};
 ghost use Rattle.echo_base_folder.specs.Wrong.{IsSound};
 
-use crate::judging::{Outline, cut_in, outline_of, part_of};
+use crate::judging::{judge_by, part_of};
 use crate::unread::Unread;
-use echo_base::BaseFault;
 use echo_disk::{Disk, DiskError};
-use echo_folder::{End, Mark, Names, Told};
+use echo_folder::{Log, Mark, Names, Told, read_log};
 use echo_keys::place_of;
 use std::alloc::Global;
 
@@ -36,6 +36,9 @@ pub struct Seen {
     pub(crate) keys: Vec<u8>,
     pub(crate) cursor: u64,
     pub(crate) mark: Mark,
+    // The log before its files were read, and after that.
+    pub(crate) log: Vec<u8>,
+    pub(crate) reread: Vec<u8>,
 }
 
 impl Seen {
@@ -55,10 +58,11 @@ impl Seen {
 }
 
 /// Reads the base folder of this path, which ends in a slash, and changes nothing: of its messages those from the number
-/// `first` on. Where a purge puts other files in place meanwhile it is read again. `strange` says that the folder has
-/// other files than those of a base folder.
+/// `first` on. Where others change it meanwhile it is read again. `strange` says that the folder has other files than
+/// those of a base folder.
 ///
-/// It is `Wrong` where it is no base folder (F1), or one of its files is shorter than its log tells (F2).
+/// It is `Wrong` where it is no base folder (F1), or its log or a file is cut short (F2), and `Raced` where each try met a
+/// change.
 pub fn look<D: Disk>(
     alloc: Global,
     disk: &mut D,
@@ -68,37 +72,99 @@ pub fn look<D: Disk>(
 ) -> Result<Seen, Unread>
     ensures found { Honestly (D.state disk.new) ((base : BaseBytes) → StandsFor path.now base (D.state disk.old).seen
         → IfOk result (IsSeenFrom first base)) }
+    ensures steady { IfOk result (λ seen. GoesOn seen.log.items seen.reread.items) }
     ensures sound { Honestly (D.state disk.new) (OnOk result (IsSound strange path.now (D.state disk.old).seen)) }
     ensures wrong { Honestly (D.state disk.new) (IfErr result (IsWrong strange path.now (D.state disk.old).seen)) }
     ensures quiet { ChangesNothing (D.state disk.old) (D.state disk.new) }
     ensures cause { HasUnreadCause (D.failures disk.old) (D.failures disk.new) result }
 {
     'tries: for _try in 0..TRIES {
-        let before = outline_of(alloc, disk, path, strange)?;
-        let seen = seen_of(alloc, disk, path, before.end, first);
-        let after = outline_of(alloc, disk, path, strange)?;
-        if goes_on(&before, &after) {
-            return seen;
+        if let Some(seen) = look_once(alloc, disk, path, strange, first)? {
+            return Ok(seen);
         }
     }
-    let Outline { log: _, end } = outline_of(alloc, disk, path, strange)?;
-    seen_of(alloc, disk, path, end, first)
+    Err(Unread::Raced)
+}
+
+// One try of that, none where others changed it meanwhile.
+fn look_once<D: Disk>(
+    alloc: Global,
+    disk: &mut D,
+    path: &[u8],
+    strange: bool,
+    first: u64,
+) -> Result<Option<Seen>, Unread>
+    ensures some { Honestly (D.state disk.new) (IfOk result IsSome) }
+    ensures found { Honestly (D.state disk.new) ((base : BaseBytes) → StandsFor path.now base (D.state disk.old).seen
+        → IfOk result (λ seen. IfSome seen (IsSeenFrom first base))) }
+    ensures steady { IfOk result (λ seen. IfSome seen (λ s. GoesOn s.log.items s.reread.items)) }
+    ensures sound { Honestly (D.state disk.new) (OnOk result (IsSound strange path.now (D.state disk.old).seen)) }
+    ensures wrong { Honestly (D.state disk.new) (IfErr result (IsWrong strange path.now (D.state disk.old).seen)) }
+    ensures quiet { ChangesNothing (D.state disk.old) (D.state disk.new) }
+    ensures cause { HasUnreadCause (D.failures disk.old) (D.failures disk.new) result }
+{
+    let before = read_log(alloc, disk, path)?;
+    let read = seen_by(alloc, disk, path, strange, first, &before);
+    let after = read_log(alloc, disk, path)?;
+    if !is_steady(&read, &before, &after) {
+        return Ok(None);
+    }
+    let seen = read?;
+    Ok(Some(Seen {
+        log: before.bytes,
+        reread: after.bytes,
+        ..seen
+    }))
+}
+
+// Whether nothing changed meanwhile of what was read: a fault is known of one log alone.
+fn is_steady(read: &Result<Seen, Unread>, before: &Log, after: &Log) -> bool
+    requires before { IsRead before.now }
+    requires after { IsRead after.now }
+    requires within { after.now.end.gate ≤ length after.now.bytes.items }
+    requires front { before.now.end.gate ≤ length before.now.bytes.items }
+    ensures same { before.now.bytes.items ≡ after.now.bytes.items → result ≡ true }
+    ensures steady { result ≡ true → OnOk read.now (GoesOn before.now.bytes.items after.now.bytes.items) }
+{
+    match read {
+        Ok(_) => goes_on(before, after),
+        Err(_) => before.bytes.len() == after.bytes.len()
+            && begins_with(&after.bytes, &before.bytes),
+    }
+}
+
+// Whether the log begins with these records.
+fn begins_with(log: &[u8], records: &[u8]) -> bool
+    ensures yes { result ≡ true → take (length records.now) log.now ≡ records.now }
+    ensures front { (rest : List ℕ) → log.now ≡ records.now ++ rest → result ≡ true }
+{
+    log.starts_with(records)
 }
 
 // Whether the files that held the base then hold it still: the log goes on from what it was, and no record since then
 // names other files, as two purges do.
-fn goes_on(before: &Outline, after: &Outline) -> bool
-    requires before { before.now.end.gate ≤ length before.now.log.items }
-    requires after { after.now.end.gate ≤ length after.now.log.items }
+fn goes_on(before: &Log, after: &Log) -> bool
+    requires before { IsRead before.now }
+    requires after { IsRead after.now }
+    requires within { after.now.end.gate ≤ length after.now.bytes.items }
+    requires front { before.now.end.gate ≤ length before.now.bytes.items }
+    ensures same { before.now.bytes.items ≡ after.now.bytes.items → result ≡ true }
+    ensures goes_on { result ≡ true → GoesOn before.now.bytes.items after.now.bytes.items }
 {
-    let (then, now) = (before.end, after.end);
-    then.gate <= now.gate
-        && after.log.starts_with(&before.log[..then.gate])
-        && name_only(&after.log[then.gate..now.gate], then.told.number)
+    let (first, last) = (before.end.gate, after.end.gate);
+    if first > last {
+        return false;
+    }
+    if !begins_with(&after.bytes, &before.bytes[..first]) {
+        return false;
+    }
+    name_only(&after.bytes[first..last], before.end.told.number)
 }
 
 // Whether each of the records names the files of this number.
-fn name_only(records: &[u8], number: u8) -> bool {
+fn name_only(records: &[u8], number: u8) -> bool
+    ensures none { length records.now ≡ 0 → result ≡ true }
+{
     'records: for i in 0..records.len() / RECORD {
         if records[RECORD * i + NUMBER_AT] != number {
             return false;
@@ -108,25 +174,26 @@ fn name_only(records: &[u8], number: u8) -> bool {
 }
 
 // What the files hold that the log names.
-fn seen_of<D: Disk>(
+fn seen_by<D: Disk>(
     alloc: Global,
     disk: &mut D,
     path: &[u8],
-    end: End,
+    strange: bool,
     first: u64,
+    log: &Log,
 ) -> Result<Seen, Unread>
-    requires { end.told.number < 10 }
-    ensures seen { Honestly (D.state disk.new) (IfOk result (IsSeenFrom first (base_at (D.state disk.old) path.now end.told))) }
-    ensures messages { Honestly (D.state disk.new) (OnOk result (end.told.messages ≤ length (bytes_in ((D.state disk.old).seen (messages_of path.now end.told.number))))) }
-    ensures keys { Honestly (D.state disk.new) (OnOk result (end.told.keys ≤ length (bytes_in ((D.state disk.old).seen (keys_of path.now end.told.number))))) }
-    ensures wrong { Honestly (D.state disk.new) (IfErr result (IsWrongFiles path.now (D.state disk.old).seen end.told)) }
+    requires log { Honestly (D.state disk.old) (IsLogIn path.now (D.state disk.old).seen log.now) }
+    requires read { IsRead log.now }
+    requires within { log.now.end.gate ≤ length log.now.bytes.items }
+    ensures seen { Honestly (D.state disk.new) (IfOk result (IsSeenFrom first (base_at (D.state disk.old) path.now log.now.end.told))) }
+    ensures sound { Honestly (D.state disk.new) (OnOk result (IsSound strange path.now (D.state disk.old).seen)) }
+    ensures wrong { Honestly (D.state disk.new) (IfErr result (IsWrong strange path.now (D.state disk.old).seen)) }
     ensures quiet { ChangesNothing (D.state disk.old) (D.state disk.new) }
     ensures cause { HasUnreadCause (D.failures disk.old) (D.failures disk.new) result }
 {
-    if let Some(messages) = cut_in(alloc, disk, path, end)? {
-        return Err(Unread::Wrong(BaseFault::Truncated { messages }));
-    }
-    Ok(files_of(alloc, disk, path, end.told, first)?)
+    judge_by(alloc, disk, path, strange, log)?;
+    let seen = files_of(alloc, disk, path, log.end.told, first)?;
+    Ok(seen)
 }
 
 // Where the message of this number begins among so many bytes, or where these end if there is none.
@@ -159,10 +226,7 @@ fn files_of<D: Disk>(
     ensures quiet { ChangesNothing (D.state disk.old) (D.state disk.new) }
     ensures cause { HasCause (D.failures disk.old) (D.failures disk.new) result }
 {
-    let names = match Names::new(alloc, path, told.number) {
-        Ok(names) => names,
-        Err(_) => return Err(DiskError::Memory),
-    };
+    let names = Names::new(alloc, path, told.number)?;
     let keys = part_of(alloc, disk, &names.keys, 0, told.keys)?;
     let before = place_among(&keys, first, told.messages);
     let messages = part_of(alloc, disk, &names.messages, before, told.messages)?;
@@ -173,5 +237,7 @@ fn files_of<D: Disk>(
         keys,
         cursor: told.cursor,
         mark: told.mark,
+        log: Vec::new(alloc),
+        reread: Vec::new(alloc),
     })
 }

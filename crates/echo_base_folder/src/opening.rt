@@ -1,62 +1,30 @@
 //! A base folder opened to be changed.
-ghost use Rattle.std.specs.Prelude.{◌≡◌, ◌⊎◌, ℕ, List, IfErr, IfOk, OnOk};
+ghost use Rattle.std.specs.Prelude.{◌≡◌, ℕ, List, IfErr, IfOk, OnOk};
 ghost use Rattle.echo_base.specs.Base.{Base};
 ghost use Rattle.echo_disk.specs.Disk.{Honestly};
 ghost use Rattle.echo_addr.specs.declared.address.Address.{Address};
 ghost use Rattle.echo_disk.specs.Runs.{LeavesOnly};
 ghost use Rattle.echo_folder.specs.Moments.{KeepsOutside};
 ghost use Rattle.echo_folder.specs.Opening.{AreAlone};
-ghost use Rattle.echo_folder.specs.Standing.{BaseBytes, StandsFor};
 ghost use Rattle.echo_folder_store.specs.Held.{HoldsBase, StandsForBase, StandsForBaseOrWasLeft};
 ghost use Rattle.echo_folder_store.specs.Opened.{IsNamed, IsOpen, IsWritten, held_by, path_of};
 ghost use Rattle.echo_base_folder.specs.Ours.{IsLeftAlone, IsNotOurs, IsOfOther, number_of};
-ghost use Rattle.echo_base_folder.specs.Unopened.{HasOpened, HaveRoom, IsBroken, IsUnopened};
-ghost use Rattle.echo_base_folder.specs.Unread.{HasUnreadCause};
+ghost use Rattle.echo_base_folder.specs.Unopened.{HasOpened, HaveRoom};
+ghost use Rattle.echo_base_folder.specs.Unread.{HasUnreadCause, IsWrong};
 ghost use Rattle.echo_base_folder.specs.Wrong.{IsSound};
 
 use crate::judging::judged;
 use crate::owning::{address_of, claim_for, number_of};
 use crate::unread::Unread;
 use echo_addr::Address;
-use echo_base::BaseFault;
 use echo_disk::Disk;
-use echo_folder::FolderError;
 use echo_folder_store::Folder;
 use std::alloc::Global;
-
-/// What is said of a folder that cannot be opened, and has files as long as its log tells.
-const BROKEN: Unread = Unread::Wrong(BaseFault::Truncated { messages: 0 });
-
-// Opens the folder, and says why not as that is told of a base.
-fn opened<D: Disk>(alloc: Global, disk: &mut D, path: &[u8]) -> Result<Folder, Unread>
-    requires { Honestly (D.state disk.old) (AreAlone path.now (D.state disk.old)) }
-    ensures opened { Honestly (D.state disk.new) (IfOk result (IsOpen (D.state disk.new))) }
-    ensures named { IfOk result IsNamed }
-    ensures path { IfOk result (λ folder. path_of folder ≡ path.now) }
-    ensures settled { IfOk result (λ folder. folder.told ≡ folder.end.told) }
-    ensures written { IfOk result IsWritten }
-    ensures found { Honestly (D.state disk.new) ((bytes : BaseBytes) → StandsFor path.now bytes (D.state disk.old).seen
-        → IfOk result (λ folder. held_by (D.state disk.new) folder ≡ bytes)) }
-    ensures same { Honestly (D.state disk.new) ((keyed : ℕ → ℕ → List ℕ → ℕ) (base : Base) → StandsForBase keyed path.now base (D.state disk.old).seen
-        → IfOk result (λ folder. HoldsBase keyed (held_by (D.state disk.new) folder) base)) }
-    ensures any_moment { Honestly (D.state disk.new) ((keyed : ℕ → ℕ → List ℕ → ℕ) (base : Base) → StandsForBase keyed path.now base (D.state disk.old).seen
-        → LeavesOnly (D.state disk.old) (D.state disk.new) (StandsForBaseOrWasLeft keyed path.now (D.state disk.old) base)) }
-    ensures outside { KeepsOutside path.now (D.state disk.old) (D.state disk.new) }
-    ensures broken { Honestly (D.state disk.new) (IfErr result (IsBroken path.now (D.state disk.old).seen)) }
-    ensures cause { HasUnreadCause (D.failures disk.old) (D.failures disk.new) result }
-{
-    match Folder::open(alloc, disk, path) {
-        Ok(folder) => Ok(folder),
-        Err(FolderError::Memory) => Err(Unread::Memory),
-        Err(FolderError::Device) => Err(Unread::Device),
-        Err(FolderError::Corrupt) => Err(BROKEN),
-    }
-}
 
 /// Opens the base folder of this path, which ends in a slash, as `Folder::open` does, where it is one. `strange` says
 /// that the folder has other files than those of a base folder.
 ///
-/// It is `Wrong` where it is no base folder (F1), or a file is missing or shorter than its log tells (F2).
+/// It is `Wrong` where it is no base folder (F1), or its log or a file is cut short (F2), and then nothing is changed.
 pub fn open_base<D: Disk>(
     alloc: Global,
     disk: &mut D,
@@ -77,49 +45,12 @@ pub fn open_base<D: Disk>(
         → LeavesOnly (D.state disk.old) (D.state disk.new) (StandsForBaseOrWasLeft keyed path.now (D.state disk.old) base)) }
     ensures outside { KeepsOutside path.now (D.state disk.old) (D.state disk.new) }
     ensures sound { Honestly (D.state disk.new) (OnOk result (IsSound strange path.now (D.state disk.old).seen)) }
-    ensures wrong { Honestly (D.state disk.new) (IfErr result (IsUnopened strange path.now (D.state disk.old).seen)) }
+    ensures wrong { Honestly (D.state disk.new) (IfErr result (IsWrong strange path.now (D.state disk.old).seen)) }
+    ensures left { IfErr result (IsLeftAlone (D.state disk.old) (D.state disk.new)) }
     ensures cause { HasUnreadCause (D.failures disk.old) (D.failures disk.new) result }
 {
-    judged(alloc, disk, path, strange)?;
-    opened(alloc, disk, path)
-}
-
-// The same, where the folder is nobody's or that of the system with this address.
-fn open_ours<D: Disk>(
-    alloc: Global,
-    disk: &mut D,
-    path: &[u8],
-    strange: bool,
-    own: Address,
-) -> Result<Folder, Unread>
-    requires { Honestly (D.state disk.old) (AreAlone path.now (D.state disk.old)) }
-    ensures opened { Honestly (D.state disk.new) (IfOk result (IsOpen (D.state disk.new))) }
-    ensures named { IfOk result IsNamed }
-    ensures path { IfOk result (λ folder. path_of folder ≡ path.now) }
-    ensures settled { IfOk result (λ folder. folder.told ≡ folder.end.told) }
-    ensures written { IfOk result IsWritten }
-    ensures same { Honestly (D.state disk.new) ((keyed : ℕ → ℕ → List ℕ → ℕ) (base : Base) → StandsForBase keyed path.now base (D.state disk.old).seen
-        → IfOk result (λ folder. HoldsBase keyed (held_by (D.state disk.new) folder) base)) }
-    ensures any_moment { Honestly (D.state disk.new) ((keyed : ℕ → ℕ → List ℕ → ℕ) (base : Base) → StandsForBase keyed path.now base (D.state disk.old).seen
-        → LeavesOnly (D.state disk.old) (D.state disk.new) (StandsForBaseOrWasLeft keyed path.now (D.state disk.old) base)) }
-    ensures outside { KeepsOutside path.now (D.state disk.old) (D.state disk.new) }
-    ensures sound { Honestly (D.state disk.new) (OnOk result (IsSound strange path.now (D.state disk.old).seen)) }
-    ensures ours { IfOk result (λ folder. (folder.told.mark.owner ≡ 0) ⊎ (folder.told.mark.owner ≡ number_of own)) }
-    ensures other { Honestly (D.state disk.new) ((address : Address) → IsOfOther own strange path.now (D.state disk.old).seen address → OnOk result ⊥) }
-    ensures refused { Honestly (D.state disk.new) (IfErr result (IsLeftAlone (D.state disk.old) (D.state disk.new))) }
-    ensures wrong { Honestly (D.state disk.new) (IfErr result (IsNotOurs own strange path.now (D.state disk.old).seen)) }
-    ensures cause { HasUnreadCause (D.failures disk.old) (D.failures disk.new) result }
-{
-    let told = judged(alloc, disk, path, strange)?;
-    let owner = told.mark.owner;
-    let number = number_of(own);
-    if owner != 0 && owner != number {
-        return Err(Unread::NotOwner(address_of(owner)));
-    }
-    let folder = opened(alloc, disk, path)?;
-    if folder.owner().unwrap_or(0) != owner {
-        return Err(BROKEN);
-    }
+    let log = judged(alloc, disk, path, strange)?;
+    let folder = Folder::open(alloc, disk, path, &log)?;
     Ok(folder)
 }
 
@@ -153,9 +84,13 @@ pub fn open_own<D: Disk>(
     ensures wrong { Honestly (D.state disk.new) (IfErr result (IsNotOurs own strange path.now (D.state disk.old).seen)) }
     ensures cause { HasUnreadCause (D.failures disk.old) (D.failures disk.new) result }
 {
-    let mut folder = open_ours(alloc, disk, path, strange, own)?;
-    match claim_for(&mut folder, own, key.0, key.1) {
-        Ok(()) => Ok(folder),
-        Err(_) => Err(BROKEN),
+    let log = judged(alloc, disk, path, strange)?;
+    let owner = log.end.told.mark.owner;
+    let number = number_of(own);
+    if owner != 0 && owner != number {
+        return Err(Unread::NotOwner(address_of(owner)));
     }
+    let mut folder = Folder::open(alloc, disk, path, &log)?;
+    claim_for(&mut folder, own, key.0, key.1);
+    Ok(folder)
 }

@@ -1,12 +1,11 @@
 //! Whose a base folder is.
-ghost use Rattle.std.specs.Prelude.{◌≡◌, ◌<◌, length, OnErr, OnOk, IfErr};
+ghost use Rattle.std.specs.Prelude.{◌≡◌, ◌<◌, ◌⊎◌, length};
 ghost use Rattle.echo_folder_store.specs.Owned.{IsUnclaimed, with_mark};
-ghost use Rattle.echo_base_folder.specs.Ours.{IsOfAnother, IsOurs, SameKey, address_of, number_of};
+ghost use Rattle.echo_base_folder.specs.Ours.{IsOurs, SameKey, address_of, number_of};
 
 use echo_addr::Address;
 use echo_folder::Mark;
 use echo_folder_store::Folder;
-use echo_status::Fault;
 
 /// The number by which a folder knows its system: sixteen bits each of zone, net and node.
 pub fn number_of(own: Address) -> u64
@@ -27,35 +26,25 @@ pub(crate) fn address_of(number: u64) -> Address
     }
 }
 
-/// Sees to it that the folder is that of this system: one that nobody has claimed is claimed, and keeps that from the
-/// next commit on. A folder without messages gets the key of these two halves, too.
-pub fn claim_for<'a>(
-    folder: &mut Folder,
-    own: Address,
-    first: u64,
-    second: u64,
-) -> Result<(), Fault<'a>>
-    ensures ours { OnOk result (IsOurs own folder.old folder.new) }
-    ensures refused { IfErr result (IsOfAnother own folder.old) }
-    ensures same { OnErr result (folder.new ≡ folder.old) }
+/// Claims the folder for this system where nobody has claimed it, and keeps that from the next commit on. A folder without
+/// messages gets the key of these two halves, too.
+pub(crate) fn claim_for(folder: &mut Folder, own: Address, first: u64, second: u64)
+    requires { (folder.old.told.mark.owner ≡ 0) ⊎ (folder.old.told.mark.owner ≡ number_of own) }
+    ensures ours { IsOurs own folder.old folder.new }
     ensures only { folder.new ≡ with_mark folder.old folder.new.told.mark }
     ensures key { 0 < length folder.old.keys.items → SameKey folder.old.told.mark folder.new.told.mark }
     ensures drawn { IsUnclaimed folder.old → folder.new.told.mark ≡ record { owner = number_of own; first = first; second = second } }
 {
     let owner = number_of(own);
-    let Some(number) = folder.owner() else {
-        let mark = Mark {
-            owner,
-            first,
-            second,
-        };
-        if !folder.claim(mark) {
-            folder.adopt(owner);
-        }
-        return Ok(());
-    };
-    if number != owner {
-        return Err(Fault::NotOwner(address_of(number)));
+    if folder.owner().is_some() {
+        return;
     }
-    Ok(())
+    let mark = Mark {
+        owner,
+        first,
+        second,
+    };
+    if !folder.claim(mark) {
+        folder.adopt(owner);
+    }
 }

@@ -20,6 +20,9 @@ pub enum Unread {
     /// It is no base folder, or it is cut short.
     #[error("{0}")]
     Wrong(BaseFault),
+    /// Others changed it whenever it was read.
+    #[error("changed meanwhile")]
+    Raced,
     /// It is that of the system with this address.
     #[error("not the own folder, but that of {0}")]
     NotOwner(Address),
@@ -68,7 +71,7 @@ impl Unread {
     {
         match self {
             Unread::Memory => Fault::OutOfMemory,
-            Unread::Device => Fault::CannotUse(base),
+            Unread::Device | Unread::Raced => Fault::CannotUse(base),
             Unread::Wrong(fault) => Fault::Base(fault),
             Unread::NotOwner(address) => Fault::NotOwner(address),
         }

@@ -10,13 +10,13 @@ use Rattle.echo_disk.specs.Synced.{KeepsOthers}
 use Rattle.echo_disk.proofs.Moments.{one_call, weaker_run}
 use Rattle.echo_disk.proofs.Tearing.{TornWrite-none, ChangesFile-none}
 use Rattle.echo_folder.specs.Names.{log_of, messages_of, keys_of}
-use Rattle.echo_folder.specs.Log.{IsLog, last_told}
+use Rattle.echo_folder.specs.Log.{IsLog, last_told, opened}
 use Rattle.echo_folder.specs.Standing.{BaseBytes, IsFrontOf, AreThere, StandsFor, base_at, and_messages, and_keys}
 use Rattle.echo_folder.specs.AtRest.{IsLogAt, IsStaged}
 use Rattle.echo_folder.specs.Moments.{StandsAlone}
 use Rattle.echo_folder.specs.declared.log.Told.{Told}
 use Rattle.echo_folder.specs.declared.log.End.{End}
-use Rattle.echo_folder.proofs.Logs.{shut_log}
+use Rattle.echo_folder.proofs.Logs.{shut_log, shut_at}
 use Rattle.echo_folder.proofs.Paths.{log_not_messages, log_not_keys, messages_not_keys, keys_not_messages, messages_of-injective, keys_of-injective, messages_in, keys_in}
 use Rattle.echo_folder.proofs.Same.{front_long, tells_by}
 use Rattle.echo_folder.proofs.Gates.{on_disk_kept}
@@ -56,7 +56,10 @@ pub log_kept : (d e : DiskState) (path file : List ℕ) (end : End) → log_of p
 log_kept d e path file end ne kept was = record {
   bodies = was.bodies;
   sizes = was.sizes;
+  closed = was.closed;
+  rest = was.rest;
   log = ap bytes_in (kept.seen (log_of path) ne) ∙ was.log;
+  shut = was.shut;
   gate = was.gate;
   told = was.told;
   on_disk = on_disk_kept d e (log_of path) file kept ne was.on_disk;
@@ -76,7 +79,9 @@ module _ (d0 d : DiskState) (path : List ℕ) (end : End) (told : Told) (staged 
   messages_stand a c was a_is same there front =
       let bodies = staged.log.bodies in
       let number = (last_told bodies).number in
-      let a_log : IsLog bodies (bytes_in (a (log_of path))) = shut_log bodies 0 [] (bytes_in (a (log_of path))) staged.log.sizes (omega arith) (ap bytes_in a_is ∙ staged.log.log) in
+      let is = ap bytes_in a_is ∙ staged.log.log in
+      let a_log : IsLog bodies (bytes_in (a (log_of path))) = shut_log bodies staged.log.closed staged.log.rest (bytes_in (a (log_of path))) staged.log.sizes staged.log.shut is in
+      let log_same = same (log_of path) (log_not_messages path told.number) in
       let by = tells_by path now a bodies was a_log in
       let o_same = same (keys_of path number) (keys_not_messages path number told.number) in
       let behind : number ≡ told.number → length now.messages ≤ told.messages =
@@ -91,7 +96,8 @@ module _ (d0 d : DiskState) (path : List ℕ) (end : End) (told : Told) (staged 
       ] in
       record {
         bodies = bodies;
-        log = subst (λ f. IsLog bodies (bytes_in f)) (sym (same (log_of path) (log_not_messages path told.number))) a_log;
+        log = subst (λ f. IsLog bodies (bytes_in f)) (sym log_same) a_log;
+        ended = inl (shut_at (opened bodies) staged.log.closed staged.log.rest (bytes_in (c (log_of path))) staged.log.shut (ap bytes_in log_same ∙ is));
         there = AreThere-kept path bodies a c fronts.0 (subst (λ f. IsSome f) (sym o_same)) by.0;
         tells = record {
           messages_long = by.1.messages_long;
@@ -175,7 +181,9 @@ module _ (d0 d : DiskState) (path : List ℕ) (end : End) (told : Told) (staged 
   keys_stand a c was a_is same there front =
       let bodies = staged.log.bodies in
       let number = (last_told bodies).number in
-      let a_log : IsLog bodies (bytes_in (a (log_of path))) = shut_log bodies 0 [] (bytes_in (a (log_of path))) staged.log.sizes (omega arith) (ap bytes_in a_is ∙ staged.log.log) in
+      let is = ap bytes_in a_is ∙ staged.log.log in
+      let a_log : IsLog bodies (bytes_in (a (log_of path))) = shut_log bodies staged.log.closed staged.log.rest (bytes_in (a (log_of path))) staged.log.sizes staged.log.shut is in
+      let log_same = same (log_of path) (log_not_keys path told.number) in
       let by = tells_by path now a bodies was a_log in
       let o_same = same (messages_of path number) (messages_not_keys path number told.number) in
       let behind : number ≡ told.number → length now.keys ≤ told.keys =
@@ -190,7 +198,8 @@ module _ (d0 d : DiskState) (path : List ℕ) (end : End) (told : Told) (staged 
       ] in
       record {
         bodies = bodies;
-        log = subst (λ f. IsLog bodies (bytes_in f)) (sym (same (log_of path) (log_not_keys path told.number))) a_log;
+        log = subst (λ f. IsLog bodies (bytes_in f)) (sym log_same) a_log;
+        ended = inl (shut_at (opened bodies) staged.log.closed staged.log.rest (bytes_in (c (log_of path))) staged.log.shut (ap bytes_in log_same ∙ is));
         there = AreThere-kept path bodies a c (subst (λ f. IsSome f) (sym o_same)) fronts.0 by.0;
         tells = record {
           messages_long = by.1.messages_long;

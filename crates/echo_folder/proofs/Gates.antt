@@ -1,5 +1,5 @@
 -- What a crash leaves at each moment of a commit.
-use Rattle.std.proofs.Common.{◌≡◌, ◌≢◌, ◌≤◌, ◌⊎◌, inl, inr, ℕ, ◌+◌, List, [], ◌∷◌, ◌++◌, length, get_or, take, drop, sym, ◌∙◌, ap, subst, arith, length-append}
+use Rattle.std.proofs.Common.{◌≡◌, ◌≢◌, ◌≤◌, ◌⊎◌, inl, inr, ℕ, ◌+◌, List, [], ◌∷◌, ◌++◌, length, get_or, take, drop, sym, ◌∙◌, ap, subst, arith, append_assoc, length-append}
 use Rattle.std.proofs.lemmas.Bool.{cases_eq}
 use Rattle.std.proofs.lemmas.Nat.{from_le_bytes-to_le_bytes_8}
 use Rattle.std.specs.Prelude.{IsSome}
@@ -15,7 +15,7 @@ use Rattle.echo_folder.specs.AtRest.{IsAtRest, IsStaged}
 use Rattle.echo_folder.specs.Moments.{SameOutside, KeepsOutside, IsBeforeOrAfter}
 use Rattle.echo_folder.specs.declared.log.Told.{Told}
 use Rattle.echo_folder.specs.declared.log.End.{End}
-use Rattle.echo_folder.proofs.Logs.{opened-snoc, AreBodies-snoc, last_told-snoc, shut_log, open_log, torn_record, whole_record, torn_gate, whole_gate}
+use Rattle.echo_folder.proofs.Logs.{opened-snoc, AreBodies-snoc, last_told-snoc, shut_log, shut_at, torn_record, whole_record, torn_gate, whole_gate}
 use Rattle.echo_folder.proofs.Paths.{log_in, messages_in, keys_in, messages_not_log, keys_not_log}
 use Rattle.echo_folder.proofs.Same.{AreThere-both, TellsBase-seen, log_changed}
 
@@ -82,6 +82,10 @@ on_disk_kept d e file other kept ne on = record {
   alone = kept.alone file on.alone;
 }
 
+-- an open record with a closed gate behind it is one record more
+record_behind : (bodies : List (List ℕ)) (body left : List ℕ) → opened bodies ++ 1 ∷ ((body ++ 0 ∷ []) ++ left) ≡ opened (bodies ++ body ∷ []) ++ 0 ∷ left
+record_behind bodies body left = ap (λ (l : List ℕ). opened bodies ++ 1 ∷ l) (append_assoc body (0 ∷ []) left) ∙ sym (opened-snoc bodies body (0 ∷ left))
+
 module _ (d0 : DiskState) (path : List ℕ) (end : End) (told : Told) (staged : IsStaged d0 path end told) where
   abbrev pub first : BaseBytes
   first = base_at d0 path end.told
@@ -92,8 +96,20 @@ module _ (d0 : DiskState) (path : List ℕ) (end : End) (told : Told) (staged : 
   abbrev bodies : List (List ℕ)
   bodies = staged.log.bodies
 
+  abbrev closed : ℕ
+  closed = staged.log.closed
+
   abbrev pub P : Files → Type 0
   P = IsBeforeOrAfter path d0 first next
+
+  -- the base from before, where the log has its closed gate still
+  before_log : (a c : Files) (gate : ℕ) (rest : List ℕ) → StandsFor path first a → ((m : List ℕ) → m ≢ log_of path → c m ≡ a m) → (old : List ℕ) → bytes_in (a (log_of path)) ≡ opened bodies ++ closed ∷ old
+      → gate ≢ 1 → bytes_in (c (log_of path)) ≡ opened bodies ++ gate ∷ rest → StandsFor path first c
+  before_log a c gate rest stands same old was shut now =
+      log_changed path first a c bodies stands
+      (shut_log bodies closed old (bytes_in (a (log_of path))) staged.log.sizes staged.log.shut was) same
+      (shut_log bodies gate rest (bytes_in (c (log_of path))) staged.log.sizes shut now)
+      (shut_at (opened bodies) gate rest (bytes_in (c (log_of path))) shut now)
 
   pub run_at_first : LeavesOnly d0 d0 P
   run_at_first = no_call d0 P (λ c left. record { outside = λ m out named flushed. d0.on_disk m named flushed c left; stands = inl (staged.stands c left) })
@@ -104,7 +120,7 @@ module _ (d0 : DiskState) (path : List ℕ) (end : End) (told : Told) (staged : 
     pub stands : (c : Files) → d.may_leave c → StandsFor path first c
     pub outside : (c : Files) → d.may_leave c → SameOutside path d0 c
     pub kept : KeepsOutside path d0 d
-    pub log : bytes_in (d.seen (log_of path)) ≡ opened bodies ++ 0 ∷ tail
+    pub log : bytes_in (d.seen (log_of path)) ≡ opened bodies ++ closed ∷ tail
     pub log_on : IsOnDisk d (log_of path)
     pub named : (m : List ℕ) → IsIn path m → d.is_named m
     pub messages_on : IsOnDisk d (messages_of path told.number)
@@ -113,7 +129,7 @@ module _ (d0 : DiskState) (path : List ℕ) (end : End) (told : Told) (staged : 
     pub keys_same : d.seen (keys_of path told.number) ≡ d0.seen (keys_of path told.number)
 
   -- after the two syncs
-  pub ready : (d1 d2 : DiskState) → ChangesNothing d0 d1 → ChangesNothing d1 d2 → d1.is_flushed (messages_of path told.number) → d2.is_flushed (keys_of path told.number) → Ready d2 []
+  pub ready : (d1 d2 : DiskState) → ChangesNothing d0 d1 → ChangesNothing d1 d2 → d1.is_flushed (messages_of path told.number) → d2.is_flushed (keys_of path told.number) → Ready d2 staged.log.rest
   ready d1 d2 quiet1 quiet2 m_flushed k_flushed = record {
     run = then_nothing d0 d1 d2 P (then_nothing d0 d0 d1 P run_at_first quiet1) quiet2;
     stands = λ c left. staged.stands c (quiet1.no_more c (quiet2.no_more c left));
@@ -140,7 +156,7 @@ module _ (d0 : DiskState) (path : List ℕ) (end : End) (told : Told) (staged : 
 
   module _ (d e : DiskState) where
     -- while the record is written behind the closed gate
-    record_torn : (n : ℕ) → Ready d [] → (c : Files) → OneStepOn (ChangesFile d (log_of path) (TornWrite (end.gate + 1) n)) d c → StandsFor path first c × SameOutside path d0 c
+    record_torn : (n : ℕ) → Ready d staged.log.rest → (c : Files) → OneStepOn (ChangesFile d (log_of path) (TornWrite (end.gate + 1) n)) d c → StandsFor path first c × SameOutside path d0 c
     record_torn n r c from =
         let a = from.0 in
         let changed = from.2 in
@@ -148,33 +164,31 @@ module _ (d0 : DiskState) (path : List ℕ) (end : End) (told : Told) (staged : 
         let front = opened bodies in
         let torn : TornWrite (length front + 1) n (a (log_of path)) (c (log_of path)) =
         subst (λ (g : ℕ). TornWrite (g + 1) n (a (log_of path)) (c (log_of path))) staged.log.gate (changed.within r.log_on.named) in
-        let a_log : bytes_in (a (log_of path)) ≡ front ++ 0 ∷ [] = ap bytes_in (d.on_disk (log_of path) r.log_on.named r.log_on.flushed a from.1) ∙ r.log in
-        let c_log = torn_record front [] n (a (log_of path)) (c (log_of path)) torn a_log in (
-          log_changed path first a c bodies (r.stands a from.1)
-              (shut_log bodies 0 [] (bytes_in (a (log_of path))) staged.log.sizes (omega arith) a_log) same
-              (shut_log bodies 0 (drop (length front + 1) (bytes_in (c (log_of path)))) (bytes_in (c (log_of path))) staged.log.sizes (omega arith) c_log),
+        let a_log : bytes_in (a (log_of path)) ≡ front ++ closed ∷ staged.log.rest = ap bytes_in (d.on_disk (log_of path) r.log_on.named r.log_on.flushed a from.1) ∙ r.log in
+        let c_log = torn_record front closed staged.log.rest n (a (log_of path)) (c (log_of path)) torn a_log in (
+          before_log a c closed (drop (length front + 1) (bytes_in (c (log_of path)))) (r.stands a from.1) same staged.log.rest a_log staged.log.shut c_log,
           λ m out named flushed. same m (outside_log path m out) ∙ r.outside a from.1 m out named flushed,
         )
 
-    pub run_record : (n : ℕ) → Ready d [] → LeavesOnly d e (OneStepOn (ChangesFile d (log_of path) (TornWrite (end.gate + 1) n)) d) → LeavesOnly d0 e P
+    pub run_record : (n : ℕ) → Ready d staged.log.rest → LeavesOnly d e (OneStepOn (ChangesFile d (log_of path) (TornWrite (end.gate + 1) n)) d) → LeavesOnly d0 e P
     run_record n r more =
         then_run d0 d e P (OneStepOn (ChangesFile d (log_of path) (TornWrite (end.gate + 1) n)) d) r.run more
         (λ c from. let both = record_torn n r c from in record { outside = both.1; stands = inl both.0 })
 
-    pub done_record : (bytes : List ℕ) → Ready d [] → LeavesOnly d e (OneStepOn (ChangesFile d (log_of path) (TornWrite (end.gate + 1) (length bytes))) d) → KeepsOthers d e (log_of path) → IsOnDisk e (log_of path)
-        → IsWrittenAt (bytes_in (d.seen (log_of path))) (end.gate + 1) bytes (bytes_in (e.seen (log_of path))) → Ready e bytes
+    pub done_record : (bytes : List ℕ) → Ready d staged.log.rest → LeavesOnly d e (OneStepOn (ChangesFile d (log_of path) (TornWrite (end.gate + 1) (length bytes))) d) → KeepsOthers d e (log_of path) → IsOnDisk e (log_of path)
+        → IsWrittenAt (bytes_in (d.seen (log_of path))) (end.gate + 1) bytes (bytes_in (e.seen (log_of path))) → Ready e (bytes ++ drop (length bytes) staged.log.rest)
     done_record bytes r more kept on written =
         let Q = OneStepOn (ChangesFile d (log_of path) (TornWrite (end.gate + 1) (length bytes))) d in
         let front = opened bodies in
         let log = bytes_in (e.seen (log_of path)) in
-        let is : IsWrittenAt (front ++ 0 ∷ []) (length front + 1) bytes log =
+        let is : IsWrittenAt (front ++ closed ∷ staged.log.rest) (length front + 1) bytes log =
         subst (λ (l : List ℕ). IsWrittenAt l (length front + 1) bytes log) r.log (subst (λ (g : ℕ). IsWrittenAt (bytes_in (d.seen (log_of path))) (g + 1) bytes log) staged.log.gate written) in
         record {
           run = run_record (length bytes) r more;
           stands = λ c left. (record_torn (length bytes) r c (left_now d e Q more c left)).0;
           outside = λ c left. (record_torn (length bytes) r c (left_now d e Q more c left)).1;
           kept = outside_twice path d0 d e r.kept (outside_kept path (log_of path) d e (log_in path) kept);
-          log = whole_record front bytes log is;
+          log = whole_record front closed staged.log.rest bytes log is;
           log_on = on;
           named = λ m inside. kept.named m (r.named m inside);
           messages_on = on_disk_kept d e (messages_of path told.number) (log_of path) kept (messages_not_log path told.number) r.messages_on;
@@ -184,20 +198,20 @@ module _ (d0 : DiskState) (path : List ℕ) (end : End) (told : Told) (staged : 
         }
 
     -- while the gate is opened
-    gate_torn : (body : List ℕ) → length body ≡ 49 → told_by body ≡ told → Ready d (body ++ 0 ∷ []) → (c : Files) → OneStepOn (ChangesFile d (log_of path) (TornWrite end.gate 1)) d c
+    gate_torn : (body left : List ℕ) → length body ≡ 49 → told_by body ≡ told → Ready d ((body ++ 0 ∷ []) ++ left) → (c : Files) → OneStepOn (ChangesFile d (log_of path) (TornWrite end.gate 1)) d c
         → (StandsFor path first c ⊎ StandsFor path next c) × SameOutside path d0 c
-    gate_torn body size says r c from =
+    gate_torn body left size says r c from =
         let a = from.0 in
         let changed = from.2 in
         let same : (m : List ℕ) → m ≢ log_of path → c m ≡ a m = λ m ne. changed.beside m ne (inl r.log_on.named) in
         let front = opened bodies in
-        let tail = body ++ 0 ∷ [] in
+        let tail = (body ++ 0 ∷ []) ++ left in
         let log = bytes_in (c (log_of path)) in
         let torn : TornWrite (length front) 1 (a (log_of path)) (c (log_of path)) =
         subst (λ (g : ℕ). TornWrite g 1 (a (log_of path)) (c (log_of path))) staged.log.gate (changed.within r.log_on.named) in
-        let a_log : bytes_in (a (log_of path)) ≡ front ++ 0 ∷ tail = ap bytes_in (d.on_disk (log_of path) r.log_on.named r.log_on.flushed a from.1) ∙ r.log in
+        let a_log : bytes_in (a (log_of path)) ≡ front ++ closed ∷ tail = ap bytes_in (d.on_disk (log_of path) r.log_on.named r.log_on.flushed a from.1) ∙ r.log in
         let gate = get_or log (length front) 0 in
-        let whole : log ≡ front ++ gate ∷ tail = torn_gate front tail (a (log_of path)) (c (log_of path)) torn a_log in
+        let whole : log ≡ front ++ gate ∷ tail = torn_gate front closed tail (a (log_of path)) (c (log_of path)) torn a_log in
         let outside : SameOutside path d0 c = λ m out named flushed. same m (outside_log path m out) ∙ r.outside a from.1 m out named flushed in
         let m_same : c (messages_of path told.number) ≡ d0.seen (messages_of path told.number) =
         same (messages_of path told.number) (messages_not_log path told.number) ∙ d.on_disk (messages_of path told.number) r.messages_on.named r.messages_on.flushed a from.1 ∙ r.messages_same in
@@ -207,39 +221,42 @@ module _ (d0 : DiskState) (path : List ℕ) (end : End) (told : Told) (staged : 
         let is_told : last_told (bodies ++ body ∷ []) ≡ told = last_told-snoc bodies body ∙ says in
         let there_m : IsSome (c (messages_of path told.number)) = subst (λ f. IsSome f) (sym m_same) staged.messages_there in
         let there_k : IsSome (c (keys_of path told.number)) = subst (λ f. IsSome f) (sym k_same) staged.keys_there in
+        let more = bodies ++ body ∷ [] in
+        let now : gate ≡ 1 → log ≡ opened more ++ 0 ∷ left = λ is_open. whole ∙ ap (λ (g : ℕ). front ++ g ∷ tail) is_open ∙ record_behind bodies body left in
         elim (cases_eq gate 1) [
           | inl is_open ↦ (
             inr (
                 record {
-                  bodies = bodies ++ body ∷ [];
-                  log = open_log bodies body log staged.log.sizes size (whole ∙ ap (λ (g : ℕ). front ++ g ∷ tail) is_open);
-                  there = AreThere-both path (bodies ++ body ∷ []) c (subst (λ (t : Told). IsSome (c (messages_of path t.number))) (sym is_told) there_m) (subst (λ (t : Told). IsSome (c (keys_of path t.number))) (sym is_told) there_k);
+                  bodies = more;
+                  log = shut_log more 0 left log (AreBodies-snoc bodies body staged.log.sizes size) (omega arith) (now is_open);
+                  ended = inl (shut_at (opened more) 0 left log (omega arith) (now is_open));
+                  there = AreThere-both path more c (subst (λ (t : Told). IsSome (c (messages_of path t.number))) (sym is_told) there_m) (subst (λ (t : Told). IsSome (c (keys_of path t.number))) (sym is_told) there_k);
                   tells = subst (λ (t : Told). TellsBase t path next c) (sym is_told) tells;
                 }),
             outside,
           )
           | inr shut ↦ (
-            inl (log_changed path first a c bodies (r.stands a from.1) (shut_log bodies 0 tail (bytes_in (a (log_of path))) staged.log.sizes (omega arith) a_log) same (shut_log bodies gate tail log staged.log.sizes shut whole)),
+            inl (before_log a c gate tail (r.stands a from.1) same tail a_log shut whole),
             outside,
           )
         ]
 
-    pub run_gate : (body : List ℕ) → length body ≡ 49 → told_by body ≡ told → Ready d (body ++ 0 ∷ []) → LeavesOnly d e (OneStepOn (ChangesFile d (log_of path) (TornWrite end.gate 1)) d) → LeavesOnly d0 e P
-    run_gate body size says r more =
+    pub run_gate : (body left : List ℕ) → length body ≡ 49 → told_by body ≡ told → Ready d ((body ++ 0 ∷ []) ++ left) → LeavesOnly d e (OneStepOn (ChangesFile d (log_of path) (TornWrite end.gate 1)) d) → LeavesOnly d0 e P
+    run_gate body left size says r more =
         then_run d0 d e P (OneStepOn (ChangesFile d (log_of path) (TornWrite end.gate 1)) d) r.run more
-        (λ c from. let both = gate_torn body size says r c from in record { outside = both.1; stands = both.0 })
+        (λ c from. let both = gate_torn body left size says r c from in record { outside = both.1; stands = both.0 })
 
     pub kept_gate : (body : List ℕ) → Ready d body → KeepsOthers d e (log_of path) → KeepsOutside path d0 e
     kept_gate body r kept = outside_twice path d0 d e r.kept (outside_kept path (log_of path) d e (log_in path) kept)
 
     -- at last the record counts
-    pub done_gate : (body : List ℕ) → length body ≡ 49 → told_by body ≡ told → Ready d (body ++ 0 ∷ []) → KeepsOthers d e (log_of path) → IsOnDisk e (log_of path)
+    pub done_gate : (body left : List ℕ) → length body ≡ 49 → told_by body ≡ told → Ready d ((body ++ 0 ∷ []) ++ left) → KeepsOthers d e (log_of path) → IsOnDisk e (log_of path)
         → IsWrittenAt (bytes_in (d.seen (log_of path))) end.gate (1 ∷ []) (bytes_in (e.seen (log_of path))) → IsAtRest e path (record { gate = end.gate + 50; told = told })
-    done_gate body size says r kept on written =
+    done_gate body left size says r kept on written =
         let front = opened bodies in
-        let tail = body ++ 0 ∷ [] in
+        let tail = (body ++ 0 ∷ []) ++ left in
         let log = bytes_in (e.seen (log_of path)) in
-        let is : IsWrittenAt (front ++ 0 ∷ tail) (length front) (1 ∷ []) log =
+        let is : IsWrittenAt (front ++ closed ∷ tail) (length front) (1 ∷ []) log =
         subst (λ (l : List ℕ). IsWrittenAt l (length front) (1 ∷ []) log) r.log (subst (λ (g : ℕ). IsWrittenAt (bytes_in (d.seen (log_of path))) g (1 ∷ []) log) staged.log.gate written) in
         let m_same = kept.seen (messages_of path told.number) (messages_not_log path told.number) ∙ r.messages_same in
         let k_same = kept.seen (keys_of path told.number) (keys_not_log path told.number) ∙ r.keys_same in
@@ -247,7 +264,10 @@ module _ (d0 : DiskState) (path : List ℕ) (end : End) (told : Told) (staged : 
           log = record {
             bodies = bodies ++ body ∷ [];
             sizes = AreBodies-snoc bodies body staged.log.sizes size;
-            log = whole_gate front tail log is ∙ sym (opened-snoc bodies body (0 ∷ []));
+            closed = 0;
+            rest = left;
+            log = whole_gate front closed tail log is ∙ record_behind bodies body left;
+            shut = omega arith;
             gate = omega (arith, staged.log.gate, size, ap length (opened-snoc bodies body []), length-append (opened (bodies ++ body ∷ [])) [], length-append front (1 ∷ body ++ []), length-append body []);
             told = last_told-snoc bodies body ∙ says;
             on_disk = on;

@@ -1,10 +1,10 @@
 -- What a crash leaves outside a folder while its files change.
-use Rattle.std.proofs.Common.{◌≡◌, ◌≢◌, ℕ, List, Option, inr, refl, sym, ◌∙◌, subst}
+use Rattle.std.proofs.Common.{◌≢◌, ℕ, List, Option, inr, refl, sym, ◌∙◌, subst}
 use Rattle.echo_disk.specs.Disk.{DiskState, IsIn}
 use Rattle.echo_disk.specs.Runs.{ChangesNothing, Elapses, LeavesOneStepOn, LeavesOnly, OneStepOn}
 use Rattle.echo_disk.specs.Steps.{ChangesFile}
 use Rattle.echo_disk.proofs.Moments.{left_now, no_call, one_call, then_run, weaker_run}
-use Rattle.echo_folder.specs.Moments.{KeepsOutside, LeavesOutside, SameNamedOutside}
+use Rattle.echo_folder.specs.Moments.{LeavesOutside, SameNamedOutside}
 
 pub left_start : (path : List ℕ) (d : DiskState) → LeavesOutside path d d
 left_start path d = no_call d (OneStepOn (SameNamedOutside path d) d) (λ c left. (c, left, λ m out named. refl))

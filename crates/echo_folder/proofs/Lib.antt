@@ -3,7 +3,6 @@ pub mod Empty
 pub mod Gates
 pub mod LeftOutside
 pub mod Logs
-pub mod Mended
 pub mod Opened
 pub mod Paths
 pub mod Quiet

@@ -1,9 +1,9 @@
 -- The bytes of a log: records, the gate behind them, and what a torn write leaves of both.
 use Rattle.std.proofs.Common.{◌≡◌, ◌≢◌, ◌≤◌, inl, inr, ℕ, ◌+◌, List, [], ◌∷◌, ◌++◌, length, get_or, take, drop, min, Option, refl, sym, ◌∙◌, ap, subst, arith, append_assoc, length-append, take-append-drop}
-use Rattle.std.proofs.lemmas.List.{take_at, drop_at, drop_more, take_all, drop_all, append-nil}
+use Rattle.std.proofs.lemmas.List.{take_at, drop_at, drop-drop, get_or_at, drop_more, append-nil}
 use Rattle.echo_disk.specs.Disk.{bytes_in}
 use Rattle.echo_disk.specs.Steps.{IsWrittenAt, TornWrite}
-use Rattle.echo_folder.specs.Log.{opened, AreBodies, EndsHere, IsLog, told_by, last_told}
+use Rattle.echo_folder.specs.Log.{opened, AreBodies, EndsHere, IsLog, IsShutAt, told_by, last_told}
 
 -- ---- one record more
 
@@ -25,9 +25,10 @@ last_told-snoc (b ∷ c ∷ bodies) body = last_told-snoc (c ∷ bodies) body
 pub shut_log : (bodies : List (List ℕ)) (gate : ℕ) (rest bytes : List ℕ) → AreBodies bodies → gate ≢ 1 → bytes ≡ opened bodies ++ gate ∷ rest → IsLog bodies bytes
 shut_log bodies gate rest bytes sizes shut is = record { rest = gate ∷ rest; parts = is; sizes = sizes; ends = inr shut }
 
-pub open_log : (bodies : List (List ℕ)) (body bytes : List ℕ) → AreBodies bodies → length body ≡ 49 → bytes ≡ opened bodies ++ (1 ∷ body ++ 0 ∷ []) → IsLog (bodies ++ body ∷ []) bytes
-open_log bodies body bytes sizes size is =
-    shut_log (bodies ++ body ∷ []) 0 [] bytes (AreBodies-snoc bodies body sizes size) (omega arith) (is ∙ sym (opened-snoc bodies body (0 ∷ [])))
+pub shut_at : (front : List ℕ) (gate : ℕ) (rest bytes : List ℕ) → gate ≢ 1 → bytes ≡ front ++ gate ∷ rest → IsShutAt (length front) bytes
+shut_at front gate rest bytes shut is =
+    let there : get_or bytes (length front) 0 ≡ gate = ap (λ (l : List ℕ). get_or l (length front) 0) is ∙ get_or_at front gate rest 0 (length front) refl in
+    (omega (arith, ap length is, length-append front (gate ∷ rest)), λ is_open. shut (sym there ∙ is_open))
 
 -- ---- a log has one list of records
 
@@ -56,49 +57,54 @@ kept_before at count old new torn within =
     let same : min at (length (bytes_in old)) ≡ at = omega arith in
     subst (λ (n : ℕ). take n (bytes_in new) ≡ take at (bytes_in old)) same torn.before
 
+-- what stands behind a place, and behind so much more
+just_behind : (front : List ℕ) (gate : ℕ) (rest : List ℕ) → drop (length front + 1) (front ++ gate ∷ rest) ≡ rest
+just_behind front gate rest =
+    ap (λ (l : List ℕ). drop (length front + 1) l) (sym (append_assoc front (gate ∷ []) rest)) ∙ drop_at (front ++ gate ∷ []) rest (length front + 1) (omega (arith, length-append front (gate ∷ [])))
+
+behind : (front : List ℕ) (gate : ℕ) (rest : List ℕ) (n : ℕ) → drop (length front + 1 + n) (front ++ gate ∷ rest) ≡ drop n rest
+behind front gate rest n = sym (drop-drop n (length front + 1) (front ++ gate ∷ rest)) ∙ ap (λ (l : List ℕ). drop n l) (just_behind front gate rest)
+
+up_to : (front : List ℕ) (gate : ℕ) (rest : List ℕ) → take (length front + 1) (front ++ gate ∷ rest) ≡ front ++ gate ∷ []
+up_to front gate rest =
+    ap (λ (l : List ℕ). take (length front + 1) l) (sym (append_assoc front (gate ∷ []) rest))
+    ∙ take_at (front ++ gate ∷ []) rest (length front + 1) (omega (arith, length-append front (gate ∷ [])))
+
 -- the closed gate stays where a record behind it is cut short
-pub torn_record : (front tail : List ℕ) (count : ℕ) (old new : Option (List ℕ)) → TornWrite (length front + 1) count old new → bytes_in old ≡ front ++ 0 ∷ tail
-    → bytes_in new ≡ front ++ 0 ∷ drop (length front + 1) (bytes_in new)
-torn_record front tail count old new torn is =
+pub torn_record : (front : List ℕ) (gate : ℕ) (tail : List ℕ) (count : ℕ) (old new : Option (List ℕ)) → TornWrite (length front + 1) count old new → bytes_in old ≡ front ++ gate ∷ tail
+    → bytes_in new ≡ front ++ gate ∷ drop (length front + 1) (bytes_in new)
+torn_record front gate tail count old new torn is =
     let n = length front + 1 in
     let c = bytes_in new in
-    let long : length (front ++ 0 ∷ []) ≡ n = omega (arith, length-append front (0 ∷ [])) in
-    let within : n ≤ length (bytes_in old) = omega (arith, ap length is, length-append front (0 ∷ tail)) in
-    let kept : take n c ≡ front ++ 0 ∷ [] =
-    kept_before n count old new torn within ∙ ap (λ (l : List ℕ). take n l) (is ∙ sym (append_assoc front (0 ∷ []) tail)) ∙ take_at (front ++ 0 ∷ []) tail n long in
-    sym (take-append-drop n c) ∙ ap (λ (l : List ℕ). l ++ drop n c) kept ∙ append_assoc front (0 ∷ []) (drop n c)
+    let within : n ≤ length (bytes_in old) = omega (arith, ap length is, length-append front (gate ∷ tail)) in
+    let kept : take n c ≡ front ++ gate ∷ [] = kept_before n count old new torn within ∙ ap (λ (l : List ℕ). take n l) is ∙ up_to front gate tail in
+    sym (take-append-drop n c) ∙ ap (λ (l : List ℕ). l ++ drop n c) kept ∙ append_assoc front (gate ∷ []) (drop n c)
 
-pub whole_record : (front bytes new : List ℕ) → IsWrittenAt (front ++ 0 ∷ []) (length front + 1) bytes new → new ≡ front ++ 0 ∷ bytes
-whole_record front bytes new is =
-    let n = length front + 1 in
-    let shut = front ++ 0 ∷ [] in
-    let long : length shut ≡ n = omega (arith, length-append front (0 ∷ [])) in
+pub whole_record : (front : List ℕ) (gate : ℕ) (tail bytes new : List ℕ) → IsWrittenAt (front ++ gate ∷ tail) (length front + 1) bytes new → new ≡ front ++ gate ∷ (bytes ++ drop (length bytes) tail)
+whole_record front gate tail bytes new is =
+    let all = front ++ gate ∷ tail in
+    let rest = drop (length bytes) tail in
     is
-    ∙ ap (λ (l : List ℕ). l ++ bytes ++ drop (n + length bytes) shut) (take_all n shut (omega arith))
-    ∙ ap (λ (l : List ℕ). shut ++ bytes ++ l) (drop_all (n + length bytes) shut (omega arith))
-    ∙ append-nil (shut ++ bytes)
-    ∙ append_assoc front (0 ∷ []) bytes
+    ∙ ap (λ (l : List ℕ). l ++ bytes ++ drop (length front + 1 + length bytes) all) (up_to front gate tail)
+    ∙ ap (λ (l : List ℕ). (front ++ gate ∷ []) ++ bytes ++ l) (behind front gate tail (length bytes))
+    ∙ append_assoc (front ++ gate ∷ []) bytes rest
+    ∙ append_assoc front (gate ∷ []) (bytes ++ rest)
 
 -- the record stays whole, whatever its gate is
-pub torn_gate : (front tail : List ℕ) (old new : Option (List ℕ)) → TornWrite (length front) 1 old new → bytes_in old ≡ front ++ 0 ∷ tail
+pub torn_gate : (front : List ℕ) (gate : ℕ) (tail : List ℕ) (old new : Option (List ℕ)) → TornWrite (length front) 1 old new → bytes_in old ≡ front ++ gate ∷ tail
     → bytes_in new ≡ front ++ get_or (bytes_in new) (length front) 0 ∷ tail
-torn_gate front tail old new torn is =
+torn_gate front gate tail old new torn is =
     let n = length front in
     let c = bytes_in new in
-    let within : n + 1 ≤ length (bytes_in old) = omega (arith, ap length is, length-append front (0 ∷ tail)) in
-    let long : n + 1 ≤ length c = omega (arith, torn.no_shorter) in
-    let back : drop (n + 1) (bytes_in old) ≡ tail =
-    ap (λ (l : List ℕ). drop (n + 1) l) (is ∙ sym (append_assoc front (0 ∷ []) tail)) ∙ drop_at (front ++ 0 ∷ []) tail (n + 1) (omega (arith, length-append front (0 ∷ []))) in
-    let before : take n c ≡ front = kept_before n 1 old new torn (omega arith) ∙ ap (λ (l : List ℕ). take n l) is ∙ take_at front (0 ∷ tail) n refl in
-    let rest : drop n c ≡ get_or c n 0 ∷ tail = drop_more c n 0 (omega arith) ∙ ap (λ (l : List ℕ). get_or c n 0 ∷ l) (torn.behind ∙ back) in
+    let within : n + 1 ≤ length (bytes_in old) = omega (arith, ap length is, length-append front (gate ∷ tail)) in
+    let back : drop (n + 1) (bytes_in old) ≡ tail = ap (λ (l : List ℕ). drop (n + 1) l) is ∙ just_behind front gate tail in
+    let before : take n c ≡ front = kept_before n 1 old new torn (omega arith) ∙ ap (λ (l : List ℕ). take n l) is ∙ take_at front (gate ∷ tail) n refl in
+    let rest : drop n c ≡ get_or c n 0 ∷ tail = drop_more c n 0 (omega (arith, torn.no_shorter)) ∙ ap (λ (l : List ℕ). get_or c n 0 ∷ l) (torn.behind ∙ back) in
     sym (take-append-drop n c) ∙ ap (λ (l : List ℕ). l ++ drop n c) before ∙ ap (λ (l : List ℕ). front ++ l) rest
 
-pub whole_gate : (front tail new : List ℕ) → IsWrittenAt (front ++ 0 ∷ tail) (length front) (1 ∷ []) new → new ≡ front ++ 1 ∷ tail
-whole_gate front tail new is =
-    let n = length front in
-    let back : drop (n + 1) (front ++ 0 ∷ tail) ≡ tail =
-    ap (λ (l : List ℕ). drop (n + 1) l) (sym (append_assoc front (0 ∷ []) tail)) ∙ drop_at (front ++ 0 ∷ []) tail (n + 1) (omega (arith, length-append front (0 ∷ []))) in
+pub whole_gate : (front : List ℕ) (gate : ℕ) (tail new : List ℕ) → IsWrittenAt (front ++ gate ∷ tail) (length front) (1 ∷ []) new → new ≡ front ++ 1 ∷ tail
+whole_gate front gate tail new is =
     is
-    ∙ ap (λ (l : List ℕ). l ++ (1 ∷ []) ++ drop (n + 1) (front ++ 0 ∷ tail)) (take_at front (0 ∷ tail) n refl)
-    ∙ ap (λ (l : List ℕ). front ++ (1 ∷ []) ++ l) back
+    ∙ ap (λ (l : List ℕ). l ++ (1 ∷ []) ++ drop (length front + 1) (front ++ gate ∷ tail)) (take_at front (gate ∷ tail) (length front) refl)
+    ∙ ap (λ (l : List ℕ). front ++ (1 ∷ []) ++ l) (just_behind front gate tail)
     ∙ append_assoc front (1 ∷ []) tail

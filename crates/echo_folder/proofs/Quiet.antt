@@ -4,8 +4,9 @@ use Rattle.std.specs.Prelude.{IsSome}
 use Rattle.echo_disk.specs.Disk.{DiskState, Files, bytes_in}
 use Rattle.echo_disk.specs.Runs.{ChangesNothing}
 use Rattle.echo_folder.specs.Names.{log_of, messages_of, keys_of}
-use Rattle.echo_folder.specs.Standing.{BaseBytes, StandsFor, base_at}
-use Rattle.echo_folder.specs.AtRest.{IsStaged}
+use Rattle.echo_folder.specs.Standing.{BaseBytes, IsNew, StandsFor, base_at}
+use Rattle.echo_folder.specs.AtRest.{IsLogAt, IsStaged}
+use Rattle.echo_folder.specs.Opening.{StayGone}
 use Rattle.echo_folder.specs.declared.log.Told.{Told}
 use Rattle.echo_folder.specs.declared.log.End.{End}
 use Rattle.echo_folder.proofs.Gates.{on_disk_quiet}
@@ -23,6 +24,21 @@ base_quiet d e path told quiet = λ i. record {
 seen_quiet : (d e : DiskState) → ChangesNothing d e → e.seen ≡ d.seen
 seen_quiet d e quiet = λ i m. quiet.seen m i
 
+-- the log is where it was
+pub log_quiet : (d e : DiskState) (path : List ℕ) (end : End) → ChangesNothing d e → IsLogAt d path end → IsLogAt e path end
+log_quiet d e path end quiet was = record {
+  bodies = was.bodies;
+  sizes = was.sizes;
+  closed = was.closed;
+  rest = was.rest;
+  log = ap bytes_in (quiet.seen (log_of path)) ∙ was.log;
+  shut = was.shut;
+  gate = was.gate;
+  told = was.told;
+  on_disk = on_disk_quiet d e (log_of path) quiet was.on_disk;
+  named = λ m inside. quiet.named m (λ h. h) (was.named m inside);
+}
+
 -- what is staged is so still
 pub staged_quiet : (d e : DiskState) (path : List ℕ) (end : End) (told : Told) → ChangesNothing d e → IsStaged d path end told → IsStaged e path end told
 staged_quiet d e path end told quiet was =
@@ -30,15 +46,7 @@ staged_quiet d e path end told quiet was =
     let keys = quiet.seen (keys_of path told.number) in
     let same : base_at d path end.told ≡ base_at e path end.told = sym (base_quiet d e path end.told quiet) in
     record {
-      log = record {
-        bodies = was.log.bodies;
-        sizes = was.log.sizes;
-        log = ap bytes_in (quiet.seen (log_of path)) ∙ was.log.log;
-        gate = was.log.gate;
-        told = was.log.told;
-        on_disk = on_disk_quiet d e (log_of path) quiet was.log.on_disk;
-        named = λ m inside. quiet.named m (λ h. h) (was.log.named m inside);
-      };
+      log = log_quiet d e path end quiet was.log;
       stands = λ c left. subst (λ (b : BaseBytes). StandsFor path b c) same (was.stands c (quiet.no_more c left));
       shown = subst (λ (f : Files). StandsFor path (base_at e path end.told) f) (sym (seen_quiet d e quiet)) (subst (λ (b : BaseBytes). StandsFor path b d.seen) same was.shown);
       digit = was.digit;
@@ -51,3 +59,11 @@ staged_quiet d e path end told quiet was =
       messages_behind = was.messages_behind;
       keys_behind = was.keys_behind;
     }
+
+-- what is not there is so still, and has no bytes that may come back
+pub gone_quiet : (d e : DiskState) (path : List ℕ) → ChangesNothing d e → StayGone path d → StayGone path e
+gone_quiet d e path quiet was m inside none = quiet.flushed m (λ h. h) (was m inside (sym (quiet.seen m) ∙ none))
+
+-- what is new is so still
+pub new_quiet : (d e : DiskState) (path : List ℕ) → ChangesNothing d e → IsNew path d.seen → IsNew path e.seen
+new_quiet d e path quiet was = subst (λ (f : Files). IsNew path f) (sym (seen_quiet d e quiet)) was

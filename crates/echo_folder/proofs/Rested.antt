@@ -1,14 +1,15 @@
 -- A base folder at rest: nothing is staged yet.
-use Rattle.std.proofs.Common.{◌≡◌, List, ℕ, [], sym, ◌∙◌, ap, subst, arith, refl}
+use Rattle.std.proofs.Common.{◌≡◌, List, ℕ, inl, sym, ◌∙◌, ap, subst, arith, refl}
 use Rattle.std.specs.Prelude.{IsSome}
 use Rattle.echo_disk.specs.Disk.{DiskState, Files, bytes_in}
 use Rattle.echo_folder.specs.Names.{log_of, messages_of, keys_of}
+use Rattle.echo_folder.specs.Log.{opened}
 use Rattle.echo_folder.specs.Standing.{TellsBase, StandsFor, base_at}
 use Rattle.echo_folder.specs.AtRest.{IsAtRest, IsStaged}
 use Rattle.echo_folder.specs.declared.log.Mark.{Mark}
 use Rattle.echo_folder.specs.declared.log.Told.{Told}
 use Rattle.echo_folder.specs.declared.log.End.{End}
-use Rattle.echo_folder.proofs.Logs.{shut_log}
+use Rattle.echo_folder.proofs.Logs.{shut_log, shut_at}
 use Rattle.echo_folder.proofs.Same.{AreThere-both, TellsBase-seen}
 
 -- files that are as they are seen in the folder
@@ -17,11 +18,13 @@ pub rest_same : (d : DiskState) (path : List ℕ) (end : End) → IsAtRest d pat
 rest_same d path end rest c same_log same_m same_k =
     let n = end.told.number in
     let log = rest.log in
+    let is = ap bytes_in same_log ∙ log.log in
     let there_m : IsSome (c (messages_of path n)) = subst (λ f. IsSome f) (sym same_m) rest.messages_on.there in
     let there_k : IsSome (c (keys_of path n)) = subst (λ f. IsSome f) (sym same_k) rest.keys_on.there in
     record {
       bodies = log.bodies;
-      log = shut_log log.bodies 0 [] (bytes_in (c (log_of path))) log.sizes (omega arith) (ap bytes_in same_log ∙ log.log);
+      log = shut_log log.bodies log.closed log.rest (bytes_in (c (log_of path))) log.sizes log.shut is;
+      ended = inl (shut_at (opened log.bodies) log.closed log.rest (bytes_in (c (log_of path))) log.shut is);
       there = AreThere-both path log.bodies c (subst (λ (t : Told). IsSome (c (messages_of path t.number))) (sym log.told) there_m) (subst (λ (t : Told). IsSome (c (keys_of path t.number))) (sym log.told) there_k);
       tells = subst (λ (t : Told). TellsBase t path (base_at d path end.told) c) (sym log.told) (TellsBase-seen end.told path d c rest.digit rest.messages_long rest.keys_long same_m same_k);
     }

@@ -1,10 +1,10 @@
 -- Files that stand for a base, before and after a change that leaves it.
-use Rattle.std.proofs.Common.{◌≡◌, ◌≢◌, ◌≤◌, ◌<◌, ℕ, List, [], ◌∷◌, length, take, sym, ap, subst, arith, length-take, refl}
+use Rattle.std.proofs.Common.{◌≡◌, ◌≢◌, ◌≤◌, ◌<◌, inl, ℕ, List, [], ◌∷◌, length, take, sym, ap, subst, arith, length-take, refl}
 use Rattle.std.specs.Prelude.{IsSome}
 use Rattle.echo_disk.specs.Disk.{DiskState, Files, bytes_in}
 use Rattle.echo_folder.specs.Names.{log_of, messages_of, keys_of}
-use Rattle.echo_folder.specs.Log.{IsLog, last_told}
-use Rattle.echo_folder.specs.Standing.{BaseBytes, IsFrontOf, AreThere, TellsBase, StandsFor, base_at}
+use Rattle.echo_folder.specs.Log.{IsLog, IsShutAt, last_told, opened}
+use Rattle.echo_folder.specs.Standing.{BaseBytes, IsFrontOf, AreThere, IsEnded, TellsBase, StandsFor, base_at}
 use Rattle.echo_folder.specs.declared.log.Told.{Told}
 use Rattle.echo_folder.proofs.Logs.{one_log}
 use Rattle.echo_folder.proofs.Paths.{messages_not_log, keys_not_log}
@@ -58,10 +58,14 @@ tells_by path base c bodies stands log =
     let same : stands.bodies ≡ bodies = one_log stands.bodies bodies (bytes_in (c (log_of path))) stands.log log in
     (subst (λ b. AreThere path b c) same stands.there, subst (λ b. TellsBase (last_told b) path base c) same stands.tells)
 
--- a change of the log alone, after which it has the same records
+-- and how they end
+pub ended_by : (path : List ℕ) (base : BaseBytes) (c : Files) (bodies : List (List ℕ)) → StandsFor path base c → IsLog bodies (bytes_in (c (log_of path))) → IsEnded path bodies c
+ended_by path base c bodies stands log = subst (λ b. IsEnded path b c) (one_log stands.bodies bodies (bytes_in (c (log_of path))) stands.log log) stands.ended
+
+-- a change of the log alone, after which it has the same records and a closed gate behind them
 pub log_changed : (path : List ℕ) (base : BaseBytes) (a c : Files) (bodies : List (List ℕ)) → StandsFor path base a → IsLog bodies (bytes_in (a (log_of path)))
-    → ((m : List ℕ) → m ≢ log_of path → c m ≡ a m) → IsLog bodies (bytes_in (c (log_of path))) → StandsFor path base c
-log_changed path base a c bodies stands log same now =
+    → ((m : List ℕ) → m ≢ log_of path → c m ≡ a m) → IsLog bodies (bytes_in (c (log_of path))) → IsShutAt (length (opened bodies)) (bytes_in (c (log_of path))) → StandsFor path base c
+log_changed path base a c bodies stands log same now shut =
     let by = tells_by path base a bodies stands log in
     let told = last_told bodies in
     let m = same (messages_of path told.number) (messages_not_log path told.number) in
@@ -69,6 +73,7 @@ log_changed path base a c bodies stands log same now =
     record {
       bodies = bodies;
       log = now;
+      ended = inl shut;
       there = AreThere-same path bodies a c m k by.0;
       tells = TellsBase-same told path base a c m k by.1;
     }

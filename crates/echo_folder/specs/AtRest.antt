@@ -1,5 +1,5 @@
 -- A base folder between two commits, and in one.
-use Rattle.std.specs.Prelude.{◌≡◌, ◌<◌, ◌≤◌, ℕ, List, [], ◌∷◌, ◌++◌, length, IsSome}
+use Rattle.std.specs.Prelude.{◌≡◌, ◌≢◌, ◌<◌, ◌≤◌, ℕ, List, ◌∷◌, ◌++◌, length, IsSome}
 use Rattle.echo_disk.specs.Disk.{DiskState, Files, bytes_in, IsIn}
 use Rattle.echo_disk.specs.Synced.{IsOnDisk}
 use Rattle.echo_folder.specs.Names.{log_of, messages_of, keys_of}
@@ -8,11 +8,14 @@ use Rattle.echo_folder.specs.Standing.{StandsFor, base_at}
 use Rattle.echo_folder.specs.declared.log.Told.{Told}
 use Rattle.echo_folder.specs.declared.log.End.{End}
 
--- the log ends in a closed gate at this place, behind records of which the last tells this, and is on the disk
+-- a closed gate stands at this place in the log, behind records of which the last tells this, and the log is on the disk
 pub record IsLogAt (disk : DiskState) (path : List ℕ) (end : End) : Type 0 where
   pub bodies : List (List ℕ)
   pub sizes : AreBodies bodies
-  pub log : bytes_in (disk.seen (log_of path)) ≡ opened bodies ++ 0 ∷ []
+  pub closed : ℕ
+  pub rest : List ℕ
+  pub log : bytes_in (disk.seen (log_of path)) ≡ opened bodies ++ closed ∷ rest
+  pub shut : closed ≢ 1
   pub gate : end.gate ≡ length (opened bodies)
   pub told : last_told bodies ≡ end.told
   pub on_disk : IsOnDisk disk (log_of path)

@@ -17,6 +17,10 @@ AreBodies (body ∷ bodies) = (length body ≡ 49) × AreBodies bodies
 abbrev pub EndsHere : List ℕ → Type 0
 EndsHere rest = (length rest < 50) ⊎ (slice_index rest 0 ≢ 1)
 
+-- a closed gate stands at this place
+abbrev pub IsShutAt : ℕ → List ℕ → Type 0
+IsShutAt place log = (place < length log) × (slice_index log place ≢ 1)
+
 -- the records of a log, up to the first that is cut short or has a closed gate
 pub record IsLog (bodies : List (List ℕ)) (bytes : List ℕ) : Type 0 where
   pub rest : List ℕ

@@ -1,12 +1,13 @@
 -- What opening a base folder asks and leaves.
-use Rattle.std.specs.Prelude.{◌≡◌, ◌≢◌, ◌≤◌, ◌⊎◌, ℕ, List, Result, IsErrOf, IsSome}
+use Rattle.std.specs.Prelude.{◌≡◌, ◌≢◌, ◌≤◌, ◌<◌, ◌⊎◌, ℕ, List, length, None, Result, IsErrOf, IsSome}
 use Rattle.echo_device.specs.Device.{Failed}
-use Rattle.echo_disk.specs.Disk.{DiskState, Files, IsIn}
+use Rattle.echo_disk.specs.Disk.{DiskState, Files, IsIn, bytes_in}
 use Rattle.echo_disk.specs.declared.disk_error.DiskError.{DiskError}
 use Rattle.echo_disk.specs.declared.disk_error.DiskError.TheVariants as disk
+use Rattle.echo_folder.specs.declared.log.Told.{Told}
 use Rattle.echo_folder.specs.declared.folder_error.FolderError.{FolderError}
 use Rattle.echo_folder.specs.declared.folder_error.FolderError.TheVariants as folder
-use Rattle.echo_folder.specs.Names.{messages_of, keys_of}
+use Rattle.echo_folder.specs.Names.{log_of, messages_of, keys_of}
 use Rattle.echo_folder.specs.Standing.{BaseBytes}
 use Rattle.echo_folder.specs.Moments.{StandsAlone}
 
@@ -40,9 +41,19 @@ pub record KeepsButOne (old new : DiskState) (file : List ℕ) : Type 0 where
   pub alone : (m : List ℕ) → m ≢ file → old.is_alone m → new.is_alone m
   pub honest : new.is_honest → old.is_honest
 
--- the two files of the number are there, each with one path
-pub record HasBothFiles (disk : DiskState) (path : List ℕ) (number : ℕ) : Type 0 where
-  pub messages : IsSome (disk.seen (messages_of path number))
-  pub keys : IsSome (disk.seen (keys_of path number))
-  pub messages_alone : disk.is_alone (messages_of path number)
-  pub keys_alone : disk.is_alone (keys_of path number)
+-- the two files of the number are there, and as long as a record tells
+pub record HasFiles (path : List ℕ) (files : Files) (told : Told) : Type 0 where
+  pub messages : IsSome (files (messages_of path told.number))
+  pub keys : IsSome (files (keys_of path told.number))
+  pub messages_long : told.messages ≤ length (bytes_in (files (messages_of path told.number)))
+  pub keys_long : told.keys ≤ length (bytes_in (files (keys_of path told.number)))
+
+-- the log and the files of each number have their bytes on the disk
+pub record AreFlushed (path : List ℕ) (disk : DiskState) : Type 0 where
+  pub log : disk.is_flushed (log_of path)
+  pub messages : (n : ℕ) → n < 10 → disk.is_flushed (messages_of path n)
+  pub keys : (n : ℕ) → n < 10 → disk.is_flushed (keys_of path n)
+
+-- what is not there has no bytes that may come back
+abbrev pub StayGone : List ℕ → DiskState → Type 0
+StayGone path disk = (m : List ℕ) → IsIn path m → disk.seen m ≡ None → disk.is_flushed m

@@ -1,7 +1,10 @@
 -- How a log is read.
 use Rattle.std.specs.Prelude.{◌≡◌, ℕ, List, ◌++◌, length}
+use Rattle.echo_disk.specs.Disk.{Files, bytes_in}
+use Rattle.echo_folder.specs.Names.{log_of}
 use Rattle.echo_folder.specs.Log.{opened, AreBodies, EndsHere, last_told}
 use Rattle.echo_folder.specs.declared.log.End.{End}
+use Rattle.echo_folder.specs.declared.log.Log.{Log}
 
 -- the records of a log up to a place, and what stands behind it
 pub record ReadsTo (bytes : List ℕ) (end : End) (rest : List ℕ) : Type 0 where
@@ -16,3 +19,11 @@ pub record ReadsAll (bytes : List ℕ) (end : End) : Type 0 where
   pub rest : List ℕ
   pub reads : ReadsTo bytes end rest
   pub ends : EndsHere rest
+
+-- the log has been read to the end of its records
+abbrev pub IsRead : Log → Type 0
+IsRead log = ReadsAll log.bytes.items log.end
+
+-- it is that of the folder
+abbrev pub IsLogIn : List ℕ → Files → Log → Type 0
+IsLogIn path files log = log.bytes.items ≡ bytes_in (files (log_of path))

@@ -1,8 +1,8 @@
 -- What the files of a base folder stand for.
-use Rattle.std.specs.Prelude.{◌≡◌, ◌<◌, ℕ, List, [], ◌∷◌, ◌++◌, length, take, IsSome}
+use Rattle.std.specs.Prelude.{◌≡◌, ◌<◌, ◌≤◌, ◌⊎◌, ℕ, List, [], ◌∷◌, ◌++◌, length, take, IsSome}
 use Rattle.echo_disk.specs.Disk.{DiskState, Files, bytes_in}
 use Rattle.echo_folder.specs.Names.{log_of, messages_of, keys_of}
-use Rattle.echo_folder.specs.Log.{IsLog, last_told}
+use Rattle.echo_folder.specs.Log.{IsLog, IsShutAt, last_told, opened}
 use Rattle.echo_folder.specs.declared.log.Mark.{Mark}
 use Rattle.echo_folder.specs.declared.log.Told.{Told}
 
@@ -40,13 +40,38 @@ pub record TellsBase (told : Told) (path : List ℕ) (base : BaseBytes) (files :
   pub messages : IsFrontOf base.messages (bytes_in (files (messages_of path told.number)))
   pub keys : IsFrontOf base.keys (bytes_in (files (keys_of path told.number)))
 
+-- no file of messages or of keys has bytes
+pub record HasNoBytes (path : List ℕ) (files : Files) : Type 0 where
+  pub messages : (n : ℕ) → n < 10 → bytes_in (files (messages_of path n)) ≡ []
+  pub keys : (n : ℕ) → n < 10 → bytes_in (files (keys_of path n)) ≡ []
+
+-- the folder is new: its log has no more than the first gate, which a crash may have torn
+pub record IsNew (path : List ℕ) (files : Files) : Type 0 where
+  pub log : length (bytes_in (files (log_of path))) ≤ 1
+  pub empty : HasNoBytes path files
+
+-- a closed gate stands behind the records, or the folder is new
+abbrev pub IsEnded : List ℕ → List (List ℕ) → Files → Type 0
+IsEnded path bodies files = IsShutAt (length (opened bodies)) (bytes_in (files (log_of path))) ⊎ IsNew path files
+
 -- The files stand for this base, whatever a crash made of them: what is behind the last record with an open gate, and behind
 -- what it tells, does not count.
 pub record StandsFor (path : List ℕ) (base : BaseBytes) (files : Files) : Type 0 where
   pub bodies : List (List ℕ)
   pub log : IsLog bodies (bytes_in (files (log_of path)))
+  pub ended : IsEnded path bodies files
   pub there : AreThere path bodies files
   pub tells : TellsBase (last_told bodies) path base files
+
+-- there are messages or keys, and no byte of a log
+pub record IsLost (path : List ℕ) (files : Files) : Type 0 where
+  pub log : bytes_in (files (log_of path)) ≡ []
+  pub some : HasNoBytes path files → ⊥
+
+-- there is a log, or nothing else, and the files stand for no base
+pub record IsBroken (path : List ℕ) (files : Files) : Type 0 where
+  pub logged : IsLost path files → ⊥
+  pub none : (base : BaseBytes) → StandsFor path base files → ⊥
 
 -- the base of so many bytes, as they are seen now
 abbrev pub base_at : DiskState → List ℕ → Told → BaseBytes

@@ -1,9 +1,9 @@
-//! Why a base folder was not opened.
+//! Why the files of a folder stand for no base.
 use echo_disk::DiskError;
 use std::alloc::{AllocError, AllocFailed};
 use thiserror::Error;
 
-/// Why a base folder was not opened.
+/// Why the files of a folder stand for no base, or were not judged.
 #[derive(Clone, Copy, Debug, PartialEq, Eq, Error)]
 pub enum FolderError {
     /// A growth was refused.
@@ -12,7 +12,10 @@ pub enum FolderError {
     /// The device failed, and counts it.
     #[error("the device failed")]
     Device,
-    /// The files stand for no base.
+    /// There are messages or keys, and no byte of a log.
+    #[error("no log")]
+    Lost,
+    /// The files stand for no base, though there is a log.
     #[error("not the files of a base folder")]
     Corrupt,
 }

@@ -2,20 +2,20 @@
 //!
 //! The contract for the layers above: for whatever a crash leaves at any moment, the folder stands for the
 //! bytes from before a commit or from after it. A commit counts once its record's gate is open (1). A closed
-//! gate (0) stands behind the last record, on the disk before anything is written behind it.
+//! gate (any other byte) stands behind the last record, on the disk before anything is written behind it.
 //!
 //! Modules in reading order: `names` (the paths of the files), `log` (records, and the last of them), `staging`
 //! (bytes written behind those that count), `anew` (files of another number), `committing` (a record, and its gate), `removing` (files that no
-//! longer count), `folder_error`, `making` (the files of a folder that has none), `mending` (the end of a log)
+//! longer count), `folder_error`, `judging` (whether files stand for a base), `making` (the files of a folder that has none)
 //! and `opening`.
 #![tactic(auto)]
 
 mod anew;
 mod committing;
 mod folder_error;
+mod judging;
 mod log;
 mod making;
-mod mending;
 mod names;
 mod opening;
 mod removing;
@@ -24,7 +24,8 @@ mod staging;
 pub use anew::stage_anew;
 pub use committing::commit;
 pub use folder_error::FolderError;
-pub use log::{End, Mark, Told, last_record};
+pub use judging::{judge, len_of, read_log};
+pub use log::{End, Log, Mark, Told};
 pub use names::Names;
 pub use opening::open;
 pub use removing::remove_files;

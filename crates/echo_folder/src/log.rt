@@ -1,7 +1,7 @@
 //! The log of commits: its records, and the last of them.
-ghost use Rattle.std.specs.Prelude.{◌≡◌, ◌≤◌, ◌+◌, length, take, drop, slice_index, MatchBool};
+ghost use Rattle.std.specs.Prelude.{◌≡◌, ◌≤◌, ◌+◌, ◌↔◌, length, take, drop, slice_index, IsTrue, MatchBool};
 ghost use Rattle.std.specs.Int.{w64, from_le_bytes};
-ghost use Rattle.echo_folder.specs.Log.{EndsHere, mark_by, told_by};
+ghost use Rattle.echo_folder.specs.Log.{EndsHere, IsShutAt, mark_by, told_by};
 ghost use Rattle.echo_folder.specs.Reading.{ReadsAll};
 
 /// Whose a base folder is, and the two halves of the key of its digests: numbers that the folder keeps and does not
@@ -29,6 +29,22 @@ pub struct Told {
 pub struct End {
     pub gate: usize,
     pub told: Told,
+}
+
+/// The log of a base folder, and where its records end.
+#[derive(Drop)]
+pub struct Log {
+    pub bytes: Vec<u8>,
+    pub end: End,
+}
+
+impl Log {
+    /// Whether a closed gate stands behind the records.
+    pub fn is_shut(&self) -> bool
+        ensures { IsTrue result ↔ IsShutAt self.now.end.gate self.now.bytes.items }
+    {
+        self.end.gate < self.bytes.len() && self.bytes[self.end.gate] != 1
+    }
 }
 
 // Whether a record with an open gate stands here.
@@ -83,7 +99,7 @@ fn told_at(bytes: &[u8], at: usize) -> Told
 }
 
 /// Reads a log to the end of its records.
-pub fn last_record(bytes: &[u8]) -> End
+pub(crate) fn last_record(bytes: &[u8]) -> End
     ensures reads { ReadsAll bytes.now result }
     ensures within { result.gate ≤ length bytes.now }
 {

@@ -1,5 +1,5 @@
 -- What is known of the base for which the files of a folder stand.
-use Rattle.std.proofs.Common.{◌≡◌, ◌≢◌, ◌⊎◌, ℕ, ◌*◌, ◌/◌, ◌%◌, ◌<◌, ◌≤◌, List, length, take, sym, ◌∙◌, ap, subst, arith, inl, inr, ⊎_elim}
+use Rattle.std.proofs.Common.{◌≡◌, ℕ, ◌≤◌, List, length, take, sym, ◌∙◌, ap, subst, arith, inl, inr, ⊎_elim}
 use Rattle.echo_disk.specs.Disk.{DiskState, bytes_in}
 use Rattle.echo_disk.specs.Runs.{ChangesNothing, LeavesOnly}
 use Rattle.echo_disk.proofs.Moments.{weaker_run}
@@ -27,16 +27,6 @@ told_where keyed bytes base holds = stand_where_told (digest_by keyed bytes.mark
 
 pub cursor_within : (keyed : ℕ → ℕ → List ℕ → ℕ) (bytes : BaseBytes) (base : Base) → HoldsBase keyed bytes base → bytes.cursor ≤ length base.messages
 cursor_within keyed bytes base holds = let within = holds.files.holds.within in omega (arith, holds.cursor)
-
--- of a base the keys are whole and the cursor is within them
-pub not_cut : (keyed : ℕ → ℕ → List ℕ → ℕ) (d : DiskState) (path : List ℕ) (told : Told) (keys : List ℕ) (bytes : BaseBytes) (base : Base) → HoldsBase keyed bytes base → base_at d path told ≡ bytes
-    → keys ≡ (base_at d path told).keys → (length keys % 16 ≢ 0) ⊎ (length keys / 16 < told.cursor) → ⊥
-not_cut keyed d path told keys bytes base holds same is wrong =
-    let many : length bytes.keys ≡ 16 * length base.messages = (told_where keyed bytes base holds).many in
-    let long : length keys ≡ 16 * length base.messages = ap (λ (l : List ℕ). length l) is ∙ ap (λ (b : BaseBytes). length b.keys) same ∙ many in
-    let at : told.cursor ≡ bytes.cursor = ap (λ (b : BaseBytes). b.cursor) same in
-    let within : bytes.cursor ≤ length base.messages = cursor_within keyed bytes base holds in
-    ⊎_elim (λ (odd : length keys % 16 ≢ 0). odd (omega arith)) (λ (past : length keys / 16 < told.cursor). omega arith) wrong
 
 -- a crash at any moment of opening
 pub opened_run : (keyed : ℕ → ℕ → List ℕ → ℕ) (path : List ℕ) (d e : DiskState) (base : Base) (stands : StandsForBase keyed path base d.seen)
@@ -70,15 +60,9 @@ opened_is d e path end folder quiet rest at names same_end same_told keys none =
       keys = keys ∙ sym (ap (λ (b : BaseBytes). b.keys) (base_quiet d e path end.told quiet)) ∙ (λ i. (base_at e (sym at i) (sym same_told i)).keys) ∙ sym (ap (λ (b : BaseBytes). b.keys) (written_held e folder none));
     }
 
--- it holds the bytes and the mark for which the files stood
+-- it holds what its record tells
 pub opened_bytes : (d e : DiskState) (path : List ℕ) (folder : Folder) (told : Told) (bytes : BaseBytes) → ChangesNothing d e → path_of folder ≡ path → folder.told ≡ told → base_at d path told ≡ bytes → IsWritten folder → held_by e folder ≡ bytes
 opened_bytes d e path folder told bytes quiet at same_told same none = written_held e folder none ∙ (λ i. base_at e (at i) (same_told i)) ∙ base_quiet d e path told quiet ∙ same
-
--- and so the base
-pub opened_holds : (keyed : ℕ → ℕ → List ℕ → ℕ) (d e : DiskState) (path : List ℕ) (folder : Folder) (told : Told) (bytes : BaseBytes) (base : Base) → ChangesNothing d e → path_of folder ≡ path → folder.told ≡ told
-    → base_at d path told ≡ bytes → HoldsBase keyed bytes base → IsWritten folder → HoldsBase keyed (held_by e folder) base
-opened_holds keyed d e path folder told bytes base quiet at same_told same holds none =
-    subst (λ (b : BaseBytes). HoldsBase keyed b base) (sym (opened_bytes d e path folder told bytes quiet at same_told same none)) holds
 
 -- the keys that were read are those of the file of this number
 pub keys_there : (d : DiskState) (path : List ℕ) (told : Told) (names : Names) (keys : List ℕ) → folder_of names ≡ path → AreNames names told.number → keys ≡ take told.keys (bytes_in (d.seen names.keys.items)) → keys ≡ (base_at d path told).keys

@@ -1,12 +1,12 @@
 //! What is added to a base folder, and committed.
-ghost use Rattle.std.specs.Prelude.{◌≡◌, ◌≢◌, ◌<◌, ◌+◌, ◌^◌, ◌/◌, length, IfOk, IfSome, OnOk, IsErrOf};
+ghost use Rattle.std.specs.Prelude.{◌≡◌, ◌≢◌, ◌≤◌, ◌<◌, ◌⊎◌, ◌+◌, ◌^◌, ◌/◌, length, IfNone, IfOk, IfSome, OnOk, IsErrOf};
 ghost use Rattle.echo_disk.specs.Disk.{Honestly};
 ghost use Rattle.echo_disk.specs.Runs.{HasCause, LeavesOnly};
 ghost use Rattle.echo_folder.specs.AtRest.{IsAtRest, IsStaged};
 ghost use Rattle.echo_folder.specs.Moments.{IsBeforeOrAfter, KeepsOutside, LeavesOutside, StandsAlone};
 ghost use Rattle.echo_folder.specs.Names.{AreNames, folder_of};
 ghost use Rattle.echo_folder.specs.Standing.{and_keys, and_messages, base_at};
-ghost use Rattle.echo_folder_store.specs.Added.{OneMoreWaits, SameBesideBoth, with_stored};
+ghost use Rattle.echo_folder_store.specs.Added.{OneMoreWaits, SameBesideBoth, next_place, with_stored};
 ghost use Rattle.echo_folder_store.specs.Answers.{HasReadCause};
 ghost use Rattle.echo_folder_store.specs.Left.{AreGone};
 ghost use Rattle.echo_folder_store.specs.Opened.{IsNamed, IsOpen, IsWritten, committed_by, held_by, path_of};
@@ -59,6 +59,7 @@ impl Folder {
     fn next_place(&self, more: usize) -> Option<usize>
         ensures place { IfSome result (λ place. place ≡ self.now.told.messages + length self.now.waiting.messages.items) }
         ensures room { IfSome result (λ place. place + more < 2 ^ 64) }
+        ensures none { IfNone result (2 ^ 64 ≤ next_place self.now + more) }
     {
         let place = self.told.messages.checked_add(self.waiting.messages.len())?;
         if more > usize::MAX - place {
@@ -75,6 +76,7 @@ impl Folder {
         ensures waits { OnOk result (OneMoreWaits self.old self.new bytes.now digest) }
         ensures whole { IsErrOf result StoreError.Damaged → ⊥ }
         ensures device { IsErrOf result StoreError.Device → ⊥ }
+        ensures many { IsErrOf result StoreError.TooMany → 2 ^ 64 ≤ next_place self.old + length bytes.now }
     {
         let Some(place) = self.next_place(bytes.len()) else {
             return Err(StoreError::TooMany);
@@ -105,6 +107,7 @@ impl Folder {
         ensures leaves { LeavesOutside (path_of self.old) (D.state disk.old) (D.state disk.new) }
         ensures whole { IsErrOf result StoreError.Damaged → ⊥ }
         ensures cause { HasReadCause (D.failures disk.old) (D.failures disk.new) result }
+        ensures many { IsErrOf result StoreError.TooMany → (2 ^ 64 ≤ next_place self.old) ⊎ (2 ^ 64 ≤ self.old.told.keys + length self.old.waiting.keys.items) }
     {
         let messages = &self.waiting.messages;
         let keys = &self.waiting.keys;
@@ -183,6 +186,7 @@ impl Folder {
         ensures leaves { LeavesOutside (path_of self.old) (D.state disk.old) (D.state disk.new) }
         ensures whole { IsErrOf result StoreError.Damaged → ⊥ }
         ensures cause { HasReadCause (D.failures disk.old) (D.failures disk.new) result }
+        ensures many { IsErrOf result StoreError.TooMany → 2 ^ 64 ≤ self.old.end.gate + 51 }
     {
         if self.end.gate >= usize::MAX - RECORD {
             return Err(StoreError::TooMany);

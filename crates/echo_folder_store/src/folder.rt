@@ -1,21 +1,20 @@
 //! A base folder that is open: what is known of its files, and a message read by its number.
-ghost use Rattle.std.specs.Prelude.{◌≡◌, ◌≤◌, ◌<◌, ◌+◌, ◌/◌, ◌++◌, ℕ, List, length, IfOk, IsErrOf, IsSome, drop, take};
+ghost use Rattle.std.specs.Prelude.{◌≡◌, ◌≤◌, ◌<◌, ◌+◌, ◌^◌, ◌/◌, ◌++◌, ℕ, List, length, IfOk, IsErrOf, IsSome, drop, take};
 ghost use Rattle.echo_disk.specs.Disk.{Honestly, bytes_in};
 ghost use Rattle.echo_disk.specs.Runs.{ChangesNothing, HasCause, LeavesOnly};
 ghost use Rattle.echo_folder.specs.Moments.{KeepsOutside};
-ghost use Rattle.echo_folder.specs.Opening.{AreAlone, HasFolderCause};
-ghost use Rattle.echo_folder.specs.Standing.{BaseBytes, StandsFor};
-ghost use Rattle.echo_base.specs.Base.{Base};
+ghost use Rattle.echo_folder.specs.Opening.{AreAlone, StandsOrWasLeft};
+ghost use Rattle.echo_folder.specs.Reading.{IsLogIn, IsRead};
+ghost use Rattle.echo_folder.specs.Standing.{StandsFor, base_at};
 ghost use Rattle.echo_filed.specs.Filed.{Filed};
 ghost use Rattle.echo_keys.specs.Keys.{StandWhereTold};
 ghost use Rattle.echo_folder_store.specs.Answers.{Answers, HasReadCause, IsAloneOf, IsStoredOf};
-ghost use Rattle.echo_folder_store.specs.Held.{HoldsBase, StandsForBase, StandsForBaseOrWasLeft};
 ghost use Rattle.echo_folder_store.specs.Opened.{IsNamed, IsOpen, IsWritten, held_by, path_of};
 
 use crate::alone::{Alone, read_alone};
 use crate::waiting::Waiting;
 use echo_disk::{Disk, DiskError, read_part};
-use echo_folder::{End, FolderError, Names, Told, open};
+use echo_folder::{End, Log, Names, Told, open};
 use echo_keys::{end_of, place_of};
 use echo_store::StoreError;
 use std::alloc::Global;
@@ -83,6 +82,7 @@ fn stored_at<D: Disk>(
         → place < length base → Answers (λ bytes. IsStoredOf base place bytes.items) result) }
     ensures quiet { ChangesNothing (D.state disk.old) (D.state disk.new) }
     ensures cause { HasReadCause (D.failures disk.old) (D.failures disk.new) result }
+    ensures many { IsErrOf result StoreError.TooMany → 2 ^ 64 ≤ written + length waiting.now }
 {
     let Some(all) = written.checked_add(waiting.len()) else {
         return Err(StoreError::TooMany);
@@ -118,42 +118,39 @@ pub(crate) fn message_at<D: Disk>(
 }
 
 impl Folder {
-    /// Opens the base folder, and mends the end of its log. Its files are made where there are none. A path ends in
-    /// a slash, or is empty.
-    ///
-    /// It is `Corrupt` where its files stand for no base. What is wrong with a message is told where it is read.
-    pub fn open<D: Disk>(alloc: Global, disk: &mut D, path: &[u8]) -> Result<Folder, FolderError>
-        requires { Honestly (D.state disk.old) (AreAlone path.now (D.state disk.old)) }
+    /// Opens the base folder for whose base its files stand, with its log as it was read. Its files are made where there
+    /// are none. A path ends in a slash, or is empty. What is wrong with a message is told where it is read.
+    pub fn open<D: Disk>(
+        alloc: Global,
+        disk: &mut D,
+        path: &[u8],
+        log: &Log,
+    ) -> Result<Folder, DiskError>
+        requires digit { log.now.end.told.number < 10 }
+        requires alone { Honestly (D.state disk.old) (AreAlone path.now (D.state disk.old)) }
+        requires log { Honestly (D.state disk.old) (IsLogIn path.now (D.state disk.old).seen log.now) }
+        requires read { IsRead log.now }
+        requires stands { Honestly (D.state disk.old) (StandsFor path.now (base_at (D.state disk.old) path.now log.now.end.told) (D.state disk.old).seen) }
         ensures opened { Honestly (D.state disk.new) (IfOk result (IsOpen (D.state disk.new))) }
-        ensures named { IfOk result IsNamed }
-        ensures path { IfOk result (λ folder. path_of folder ≡ path.now) }
-        ensures settled { IfOk result (λ folder. folder.told ≡ folder.end.told) }
+        ensures names { IfOk result (λ folder. (path_of folder ≡ path.now) × IsNamed folder) }
+        ensures settled { IfOk result (λ folder. (folder.end ≡ log.now.end) × (folder.told ≡ log.now.end.told)) }
         ensures written { IfOk result IsWritten }
-        ensures found { Honestly (D.state disk.new) ((bytes : BaseBytes) → StandsFor path.now bytes (D.state disk.old).seen
-            → IfOk result (λ folder. held_by (D.state disk.new) folder ≡ bytes)) }
-        ensures same { Honestly (D.state disk.new) ((keyed : ℕ → ℕ → List ℕ → ℕ) (base : Base) → StandsForBase keyed path.now base (D.state disk.old).seen
-            → IfOk result (λ folder. HoldsBase keyed (held_by (D.state disk.new) folder) base)) }
+        ensures found { Honestly (D.state disk.new) (IfOk result (λ folder. held_by (D.state disk.new) folder ≡ base_at (D.state disk.old) path.now log.now.end.told)) }
 
         // A crash at any moment leaves the same base and all else as it was, or what a crash might have left before.
-        ensures any_moment { Honestly (D.state disk.new) ((keyed : ℕ → ℕ → List ℕ → ℕ) (base : Base) → StandsForBase keyed path.now base (D.state disk.old).seen
-            → LeavesOnly (D.state disk.old) (D.state disk.new) (StandsForBaseOrWasLeft keyed path.now (D.state disk.old) base)) }
+        ensures any_moment { Honestly (D.state disk.new) (LeavesOnly (D.state disk.old) (D.state disk.new)
+            (StandsOrWasLeft path.now (D.state disk.old) (base_at (D.state disk.old) path.now log.now.end.told))) }
         ensures outside { KeepsOutside path.now (D.state disk.old) (D.state disk.new) }
-        ensures corrupt { Honestly (D.state disk.new) (IsErrOf result FolderError.Corrupt
-            → (keyed : ℕ → ℕ → List ℕ → ℕ) (base : Base) → StandsForBase keyed path.now base (D.state disk.old).seen → ⊥) }
-        ensures cause { HasFolderCause (D.failures disk.old) (D.failures disk.new) result }
+        ensures cause { HasCause (D.failures disk.old) (D.failures disk.new) result }
     {
-        let end = open(alloc, disk, path)?;
-        let names = Names::new(alloc, path, end.told.number)?;
-        let keys = read_part(alloc, disk, &names.keys, 0, end.told.keys)?;
-        let count = keys.len() / ENTRY;
-        if keys.len() % ENTRY != 0 || end.told.cursor as usize > count {
-            return Err(FolderError::Corrupt);
-        }
+        let names = Names::new(alloc, path, log.end.told.number)?;
+        open(alloc, disk, &names, log)?;
+        let keys = read_part(alloc, disk, &names.keys, 0, log.end.told.keys)?;
         let waiting = Waiting::new(alloc);
         Ok(Folder {
             names,
-            end,
-            told: end.told,
+            end: log.end,
+            told: log.end.told,
             keys,
             waiting,
         })

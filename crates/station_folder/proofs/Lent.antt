@@ -1,5 +1,5 @@
 -- The disk of a base folder that was used beneath it.
-use Rattle.std.proofs.Common.{◌≡◌, ◌≢◌, ◌↔◌, ◌≤◌, ◌++◌, ℕ, Bool, true, false, All, IsTrue, List, Option, length, sym, take, drop, ◌∙◌, ap, refl, subst}
+use Rattle.std.proofs.Common.{◌≡◌, ◌≢◌, ◌↔◌, ◌≤◌, ◌++◌, inl, inr, ℕ, Bool, true, false, All, IsTrue, List, Option, length, sym, take, drop, ◌∙◌, ap, refl, subst}
 use Rattle.std.proofs.lemmas.List.{drop_at}
 use Rattle.std.specs.Prelude.{IsSome}
 use Rattle.echo_base.specs.Base.{Base}
@@ -8,9 +8,9 @@ use Rattle.echo_disk.specs.Runs.{OneStepOn}
 use Rattle.echo_disk.specs.Synced.{IsOnDisk}
 use Rattle.echo_disk.proofs.Moments.{left_now}
 use Rattle.echo_folder.specs.AtRest.{IsStaged}
-use Rattle.echo_folder.specs.Log.{IsLog, last_told}
+use Rattle.echo_folder.specs.Log.{IsLog, IsShutAt, last_told, opened}
 use Rattle.echo_folder.specs.Names.{keys_of, log_of, messages_of}
-use Rattle.echo_folder.specs.Standing.{BaseBytes, StandsFor, base_at}
+use Rattle.echo_folder.specs.Standing.{BaseBytes, IsEnded, StandsFor, base_at}
 use Rattle.echo_folder.specs.declared.log.End.{End}
 use Rattle.echo_folder.specs.declared.log.Told.{Told}
 use Rattle.echo_folder.proofs.Paths.{keys_in, log_in, messages_in}
@@ -22,7 +22,18 @@ use Rattle.echo_folder_store.specs.declared.folder.Folder.{Folder}
 use Rattle.echo_placing.specs.Changes.{ChangesOnly, DifferAt}
 use Rattle.station.specs.Beneath.{HoldsAsBefore, IsGivenBack}
 
--- files with the same files of the folder stand for the same base
+-- files with the same files of the folder end alike
+ended_same : (path : List ℕ) (bodies : List (List ℕ)) (a c : Files) → ((m : List ℕ) → IsIn path m → c m ≡ a m) → IsEnded path bodies a → IsEnded path bodies c
+ended_same path bodies a c same (inl shut) = inl (subst (λ f. IsShutAt (length (opened bodies)) (bytes_in f)) (sym (same (log_of path) (log_in path))) shut)
+ended_same path bodies a c same (inr new) = inr (record {
+  log = subst (λ f. length (bytes_in f) ≤ 1) (sym (same (log_of path) (log_in path))) new.log;
+  empty = record {
+    messages = λ n lt. ap bytes_in (same (messages_of path n) (messages_in path n)) ∙ new.empty.messages n lt;
+    keys = λ n lt. ap bytes_in (same (keys_of path n) (keys_in path n)) ∙ new.empty.keys n lt;
+  };
+})
+
+-- and stand for the same base
 stands_same : (path : List ℕ) (base : BaseBytes) (a c : Files) → ((m : List ℕ) → IsIn path m → c m ≡ a m) → StandsFor path base a → StandsFor path base c
 stands_same path base a c same was =
     let told = last_told was.bodies in
@@ -31,6 +42,7 @@ stands_same path base a c same was =
     record {
       bodies = was.bodies;
       log = subst (λ f. IsLog was.bodies (bytes_in f)) (sym (same (log_of path) (log_in path))) was.log;
+      ended = ended_same path was.bodies a c same was.ended;
       there = AreThere-same path was.bodies a c m k was.there;
       tells = TellsBase-same told path base a c m k was.tells;
     }
@@ -69,7 +81,10 @@ module _ (path : List ℕ) (d e : DiskState) (run : ChangesOnly (Outside path) d
         log = record {
           bodies = was.log.bodies;
           sizes = was.log.sizes;
+          closed = was.log.closed;
+          rest = was.log.rest;
           log = ap bytes_in (run.seen (log_of path) (inside (log_of path) (log_in path))) ∙ was.log.log;
+          shut = was.log.shut;
           gate = was.log.gate;
           told = was.log.told;
           on_disk = on_disk_same (log_of path) (log_in path) was.log.on_disk;

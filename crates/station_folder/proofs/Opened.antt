@@ -40,7 +40,8 @@ left_alone : (d e f : DiskState) (why : Unread) → ChangesNothing d e → IsLef
 left_alone d e f (unread.NotOwner address) quiet left = nothing_twice d e f quiet left
 left_alone d e f unread.Memory quiet left = tt
 left_alone d e f unread.Device quiet left = tt
-left_alone d e f (unread.Wrong why) quiet left = tt
+left_alone d e f unread.Raced quiet left = tt
+left_alone d e f (unread.Wrong why) quiet left = nothing_twice d e f quiet left
 
 -- what is not opened after a look, for the system that the link file names
 pub not_opened : (own other : Address) (strange : Bool) (base path : List ℕ) (part failed : Type 0) (d e f : DiskState) (fault : Fault) → other ≡ own → (part → failed) → ChangesNothing d e

@@ -1,7 +1,7 @@
 use Rattle.std.proofs.Common.{◌≡◌, ◌∙◌, ap}
 use Rattle.echo_folder_store.specs.Opened.{path_of}
 use Rattle.echo_base_folder.specs.Filled.{IsUnfilled, no_messages}
-use Rattle.echo_base_folder.proofs.Fillings.{adds_outside, fill_run, filled_is_kept, opened_run, unfilled_as_caused, unfilled_where_unopened}
+use Rattle.echo_base_folder.proofs.Fillings.{adds_outside, fill_run, filled_is_kept, opened_run, unfilled_as_caused, unfilled_where_wrong}
 use Rattle.echo_base_folder.proofs.Lookings.{err_is}
 use Rattle.echo_base_folder.proofs.Openings.{claimed_committed, claimed_named, claimed_opened, claimed_same}
 use Rattle.echo_base_folder.proofs.filling.fill.Goals as goal
@@ -71,7 +71,7 @@ returns-in_err-folder-clause-wrong g c = λ honest.
     let path = c.args.path.now in
     let files = (g.D.Disk.state c.args.disk.now).seen in
     let e = c.in_err-folder.field-0.0 in
-    err_is (IsUnfilled c.args.strange path files) e c.from_residual.result c.from_residual.ensures.1 (unfilled_where_unopened c.args.strange path files e (c.in_err-folder.ensures.wrong honest))
+    err_is (IsUnfilled c.args.strange path files) e c.from_residual.result c.from_residual.ensures.1 (unfilled_where_wrong c.args.strange path files e (c.in_err-folder.ensures.wrong honest))
 
 pub returns-clause-wrong : goal.returns-clause-wrong
 returns-clause-wrong g c = λ honest.

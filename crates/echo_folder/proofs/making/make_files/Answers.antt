@@ -18,7 +18,7 @@ returns-in_err-create-clause-any_moment g c honest base stands =
     let messages : c.deref.result.now ≡ messages_of path 0 = c.deref.ensures.value ∙ c.requires.names.messages in
     let crash_1 = subst (λ (l : List ℕ). LeavesOneStepOn (ChangesFile d0 l TornMaking) d0 d1) messages c.create.ensures.crash in
     let first = log_alone_made d0 path on d0 d1 (messages_of path 0) (messages_in path 0) (log_not_messages path 0) ((c.requires.named h0) (messages_of path 0) (messages_in path 0)) (log_alone_first d0 path on) c.create.ensures.time crash_1 in
-    log_alone_stands d0 path on d1 base stands (c.requires.empty h0) first
+    log_alone_stands d0 path on d1 base stands (c.requires.none h0) (c.requires.shut h0) first
 
 pub returns-in_err-create-2-clause-any_moment : goal.returns-in_err-create-2-clause-any_moment
 returns-in_err-create-2-clause-any_moment g c honest base stands =
@@ -37,7 +37,7 @@ returns-in_err-create-2-clause-any_moment g c honest base stands =
     let crash_2 = subst (λ (l : List ℕ). LeavesOneStepOn (ChangesFile d1 l TornMaking) d1 d2) keys c.create-2.ensures.crash in
     let named = c.create.ensures.named (keys_of path 0) (λ is. keys_not_messages path 0 0 (is ∙ messages)) ((c.requires.named h0) (keys_of path 0) (keys_in path 0)) in
     let both = log_alone_made d0 path on d1 d2 (keys_of path 0) (keys_in path 0) (log_not_keys path 0) named first c.create-2.ensures.time crash_2 in
-    log_alone_stands d0 path on d2 base stands (c.requires.empty h0) both
+    log_alone_stands d0 path on d2 base stands (c.requires.none h0) (c.requires.shut h0) both
 
 pub returns-clause-any_moment : goal.returns-clause-any_moment
 returns-clause-any_moment g c honest base stands =
@@ -58,4 +58,4 @@ returns-clause-any_moment g c honest base stands =
     let named = c.create.ensures.named (keys_of path 0) (λ is. keys_not_messages path 0 0 (is ∙ messages)) ((c.requires.named h0) (keys_of path 0) (keys_in path 0)) in
     let both = log_alone_made d0 path on d1 d2 (keys_of path 0) (keys_in path 0) (log_not_keys path 0) named first c.create-2.ensures.time crash_2 in
     let d3 = g.D.Disk.state c.sync_folder_of.new.disk in
-    log_alone_stands d0 path on d3 base stands (c.requires.empty h0) (then_nothing d0 d2 d3 (LogAlone d0 path on) both c.sync_folder_of.ensures.quiet)
+    log_alone_stands d0 path on d3 base stands (c.requires.none h0) (c.requires.shut h0) (then_nothing d0 d2 d3 (LogAlone d0 path on) both c.sync_folder_of.ensures.quiet)

@@ -1,37 +1,61 @@
-use Rattle.std.proofs.Common.{List, ℕ, ◌≡◌, [], subst}
-use Rattle.echo_disk.specs.Disk.{bytes_in}
-use Rattle.echo_disk.specs.Steps.{TornMaking, ChangesFile}
-use Rattle.echo_disk.specs.Runs.{LeavesOneStepOn}
-use Rattle.echo_disk.proofs.Moments.{then_nothing}
-use Rattle.echo_folder.specs.Opening.{StandsOrWasLeft}
-use Rattle.echo_folder.proofs.Empty.{none_there, made_run}
+use Rattle.std.proofs.Common.{List, ℕ, ◌∙◌, subst}
+use Rattle.echo_disk.specs.Disk.{IsIn}
+use Rattle.echo_disk.specs.Steps.{TornMaking, TornWrite, ChangesFile}
+use Rattle.echo_disk.specs.Runs.{LeavesOneStepOn, LeavesOnly, OneStepOn}
+use Rattle.echo_disk.proofs.Moments.{nothing_twice}
+use Rattle.echo_folder.specs.Names.{folder_of, log_of}
+use Rattle.echo_folder.proofs.Paths.{log_in}
+use Rattle.echo_folder.proofs.Empty.{was_left, made_run, named_run, gate_run}
 use Rattle.echo_folder.proofs.making.make_log.Goals as goal
+
+pub returns-in_err-settle_all-clause-any_moment : goal.returns-in_err-settle_all-clause-any_moment
+returns-in_err-settle_all-clause-any_moment g c honest base stands =
+    was_left (g.D.Disk.state c.args.disk.now) (g.D.Disk.state c.settle_all.new.disk) (folder_of c.args.names.now) base c.settle_all.ensures.quiet
 
 pub returns-in_err-create-clause-any_moment : goal.returns-in_err-create-clause-any_moment
 returns-in_err-create-clause-any_moment g c honest base stands =
-    let h2 = honest in
-    let h1 = c.create.ensures.time.honest h2 in
-    let h0 = c.exists.ensures.quiet.honest h1 in
-    let path = c.args.folder.now in
-    let d0 = g.D.Disk.state c.args.disk.now in
-    let d1 = g.D.Disk.state c.exists.new.self in
+    let h1 = c.create.ensures.time.honest honest in
+    let h0 = c.settle_all.ensures.quiet.honest h1 in
+    let d1 = g.D.Disk.state c.settle_all.new.disk in
     let d2 = g.D.Disk.state c.create.new.self in
-    let none = subst (λ (l : List ℕ). bytes_in (d0.seen l) ≡ []) c.requires.log (none_there (d0.seen c.args.log.now) (λ is. absurd (cc ((c.in_ok-exists.ensures.found h1).1 is, c.if-branch.false)))) in
-    made_run d0 d1 d2 path (c.requires.named h0) base stands none c.exists.ensures.quiet c.create.ensures.time
-    (subst (λ (l : List ℕ). LeavesOneStepOn (ChangesFile d1 l TornMaking) d1 d2) c.requires.log c.create.ensures.crash)
+    made_run (g.D.Disk.state c.args.disk.now) d1 (folder_of c.args.names.now) base c.settle_all.ensures.quiet (c.requires.named h0) (c.requires.new h0) stands (c.in_ok-settle_all.ensures.flushed h1) d2
+    c.create.ensures.time (subst (λ (l : List ℕ). LeavesOneStepOn (ChangesFile d1 l TornMaking) d1 d2) (c.deref.ensures.value ∙ c.requires.log) c.create.ensures.crash)
+
+pub returns-in_err-sync_folder_of-clause-any_moment : goal.returns-in_err-sync_folder_of-clause-any_moment
+returns-in_err-sync_folder_of-clause-any_moment g c honest base stands =
+    let h1 = c.create.ensures.time.honest (c.sync_folder_of.ensures.quiet.honest honest) in
+    let h0 = c.settle_all.ensures.quiet.honest h1 in
+    let d1 = g.D.Disk.state c.settle_all.new.disk in
+    let d2 = g.D.Disk.state c.create.new.self in
+    named_run (g.D.Disk.state c.args.disk.now) d1 (folder_of c.args.names.now) base c.settle_all.ensures.quiet (c.requires.named h0) (c.requires.new h0) stands (c.in_ok-settle_all.ensures.flushed h1) d2
+    c.create.ensures.time (subst (λ (l : List ℕ). LeavesOneStepOn (ChangesFile d1 l TornMaking) d1 d2) (c.deref.ensures.value ∙ c.requires.log) c.create.ensures.crash)
+    (g.D.Disk.state c.sync_folder_of.new.disk) c.sync_folder_of.ensures.quiet
+
+pub returns-in_err-sync-clause-any_moment : goal.returns-in_err-sync-clause-any_moment
+returns-in_err-sync-clause-any_moment g c honest base stands =
+    let h1 = c.create.ensures.time.honest (c.sync_folder_of.ensures.quiet.honest (c.sync.ensures.quiet.honest honest)) in
+    let h0 = c.settle_all.ensures.quiet.honest h1 in
+    let d1 = g.D.Disk.state c.settle_all.new.disk in
+    let d2 = g.D.Disk.state c.create.new.self in
+    let d4 = g.D.Disk.state c.sync.new.self in
+    named_run (g.D.Disk.state c.args.disk.now) d1 (folder_of c.args.names.now) base c.settle_all.ensures.quiet (c.requires.named h0) (c.requires.new h0) stands (c.in_ok-settle_all.ensures.flushed h1) d2
+    c.create.ensures.time (subst (λ (l : List ℕ). LeavesOneStepOn (ChangesFile d1 l TornMaking) d1 d2) (c.deref.ensures.value ∙ c.requires.log) c.create.ensures.crash) d4
+    (nothing_twice d2 (g.D.Disk.state c.sync_folder_of.new.disk) d4 c.sync_folder_of.ensures.quiet c.sync.ensures.quiet)
 
 pub returns-clause-any_moment : goal.returns-clause-any_moment
 returns-clause-any_moment g c honest base stands =
-    let h3 = honest in
-    let h2 = c.sync_folder_of.ensures.quiet.honest h3 in
-    let h1 = c.create.ensures.time.honest h2 in
-    let h0 = c.exists.ensures.quiet.honest h1 in
-    let path = c.args.folder.now in
-    let d0 = g.D.Disk.state c.args.disk.now in
-    let d1 = g.D.Disk.state c.exists.new.self in
+    let h4 = c.write_synced.ensures.others.honest honest in
+    let h1 = c.create.ensures.time.honest (c.sync_folder_of.ensures.quiet.honest (c.sync.ensures.quiet.honest h4)) in
+    let h0 = c.settle_all.ensures.quiet.honest h1 in
+    let path = folder_of c.args.names.now in
+    let d1 = g.D.Disk.state c.settle_all.new.disk in
     let d2 = g.D.Disk.state c.create.new.self in
-    let none = subst (λ (l : List ℕ). bytes_in (d0.seen l) ≡ []) c.requires.log (none_there (d0.seen c.args.log.now) (λ is. absurd (cc ((c.in_ok-exists.ensures.found h1).1 is, c.if-branch.false)))) in
-    then_nothing d0 d2 (g.D.Disk.state c.sync_folder_of.new.disk) (StandsOrWasLeft path d0 base)
-    (made_run d0 d1 d2 path (c.requires.named h0) base stands none c.exists.ensures.quiet c.create.ensures.time
-    (subst (λ (l : List ℕ). LeavesOneStepOn (ChangesFile d1 l TornMaking) d1 d2) c.requires.log c.create.ensures.crash))
-    c.sync_folder_of.ensures.quiet
+    let d3 = g.D.Disk.state c.sync_folder_of.new.disk in
+    let d4 = g.D.Disk.state c.sync.new.self in
+    let d5 = g.D.Disk.state c.write_synced.new.disk in
+    let named = c.sync.ensures.quiet.named (log_of path) (λ h. h)
+    (subst (λ (p : List ℕ). (m : List ℕ) → IsIn p m → d3.is_named m) c.deref-2.ensures.value c.in_ok-sync_folder_of.ensures.durable (log_of path) (log_in path)) in
+    gate_run (g.D.Disk.state c.args.disk.now) d1 path base c.settle_all.ensures.quiet (c.requires.named h0) (c.requires.new h0) stands (c.in_ok-settle_all.ensures.flushed h1) d2
+    c.create.ensures.time (subst (λ (l : List ℕ). LeavesOneStepOn (ChangesFile d1 l TornMaking) d1 d2) (c.deref.ensures.value ∙ c.requires.log) c.create.ensures.crash) d4 d5
+    (nothing_twice d2 d3 d4 c.sync_folder_of.ensures.quiet c.sync.ensures.quiet) named
+    (subst (λ (l : List ℕ). LeavesOnly d4 d5 (OneStepOn (ChangesFile d4 l (TornWrite 0 1)) d4)) (c.deref-4.ensures.value ∙ c.requires.log) c.write_synced.ensures.any_moment)

@@ -1,467 +1,259 @@
-use Rattle.std.proofs.Common.{List, ℕ, ◌≡◌, ◌≤◌, ◌∷◌, [], ◌++◌, length, take, sym, ◌∙◌, ap, subst, arith}
-use Rattle.std.proofs.lemmas.List.{take_at}
-use Rattle.std.specs.Prelude.{IsSome, IsTrue}
-use Rattle.echo_disk.specs.Disk.{bytes_in}
-use Rattle.echo_disk.specs.Runs.{LeavesOnly}
-use Rattle.echo_disk.specs.Synced.{IsOnDisk, KeepsOthers}
+use Rattle.std.proofs.Common.{List, ℕ, ◌≡◌, ◌≢◌, ◌∙◌, inl, refl, ap, sym, subst, arith}
+use Rattle.std.specs.Prelude.{IsSome}
+use Rattle.echo_disk.specs.Disk.{DiskState}
 use Rattle.echo_disk.proofs.Moments.{then_nothing}
-use Rattle.echo_folder.specs.Names.{folder_of, log_of, messages_of, keys_of}
-use Rattle.echo_folder.specs.Log.{opened}
-use Rattle.echo_folder.specs.Standing.{StandsFor}
-use Rattle.echo_folder.specs.Moments.{KeepsOutside}
-use Rattle.echo_folder.specs.Opening.{StandsOrWasLeft, AreNamed, HasBothFiles}
-use Rattle.echo_folder.proofs.Paths.{messages_not_log, keys_not_log, log_in, messages_in, keys_in}
-use Rattle.echo_folder.proofs.Gates.{outside_kept, outside_quiet, outside_twice, on_disk_quiet, on_disk_kept}
-use Rattle.echo_folder.proofs.Empty.{stands_quiet, chained, chained_alone}
-use Rattle.echo_folder.proofs.Opened.{empty_told, end_tells, messages_reach, keys_reach, base_found, settled_stands, stands_but_log, outside_but_log}
+use Rattle.echo_disk.specs.Runs.{LeavesOnly}
+use Rattle.echo_folder.specs.AtRest.{IsLogAt}
+use Rattle.echo_folder.specs.Moments.{StandsAlone}
+use Rattle.echo_folder.specs.Names.{AreNames, folder_of, log_of, messages_of, keys_of}
+use Rattle.echo_folder.specs.Opening.{KeepsButOne, StandsOrWasLeft}
+use Rattle.echo_folder.specs.Standing.{BaseBytes, StandsFor, base_at}
+use Rattle.echo_folder.specs.Reading.{IsLogIn, IsRead}
+use Rattle.echo_folder.specs.declared.log.Log.{Log}
+use Rattle.echo_folder.specs.declared.log.Told.{Told}
+use Rattle.echo_folder.proofs.Empty.{chained_alone, no_record}
+use Rattle.echo_folder.proofs.Gates.{outside_quiet, outside_twice}
+use Rattle.echo_folder.proofs.Opened.{end_shut, end_tells, files_beside, files_settled, first_files, has_files, log_moved, none_at, none_log, nothing_read}
+use Rattle.echo_folder.proofs.Paths.{log_in, messages_in, keys_in, messages_not_log, keys_not_log}
+use Rattle.echo_folder.proofs.Removed.{outside_but_one}
+use Rattle.echo_folder.proofs.Renewed.{same_base}
 use Rattle.echo_folder.proofs.opening.open.Goals as goal
 
-pub returns-then-end-gt9-clause-corrupt : goal.returns-then-end-gt9-clause-corrupt
-returns-then-end-gt9-clause-corrupt g c honest is base stands =
-    let h1 = honest in
-    let path = c.args.folder.now in
-    let end = c.last_record-end.result in
+pub settle_log-requires-clause-ended : goal.settle_log-requires-clause-ended
+settle_log-requires-clause-ended g c h0 =
+    let path = folder_of c.args.names.now in
+    let log = c.args.log.now in
     let d0 = g.D.Disk.state c.args.disk.now in
-    let log : c.deref.result.now ≡ log_of path = c.deref.ensures.value ∙ c.in_ok-log.ensures in
-    let bytes = c.deref-2.result.now in
-    let reads = c.last_record-end.ensures.reads in
-    let others_1 = c.settle_log.ensures.others in
-    let bytes_0 : bytes ≡ bytes_in (d0.seen (log_of path)) =
-    c.deref-2.ensures.value ∙ (c.in_ok-bytes.ensures.bytes h1) ∙ (c.in_ok-bytes.ensures.same h1) ∙ ap (λ (l : List ℕ). bytes_in (d0.seen l)) log in
-    let tells = end_tells path base d0.seen stands bytes end reads bytes_0 in
-    absurd (omega (arith, tells.digit, c.if-end-gt9.true))
+    end_shut log.bytes.items log.end c.requires.read path d0.seen (c.requires.log h0) (base_at d0 path log.end.told) (c.requires.stands h0)
 
-pub prepare_files-requires-clause-first : goal.prepare_files-requires-clause-first
-prepare_files-requires-clause-first g c = λ none. empty_told c.deref-2.result.now c.last_record-end.result c.last_record-end.ensures.reads none
-
-pub prepare_files-requires-clause-alone : goal.prepare_files-requires-clause-alone
-prepare_files-requires-clause-alone g c honest =
-    let h1 = honest in
-    let h0 = c.settle_log.ensures.others.honest h1 in
-    let path = c.args.folder.now in
-    let end = c.last_record-end.result in
-    let n = end.told.number in
-    let d1 = g.D.Disk.state c.settle_log.new.disk in
-    let log : c.deref.result.now ≡ log_of path = c.deref.ensures.value ∙ c.in_ok-log.ensures in
-    let reads = c.last_record-end.ensures.reads in
-    let others_1 = c.settle_log.ensures.others in
-    let folder : folder_of c.in_ok-names.names ≡ path = c.in_ok-names.ensures.folder in
-    let m_alone = others_1.alone (messages_of path n) (λ is. messages_not_log path n (is ∙ log)) ((c.requires h0) (messages_of path n) (messages_in path n)) in
-    let k_alone = others_1.alone (keys_of path n) (λ is. keys_not_log path n (is ∙ log)) ((c.requires h0) (keys_of path n) (keys_in path n)) in
-    (subst (λ (p : List ℕ). d1.is_alone (messages_of p n)) (sym folder) m_alone, subst (λ (p : List ℕ). d1.is_alone (keys_of p n)) (sym folder) k_alone)
-
-pub returns-in_err-prepare_files-clause-any_moment : goal.returns-in_err-prepare_files-clause-any_moment
-returns-in_err-prepare_files-clause-any_moment g c honest base stands =
-    let h2 = honest in
-    let h1 = c.prepare_files.ensures.outside.honest h2 in
-    let path = c.args.folder.now in
+pub settle_files-requires-clause-messages : goal.settle_files-requires-clause-messages
+settle_files-requires-clause-messages g c h1 =
+    let path = folder_of c.args.names.now in
+    let log = c.args.log.now in
     let d0 = g.D.Disk.state c.args.disk.now in
     let d1 = g.D.Disk.state c.settle_log.new.disk in
-    let log : c.deref.result.now ≡ log_of path = c.deref.ensures.value ∙ c.in_ok-log.ensures in
-    let reads = c.last_record-end.ensures.reads in
-    let others_1 = c.settle_log.ensures.others in
-    let stands_1 = stands_but_log path c.deref.result.now base d0 d1 log others_1 (c.in_ok-bytes.ensures.same h1) stands in
-    let folder : folder_of c.in_ok-names.names ≡ path = c.in_ok-names.ensures.folder in
-    let stands_f = subst (λ (p : List ℕ). StandsFor p base d1.seen) (sym folder) stands_1 in
-    let out_1 = outside_but_log path c.deref.result.now d0 d1 log others_1 in
-    let d2 = g.D.Disk.state c.prepare_files.new.disk in
-    let P = StandsOrWasLeft path d0 base in
-    let run_2 = chained d0 d1 d2 path base ((c.settle_log.ensures.any_moment h1) base stands) out_1
-    (subst (λ (p : List ℕ). LeavesOnly d1 d2 (StandsOrWasLeft p d1 base)) folder ((c.prepare_files.ensures.any_moment h2) base stands_f)) in
-    run_2
+    let others = c.settle_log.ensures.others in
+    let h0 = others.honest h1 in
+    let some : log.end.gate ≢ 0 = λ none. absurd (omega (arith, none, c.if-log-gt0.true)) in
+    let has = files_beside d0 d1 path log.end.told others (has_files log.bytes.items log.end c.requires.read path d0.seen (c.requires.log h0) (base_at d0 path log.end.told) (c.requires.stands h0) some) in
+    subst (λ (l : List ℕ). IsSome (d1.seen l)) (sym c.requires.names.messages) has.messages
 
-pub returns-then-not-branch-clause-any_moment : goal.returns-then-not-branch-clause-any_moment
-returns-then-not-branch-clause-any_moment g c honest base stands =
-    let h2 = honest in
-    let h1 = c.prepare_files.ensures.outside.honest h2 in
-    let path = c.args.folder.now in
+pub settle_files-requires-clause-keys : goal.settle_files-requires-clause-keys
+settle_files-requires-clause-keys g c h1 =
+    let path = folder_of c.args.names.now in
+    let log = c.args.log.now in
     let d0 = g.D.Disk.state c.args.disk.now in
     let d1 = g.D.Disk.state c.settle_log.new.disk in
-    let log : c.deref.result.now ≡ log_of path = c.deref.ensures.value ∙ c.in_ok-log.ensures in
-    let reads = c.last_record-end.ensures.reads in
-    let others_1 = c.settle_log.ensures.others in
-    let stands_1 = stands_but_log path c.deref.result.now base d0 d1 log others_1 (c.in_ok-bytes.ensures.same h1) stands in
-    let folder : folder_of c.in_ok-names.names ≡ path = c.in_ok-names.ensures.folder in
-    let stands_f = subst (λ (p : List ℕ). StandsFor p base d1.seen) (sym folder) stands_1 in
-    let out_1 = outside_but_log path c.deref.result.now d0 d1 log others_1 in
-    let d2 = g.D.Disk.state c.prepare_files.new.disk in
-    let P = StandsOrWasLeft path d0 base in
-    let run_2 = chained d0 d1 d2 path base ((c.settle_log.ensures.any_moment h1) base stands) out_1
-    (subst (λ (p : List ℕ). LeavesOnly d1 d2 (StandsOrWasLeft p d1 base)) folder ((c.prepare_files.ensures.any_moment h2) base stands_f)) in
-    run_2
+    let others = c.settle_log.ensures.others in
+    let h0 = others.honest h1 in
+    let some : log.end.gate ≢ 0 = λ none. absurd (omega (arith, none, c.if-log-gt0.true)) in
+    let has = files_beside d0 d1 path log.end.told others (has_files log.bytes.items log.end c.requires.read path d0.seen (c.requires.log h0) (base_at d0 path log.end.told) (c.requires.stands h0) some) in
+    subst (λ (l : List ℕ). IsSome (d1.seen l)) (sym c.requires.names.keys) has.keys
 
-pub returns-then-not-branch-clause-outside : goal.returns-then-not-branch-clause-outside
-returns-then-not-branch-clause-outside g c =
-    let path = c.args.folder.now in
-    let d0 = g.D.Disk.state c.args.disk.now in
-    let d1 = g.D.Disk.state c.settle_log.new.disk in
-    let log : c.deref.result.now ≡ log_of path = c.deref.ensures.value ∙ c.in_ok-log.ensures in
-    let reads = c.last_record-end.ensures.reads in
-    let others_1 = c.settle_log.ensures.others in
-    let folder : folder_of c.in_ok-names.names ≡ path = c.in_ok-names.ensures.folder in
-    let out_1 = outside_but_log path c.deref.result.now d0 d1 log others_1 in
-    let d2 = g.D.Disk.state c.prepare_files.new.disk in
-    let out_2 = outside_twice path d0 d1 d2 out_1 (subst (λ (p : List ℕ). KeepsOutside p d1 d2) folder c.prepare_files.ensures.outside) in
-    out_2
+pub make_files-requires-clause-names : goal.make_files-requires-clause-names
+make_files-requires-clause-names g c =
+    let log = c.args.log.now in
+    let none = nothing_read log.bytes.items log.end c.requires.read (omega (arith, c.if-log-gt0.false)) in
+    subst (λ (n : ℕ). AreNames c.args.names.now n) (ap (λ (t : Told). t.number) none) c.requires.names
 
-pub returns-then-not-branch-clause-corrupt : goal.returns-then-not-branch-clause-corrupt
-returns-then-not-branch-clause-corrupt g c honest is base stands =
-    let h2 = honest in
-    let h1 = c.prepare_files.ensures.outside.honest h2 in
-    let path = c.args.folder.now in
+pub make_files-requires-clause-named : goal.make_files-requires-clause-named
+make_files-requires-clause-named g c h1 = (c.in_ok-settle_log.ensures.log h1).named
+
+pub make_files-requires-clause-log : goal.make_files-requires-clause-log
+make_files-requires-clause-log g c h1 = (c.in_ok-settle_log.ensures.log h1).on_disk
+
+pub make_files-requires-clause-none : goal.make_files-requires-clause-none
+make_files-requires-clause-none g c h1 = (none_at (g.D.Disk.state c.settle_log.new.disk) (folder_of c.args.names.now) c.args.log.now.end (c.in_ok-settle_log.ensures.log h1) (omega (arith, c.if-log-gt0.false))).0
+
+pub make_files-requires-clause-shut : goal.make_files-requires-clause-shut
+make_files-requires-clause-shut g c h1 = (none_at (g.D.Disk.state c.settle_log.new.disk) (folder_of c.args.names.now) c.args.log.now.end (c.in_ok-settle_log.ensures.log h1) (omega (arith, c.if-log-gt0.false))).1
+
+pub settle_files-requires-2-clause-messages : goal.settle_files-requires-2-clause-messages
+settle_files-requires-2-clause-messages g c h2 =
+    let log = c.args.log.now in
+    let d2 = g.D.Disk.state c.make_files.new.disk in
+    let none = nothing_read log.bytes.items log.end c.requires.read (omega (arith, c.if-log-gt0.false)) in
+    subst (λ (l : List ℕ). IsSome (d2.seen l)) (ap (λ (t : Told). messages_of (folder_of c.args.names.now) t.number) (sym none) ∙ sym c.requires.names.messages) c.in_ok-make_files.ensures.messages
+
+pub settle_files-requires-2-clause-keys : goal.settle_files-requires-2-clause-keys
+settle_files-requires-2-clause-keys g c h2 =
+    let log = c.args.log.now in
+    let d2 = g.D.Disk.state c.make_files.new.disk in
+    let none = nothing_read log.bytes.items log.end c.requires.read (omega (arith, c.if-log-gt0.false)) in
+    subst (λ (l : List ℕ). IsSome (d2.seen l)) (ap (λ (t : Told). keys_of (folder_of c.args.names.now) t.number) (sym none) ∙ sym c.requires.names.keys) c.in_ok-make_files.ensures.keys
+
+pub returns-in_err-settle_log-clause-any_moment : goal.returns-in_err-settle_log-clause-any_moment
+returns-in_err-settle_log-clause-any_moment g c h1 =
     let d0 = g.D.Disk.state c.args.disk.now in
-    let d1 = g.D.Disk.state c.settle_log.new.disk in
-    let log : c.deref.result.now ≡ log_of path = c.deref.ensures.value ∙ c.in_ok-log.ensures in
-    let reads = c.last_record-end.ensures.reads in
-    let others_1 = c.settle_log.ensures.others in
-    let stands_1 = stands_but_log path c.deref.result.now base d0 d1 log others_1 (c.in_ok-bytes.ensures.same h1) stands in
-    let folder : folder_of c.in_ok-names.names ≡ path = c.in_ok-names.ensures.folder in
-    let stands_f = subst (λ (p : List ℕ). StandsFor p base d1.seen) (sym folder) stands_1 in
-    (c.in_ok-prepare_files.ensures.missing h2) c.if-not-branch.true base stands_f
+    c.settle_log.ensures.any_moment h1 (base_at d0 (folder_of c.args.names.now) c.args.log.now.end.told) (c.requires.stands (c.settle_log.ensures.others.honest h1))
+
+pub returns-in_err-settle_log-clause-outside : goal.returns-in_err-settle_log-clause-outside
+returns-in_err-settle_log-clause-outside g c =
+    let path = folder_of c.args.names.now in
+    outside_but_one path (g.D.Disk.state c.args.disk.now) (g.D.Disk.state c.settle_log.new.disk) (log_of path) (log_in path) c.settle_log.ensures.others
 
 pub returns-in_err-settle_files-clause-any_moment : goal.returns-in_err-settle_files-clause-any_moment
-returns-in_err-settle_files-clause-any_moment g c honest base stands =
-    let h3 = honest in
-    let h2 = c.settle_files.ensures.quiet.honest h3 in
-    let h1 = c.prepare_files.ensures.outside.honest h2 in
-    let path = c.args.folder.now in
+returns-in_err-settle_files-clause-any_moment g c h2 =
+    let path = folder_of c.args.names.now in
+    let h1 = c.settle_files.ensures.quiet.honest h2 in
     let d0 = g.D.Disk.state c.args.disk.now in
     let d1 = g.D.Disk.state c.settle_log.new.disk in
-    let log : c.deref.result.now ≡ log_of path = c.deref.ensures.value ∙ c.in_ok-log.ensures in
-    let reads = c.last_record-end.ensures.reads in
-    let others_1 = c.settle_log.ensures.others in
-    let stands_1 = stands_but_log path c.deref.result.now base d0 d1 log others_1 (c.in_ok-bytes.ensures.same h1) stands in
-    let folder : folder_of c.in_ok-names.names ≡ path = c.in_ok-names.ensures.folder in
-    let stands_f = subst (λ (p : List ℕ). StandsFor p base d1.seen) (sym folder) stands_1 in
-    let out_1 = outside_but_log path c.deref.result.now d0 d1 log others_1 in
-    let d2 = g.D.Disk.state c.prepare_files.new.disk in
-    let P = StandsOrWasLeft path d0 base in
-    let run_2 = chained d0 d1 d2 path base ((c.settle_log.ensures.any_moment h1) base stands) out_1
-    (subst (λ (p : List ℕ). LeavesOnly d1 d2 (StandsOrWasLeft p d1 base)) folder ((c.prepare_files.ensures.any_moment h2) base stands_f)) in
-    let d3 = g.D.Disk.state c.settle_files.new.disk in
-    let quiet = c.settle_files.ensures.quiet in
-    let run_3 = then_nothing d0 d2 d3 P run_2 quiet in
-    run_3
+    let base = base_at d0 path c.args.log.now.end.told in
+    then_nothing d0 d1 (g.D.Disk.state c.settle_files.new.disk) (StandsOrWasLeft path d0 base) (c.settle_log.ensures.any_moment h1 base (c.requires.stands (c.settle_log.ensures.others.honest h1))) c.settle_files.ensures.quiet
 
 pub returns-in_err-settle_files-clause-outside : goal.returns-in_err-settle_files-clause-outside
 returns-in_err-settle_files-clause-outside g c =
-    let path = c.args.folder.now in
+    let path = folder_of c.args.names.now in
     let d0 = g.D.Disk.state c.args.disk.now in
     let d1 = g.D.Disk.state c.settle_log.new.disk in
-    let log : c.deref.result.now ≡ log_of path = c.deref.ensures.value ∙ c.in_ok-log.ensures in
-    let reads = c.last_record-end.ensures.reads in
-    let others_1 = c.settle_log.ensures.others in
-    let folder : folder_of c.in_ok-names.names ≡ path = c.in_ok-names.ensures.folder in
-    let out_1 = outside_but_log path c.deref.result.now d0 d1 log others_1 in
-    let d2 = g.D.Disk.state c.prepare_files.new.disk in
-    let out_2 = outside_twice path d0 d1 d2 out_1 (subst (λ (p : List ℕ). KeepsOutside p d1 d2) folder c.prepare_files.ensures.outside) in
-    let d3 = g.D.Disk.state c.settle_files.new.disk in
-    let quiet = c.settle_files.ensures.quiet in
-    let out_3 = outside_twice path d0 d2 d3 out_2 (outside_quiet path d2 d3 quiet) in
-    out_3
+    let d2 = g.D.Disk.state c.settle_files.new.disk in
+    outside_twice path d0 d1 d2 (outside_but_one path d0 d1 (log_of path) (log_in path) c.settle_log.ensures.others) (outside_quiet path d1 d2 c.settle_files.ensures.quiet)
 
-pub returns-then-not-branch-2-clause-any_moment : goal.returns-then-not-branch-2-clause-any_moment
-returns-then-not-branch-2-clause-any_moment g c honest base stands =
-    let h3 = honest in
-    let h2 = c.settle_files.ensures.quiet.honest h3 in
-    let h1 = c.prepare_files.ensures.outside.honest h2 in
-    let path = c.args.folder.now in
+pub returns-then-log-gt0-clause-settled : goal.returns-then-log-gt0-clause-settled
+returns-then-log-gt0-clause-settled g c h2 =
+    let path = folder_of c.args.names.now in
+    let h1 = c.settle_files.ensures.quiet.honest h2 in
+    let h0 = c.settle_log.ensures.others.honest h1 in
+    let log = c.args.log.now in
+    let told = log.end.told in
     let d0 = g.D.Disk.state c.args.disk.now in
     let d1 = g.D.Disk.state c.settle_log.new.disk in
-    let log : c.deref.result.now ≡ log_of path = c.deref.ensures.value ∙ c.in_ok-log.ensures in
-    let reads = c.last_record-end.ensures.reads in
-    let others_1 = c.settle_log.ensures.others in
-    let stands_1 = stands_but_log path c.deref.result.now base d0 d1 log others_1 (c.in_ok-bytes.ensures.same h1) stands in
-    let folder : folder_of c.in_ok-names.names ≡ path = c.in_ok-names.ensures.folder in
-    let stands_f = subst (λ (p : List ℕ). StandsFor p base d1.seen) (sym folder) stands_1 in
-    let out_1 = outside_but_log path c.deref.result.now d0 d1 log others_1 in
-    let d2 = g.D.Disk.state c.prepare_files.new.disk in
-    let P = StandsOrWasLeft path d0 base in
-    let run_2 = chained d0 d1 d2 path base ((c.settle_log.ensures.any_moment h1) base stands) out_1
-    (subst (λ (p : List ℕ). LeavesOnly d1 d2 (StandsOrWasLeft p d1 base)) folder ((c.prepare_files.ensures.any_moment h2) base stands_f)) in
-    let d3 = g.D.Disk.state c.settle_files.new.disk in
-    let quiet = c.settle_files.ensures.quiet in
-    let run_3 = then_nothing d0 d2 d3 P run_2 quiet in
-    run_3
+    let d2 = g.D.Disk.state c.settle_files.new.disk in
+    let others = c.settle_log.ensures.others in
+    let base = base_at d0 path told in
+    let some : log.end.gate ≢ 0 = λ none. absurd (omega (arith, none, c.if-log-gt0.true)) in
+    let tells = end_tells log.bytes.items log.end c.requires.read path d0.seen (c.requires.log h0) base (c.requires.stands h0) in
+    let has = has_files log.bytes.items log.end c.requires.read path d0.seen (c.requires.log h0) base (c.requires.stands h0) some in
+    files_settled d1 d2 path log.end (c.in_ok-settle_log.ensures.log h1) c.settle_files.ensures.quiet tells.digit (files_beside d0 d1 path told others has)
+    (others.alone (messages_of path told.number) (messages_not_log path told.number) (c.requires.alone h0 (messages_of path told.number) (messages_in path told.number)))
+    (others.alone (keys_of path told.number) (keys_not_log path told.number) (c.requires.alone h0 (keys_of path told.number) (keys_in path told.number)))
+    (subst (λ (l : List ℕ). d2.is_flushed l) c.requires.names.messages c.in_ok-settle_files.ensures.messages)
+    (subst (λ (l : List ℕ). d2.is_flushed l) c.requires.names.keys c.in_ok-settle_files.ensures.keys)
 
-pub returns-then-not-branch-2-clause-outside : goal.returns-then-not-branch-2-clause-outside
-returns-then-not-branch-2-clause-outside g c =
-    let path = c.args.folder.now in
+pub returns-then-log-gt0-clause-same : goal.returns-then-log-gt0-clause-same
+returns-then-log-gt0-clause-same g c h2 =
+    let path = folder_of c.args.names.now in
+    let told = c.args.log.now.end.told in
     let d0 = g.D.Disk.state c.args.disk.now in
-    let d1 = g.D.Disk.state c.settle_log.new.disk in
-    let log : c.deref.result.now ≡ log_of path = c.deref.ensures.value ∙ c.in_ok-log.ensures in
-    let reads = c.last_record-end.ensures.reads in
-    let others_1 = c.settle_log.ensures.others in
-    let folder : folder_of c.in_ok-names.names ≡ path = c.in_ok-names.ensures.folder in
-    let out_1 = outside_but_log path c.deref.result.now d0 d1 log others_1 in
-    let d2 = g.D.Disk.state c.prepare_files.new.disk in
-    let out_2 = outside_twice path d0 d1 d2 out_1 (subst (λ (p : List ℕ). KeepsOutside p d1 d2) folder c.prepare_files.ensures.outside) in
-    let d3 = g.D.Disk.state c.settle_files.new.disk in
-    let quiet = c.settle_files.ensures.quiet in
-    let out_3 = outside_twice path d0 d2 d3 out_2 (outside_quiet path d2 d3 quiet) in
-    out_3
+    let d2 = g.D.Disk.state c.settle_files.new.disk in
+    let others = c.settle_log.ensures.others in
+    let m = messages_of path told.number in
+    let k = keys_of path told.number in
+    same_base d0 d2 path c.args.log.now.end (c.settle_files.ensures.quiet.seen m ∙ others.seen m (messages_not_log path told.number)) (c.settle_files.ensures.quiet.seen k ∙ others.seen k (keys_not_log path told.number))
 
-pub returns-then-not-branch-2-clause-corrupt : goal.returns-then-not-branch-2-clause-corrupt
-returns-then-not-branch-2-clause-corrupt g c honest is base stands =
-    let h3 = honest in
-    let h2 = c.settle_files.ensures.quiet.honest h3 in
-    let h1 = c.prepare_files.ensures.outside.honest h2 in
-    let path = c.args.folder.now in
-    let end = c.last_record-end.result in
-    let n = end.told.number in
+pub returns-then-log-gt0-clause-any_moment : goal.returns-then-log-gt0-clause-any_moment
+returns-then-log-gt0-clause-any_moment g c h2 =
+    let path = folder_of c.args.names.now in
+    let h1 = c.settle_files.ensures.quiet.honest h2 in
     let d0 = g.D.Disk.state c.args.disk.now in
     let d1 = g.D.Disk.state c.settle_log.new.disk in
-    let log : c.deref.result.now ≡ log_of path = c.deref.ensures.value ∙ c.in_ok-log.ensures in
-    let bytes = c.deref-2.result.now in
-    let reads = c.last_record-end.ensures.reads in
-    let others_1 = c.settle_log.ensures.others in
-    let stands_1 = stands_but_log path c.deref.result.now base d0 d1 log others_1 (c.in_ok-bytes.ensures.same h1) stands in
-    let folder : folder_of c.in_ok-names.names ≡ path = c.in_ok-names.ensures.folder in
-    let stands_f = subst (λ (p : List ℕ). StandsFor p base d1.seen) (sym folder) stands_1 in
-    let d2 = g.D.Disk.state c.prepare_files.new.disk in
-    let stands_2 = subst (λ (p : List ℕ). StandsFor p base d2.seen) folder ((c.in_ok-prepare_files.ensures.stands h2) base stands_f) in
-    let bytes_2 : bytes ≡ bytes_in (d2.seen (log_of path)) =
-    c.deref-2.ensures.value ∙ (c.in_ok-bytes.ensures.bytes h1) ∙ ap (λ (l : List ℕ). bytes_in (d1.seen l)) log ∙ ap bytes_in (sym (subst (λ (p : List ℕ). d2.seen (log_of p) ≡ d1.seen (log_of p)) folder c.prepare_files.ensures.same)) in
-    let messages : c.in_ok-names.names.messages.items ≡ messages_of path n = c.in_ok-names.ensures.names.messages ∙ ap (λ (p : List ℕ). messages_of p n) folder in
-    let keys : c.in_ok-names.names.keys.items ≡ keys_of path n = c.in_ok-names.ensures.names.keys ∙ ap (λ (p : List ℕ). keys_of p n) folder in
-    let m_long = subst (λ (l : List ℕ). end.told.messages ≤ length (bytes_in (d2.seen l))) (sym messages) (messages_reach path base d2.seen stands_2 bytes end reads bytes_2) in
-    let k_long = subst (λ (l : List ℕ). end.told.keys ≤ length (bytes_in (d2.seen l))) (sym keys) (keys_reach path base d2.seen stands_2 bytes end reads bytes_2) in
-    let yes : IsTrue c.in_ok-settle_files.field-0 = (c.in_ok-settle_files.ensures.long h3).1 (m_long, k_long) in
-    let no = c.if-not-branch-2.true in
-    absurd (cc (yes, no))
+    let base = base_at d0 path c.args.log.now.end.told in
+    then_nothing d0 d1 (g.D.Disk.state c.settle_files.new.disk) (StandsOrWasLeft path d0 base) (c.settle_log.ensures.any_moment h1 base (c.requires.stands (c.settle_log.ensures.others.honest h1))) c.settle_files.ensures.quiet
 
-pub returns-in_err-mend-clause-any_moment : goal.returns-in_err-mend-clause-any_moment
-returns-in_err-mend-clause-any_moment g c honest base stands =
-    let h4 = honest in
-    let h3 = c.mend.ensures.others.honest h4 in
-    let h2 = c.settle_files.ensures.quiet.honest h3 in
-    let h1 = c.prepare_files.ensures.outside.honest h2 in
-    let path = c.args.folder.now in
-    let end = c.last_record-end.result in
-    let n = end.told.number in
+pub returns-then-log-gt0-clause-outside : goal.returns-then-log-gt0-clause-outside
+returns-then-log-gt0-clause-outside g c =
+    let path = folder_of c.args.names.now in
     let d0 = g.D.Disk.state c.args.disk.now in
     let d1 = g.D.Disk.state c.settle_log.new.disk in
-    let log : c.deref.result.now ≡ log_of path = c.deref.ensures.value ∙ c.in_ok-log.ensures in
-    let bytes = c.deref-2.result.now in
-    let reads = c.last_record-end.ensures.reads in
-    let others_1 = c.settle_log.ensures.others in
-    let stands_1 = stands_but_log path c.deref.result.now base d0 d1 log others_1 (c.in_ok-bytes.ensures.same h1) stands in
-    let folder : folder_of c.in_ok-names.names ≡ path = c.in_ok-names.ensures.folder in
-    let stands_f = subst (λ (p : List ℕ). StandsFor p base d1.seen) (sym folder) stands_1 in
-    let out_1 = outside_but_log path c.deref.result.now d0 d1 log others_1 in
-    let d2 = g.D.Disk.state c.prepare_files.new.disk in
-    let P = StandsOrWasLeft path d0 base in
-    let run_2 = chained d0 d1 d2 path base ((c.settle_log.ensures.any_moment h1) base stands) out_1
-    (subst (λ (p : List ℕ). LeavesOnly d1 d2 (StandsOrWasLeft p d1 base)) folder ((c.prepare_files.ensures.any_moment h2) base stands_f)) in
-    let out_2 = outside_twice path d0 d1 d2 out_1 (subst (λ (p : List ℕ). KeepsOutside p d1 d2) folder c.prepare_files.ensures.outside) in
-    let d3 = g.D.Disk.state c.settle_files.new.disk in
-    let quiet = c.settle_files.ensures.quiet in
-    let run_3 = then_nothing d0 d2 d3 P run_2 quiet in
-    let out_3 = outside_twice path d0 d2 d3 out_2 (outside_quiet path d2 d3 quiet) in
-    let stands_2 = subst (λ (p : List ℕ). StandsFor p base d2.seen) folder ((c.in_ok-prepare_files.ensures.stands h2) base stands_f) in
-    let bytes_2 : bytes ≡ bytes_in (d2.seen (log_of path)) =
-    c.deref-2.ensures.value ∙ (c.in_ok-bytes.ensures.bytes h1) ∙ ap (λ (l : List ℕ). bytes_in (d1.seen l)) log ∙ ap bytes_in (sym (subst (λ (p : List ℕ). d2.seen (log_of p) ≡ d1.seen (log_of p)) folder c.prepare_files.ensures.same)) in
-    let messages : c.in_ok-names.names.messages.items ≡ messages_of path n = c.in_ok-names.ensures.names.messages ∙ ap (λ (p : List ℕ). messages_of p n) folder in
-    let keys : c.in_ok-names.names.keys.items ≡ keys_of path n = c.in_ok-names.ensures.names.keys ∙ ap (λ (p : List ℕ). keys_of p n) folder in
-    let named_2 = subst (λ (p : List ℕ). AreNamed p d2) folder (c.in_ok-prepare_files.ensures.named h2) in
-    let ready = subst (λ (p : List ℕ). HasBothFiles d2 p n) folder ((c.in_ok-prepare_files.ensures.ready h2) c.if-not-branch.false) in
-    let log_on = on_disk_quiet d2 d3 (log_of path) quiet (subst (λ (p : List ℕ). IsOnDisk d2 (log_of p)) folder (c.prepare_files.ensures.log h2)) in
-    let m_on : IsOnDisk d3 (messages_of path n) = record {
-      there = subst (λ f. IsSome f) (sym (quiet.seen (messages_of path n))) ready.messages;
-      named = quiet.named (messages_of path n) (λ h. h) (named_2 (messages_of path n) (messages_in path n));
-      flushed = subst (λ (l : List ℕ). d3.is_flushed l) messages c.in_ok-settle_files.ensures.messages;
-      alone = quiet.alone (messages_of path n) (λ h. h) ready.messages_alone;
-    } in
-    let k_on : IsOnDisk d3 (keys_of path n) = record {
-      there = subst (λ f. IsSome f) (sym (quiet.seen (keys_of path n))) ready.keys;
-      named = quiet.named (keys_of path n) (λ h. h) (named_2 (keys_of path n) (keys_in path n));
-      flushed = subst (λ (l : List ℕ). d3.is_flushed l) keys c.in_ok-settle_files.ensures.keys;
-      alone = quiet.alone (keys_of path n) (λ h. h) ready.keys_alone;
-    } in
-    let d4 = g.D.Disk.state c.mend.new.disk in
-    let all = settled_stands d3 path bytes base end (stands_quiet d2 d3 path base quiet stands_2) reads (bytes_2 ∙ ap bytes_in (sym (quiet.seen (log_of path)))) log_on m_on k_on in
-    chained_alone d0 d3 d4 path base run_3 out_3 ((c.mend.ensures.any_moment h4) base all)
+    let d2 = g.D.Disk.state c.settle_files.new.disk in
+    outside_twice path d0 d1 d2 (outside_but_one path d0 d1 (log_of path) (log_in path) c.settle_log.ensures.others) (outside_quiet path d1 d2 c.settle_files.ensures.quiet)
 
-pub returns-in_err-mend-clause-outside : goal.returns-in_err-mend-clause-outside
-returns-in_err-mend-clause-outside g c =
-    let path = c.args.folder.now in
+-- while the files of a folder without a record are made
+made : (d0 d1 d2 : DiskState) (path : List ℕ) (log : Log) (base : BaseBytes) → IsRead log → IsLogIn path d0.seen log → log.end.gate ≡ 0 → StandsFor path base d0.seen → KeepsButOne d0 d1 (log_of path) → IsLogAt d1 path log.end
+    → LeavesOnly d0 d1 (StandsOrWasLeft path d0 base) → ((b : BaseBytes) → StandsFor path b d1.seen → LeavesOnly d1 d2 (StandsAlone path d1 b)) → LeavesOnly d0 d2 (StandsOrWasLeft path d0 base)
+made d0 d1 d2 path log base read is none stands others at first second =
+    let no_log = none_log log.bytes.items log.end read path d0.seen is (omega (arith, none)) in
+    let shut = none_at d1 path log.end at none in
+    chained_alone d0 d1 d2 path base first (outside_but_one path d0 d1 (log_of path) (log_in path) others) (second base (no_record path base d0.seen d1.seen stands no_log shut.0 (inl shut.1)))
+
+pub returns-in_err-make_files-clause-any_moment : goal.returns-in_err-make_files-clause-any_moment
+returns-in_err-make_files-clause-any_moment g c h2 =
+    let path = folder_of c.args.names.now in
+    let h1 = c.make_files.ensures.outside.honest h2 in
+    let h0 = c.settle_log.ensures.others.honest h1 in
+    let log = c.args.log.now in
+    let d0 = g.D.Disk.state c.args.disk.now in
+    let base = base_at d0 path log.end.told in
+    made d0 (g.D.Disk.state c.settle_log.new.disk) (g.D.Disk.state c.make_files.new.disk) path log base c.requires.read (c.requires.log h0) (omega (arith, c.if-log-gt0.false)) (c.requires.stands h0) c.settle_log.ensures.others (c.in_ok-settle_log.ensures.log h1)
+    (c.settle_log.ensures.any_moment h1 base (c.requires.stands h0)) (c.make_files.ensures.any_moment h2)
+
+pub returns-in_err-make_files-clause-outside : goal.returns-in_err-make_files-clause-outside
+returns-in_err-make_files-clause-outside g c =
+    let path = folder_of c.args.names.now in
     let d0 = g.D.Disk.state c.args.disk.now in
     let d1 = g.D.Disk.state c.settle_log.new.disk in
-    let log : c.deref.result.now ≡ log_of path = c.deref.ensures.value ∙ c.in_ok-log.ensures in
-    let reads = c.last_record-end.ensures.reads in
-    let others_1 = c.settle_log.ensures.others in
-    let folder : folder_of c.in_ok-names.names ≡ path = c.in_ok-names.ensures.folder in
-    let out_1 = outside_but_log path c.deref.result.now d0 d1 log others_1 in
-    let d2 = g.D.Disk.state c.prepare_files.new.disk in
-    let out_2 = outside_twice path d0 d1 d2 out_1 (subst (λ (p : List ℕ). KeepsOutside p d1 d2) folder c.prepare_files.ensures.outside) in
-    let d3 = g.D.Disk.state c.settle_files.new.disk in
-    let quiet = c.settle_files.ensures.quiet in
-    let out_3 = outside_twice path d0 d2 d3 out_2 (outside_quiet path d2 d3 quiet) in
-    let d4 = g.D.Disk.state c.mend.new.disk in
-    let log_4 : c.deref-3.result.now ≡ log_of path = c.deref-3.ensures.value ∙ c.in_ok-log.ensures in
-    let kept_4 = subst (λ (l : List ℕ). KeepsOthers d3 d4 l) log_4 c.mend.ensures.others in
-    outside_twice path d0 d3 d4 out_3 (outside_kept path (log_of path) d3 d4 (log_in path) kept_4)
+    outside_twice path d0 d1 (g.D.Disk.state c.make_files.new.disk) (outside_but_one path d0 d1 (log_of path) (log_in path) c.settle_log.ensures.others) c.make_files.ensures.outside
+
+pub returns-in_err-settle_files-2-clause-any_moment : goal.returns-in_err-settle_files-2-clause-any_moment
+returns-in_err-settle_files-2-clause-any_moment g c h3 =
+    let path = folder_of c.args.names.now in
+    let h2 = c.settle_files-2.ensures.quiet.honest h3 in
+    let h1 = c.make_files.ensures.outside.honest h2 in
+    let h0 = c.settle_log.ensures.others.honest h1 in
+    let log = c.args.log.now in
+    let d0 = g.D.Disk.state c.args.disk.now in
+    let d2 = g.D.Disk.state c.make_files.new.disk in
+    let base = base_at d0 path log.end.told in
+    then_nothing d0 d2 (g.D.Disk.state c.settle_files-2.new.disk) (StandsOrWasLeft path d0 base)
+    (made d0 (g.D.Disk.state c.settle_log.new.disk) d2 path log base c.requires.read (c.requires.log h0) (omega (arith, c.if-log-gt0.false)) (c.requires.stands h0) c.settle_log.ensures.others (c.in_ok-settle_log.ensures.log h1)
+    (c.settle_log.ensures.any_moment h1 base (c.requires.stands h0)) (c.make_files.ensures.any_moment h2)) c.settle_files-2.ensures.quiet
+
+pub returns-in_err-settle_files-2-clause-outside : goal.returns-in_err-settle_files-2-clause-outside
+returns-in_err-settle_files-2-clause-outside g c =
+    let path = folder_of c.args.names.now in
+    let d0 = g.D.Disk.state c.args.disk.now in
+    let d1 = g.D.Disk.state c.settle_log.new.disk in
+    let d2 = g.D.Disk.state c.make_files.new.disk in
+    let d3 = g.D.Disk.state c.settle_files-2.new.disk in
+    outside_twice path d0 d2 d3 (outside_twice path d0 d1 d2 (outside_but_one path d0 d1 (log_of path) (log_in path) c.settle_log.ensures.others) c.make_files.ensures.outside) (outside_quiet path d2 d3 c.settle_files-2.ensures.quiet)
+
+pub returns-clause-settled : goal.returns-clause-settled
+returns-clause-settled g c h3 =
+    let path = folder_of c.args.names.now in
+    let h2 = c.settle_files-2.ensures.quiet.honest h3 in
+    let h1 = c.make_files.ensures.outside.honest h2 in
+    let log = c.args.log.now in
+    let told = log.end.told in
+    let d1 = g.D.Disk.state c.settle_log.new.disk in
+    let d2 = g.D.Disk.state c.make_files.new.disk in
+    let d3 = g.D.Disk.state c.settle_files-2.new.disk in
+    let none = nothing_read log.bytes.items log.end c.requires.read (omega (arith, c.if-log-gt0.false)) in
+    let files = c.in_ok-make_files.ensures in
+    files_settled d2 d3 path log.end (log_moved d1 d2 path log.end (c.in_ok-settle_log.ensures.log h1) c.make_files.ensures.same (c.make_files.ensures.log h2) files.named) c.settle_files-2.ensures.quiet
+    (omega (arith, ap (λ (t : Told). t.number) none)) (first_files path d2.seen told none files.messages files.keys)
+    (subst (λ (t : Told). d2.is_alone (messages_of path t.number)) (sym none) files.messages_alone)
+    (subst (λ (t : Told). d2.is_alone (keys_of path t.number)) (sym none) files.keys_alone)
+    (subst (λ (l : List ℕ). d3.is_flushed l) c.requires.names.messages c.in_ok-settle_files-2.ensures.messages)
+    (subst (λ (l : List ℕ). d3.is_flushed l) c.requires.names.keys c.in_ok-settle_files-2.ensures.keys)
+
+pub returns-clause-same : goal.returns-clause-same
+returns-clause-same g c h3 =
+    let path = folder_of c.args.names.now in
+    let log = c.args.log.now in
+    let d0 = g.D.Disk.state c.args.disk.now in
+    let d3 = g.D.Disk.state c.settle_files-2.new.disk in
+    let none = nothing_read log.bytes.items log.end c.requires.read (omega (arith, c.if-log-gt0.false)) in
+    subst (λ (t : Told). base_at d3 path t ≡ base_at d0 path t) (sym none) refl
 
 pub returns-clause-any_moment : goal.returns-clause-any_moment
-returns-clause-any_moment g c honest base stands =
-    let h4 = honest in
-    let h3 = c.mend.ensures.others.honest h4 in
-    let h2 = c.settle_files.ensures.quiet.honest h3 in
-    let h1 = c.prepare_files.ensures.outside.honest h2 in
-    let path = c.args.folder.now in
-    let end = c.last_record-end.result in
-    let n = end.told.number in
+returns-clause-any_moment g c h3 =
+    let path = folder_of c.args.names.now in
+    let h2 = c.settle_files-2.ensures.quiet.honest h3 in
+    let h1 = c.make_files.ensures.outside.honest h2 in
+    let h0 = c.settle_log.ensures.others.honest h1 in
+    let log = c.args.log.now in
     let d0 = g.D.Disk.state c.args.disk.now in
-    let d1 = g.D.Disk.state c.settle_log.new.disk in
-    let log : c.deref.result.now ≡ log_of path = c.deref.ensures.value ∙ c.in_ok-log.ensures in
-    let bytes = c.deref-2.result.now in
-    let reads = c.last_record-end.ensures.reads in
-    let others_1 = c.settle_log.ensures.others in
-    let stands_1 = stands_but_log path c.deref.result.now base d0 d1 log others_1 (c.in_ok-bytes.ensures.same h1) stands in
-    let folder : folder_of c.in_ok-names.names ≡ path = c.in_ok-names.ensures.folder in
-    let stands_f = subst (λ (p : List ℕ). StandsFor p base d1.seen) (sym folder) stands_1 in
-    let out_1 = outside_but_log path c.deref.result.now d0 d1 log others_1 in
-    let d2 = g.D.Disk.state c.prepare_files.new.disk in
-    let P = StandsOrWasLeft path d0 base in
-    let run_2 = chained d0 d1 d2 path base ((c.settle_log.ensures.any_moment h1) base stands) out_1
-    (subst (λ (p : List ℕ). LeavesOnly d1 d2 (StandsOrWasLeft p d1 base)) folder ((c.prepare_files.ensures.any_moment h2) base stands_f)) in
-    let out_2 = outside_twice path d0 d1 d2 out_1 (subst (λ (p : List ℕ). KeepsOutside p d1 d2) folder c.prepare_files.ensures.outside) in
-    let d3 = g.D.Disk.state c.settle_files.new.disk in
-    let quiet = c.settle_files.ensures.quiet in
-    let run_3 = then_nothing d0 d2 d3 P run_2 quiet in
-    let out_3 = outside_twice path d0 d2 d3 out_2 (outside_quiet path d2 d3 quiet) in
-    let stands_2 = subst (λ (p : List ℕ). StandsFor p base d2.seen) folder ((c.in_ok-prepare_files.ensures.stands h2) base stands_f) in
-    let bytes_2 : bytes ≡ bytes_in (d2.seen (log_of path)) =
-    c.deref-2.ensures.value ∙ (c.in_ok-bytes.ensures.bytes h1) ∙ ap (λ (l : List ℕ). bytes_in (d1.seen l)) log ∙ ap bytes_in (sym (subst (λ (p : List ℕ). d2.seen (log_of p) ≡ d1.seen (log_of p)) folder c.prepare_files.ensures.same)) in
-    let messages : c.in_ok-names.names.messages.items ≡ messages_of path n = c.in_ok-names.ensures.names.messages ∙ ap (λ (p : List ℕ). messages_of p n) folder in
-    let keys : c.in_ok-names.names.keys.items ≡ keys_of path n = c.in_ok-names.ensures.names.keys ∙ ap (λ (p : List ℕ). keys_of p n) folder in
-    let named_2 = subst (λ (p : List ℕ). AreNamed p d2) folder (c.in_ok-prepare_files.ensures.named h2) in
-    let ready = subst (λ (p : List ℕ). HasBothFiles d2 p n) folder ((c.in_ok-prepare_files.ensures.ready h2) c.if-not-branch.false) in
-    let log_on = on_disk_quiet d2 d3 (log_of path) quiet (subst (λ (p : List ℕ). IsOnDisk d2 (log_of p)) folder (c.prepare_files.ensures.log h2)) in
-    let m_on : IsOnDisk d3 (messages_of path n) = record {
-      there = subst (λ f. IsSome f) (sym (quiet.seen (messages_of path n))) ready.messages;
-      named = quiet.named (messages_of path n) (λ h. h) (named_2 (messages_of path n) (messages_in path n));
-      flushed = subst (λ (l : List ℕ). d3.is_flushed l) messages c.in_ok-settle_files.ensures.messages;
-      alone = quiet.alone (messages_of path n) (λ h. h) ready.messages_alone;
-    } in
-    let k_on : IsOnDisk d3 (keys_of path n) = record {
-      there = subst (λ f. IsSome f) (sym (quiet.seen (keys_of path n))) ready.keys;
-      named = quiet.named (keys_of path n) (λ h. h) (named_2 (keys_of path n) (keys_in path n));
-      flushed = subst (λ (l : List ℕ). d3.is_flushed l) keys c.in_ok-settle_files.ensures.keys;
-      alone = quiet.alone (keys_of path n) (λ h. h) ready.keys_alone;
-    } in
-    let d4 = g.D.Disk.state c.mend.new.disk in
-    let all = settled_stands d3 path bytes base end (stands_quiet d2 d3 path base quiet stands_2) reads (bytes_2 ∙ ap bytes_in (sym (quiet.seen (log_of path)))) log_on m_on k_on in
-    chained_alone d0 d3 d4 path base run_3 out_3 ((c.mend.ensures.any_moment h4) base all)
+    let d2 = g.D.Disk.state c.make_files.new.disk in
+    let base = base_at d0 path log.end.told in
+    then_nothing d0 d2 (g.D.Disk.state c.settle_files-2.new.disk) (StandsOrWasLeft path d0 base)
+    (made d0 (g.D.Disk.state c.settle_log.new.disk) d2 path log base c.requires.read (c.requires.log h0) (omega (arith, c.if-log-gt0.false)) (c.requires.stands h0) c.settle_log.ensures.others (c.in_ok-settle_log.ensures.log h1)
+    (c.settle_log.ensures.any_moment h1 base (c.requires.stands h0)) (c.make_files.ensures.any_moment h2)) c.settle_files-2.ensures.quiet
 
 pub returns-clause-outside : goal.returns-clause-outside
 returns-clause-outside g c =
-    let path = c.args.folder.now in
+    let path = folder_of c.args.names.now in
     let d0 = g.D.Disk.state c.args.disk.now in
     let d1 = g.D.Disk.state c.settle_log.new.disk in
-    let log : c.deref.result.now ≡ log_of path = c.deref.ensures.value ∙ c.in_ok-log.ensures in
-    let reads = c.last_record-end.ensures.reads in
-    let others_1 = c.settle_log.ensures.others in
-    let folder : folder_of c.in_ok-names.names ≡ path = c.in_ok-names.ensures.folder in
-    let out_1 = outside_but_log path c.deref.result.now d0 d1 log others_1 in
-    let d2 = g.D.Disk.state c.prepare_files.new.disk in
-    let out_2 = outside_twice path d0 d1 d2 out_1 (subst (λ (p : List ℕ). KeepsOutside p d1 d2) folder c.prepare_files.ensures.outside) in
-    let d3 = g.D.Disk.state c.settle_files.new.disk in
-    let quiet = c.settle_files.ensures.quiet in
-    let out_3 = outside_twice path d0 d2 d3 out_2 (outside_quiet path d2 d3 quiet) in
-    let d4 = g.D.Disk.state c.mend.new.disk in
-    let log_4 : c.deref-3.result.now ≡ log_of path = c.deref-3.ensures.value ∙ c.in_ok-log.ensures in
-    let kept_4 = subst (λ (l : List ℕ). KeepsOthers d3 d4 l) log_4 c.mend.ensures.others in
-    outside_twice path d0 d3 d4 out_3 (outside_kept path (log_of path) d3 d4 (log_in path) kept_4)
-
-pub returns-clause-same : goal.returns-clause-same
-returns-clause-same g c honest base stands =
-    let h4 = honest in
-    let h3 = c.mend.ensures.others.honest h4 in
-    let h2 = c.settle_files.ensures.quiet.honest h3 in
-    let h1 = c.prepare_files.ensures.outside.honest h2 in
-    let path = c.args.folder.now in
-    let end = c.last_record-end.result in
-    let n = end.told.number in
-    let d0 = g.D.Disk.state c.args.disk.now in
-    let d1 = g.D.Disk.state c.settle_log.new.disk in
-    let log : c.deref.result.now ≡ log_of path = c.deref.ensures.value ∙ c.in_ok-log.ensures in
-    let bytes = c.deref-2.result.now in
-    let reads = c.last_record-end.ensures.reads in
-    let others_1 = c.settle_log.ensures.others in
-    let stands_1 = stands_but_log path c.deref.result.now base d0 d1 log others_1 (c.in_ok-bytes.ensures.same h1) stands in
-    let folder : folder_of c.in_ok-names.names ≡ path = c.in_ok-names.ensures.folder in
-    let stands_f = subst (λ (p : List ℕ). StandsFor p base d1.seen) (sym folder) stands_1 in
-    let d2 = g.D.Disk.state c.prepare_files.new.disk in
-    let stands_2 = subst (λ (p : List ℕ). StandsFor p base d2.seen) folder ((c.in_ok-prepare_files.ensures.stands h2) base stands_f) in
-    let bytes_2 : bytes ≡ bytes_in (d2.seen (log_of path)) =
-    c.deref-2.ensures.value ∙ (c.in_ok-bytes.ensures.bytes h1) ∙ ap (λ (l : List ℕ). bytes_in (d1.seen l)) log ∙ ap bytes_in (sym (subst (λ (p : List ℕ). d2.seen (log_of p) ≡ d1.seen (log_of p)) folder c.prepare_files.ensures.same)) in
-    let d3 = g.D.Disk.state c.settle_files.new.disk in
-    let quiet = c.settle_files.ensures.quiet in
-    let d4 = g.D.Disk.state c.mend.new.disk in
-    let log_4 : c.deref-3.result.now ≡ log_of path = c.deref-3.ensures.value ∙ c.in_ok-log.ensures in
-    let kept_4 = subst (λ (l : List ℕ). KeepsOthers d3 d4 l) log_4 c.mend.ensures.others in
-    base_found path base d2.seen stands_2 bytes end reads bytes_2 d4
-    (ap bytes_in (kept_4.seen (messages_of path n) (messages_not_log path n) ∙ quiet.seen (messages_of path n)))
-    (ap bytes_in (kept_4.seen (keys_of path n) (keys_not_log path n) ∙ quiet.seen (keys_of path n)))
-
-pub returns-clause-settled : goal.returns-clause-settled
-returns-clause-settled g c honest =
-    let h4 = honest in
-    let h3 = c.mend.ensures.others.honest h4 in
-    let h2 = c.settle_files.ensures.quiet.honest h3 in
-    let path = c.args.folder.now in
-    let end = c.last_record-end.result in
-    let n = end.told.number in
-    let log : c.deref.result.now ≡ log_of path = c.deref.ensures.value ∙ c.in_ok-log.ensures in
-    let bytes = c.deref-2.result.now in
-    let reads = c.last_record-end.ensures.reads in
-    let others_1 = c.settle_log.ensures.others in
-    let folder : folder_of c.in_ok-names.names ≡ path = c.in_ok-names.ensures.folder in
-    let d2 = g.D.Disk.state c.prepare_files.new.disk in
-    let d3 = g.D.Disk.state c.settle_files.new.disk in
-    let quiet = c.settle_files.ensures.quiet in
-    let messages : c.in_ok-names.names.messages.items ≡ messages_of path n = c.in_ok-names.ensures.names.messages ∙ ap (λ (p : List ℕ). messages_of p n) folder in
-    let keys : c.in_ok-names.names.keys.items ≡ keys_of path n = c.in_ok-names.ensures.names.keys ∙ ap (λ (p : List ℕ). keys_of p n) folder in
-    let named_2 = subst (λ (p : List ℕ). AreNamed p d2) folder (c.in_ok-prepare_files.ensures.named h2) in
-    let ready = subst (λ (p : List ℕ). HasBothFiles d2 p n) folder ((c.in_ok-prepare_files.ensures.ready h2) c.if-not-branch.false) in
-    let log_on = on_disk_quiet d2 d3 (log_of path) quiet (subst (λ (p : List ℕ). IsOnDisk d2 (log_of p)) folder (c.prepare_files.ensures.log h2)) in
-    let m_on : IsOnDisk d3 (messages_of path n) = record {
-      there = subst (λ f. IsSome f) (sym (quiet.seen (messages_of path n))) ready.messages;
-      named = quiet.named (messages_of path n) (λ h. h) (named_2 (messages_of path n) (messages_in path n));
-      flushed = subst (λ (l : List ℕ). d3.is_flushed l) messages c.in_ok-settle_files.ensures.messages;
-      alone = quiet.alone (messages_of path n) (λ h. h) ready.messages_alone;
-    } in
-    let k_on : IsOnDisk d3 (keys_of path n) = record {
-      there = subst (λ f. IsSome f) (sym (quiet.seen (keys_of path n))) ready.keys;
-      named = quiet.named (keys_of path n) (λ h. h) (named_2 (keys_of path n) (keys_in path n));
-      flushed = subst (λ (l : List ℕ). d3.is_flushed l) keys c.in_ok-settle_files.ensures.keys;
-      alone = quiet.alone (keys_of path n) (λ h. h) ready.keys_alone;
-    } in
-    let d4 = g.D.Disk.state c.mend.new.disk in
-    let log_4 : c.deref-3.result.now ≡ log_of path = c.deref-3.ensures.value ∙ c.in_ok-log.ensures in
-    let kept_4 = subst (λ (l : List ℕ). KeepsOthers d3 d4 l) log_4 c.mend.ensures.others in
-    let long = (c.in_ok-settle_files.ensures.long h3).0 c.if-not-branch-2.false in
-    let m_same = kept_4.seen (messages_of path n) (messages_not_log path n) ∙ quiet.seen (messages_of path n) in
-    let k_same = kept_4.seen (keys_of path n) (keys_not_log path n) ∙ quiet.seen (keys_of path n) in
-    let m_long = subst (λ (l : List ℕ). end.told.messages ≤ length (bytes_in (d2.seen l))) messages long.0 in
-    let k_long = subst (λ (l : List ℕ). end.told.keys ≤ length (bytes_in (d2.seen l))) keys long.1 in
-    let bytes_4 : c.deref-4.result.now ≡ bytes = c.deref-4.ensures.value ∙ sym c.deref-2.ensures.value in
-    let front : take end.gate c.deref-4.result.now ≡ opened reads.reads.bodies =
-    ap (λ (l : List ℕ). take end.gate l) (bytes_4 ∙ reads.reads.parts) ∙ take_at (opened reads.reads.bodies) reads.rest end.gate (sym reads.reads.gate) in
-    record {
-      log = record {
-        bodies = reads.reads.bodies;
-        sizes = reads.reads.sizes;
-        log = subst (λ (l : List ℕ). bytes_in (d4.seen l) ≡ take end.gate c.deref-4.result.now ++ 0 ∷ []) log_4 (c.in_ok-mend.ensures.mended h4) ∙ ap (λ (l : List ℕ). l ++ 0 ∷ []) front;
-        gate = reads.reads.gate;
-        told = reads.reads.told;
-        on_disk = subst (λ (l : List ℕ). IsOnDisk d4 l) log_4 (c.in_ok-mend.ensures.on_disk h4);
-        named = λ m inside. kept_4.named m (quiet.named m (λ h. h) (named_2 m inside));
-      };
-      digit = omega (arith, c.if-end-gt9.false);
-      messages_long = subst (λ f. end.told.messages ≤ length (bytes_in f)) (sym m_same) m_long;
-      keys_long = subst (λ f. end.told.keys ≤ length (bytes_in f)) (sym k_same) k_long;
-      messages_on = on_disk_kept d3 d4 (messages_of path n) (log_of path) kept_4 (messages_not_log path n) m_on;
-      keys_on = on_disk_kept d3 d4 (keys_of path n) (log_of path) kept_4 (keys_not_log path n) k_on;
-    }
+    let d2 = g.D.Disk.state c.make_files.new.disk in
+    let d3 = g.D.Disk.state c.settle_files-2.new.disk in
+    outside_twice path d0 d2 d3 (outside_twice path d0 d1 d2 (outside_but_one path d0 d1 (log_of path) (log_in path) c.settle_log.ensures.others) c.make_files.ensures.outside) (outside_quiet path d2 d3 c.settle_files-2.ensures.quiet)

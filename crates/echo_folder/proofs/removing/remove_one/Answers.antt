@@ -1,7 +1,6 @@
-use Rattle.std.proofs.Common.{List, ℕ, ◌≡◌, ◌≢◌, None, Option, false, sym, ◌∙◌, ap, subst}
-use Rattle.std.specs.Prelude.{IsSome}
+use Rattle.std.proofs.Common.{List, ℕ, ◌≢◌, sym, ◌∙◌, subst}
 use Rattle.std.proofs.lemmas.Result.{on_ok_weaker}
-use Rattle.echo_disk.specs.Disk.{DiskState, IsIn}
+use Rattle.echo_disk.specs.Disk.{IsIn}
 use Rattle.echo_disk.specs.Steps.{TornRemoval}
 use Rattle.echo_disk.proofs.Moments.{then_nothing}
 use Rattle.echo_folder.specs.Moments.{StandsAlone}
