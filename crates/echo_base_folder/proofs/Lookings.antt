@@ -9,7 +9,6 @@ use Rattle.echo_keys.specs.Keys.{place_at}
 use Rattle.echo_folder.specs.Standing.{BaseBytes, StandsFor, base_at}
 use Rattle.echo_folder.proofs.Opened.{end_tells}
 use Rattle.echo_folder.proofs.Same.{front_long}
-use Rattle.echo_folder.specs.declared.log.End.{End}
 use Rattle.echo_folder.specs.declared.log.Log.{Log}
 use Rattle.echo_base_folder.specs.Looked.{IsSeenFrom}
 use Rattle.echo_base_folder.specs.declared.looking.Seen.{Seen}

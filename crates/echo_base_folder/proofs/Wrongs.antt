@@ -1,5 +1,5 @@
 -- What is wrong with a folder, and what is not.
-use Rattle.std.proofs.Common.{◌≡◌, ◌∙◌, ℕ, Bool, List, length, sym, ap, subst, ⊎_elim}
+use Rattle.std.proofs.Common.{◌≡◌, ◌∙◌, ℕ, Bool, List, length, sym, ap, ⊎_elim}
 use Rattle.std.proofs.lemmas.Bool.{true≢false}
 use Rattle.echo_disk.specs.Disk.{Files, bytes_in}
 use Rattle.echo_folder.specs.Names.{log_of}

@@ -1,4 +1,4 @@
-use Rattle.std.proofs.Common.{◌≡◌, ◌<◌, ◌∙◌, ℕ, List, length, take, false, Err, ap, sym, subst, arith}
+use Rattle.std.proofs.Common.{◌≡◌, ◌∙◌, ℕ, List, length, take, false, Err, ap, sym, subst}
 use Rattle.echo_disk.specs.Disk.{Files, bytes_in}
 use Rattle.echo_folder.specs.Names.{keys_of, messages_of}
 use Rattle.echo_folder.specs.declared.folder_error.FolderError.{FolderError}

@@ -1,4 +1,4 @@
-use Rattle.std.proofs.Common.{◌≡◌, ap, arith}
+use Rattle.std.proofs.Common.{ap, arith}
 use Rattle.echo_folder.specs.declared.log.End.{End}
 use Rattle.echo_base_folder.proofs.Lookings.{none_between, same_end}
 use Rattle.echo_base_folder.proofs.looking.goes_on.Goals as goal

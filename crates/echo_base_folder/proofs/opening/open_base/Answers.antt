@@ -1,4 +1,4 @@
-use Rattle.std.proofs.Common.{◌≡◌, ◌∙◌, ap, sym}
+use Rattle.std.proofs.Common.{◌∙◌, ap, sym}
 use Rattle.echo_disk.specs.Disk.{bytes_in}
 use Rattle.echo_folder.specs.Names.{log_of}
 use Rattle.echo_folder.specs.Standing.{base_at}

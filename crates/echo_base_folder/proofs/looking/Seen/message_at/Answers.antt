@@ -1,4 +1,4 @@
-use Rattle.std.proofs.Common.{◌≡◌, ◌∙◌, [], ◌∷◌, List, ℕ, true, sym, ap}
+use Rattle.std.proofs.Common.{◌≡◌, ◌∙◌, [], ◌∷◌, List, ℕ, sym, ap}
 use Rattle.std.proofs.lemmas.Bool.{true≢false}
 use Rattle.echo_base.specs.Base.{Base}
 use Rattle.echo_filed.specs.Stored.{message_in}
