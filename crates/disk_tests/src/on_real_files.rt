@@ -26,9 +26,7 @@ const CLAIMED: Mark = Mark {
 const INSIDE: u64 = 75;
 
 #[test]
-fn a_base_folder_is_opened_again_and_not_with_a_log_cut_short(
-    rt: HostRuntime,
-) -> Result<(), Fail> {
+fn a_base_folder_is_opened_again_and_not_with_a_log_cut_short(rt: HostRuntime) -> Result<(), Fail> {
     let alloc = rt.alloc();
     let _ = fs::remove_dir_all(&rt, "disk_tests_base");
     fs::create_dir(&rt, "disk_tests_base")?;
