@@ -195,7 +195,7 @@ module _ (stamp : Stamp) (place : Place) (links outbound : List ℕ) (i : ℕ) (
 
       may-away : (c : Files) → MayLeave place outbound own old base put.found files put.opened c → SameAway c
       may-away c (inl was) m off named flushed = old.on_disk m named flushed c was
-      may-away c (inr on) = way-away c on
+      may-away c (inr on) m off named flushed = way-away c on m off named flushed
 
       left-by : (c : Files) → MayLeave place outbound own old base put.found files put.opened c → old.may_leave c ⊎ (ShowsStation place links i c d ⊎ AreAfterScan stamp place links outbound i d ended base c)
       left-by c (inl was) = inl was

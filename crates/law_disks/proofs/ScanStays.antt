@@ -1,5 +1,5 @@
 -- A scan that met a fault leaves the station as it was.
-use Rattle.std.proofs.Common.{◌≡◌, ◌⊎◌, inl, inr, ◌∙◌, sym, subst, ap, ℕ, List, Result, Ok, Err}
+use Rattle.std.proofs.Common.{◌≡◌, ◌<◌, ◌⊎◌, inl, inr, ◌∙◌, sym, subst, ap, ℕ, List, Result, Ok, Err}
 use Rattle.std.specs.Prelude.{IfErr}
 use Rattle.echo_disk.specs.Disk.{DiskState, Files}
 use Rattle.echo_links.specs.Links.{LinkFile}
@@ -12,8 +12,8 @@ use Rattle.echo_store_changing.specs.declared.stop.Stop.TheVariants.{Met}
 use Rattle.station.specs.Place.{Place}
 use Rattle.station.specs.Running.{IsNotRun, IsStopped, StandsAsBefore}
 use Rattle.station_scan.specs.Publishing.{KeepsBut}
-use Rattle.station_scan.specs.Scanning.{IsPutAs, IsTouched, ScansIn}
-use Rattle.station_scan.specs.Stops.{IsOfPlacing, as_scan}
+use Rattle.station_scan.specs.Scanning.{IsPutAs, IsTaken, IsTouched, ScansIn}
+use Rattle.station_scan.specs.Stops.{IsOfPlacing, as_scan, most}
 use Rattle.station_scan.specs.declared.scan_stop.ScanStop.{ScanStop}
 use Rattle.station_scan.specs.declared.scan_stop.ScanStop.TheVariants.{Command}
 use Rattle.law_crashes.specs.Disks.{Disks}
@@ -37,7 +37,7 @@ module _ (place : Place) (outbound links : List ℕ) (i : ℕ) (d : Disks) (old 
   module _ (IsTrue : Files → Type 0) (IsShut Stops : Fault → Type 0) (failed : Type 0) (result : Result (Unit {0}) ScanStop) (fault : Fault) (is : result ≡ Err (Command (Met fault))) where
     -- no placing meets a fault
     put-so : (own : List ℕ) (made : Result (List PacketFile) Stop) → IsPutAs place outbound own IsTrue failed old new at.shows.station.base made result → StandsAsBefore place old new at.shows.station.base
-    put-so own (Ok files) put = absurd (subst (λ (r : Result (Unit {0}) ScanStop). IfErr r (IsOfPlacing failed _ _)) is put.why)
+    put-so own (Ok files) put = absurd (subst (λ (r : Result (Unit {0}) ScanStop). IfErr r (IsOfPlacing failed (IsTaken place.is_own outbound own at.shows.station.base.cursor put.found files put.opened) (most < at.shows.station.base.cursor))) is put.why)
     put-so own (Err why) put = put.1
 
     abbrev is-shut-by : ScanStop → Type 0
