@@ -1,5 +1,5 @@
 use Rattle.std.proofs.Common.{◌≡◌, ◌∙◌, List, ℕ, ap, sym, subst}
-use Rattle.echo_disk.specs.Disk.{Files, bytes_in}
+use Rattle.echo_disk.specs.Disk.{bytes_in}
 use Rattle.echo_disk.proofs.Moments.{nothing_twice}
 use Rattle.echo_folder.specs.AtRest.{IsAtRest}
 use Rattle.echo_folder.specs.Names.{log_of}
@@ -34,5 +34,7 @@ open-requires-clause-stands g c h2 =
     subst (λ (p : List ℕ). StandsFor p (base_at d2 p told) d2.seen) (sym c.in_ok-names.ensures.folder)
     (subst (λ (b : BaseBytes). StandsFor path b d2.seen) (sym (base_quiet d1 d2 path told quiet)) (stands_quiet d1 d2 path (base_at d1 path told) quiet (c.in_ok-judge.ensures.stands h2)))
 
-pub returns-clause-settled : goal.returns-clause-settled
-returns-clause-settled g c h3 = subst (λ (p : List ℕ). IsAtRest (g.D.Disk.state c.open.new.disk) p c.in_ok-log.log.end) c.in_ok-names.ensures.folder (c.in_ok-open.ensures.settled h3)
+pub returns : goal.returns
+returns g c = record {
+  settled = λ h. subst (λ (p : List ℕ). IsAtRest (g.D.Disk.state c.open.new.disk) p c.in_ok-log.log.end) c.in_ok-names.ensures.folder (c.in_ok-open.ensures.settled h);
+}
